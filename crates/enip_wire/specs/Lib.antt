@@ -1,0 +1,5 @@
+pub mod Numbers
+pub mod Headers
+pub mod Frames
+pub mod Stream
+pub mod Reading

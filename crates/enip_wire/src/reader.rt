@@ -1,0 +1,167 @@
+//! Frames from a stream, in whatever pieces it comes. (Volume 2, encapsulation over TCP.)
+//!
+//! ```text
+//!  stream   [ header | data ][ header | data ][ head
+//!  pieces   ------,-------------,---,---------------
+//!  held     what came since the last frame was cleared, at most one frame
+//! ```
+
+ghost use Rattle.std.specs.Prelude.{◌≡◌, ◌≤◌, ◌<◌, ◌^◌, ◌+◌, ◌++◌, [], take, length, IfOk, slice_index};
+ghost use Rattle.enip_wire.specs.Numbers.{number_at, IsBytes};
+ghost use Rattle.enip_wire.specs.Frames.{end_after as end_after_length};
+ghost use Rattle.enip_wire.specs.Stream.{IsFresh, Takes, Shows};
+
+use crate::header::Header;
+use byteorder::{ByteOrder, LittleEndian};
+use std::alloc::{AllocError, Global};
+use std::marker::Model;
+
+/// The longest data of a frame, in bytes. (Volume 2, encapsulation header, length.)
+pub const LONGEST_BODY: u16 = 65_511;
+
+/// The longest frame, in bytes.
+const LONGEST_FRAME: usize = 65_535;
+
+/// A whole frame, lent: its header, and the `header.length` bytes that follow it.
+#[derive(Clone, Copy, Debug)]
+pub struct FrameView<'a> {
+    pub header: Header,
+    pub body: &'a [u8],
+}
+
+/// What a reader holds.
+#[derive(Clone, Copy, Debug)]
+pub enum Held<'a> {
+    /// Not yet a whole frame.
+    More,
+    /// One whole frame.
+    Frame(FrameView<'a>),
+    /// A header whose length is over 65,511. No byte is taken past it.
+    TooLong(Header),
+}
+
+/// Gathers one frame at a time from the pieces of a stream.
+#[derive(Drop)]
+pub struct FrameReader {
+    buffer: Vec<u8>,
+    len: usize,
+}
+
+impl Model for FrameReader {
+    ghost use Rattle.std.specs.Prelude.{ℕ, List, ◌≡◌, ◌≤◌, take, vec_len};
+    ghost use Rattle.enip_wire.specs.Stream.{IsFresh};
+
+    ghost Value = { List ℕ };
+
+    ghost view = { λ r. take r.len r.buffer.items };
+
+    ghost invariant = { λ r. (vec_len r.buffer ≡ 65535) × (r.len ≤ 65535) × IsFresh (take r.len r.buffer.items) };
+}
+
+impl FrameReader {
+    /// A reader that holds no byte. Its 65,535 bytes are reserved here: no later call allocates.
+    pub fn new(alloc: Global) -> Result<FrameReader, AllocError>
+        ensures { IfOk result (λ r. r ≡ []) }
+    {
+        let buffer = vec![in alloc; 0u8; LONGEST_FRAME]?;
+        Ok(FrameReader { buffer, len: 0 })
+    }
+
+    /// Takes bytes of the piece up to the end of one frame, or of a header that is too long, and
+    /// answers how many. While a whole frame or a too long header is held it takes none.
+    pub fn push(&mut self, piece: &[u8]) -> usize
+        ensures taken { Takes self.old piece.now result }
+        ensures held { self.new ≡ self.old ++ take result piece.now }
+        ensures fresh { IsFresh self.new }
+        ensures bound { length self.new ≤ 65535 }
+    {
+        let taken = count(&self.buffer[..self.len], piece);
+        place(&mut self.buffer, self.len, &piece[..taken]);
+        self.len += taken;
+        taken
+    }
+
+    /// What is held.
+    pub fn state(&self) -> Held<'_>
+        ensures shown { Shows self.now result }
+        ensures bound { length self.now ≤ 65535 }
+    {
+        see(&self.buffer[..self.len])
+    }
+
+    /// Drops what is held.
+    pub fn clear(&mut self)
+        ensures { self.new ≡ [] }
+    {
+        self.len = 0;
+    }
+}
+
+/// How many bytes of a piece a reader takes that holds these.
+fn count(held: &[u8], piece: &[u8]) -> usize
+    requires { IsFresh held.now }
+    ensures takes { Takes held.now piece.now result }
+    ensures bound { length held.now + result ≤ 65535 }
+{
+    if held.len() < Header::SIZE && piece.len() < Header::SIZE - held.len() {
+        return piece.len();
+    }
+    let end = end_after(length_in(held, piece));
+    end.saturating_sub(held.len()).min(piece.len())
+}
+
+/// Copies a text into a buffer, behind its first bytes.
+fn place(buffer: &mut [u8], len: usize, text: &[u8])
+    requires { len + length text.now ≤ length buffer.old }
+    ensures { take (len + length text.now) buffer.new ≡ take len buffer.old ++ text.now }
+{
+    buffer[len..len + text.len()].copy_from_slice(text);
+}
+
+/// Where what begins with a header of this length ends.
+fn end_after(length: u16) -> usize
+    ensures { result ≡ end_after_length length }
+{
+    if length > LONGEST_BODY {
+        Header::SIZE
+    } else {
+        Header::SIZE + length as usize
+    }
+}
+
+/// The length in the header that these bytes begin, the first joined with the second.
+fn length_in(held: &[u8], piece: &[u8]) -> u16
+    requires { 24 ≤ length held.now + length piece.now }
+    ensures { result ≡ number_at 2 2 (held.now ++ piece.now) }
+{
+    LittleEndian::read_u16(&[byte_in(held, piece, 2), byte_in(held, piece, 3)])
+}
+
+/// One byte of two texts that stand one after the other.
+fn byte_in(held: &[u8], piece: &[u8], place: usize) -> u8
+    requires { place < length held.now + length piece.now }
+    ensures { result ≡ slice_index (held.now ++ piece.now) place }
+{
+    if place < held.len() {
+        held[place]
+    } else {
+        piece[place - held.len()]
+    }
+}
+
+/// What these bytes are.
+fn see(bytes: &[u8]) -> Held<'_>
+    ensures { Shows bytes.now result }
+{
+    let Some((head, body)) = bytes.split_first_chunk::<24>() else {
+        return Held::More;
+    };
+    let header = Header::read(head);
+    if header.length > LONGEST_BODY {
+        Held::TooLong(header)
+    } else if body.len() == header.length as usize {
+        Held::Frame(FrameView { header, body })
+    } else {
+        Held::More
+    }
+}
