@@ -1,13 +1,20 @@
 -- What a reader holds after a piece, and what is seen of it.
 use Rattle.std.proofs.Common.{◌≡◌, ℕ, ◌+◌, ◌-◌, ◌<◌, ◌≤◌, ◌⊎◌, inl, inr, List, [], ◌++◌, length, take, drop, refl, sym, ap, subst, ◌∙◌, arith, length-append, length-take, length-drop}
 use Rattle.std.proofs.lemmas.List.{take-append-drop, take_at, take-take, drop-take}
+use Rattle.std.proofs.lemmas.Bool.Decides.{nat_tests}
 use Rattle.byteorder.specs.Numbers.{little_from-take}
 use Rattle.enip_wire.specs.declared.header.Header.{Header}
 use Rattle.enip_wire.specs.Numbers.{number_at, IsBytes}
 use Rattle.enip_wire.specs.Headers.{header_spelling, header_at, IsHeader}
 use Rattle.enip_wire.specs.Frames.{Frame, frame, IsFrame, IsWhole, IsTooLong, Stops}
+use Rattle.enip_wire.specs.Stream.{sight_of, Sight}
+use Rattle.enip_wire.specs.Stream.Sight.{Nothing_yet, A_frame, A_long_header}
 use Rattle.enip_wire.proofs.HeaderLemmas.{same_header}
 use Rattle.enip_wire.proofs.FrameLemmas.{Sized, Sized-whole, number_at-take, IsHeader-header_at, IsBytes-take}
+
+pub same_frame : {h k : Header} {b c : List ℕ} → h ≡ k → b ≡ c
+    → ◌≡◌ {A = Frame} (record { header = h; body = b }) (record { header = k; body = c })
+same_frame p q = cc
 
 -- a buffer whose front was written
 pub placed : (len n size : ℕ) (items new piece rest : List ℕ) → n ≤ length piece → length new ≡ size
@@ -55,3 +62,29 @@ see-more bytes head body h front back is within differs (inl whole) =
 see-more bytes head body h front back is within differs (inr over) =
     let says : h.length ≡ number_at 2 2 bytes = ap (λ x. x.length) (is ∙ ap header_at front ∙ header_at-take bytes) in
     omega (arith, says, over.over)
+
+pub sight_of-short : (bytes : List ℕ) → length bytes < 24 → sight_of bytes ≡ Nothing_yet
+sight_of-short bytes short = grind (arith, nat_tests)
+
+pub sight_of-long : (bytes : List ℕ) → 24 ≤ length bytes → 65511 < number_at 2 2 bytes
+    → sight_of bytes ≡ A_long_header (header_at bytes)
+sight_of-long bytes long over = grind (arith, nat_tests)
+
+pub sight_of-frame : (bytes : List ℕ) → 24 ≤ length bytes → number_at 2 2 bytes ≤ 65511
+    → length bytes ≡ 24 + number_at 2 2 bytes
+    → sight_of bytes ≡ A_frame (record { header = header_at bytes; body = drop 24 bytes })
+sight_of-frame bytes long within total = grind (arith, nat_tests)
+
+pub kind-long : (bytes : List ℕ) (h : Header) → IsTooLong bytes × (h ≡ header_at bytes) → A_long_header h ≡ sight_of bytes
+kind-long bytes h p = ap A_long_header p.1 ∙ sym (sight_of-long bytes p.0.header p.0.over)
+
+pub kind-whole : (bytes head body : List ℕ) (h : Header) → head ≡ take 24 bytes → body ≡ drop 24 bytes
+    → 24 ≤ length bytes → h ≡ header_at head → h.length ≤ 65511 → length body ≡ h.length
+    → A_frame (record { header = h; body = body }) ≡ sight_of bytes
+kind-whole bytes head body h front back long is within counted =
+    let same : h ≡ header_at bytes = is ∙ ap header_at front ∙ header_at-take bytes in
+    let says : h.length ≡ number_at 2 2 bytes = ap (λ x. x.length) same in
+    let size : length body ≡ length bytes - 24 = ap length back ∙ length-drop 24 bytes in
+    let one : ◌≡◌ {A = Frame} (record { header = h; body = body }) (record { header = header_at bytes; body = drop 24 bytes })
+    = same_frame same back in
+    ap A_frame one ∙ sym (sight_of-frame bytes long (omega (arith, says)) (omega (arith, says, size)))

@@ -12,11 +12,8 @@ use Rattle.enip_wire.specs.Reading.{Reads}
 use Rattle.enip_wire.specs.Reading.Reads.{Ended, Waited, Showed, Stayed}
 use Rattle.enip_wire.proofs.HeaderLemmas.{header_at-header_spelling}
 use Rattle.enip_wire.proofs.FrameLemmas.{length-frame, number_at-frame, number_at-append}
+use Rattle.enip_wire.proofs.SeeLemmas.{same_frame}
 use Rattle.enip_wire.proofs.TakeLemmas.{IsFresh-after, stops-header}
-
-same_frame : {h k : Header} {b c : List ℕ} → h ≡ k → b ≡ c
-    → ◌≡◌ {A = Frame} (record { header = h; body = b }) (record { header = k; body = c })
-same_frame p q = cc
 
 -- the header at the front of what a frame spells
 header_in : (f : Frame) (x : List ℕ) → IsFrame f → header_at (frame f ++ x) ≡ f.header

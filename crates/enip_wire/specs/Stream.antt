@@ -1,10 +1,12 @@
-use Rattle.std.specs.Prelude.{ℕ, List, [], ◌∷◌, ◌≡◌, ◌<◌, ◌≤◌, ◌++◌, ◌⊎◌, length, take, drop}
+use Rattle.std.specs.Prelude.{if◌then◌else◌, nat_lt, ◌==◌, ◌+◌, ◌-◌, min, ℕ, List, [], ◌∷◌, ◌≡◌, ◌<◌, ◌≤◌, ◌++◌, ◌⊎◌, length, take, drop}
 use Rattle.std.specs.List.{flat_map, AllByRecursion}
 use Rattle.enip_wire.specs.declared.reader.FrameView.{FrameView}
 use Rattle.enip_wire.specs.declared.reader.Held.{Held}
 use Rattle.enip_wire.specs.declared.reader.Held.TheVariants.{More, Frame as Whole, TooLong}
+use Rattle.enip_wire.specs.declared.header.Header.{Header}
+use Rattle.enip_wire.specs.Numbers.{number_at}
 use Rattle.enip_wire.specs.Headers.{header_at}
-use Rattle.enip_wire.specs.Frames.{Frame, frame, IsFrame, IsWhole, IsTooLong, Stops}
+use Rattle.enip_wire.specs.Frames.{Frame, frame, IsFrame, IsWhole, IsTooLong, Stops, end_after}
 
 -- The frames of a stream, and the rest at whose front no frame is spelled. It speaks of the whole
 -- stream, and of no buffer and no piece. (Volume 2, encapsulation over TCP.)
@@ -33,3 +35,35 @@ abbrev pub Shows : List ℕ → Held → Type 0
 Shows held More = Stops held → ⊥
 Shows held (Whole view) = IsFrame (frame_of view) × (held ≡ frame (frame_of view))
 Shows held (TooLong header) = IsTooLong held × (header ≡ header_at held)
+
+-- The rest says the same by numbers alone, for who computes with it.
+
+-- How many bytes of a piece Takes.
+abbrev pub taken_of : List ℕ → List ℕ → ℕ
+taken_of held piece =
+    if nat_lt (length held + length piece) 24
+    then length piece
+    else min (end_after (number_at 2 2 (held ++ piece)) - length held) (length piece)
+
+-- What bytes are, on the way to the end of a frame.
+pub data Sight : Type 0 where
+  Nothing_yet : Sight
+  A_frame : Frame → Sight
+  A_long_header : Header → Sight
+
+-- What these bytes are.
+abbrev pub sight_of : List ℕ → Sight
+sight_of bytes =
+    if nat_lt (length bytes) 24
+    then Nothing_yet
+    else if nat_lt 65511 (number_at 2 2 bytes)
+    then A_long_header (header_at bytes)
+    else if length bytes == 24 + number_at 2 2 bytes
+    then A_frame (record { header = header_at bytes; body = drop 24 bytes })
+    else Nothing_yet
+
+-- What a reader shows, as a sight.
+abbrev pub sight : Held → Sight
+sight More = Nothing_yet
+sight (Whole view) = A_frame (frame_of view)
+sight (TooLong header) = A_long_header header

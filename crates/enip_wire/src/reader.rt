@@ -9,7 +9,7 @@
 ghost use Rattle.std.specs.Prelude.{◌≡◌, ◌≤◌, ◌<◌, ◌^◌, ◌+◌, ◌++◌, [], take, length, IfOk, slice_index};
 ghost use Rattle.enip_wire.specs.Numbers.{number_at, IsBytes};
 ghost use Rattle.enip_wire.specs.Frames.{end_after as end_after_length};
-ghost use Rattle.enip_wire.specs.Stream.{IsFresh, Takes, Shows};
+ghost use Rattle.enip_wire.specs.Stream.{IsFresh, Takes, taken_of, Shows, sight, sight_of};
 
 use crate::header::Header;
 use byteorder::{ByteOrder, LittleEndian};
@@ -71,6 +71,7 @@ impl FrameReader {
     /// answers how many. While a whole frame or a too long header is held it takes none.
     pub fn push(&mut self, piece: &[u8]) -> usize
         ensures taken { Takes self.old piece.now result }
+        ensures number { result ≡ taken_of self.old piece.now }
         ensures held { self.new ≡ self.old ++ take result piece.now }
         ensures fresh { IsFresh self.new }
         ensures bound { length self.new ≤ 65535 }
@@ -84,6 +85,7 @@ impl FrameReader {
     /// What is held.
     pub fn state(&self) -> Held<'_>
         ensures shown { Shows self.now result }
+        ensures kind { sight result ≡ sight_of self.now }
         ensures bound { length self.now ≤ 65535 }
     {
         see(&self.buffer[..self.len])
@@ -101,6 +103,7 @@ impl FrameReader {
 fn count(held: &[u8], piece: &[u8]) -> usize
     requires { IsFresh held.now }
     ensures takes { Takes held.now piece.now result }
+    ensures number { result ≡ taken_of held.now piece.now }
     ensures bound { length held.now + result ≤ 65535 }
 {
     if held.len() < Header::SIZE && piece.len() < Header::SIZE - held.len() {
@@ -151,7 +154,8 @@ fn byte_in(held: &[u8], piece: &[u8], place: usize) -> u8
 
 /// What these bytes are.
 fn see(bytes: &[u8]) -> Held<'_>
-    ensures { Shows bytes.now result }
+    ensures shown { Shows bytes.now result }
+    ensures kind { sight result ≡ sight_of bytes.now }
 {
     let Some((head, body)) = bytes.split_first_chunk::<24>() else {
         return Held::More;

@@ -1,0 +1,124 @@
+use Rattle.std.specs.Prelude.{ℕ, ◌+◌, max, List, [], ◌∷◌, ◌++◌, take, map, if◌then◌else◌, Bool, true, false, Option, Some, None}
+use Rattle.enip_wire.specs.declared.header.Header.{Header}
+use Rattle.enip_wire.specs.Frames.{Frame}
+use Rattle.enip_wire.specs.Stream.{taken_of, sight_of, Sight}
+use Rattle.enip_wire.specs.Stream.Sight.{Nothing_yet, A_frame, A_long_header}
+use Rattle.enip_cmd.specs.declared.commands.Session.{Session}
+use Rattle.enip_cmd.specs.declared.place.Place.{Place}
+use Rattle.enip_cmd.specs.Lookup.{first_with, with_first, without_first}
+use Rattle.enip_cmd.specs.Turn.{State, Event, Said, Served, Turned, sends, served, refused_long, begun, turn}
+use Rattle.enip_cmd.specs.Turn.Event.{Begin, End, At, Framed, Long}
+use Rattle.enip_cmd.specs.Turn.Said.{Silent, Begins}
+
+-- The adapter with what has come of each peer's next frame.
+pub record Desk : Type 0 where
+  pub moment : ℕ
+  pub next : ℕ
+  pub places : List Place
+
+-- The adapter alone.
+abbrev pub state_of : Desk → State
+state_of d = record { moment = d.moment; next = d.next; peers = map (λ p. p.session) d.places }
+
+abbrev pub handle_of : Place → ℕ
+handle_of p = p.session.handle
+
+-- A call of the adapter.
+pub data Call : Type 0 where
+  Begins_one : Call
+  Feeds : (now peer : ℕ) → (piece : List ℕ) → Call
+  Ends_one : (peer : ℕ) → Call
+
+-- What a call does: the desk after it, the events that it stands for, the bytes that it takes, its
+-- answer, and whether the peer is closed.
+pub record Done : Type 0 where
+  pub desk : Desk
+  pub events : List Event
+  pub taken : ℕ
+  pub said : Said
+  pub close : Bool
+
+-- What a piece does to one peer: its place after it, the event that the bytes taken complete, if any, and
+-- what is answered.
+pub record Fed_place : Type 0 where
+  pub place : Place
+  pub event : Option (ℕ → Event)
+  pub taken : ℕ
+  pub answer : Option (List ℕ)
+  pub close : Bool
+
+abbrev pub shown_to : Session → List ℕ → ℕ → Sight → Fed_place
+shown_to s held n Nothing_yet =
+    record { place = record { session = s; reader = held }; event = None; taken = n; answer = None; close = false }
+shown_to s held n (A_frame f) =
+    record {
+      place = record { session = (served s f).session; reader = [] };
+      event = Some (λ peer. Framed peer f);
+      taken = n;
+      answer = (served s f).answer;
+      close = (served s f).close;
+    }
+shown_to s held n (A_long_header h) =
+    record {
+      place = record { session = (refused_long s h).session; reader = held };
+      event = Some (λ peer. Long peer h);
+      taken = n;
+      answer = (refused_long s h).answer;
+      close = (refused_long s h).close;
+    }
+
+abbrev pub fed_place : Place → List ℕ → Fed_place
+fed_place p piece =
+    shown_to p.session (p.reader ++ take (taken_of p.reader piece) piece) (taken_of p.reader piece)
+    (sight_of (p.reader ++ take (taken_of p.reader piece) piece))
+
+abbrev pub events_of : ℕ → Option (ℕ → Event) → List Event
+events_of peer None = []
+events_of peer (Some event) = event peer ∷ []
+
+abbrev pub fed : Desk → ℕ → List ℕ → Option Place → Done
+fed d peer piece None = record { desk = d; events = []; taken = 0; said = Silent; close = true }
+fed d peer piece (Some p) =
+    if p.session.closed
+    then record { desk = d; events = []; taken = 0; said = Silent; close = true }
+    else record {
+      desk = record d { places = with_first handle_of peer (fed_place p piece).place d.places };
+      events = events_of peer (fed_place p piece).event;
+      taken = (fed_place p piece).taken;
+      said = sends (fed_place p piece).answer;
+      close = (fed_place p piece).close;
+    }
+
+abbrev pub at_moment : Desk → ℕ → Desk
+at_moment d now = record d { moment = max d.moment now }
+
+-- A peer that begins holds no byte.
+abbrev pub opened : Desk → Said → Desk
+opened d (Begins handle) =
+    record d {
+      next = d.next + 1;
+      places = d.places
+          ++ record { session = record { handle = handle; registered = false; closed = false }; reader = [] } ∷ [];
+    }
+opened d other = d
+
+abbrev pub done : Desk → Call → Done
+done d Begins_one =
+    record {
+      desk = opened d (begun (state_of d)).said;
+      events = Begin ∷ [];
+      taken = 0;
+      said = (begun (state_of d)).said;
+      close = false;
+    }
+done d (Feeds now peer piece) =
+    let rest = fed (at_moment d now) peer piece (first_with handle_of peer d.places) in
+    record rest { events = At now ∷ rest.events }
+done d (Ends_one peer) =
+    record {
+      desk = record d { places = without_first handle_of peer d.places };
+      events = End peer ∷ [];
+      taken = 0;
+      said = Silent;
+      close = false;
+    }

@@ -1,0 +1,4 @@
+pub mod Lookup
+pub mod Turn
+pub mod Desk
+pub mod Answers

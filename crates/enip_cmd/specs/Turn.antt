@@ -1,0 +1,160 @@
+use Rattle.std.specs.Prelude.{ℕ, ◌+◌, max, List, [], ◌∷◌, ◌++◌, length, ◌==◌, nat_lt, not, if◌then◌else◌, Bool, true, false, Option, Some, None}
+use Rattle.enip_wire.specs.declared.header.Header.{Header}
+use Rattle.enip_wire.specs.Numbers.{le, number_at}
+use Rattle.enip_wire.specs.Frames.{Frame, frame}
+use Rattle.enip_cmd.specs.declared.commands.Session.{Session}
+use Rattle.enip_cmd.specs.declared.adapter.Full.{Full}
+use Rattle.enip_cmd.specs.declared.adapter.Full.TheVariants.{Places, Handles}
+use Rattle.enip_cmd.specs.Lookup.{first_with, with_first, without_first}
+
+-- A reply: command, session field and context as given, no options.
+-- (Volume 2, encapsulation header.)
+abbrev pub reply : Header → ℕ → ℕ → List ℕ → List ℕ
+reply asked session status bytes =
+    frame (
+    record {
+      header = record {
+        command = asked.command;
+        length = length bytes;
+        session = session;
+        status = status;
+        context = asked.context;
+        options = 0;
+      };
+      body = bytes;
+    }
+    )
+
+-- What becomes of a peer's session, and what the peer is sent.
+pub record Served : Type 0 where
+  pub session : Session
+  pub answer : Option (List ℕ)
+  pub close : Bool
+
+abbrev pub silent : Session → Served
+silent s = record { session = s; answer = None; close = false }
+
+-- A refusal: the session field is that of the frame that asked, and there are no data.
+abbrev pub refusal : Session → Header → ℕ → Served
+refusal s asked status = record { session = s; answer = Some (reply asked asked.session status []); close = false }
+
+-- Protocol version 1, no option flags. (Volume 2, RegisterSession.)
+abbrev pub version_one : List ℕ
+version_one = le 2 1 ++ le 2 0
+
+-- RegisterSession, by the first check that fails: invalid length 0x65; a session stands already 0x01;
+-- unsupported protocol revision 0x69, with the one that is served; poorly formed data 0x03.
+-- (Volume 2, RegisterSession.)
+abbrev pub registered : Session → Frame → Served
+registered s f =
+    if not (length f.body == 4)
+    then refusal s f.header 0x65
+    else if s.registered
+    then refusal s f.header 0x01
+    else if not (number_at 0 2 f.body == 1)
+    then record { session = s; answer = Some (reply f.header f.header.session 0x69 version_one); close = false }
+    else if not (number_at 2 2 f.body == 0)
+    then refusal s f.header 0x03
+    else record {
+      session = record s { registered = true };
+      answer = Some (reply f.header s.handle 0 version_one);
+      close = false;
+    }
+
+-- A whole frame, by its options, its status and its command: NOP 0x0000 has no answer, RegisterSession is
+-- 0x0065, and each other command is unsupported, 0x01. (Volume 2, encapsulation commands.)
+abbrev pub served : Session → Frame → Served
+served s f =
+    if not (f.header.options == 0)
+    then silent s
+    else if not (f.header.status == 0)
+    then silent s
+    else if f.header.command == 0x0000
+    then silent s
+    else if f.header.command == 0x0065 then registered s f else refusal s f.header 0x01
+
+-- A header whose length is too long: invalid length 0x65, and the connection is closed.
+abbrev pub refused_long : Session → Header → Served
+refused_long s asked =
+    record {
+      session = record s { closed = true };
+      answer = Some (reply asked asked.session 0x65 []);
+      close = true;
+    }
+
+-- The adapter: the greatest moment so far, the next session handle, and the peers in the order in which
+-- they began.
+pub record State : Type 0 where
+  pub moment : ℕ
+  pub next : ℕ
+  pub peers : List Session
+
+pub data Event : Type 0 where
+  Begin : Event
+  End : (peer : ℕ) → Event
+  At : (now : ℕ) → Event
+  Framed : (peer : ℕ) → (frame : Frame) → Event
+  Long : (peer : ℕ) → (header : Header) → Event
+
+-- What an event answers: nothing, a frame to the peer, or the handle or refusal of one that begins.
+pub data Said : Type 0 where
+  Silent : Said
+  Sends : (bytes : List ℕ) → Said
+  Begins : (handle : ℕ) → Said
+  Refuses : (full : Full) → Said
+
+pub record Turned : Type 0 where
+  pub state : State
+  pub said : Said
+  pub close : Bool
+
+abbrev pub sends : Option (List ℕ) → Said
+sends None = Silent
+sends (Some bytes) = Sends bytes
+
+-- A connection of TCP begins. Places are tested before handles. (Volume 2, RegisterSession: a handle is
+-- not used again.)
+abbrev pub begun : State → Turned
+begun s =
+    if not (nat_lt (length s.peers) 9)
+    then record { state = s; said = Refuses Places; close = false }
+    else if nat_lt 0xffffffff s.next
+    then record { state = s; said = Refuses Handles; close = false }
+    else record {
+      state = record s {
+        next = s.next + 1;
+        peers = s.peers ++ record { handle = s.next; registered = false; closed = false } ∷ [];
+      };
+      said = Begins s.next;
+      close = false;
+    }
+
+-- What a peer that is held and not closed is served; to any other nothing is done.
+abbrev pub to_peer : State → ℕ → (Session → Served) → Option Session → Turned
+to_peer s peer serves None = record { state = s; said = Silent; close = true }
+to_peer s peer serves (Some session) =
+    if session.closed
+    then record { state = s; said = Silent; close = true }
+    else record {
+      state = record s { peers = with_first (λ p. p.handle) peer (serves session).session s.peers };
+      said = sends (serves session).answer;
+      close = (serves session).close;
+    }
+
+-- The adapter's turn.
+abbrev pub turn : State → Event → Turned
+turn s Begin = begun s
+turn s (End peer) =
+    record { state = record s { peers = without_first (λ p. p.handle) peer s.peers }; said = Silent; close = false }
+turn s (At now) = record { state = record s { moment = max s.moment now }; said = Silent; close = false }
+turn s (Framed peer f) = to_peer s peer (λ p. served p f) (first_with (λ p. p.handle) peer s.peers)
+turn s (Long peer h) = to_peer s peer (λ p. refused_long p h) (first_with (λ p. p.handle) peer s.peers)
+
+-- The answers to a list of events, and the state after it.
+abbrev pub answers : State → List Event → List Said
+answers s [] = []
+answers s (e ∷ es) = (turn s e).said ∷ answers (turn s e).state es
+
+abbrev pub after : State → List Event → State
+after s [] = s
+after s (e ∷ es) = after (turn s e).state es
