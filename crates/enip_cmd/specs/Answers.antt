@@ -1,4 +1,12 @@
-use Rattle.std.specs.Prelude.{ℕ, List, Bool, true, false, Option, Some, None}
+use Rattle.std.specs.Prelude.{ℕ, ◌≡◌, List, Bool, true, false, Option, Some, None}
+use Rattle.std.specs.Prelude.{Result, Ok, Err}
+use Rattle.std.specs.Borrow.{Bor}
+use Rattle.enip_cmd.specs.declared.adapter.Full.{Full}
+use Rattle.enip_cmd.specs.declared.place.Place.{Place}
+use Rattle.enip_cmd.specs.declared.place.Outcome.{Outcome}
+use Rattle.enip_cmd.specs.Desk.{Fed_places}
+use Rattle.enip_cmd.specs.Turn.{Said}
+use Rattle.enip_cmd.specs.Turn.Said.{Silent, Sends, Begins, Refuses}
 use Rattle.enip_cmd.specs.declared.commands.Status.{Status}
 use Rattle.enip_cmd.specs.declared.commands.Status.TheVariants.{Success, UnsupportedCommand, PoorlyFormedData, InvalidLength, UnsupportedRevision}
 
@@ -14,3 +22,25 @@ status_code UnsupportedCommand = 0x01
 status_code PoorlyFormedData = 0x03
 status_code InvalidLength = 0x65
 status_code UnsupportedRevision = 0x69
+
+-- What a call of begin answers.
+abbrev pub begin_said : Result ℕ Full → Said
+begin_said (Ok handle) = Begins handle
+begin_said (Err full) = Refuses full
+
+-- What a call of feed answers.
+abbrev pub answer_said : Option (Bor (List ℕ)) → Said
+answer_said None = Silent
+answer_said (Some bytes) = Sends bytes.now
+
+-- The same of a buffer, and the word whether it was written.
+abbrev pub written_said : Bool → List ℕ → Said
+written_said true bytes = Sends bytes
+written_said false bytes = Silent
+
+-- The places, the outcome and the buffer after a piece are these.
+pub record IsFed (left : List Place) (outcome : Outcome) (bytes : List ℕ) (fed : Fed_places) : Type 0 where
+  pub places : left ≡ fed.places
+  pub taken : outcome.taken ≡ fed.taken
+  pub said : written_said outcome.answered bytes ≡ fed.said
+  pub close : outcome.close ≡ fed.close

@@ -76,21 +76,30 @@ abbrev pub events_of : ℕ → Option (ℕ → Event) → List Event
 events_of peer None = []
 events_of peer (Some event) = event peer ∷ []
 
-abbrev pub fed : Desk → ℕ → List ℕ → Option Place → Done
-fed d peer piece None = record { desk = d; events = []; taken = 0; said = Silent; close = true }
-fed d peer piece (Some p) =
+-- What a piece does to the peers.
+pub record Fed_places : Type 0 where
+  pub places : List Place
+  pub events : List Event
+  pub taken : ℕ
+  pub said : Said
+  pub close : Bool
+
+-- A peer that is closed or not held takes no byte.
+abbrev pub fed : List Place → ℕ → List ℕ → Option Place → Fed_places
+fed places peer piece None = record { places = places; events = []; taken = 0; said = Silent; close = true }
+fed places peer piece (Some p) =
     if p.session.closed
-    then record { desk = d; events = []; taken = 0; said = Silent; close = true }
+    then record { places = places; events = []; taken = 0; said = Silent; close = true }
     else record {
-      desk = record d { places = with_first handle_of peer (fed_place p piece).place d.places };
+      places = with_first handle_of peer (fed_place p piece).place places;
       events = events_of peer (fed_place p piece).event;
       taken = (fed_place p piece).taken;
       said = sends (fed_place p piece).answer;
       close = (fed_place p piece).close;
     }
 
-abbrev pub at_moment : Desk → ℕ → Desk
-at_moment d now = record d { moment = max d.moment now }
+abbrev pub fed_places : List Place → ℕ → List ℕ → Fed_places
+fed_places places peer piece = fed places peer piece (first_with handle_of peer places)
 
 -- A peer that begins holds no byte.
 abbrev pub opened : Desk → Said → Desk
@@ -112,8 +121,13 @@ done d Begins_one =
       close = false;
     }
 done d (Feeds now peer piece) =
-    let rest = fed (at_moment d now) peer piece (first_with handle_of peer d.places) in
-    record rest { events = At now ∷ rest.events }
+    record {
+      desk = record { moment = max d.moment now; next = d.next; places = (fed_places d.places peer piece).places };
+      events = At now ∷ (fed_places d.places peer piece).events;
+      taken = (fed_places d.places peer piece).taken;
+      said = (fed_places d.places peer piece).said;
+      close = (fed_places d.places peer piece).close;
+    }
 done d (Ends_one peer) =
     record {
       desk = record d { places = without_first handle_of peer d.places };
@@ -122,3 +136,7 @@ done d (Ends_one peer) =
       said = Silent;
       close = false;
     }
+
+-- The adapter that has just been made.
+abbrev pub new_desk : Desk
+new_desk = record { moment = 0; next = 1; places = [] }

@@ -2,3 +2,4 @@ pub mod Lookup
 pub mod Turn
 pub mod Desk
 pub mod Answers
+pub mod Room

@@ -24,6 +24,15 @@ pub struct Outcome {
     pub close: bool,
 }
 
+impl Outcome {
+    /// Of a peer that is closed or not held: no byte is taken.
+    pub const NOT_SERVED: Outcome = Outcome {
+        taken: 0,
+        answered: false,
+        close: true,
+    };
+}
+
 impl Place {
     ghost use Rattle.enip_cmd.specs.Desk.{fed_place};
 
