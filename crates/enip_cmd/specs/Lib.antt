@@ -3,3 +3,4 @@ pub mod Turn
 pub mod Desk
 pub mod Answers
 pub mod Room
+pub mod Statuses

@@ -1,6 +1,6 @@
 //! The adapter's peers, each with a session handle and a reader of its frames.
 
-ghost use Rattle.std.specs.Prelude.{◌≡◌, ◌==◌, ◌↔◌, ◌<◌, ◌≤◌, [], length, IfOk, Err};
+ghost use Rattle.std.specs.Prelude.{◌≡◌, ◌==◌, ◌↔◌, ◌<◌, ◌≤◌, [], length, IfOk, IfSome, Err};
 ghost use Rattle.std.specs.Option.{option_map};
 ghost use Rattle.std.specs.List.{position};
 ghost use Rattle.enip_cmd.specs.Desk.{fed_places};
@@ -8,7 +8,7 @@ ghost use Rattle.enip_cmd.specs.Answers.{IsFed};
 ghost use Rattle.std.specs.Borrow.{sem};
 ghost use Rattle.std.specs.Io.BufRead.{Rests};
 
-use crate::commands::{Answer, Session};
+use crate::commands::{Answer, LONGEST_ANSWER, Session};
 use crate::place::{Outcome, Place};
 use enip_wire::reader::FrameReader;
 use std::alloc::{AllocError, Global};
@@ -133,6 +133,8 @@ impl Adapter {
         ensures taken { result.taken ≡ (done self.old (Call.Feeds now peer.now piece.now)).taken }
         ensures answer { answer_said result.answer ≡ (done self.old (Call.Feeds now peer.now piece.now)).said }
         ensures close { result.close ≡ (done self.old (Call.Feeds now peer.now piece.now)).close }
+        ensures within { result.taken ≤ length piece.now }
+        ensures fits { IfSome result.answer (λ frame. length frame.now ≤ LONGEST_ANSWER) }
     {
         self.moment = self.moment.max(now);
         let outcome = feed_places(&mut self.places, peer.handle, piece, &mut self.answer);
@@ -171,7 +173,8 @@ fn index_of(places: &[Place], handle: u32) -> Option<usize>
 
 /// Feeds a piece to the peer with this handle.
 fn feed_places(places: &mut [Place], handle: u32, piece: &[u8], answer: &mut Answer) -> Outcome
-    ensures { IsFed places.new result answer.new.items (fed_places places.old handle piece.now) }
+    ensures fed { IsFed places.new result answer.new.items (fed_places places.old handle piece.now) }
+    ensures within { result.taken ≤ length piece.now }
 {
     let Some(index) = index_of(places, handle) else {
         return Outcome::NOT_SERVED;

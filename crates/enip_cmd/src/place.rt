@@ -1,6 +1,6 @@
 //! A place for one peer: its session, and what has come of its next frame.
 
-ghost use Rattle.std.specs.Prelude.{◌≡◌};
+ghost use Rattle.std.specs.Prelude.{◌≡◌, ◌≤◌, length};
 ghost use Rattle.enip_cmd.specs.Answers.{said};
 
 use crate::commands::{self, Answer, Session};
@@ -42,6 +42,7 @@ impl Place {
         ensures taken { result.taken ≡ (fed_place self.old piece.now).taken }
         ensures answer { said result.answered answer.new.items ≡ (fed_place self.old piece.now).answer }
         ensures close { result.close ≡ (fed_place self.old piece.now).close }
+        ensures within { result.taken ≤ length piece.now }
     {
         let taken = self.reader.push(piece);
         match self.reader.state() {

@@ -1,0 +1,249 @@
+//! `enip answer`: lines of pieces in, the adapter's answers out.
+
+ghost use Rattle.std.specs.Prelude.{◌≤◌, length};
+
+use crate::adapter::{Adapter, Full, Peer};
+use crate::commands::LONGEST_ANSWER;
+use crate::configuration::Configuration;
+use crate::fault::Fault;
+use crate::lines::{Line, Number};
+use memchr::memchr;
+use std::alloc::Global;
+use std::io::{BufWriter, Read, Write};
+
+/// How many bytes of the input are read at a time.
+const CHUNK: usize = 65_536;
+
+/// Runs an adapter over the lines of an input, and answers the exit status of the program: 0, or 3 where the
+/// configuration is refused, 4 where a line is, 5 where a device or memory failed, with a line on `errors`.
+///
+/// What can be answered is written before more input is read.
+pub fn answer<R: Read + Drop, W: Write + Drop, E: Write + Drop>(
+    alloc: Global,
+    config: &str,
+    input: R,
+    output: W,
+    errors: E,
+) -> u8
+    ensures { result ≤ 5 }
+{
+    let mut errors = errors;
+    match run(alloc, config, input, output) {
+        Ok(()) => 0,
+        Err(fault) => {
+            let _ = writeln!(errors, "{fault}");
+            fault.exit_status()
+        }
+    }
+}
+
+fn run<R: Read + Drop, W: Write + Drop>(
+    alloc: Global,
+    config: &str,
+    input: R,
+    output: W,
+) -> Result<(), Fault> {
+    Configuration::read(alloc, config)?;
+    let mut desk = Desk::new(alloc, output)?;
+    let read = desk.read_all(alloc, input);
+    let flushed = desk.output.flush();
+    read?;
+    flushed?;
+    Ok(())
+}
+
+/// Who has one of the nine numbers of an input.
+#[derive(Clone, Copy, Debug)]
+enum Seat {
+    /// No peer.
+    Free,
+    /// A peer.
+    Taken(Peer),
+    /// A peer that is closed, which was printed.
+    Closed(Peer),
+}
+
+/// The adapter, who is at it, and where its answers go.
+#[derive(Drop)]
+struct Desk<W: Write + Drop> {
+    adapter: Adapter,
+    now: u64,
+    seats: [Seat; 9],
+    output: BufWriter<W>,
+    digits: Vec<u8>,
+    piece: Vec<u8>,
+}
+
+impl<W: Write + Drop> Desk<W> {
+    fn new(alloc: Global, output: W) -> Result<Desk<W>, Fault> {
+        Ok(Desk {
+            adapter: Adapter::new(alloc)?,
+            now: 0,
+            seats: [Seat::Free; 9],
+            output: BufWriter::new(alloc, output)?,
+            digits: Vec::new(alloc),
+            piece: Vec::new(alloc),
+        })
+    }
+
+    /// Serves each line of an input. What is answered goes out before more is read.
+    fn read_all<R: Read + Drop>(&mut self, alloc: Global, input: R) -> Result<(), Fault> {
+        let mut input = input;
+        let mut chunk = vec![in alloc; 0u8; CHUNK]?;
+        let mut line = Vec::new(alloc);
+        let mut number = 1;
+        for _ in 0..u64::MAX {
+            let count = input.read(&mut chunk)?;
+            if count == 0 {
+                break;
+            }
+            number = self.serve_chunk(&chunk[..count], &mut line, number)?;
+            self.output.flush()?;
+        }
+        if !line.is_empty() {
+            self.serve_line(line.as_slice(), number)?;
+        }
+        Ok(())
+    }
+
+    /// Serves the lines that end in a chunk. `line` has the front of the first, and then that of the next,
+    /// whose number is answered.
+    fn serve_chunk(&mut self, chunk: &[u8], line: &mut Vec<u8>, number: u64) -> Result<u64, Fault> {
+        let mut number = number;
+        let mut rest = chunk;
+        while let Some(end) = memchr(b'\n', rest) {
+            let (head, tail) = rest.split_at(end);
+            rest = &tail[1..];
+            if line.is_empty() {
+                self.serve_line(head, number)?;
+            } else {
+                line.extend_from_slice(head)?;
+                self.serve_line(line.as_slice(), number)?;
+                line.clear();
+            }
+            number = number.saturating_add(1);
+        }
+        line.extend_from_slice(rest)?;
+        Ok(number)
+    }
+
+    /// Serves one line, without its end.
+    fn serve_line(&mut self, text: &[u8], number: u64) -> Result<(), Fault> {
+        let text = match text {
+            [front @ .., b'\r'] => front,
+            _ => text,
+        };
+        match Line::read(text) {
+            None => Err(Fault::Line(number)),
+            Some(Line::Nothing) => Ok(()),
+            Some(Line::Now(moment)) => {
+                self.now = moment;
+                Ok(())
+            }
+            Some(Line::End(seat)) => {
+                self.end(seat);
+                Ok(())
+            }
+            Some(Line::Piece(seat, text)) => {
+                if !decode(text, &mut self.digits, &mut self.piece)? {
+                    return Err(Fault::Line(number));
+                }
+                self.feed(seat)
+            }
+        }
+    }
+
+    /// Ends the peer of a number, if there is one.
+    fn end(&mut self, number: Number) {
+        let seat = self.seats[number.place()];
+        match seat {
+            Seat::Free => {}
+            Seat::Taken(peer) | Seat::Closed(peer) => self.adapter.end(peer),
+        }
+        self.seats[number.place()] = Seat::Free;
+    }
+
+    /// Feeds the piece to the peer of a number, who begins where there is none.
+    fn feed(&mut self, number: Number) -> Result<(), Fault> {
+        let seat = self.seats[number.place()];
+        let peer = match seat {
+            Seat::Closed(_) => return Ok(()),
+            Seat::Taken(peer) => peer,
+            Seat::Free => match self.adapter.begin() {
+                Ok(peer) => peer,
+                Err(full) => return print_full(&mut self.output, number, full),
+            },
+        };
+        self.seats[number.place()] = Seat::Taken(peer);
+        let mut rest = self.piece.as_slice();
+        // Each turn takes a byte or more, or closes.
+        for _ in 0..self.piece.len() {
+            if rest.is_empty() {
+                break;
+            }
+            let fed = self.adapter.feed(self.now, &peer, rest);
+            if let Some(frame) = fed.answer {
+                print_answer(&mut self.output, number, frame)?;
+            }
+            if fed.close {
+                self.seats[number.place()] = Seat::Closed(peer);
+                return print_closed(&mut self.output, number);
+            }
+            rest = &rest[fed.taken..];
+        }
+        Ok(())
+    }
+}
+
+/// Reads the digits of a piece, with spaces or without, and says whether they are one byte or more.
+fn decode(text: &[u8], digits: &mut Vec<u8>, piece: &mut Vec<u8>) -> Result<bool, Fault> {
+    if !text.contains(&b' ') {
+        return decode_digits(text, piece);
+    }
+    digits.clear();
+    for part in text.split(|byte| *byte == b' ') {
+        digits.extend_from_slice(part)?;
+    }
+    decode_digits(digits.as_slice(), piece)
+}
+
+/// Reads the digits of a piece, and says whether they are one byte or more.
+fn decode_digits(digits: &[u8], piece: &mut Vec<u8>) -> Result<bool, Fault> {
+    if digits.is_empty() || digits.len() % 2 != 0 {
+        return Ok(false);
+    }
+    piece.resize(digits.len() / 2, 0)?;
+    Ok(hex::decode_to_slice(digits, piece.as_mut_slice()).is_ok())
+}
+
+/// Prints an answer: `P hex`.
+fn print_answer<W: Write>(output: &mut W, number: Number, frame: &[u8]) -> Result<(), Fault>
+    requires { length frame.now ≤ LONGEST_ANSWER }
+{
+    let mut text = [0u8; 2 * LONGEST_ANSWER];
+    let digits = &mut text[..2 * frame.len()];
+    let _ = hex::encode_to_slice(frame, digits);
+    output.write_all(&[number.digit(), b' '])?;
+    output.write_all(digits)?;
+    output.write_all(b"\n")?;
+    Ok(())
+}
+
+/// Prints that a peer is closed: `P closed`.
+fn print_closed<W: Write>(output: &mut W, number: Number) -> Result<(), Fault> {
+    output.write_all(&[number.digit()])?;
+    output.write_all(b" closed\n")?;
+    Ok(())
+}
+
+/// Prints that a peer could not begin: `P full N`.
+fn print_full<W: Write>(output: &mut W, number: Number, full: Full) -> Result<(), Fault> {
+    let why = match full {
+        Full::Places => b'1',
+        Full::Handles => b'2',
+    };
+    output.write_all(&[number.digit()])?;
+    output.write_all(b" full ")?;
+    output.write_all(&[why, b'\n'])?;
+    Ok(())
+}

@@ -1,0 +1,59 @@
+//! Why a command of the program ends early, what it then prints, and its exit status.
+
+ghost use Rattle.std.specs.Prelude.{◌≡◌};
+ghost use Rattle.enip_cmd.specs.Statuses.{exit_status};
+
+use std::alloc::{AllocError, AllocFailed};
+use std::io;
+use thiserror::Error;
+
+/// Why a command ends early. Its text goes to standard error.
+#[derive(Clone, Copy, Debug, PartialEq, Eq, Error)]
+pub enum Fault {
+    /// The configuration is refused, by the number of the check that failed.
+    #[error("configuration {0}")]
+    Configuration(u8),
+    /// A line of the input is refused, by its number from 1. The lines before it were run.
+    #[error("line {0}")]
+    Line(u64),
+    /// A file or a stream could not be read or written.
+    #[error("device")]
+    Device,
+    /// There was no memory.
+    #[error("memory")]
+    Memory,
+}
+
+impl Fault {
+    /// The exit status of a program that ends so.
+    pub fn exit_status(self) -> u8
+        ensures { result ≡ exit_status self }
+    {
+        match self {
+            Fault::Configuration(_) => 3,
+            Fault::Line(_) => 4,
+            Fault::Device | Fault::Memory => 5,
+        }
+    }
+}
+
+impl From<AllocError> for Fault {
+    fn from(_error: AllocError) -> Fault {
+        Fault::Memory
+    }
+}
+
+impl<T: Drop> From<AllocFailed<T>> for Fault {
+    fn from(_error: AllocFailed<T>) -> Fault {
+        Fault::Memory
+    }
+}
+
+impl From<io::Error> for Fault {
+    fn from(error: io::Error) -> Fault {
+        match error.kind() {
+            io::ErrorKind::OutOfMemory => Fault::Memory,
+            _ => Fault::Device,
+        }
+    }
+}
