@@ -1,2 +1,4 @@
 pub mod LookupLemmas
 pub mod FeedLemmas
+pub mod EventLemmas
+pub mod PeerLemmas

@@ -4,3 +4,4 @@ pub mod Desk
 pub mod Answers
 pub mod Room
 pub mod Statuses
+pub mod Runs

@@ -6,6 +6,7 @@ pub mod answer;
 pub mod commands;
 pub mod configuration;
 pub mod fault;
+pub mod laws;
 pub mod lines;
 pub mod place;
 
@@ -76,7 +77,10 @@ fn run_answer(rt: &HostRuntime, path: &str) -> u8 {
 /// Reads the words of the command line, and runs the command.
 fn run_words(rt: &HostRuntime) -> Result<u8, Fault> {
     let alloc = rt.alloc();
-    let words: Vec<String> = env::args(rt)?.collect(alloc)?;
+    let mut words: Vec<String> = env::args(rt)?.collect(alloc)?;
+    if let Some(name) = words.first_mut() {
+        *name = String::from_str(alloc, "enip")?;
+    }
     match words_of(alloc)?.try_get_matches_from(words.as_slice()) {
         Ok(matches) => Ok(run(rt, &matches)),
         Err(error) => {
