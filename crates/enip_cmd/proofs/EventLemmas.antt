@@ -46,7 +46,7 @@ map-without_first {X} {Y} f number n (x ∷ xs) =
     ) [ true ↦ refl | false ↦ ap (λ ys. f x ∷ ys) rest ]
 
 -- an item in the place of itself
-with_first-same : {X : Type 0} → (number : X → ℕ) (n : ℕ) (x : X) (xs : List X) → first_with number n xs ≡ Some x
+pub with_first-same : {X : Type 0} → (number : X → ℕ) (n : ℕ) (x : X) (xs : List X) → first_with number n xs ≡ Some x
     → with_first number n x xs ≡ xs
 with_first-same number n x [] e = refl
 with_first-same {X} number n x (y ∷ ys) e = go (eqb (number y) n) (λ f. with_first-same number n x ys f) e
@@ -154,7 +154,7 @@ record IsFedTurns (moment next : ℕ) (places : List Place) (x : Fed_places) : T
 abbrev peers_are : ℕ → ℕ → List Session → State
 peers_are moment next peers = record { moment = moment; next = next; peers = peers }
 
-abbrev fed_by : List Place → ℕ → Fed_place → Fed_places
+abbrev pub fed_by : List Place → ℕ → Fed_place → Fed_places
 fed_by places peer x =
     record {
       places = with_first handle_of peer x.place places;

@@ -57,7 +57,7 @@ handle-fed_place p piece =
     (sight_of (p.reader ++ take (taken_of p.reader piece) piece))
 
 -- the item that is found has the number
-first_with-number : {X : Type 0} → (number : X → ℕ) (n : ℕ) (x : X) (xs : List X) → first_with number n xs ≡ Some x
+pub first_with-number : {X : Type 0} → (number : X → ℕ) (n : ℕ) (x : X) (xs : List X) → first_with number n xs ≡ Some x
     → number x ≡ n
 first_with-number number n x [] e = cc
 first_with-number {X} number n x (y ∷ ys) e = go (eqb (number y) n) refl (λ f. first_with-number number n x ys f) e

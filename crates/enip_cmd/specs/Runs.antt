@@ -46,15 +46,15 @@ RisesFrom n (h ∷ hs) = (n ≤ h) × RisesFrom (suc h) hs
 -- peer is closed, what is left is dropped. This is what is said, and the desk at the end.
 pub data Pours (now peer : ℕ) : Desk → List (List ℕ) → List Said → Desk → Type 0 where
   Ended : {d : Desk} → Pours now peer d [] [] d
-  Went_on : {d last : Desk} {piece : List ℕ} {pieces : List (List ℕ)} {said : List Said}
-      → (done d (Feeds now peer piece)).close ≡ false
-      → Pours now peer (done d (Feeds now peer piece)).desk (drop (done d (Feeds now peer piece)).taken piece ∷ pieces) said last
-      → Pours now peer d (piece ∷ pieces) ((done d (Feeds now peer piece)).said ∷ said) last
   Taken : {d last : Desk} {pieces : List (List ℕ)} {said : List Said}
       → Pours now peer d pieces said last → Pours now peer d ([] ∷ pieces) said last
-  Closed : {d : Desk} {piece : List ℕ} {pieces : List (List ℕ)}
-      → (done d (Feeds now peer piece)).close ≡ true
-      → Pours now peer d (piece ∷ pieces) ((done d (Feeds now peer piece)).said ∷ []) (done d (Feeds now peer piece)).desk
+  Went_on : {d last : Desk} {b : ℕ} {bs : List ℕ} {pieces : List (List ℕ)} {said : List Said}
+      → (done d (Feeds now peer (b ∷ bs))).close ≡ false
+      → Pours now peer (done d (Feeds now peer (b ∷ bs))).desk (drop (done d (Feeds now peer (b ∷ bs))).taken (b ∷ bs) ∷ pieces) said last
+      → Pours now peer d ((b ∷ bs) ∷ pieces) ((done d (Feeds now peer (b ∷ bs))).said ∷ said) last
+  Closed : {d : Desk} {b : ℕ} {bs : List ℕ} {pieces : List (List ℕ)}
+      → (done d (Feeds now peer (b ∷ bs))).close ≡ true
+      → Pours now peer d ((b ∷ bs) ∷ pieces) ((done d (Feeds now peer (b ∷ bs))).said ∷ []) (done d (Feeds now peer (b ∷ bs))).desk
 
 -- The calls that feed these bytes to a peer one by one.
 abbrev pub one_by_one : ℕ → ℕ → List ℕ → List Call
