@@ -9,7 +9,10 @@ pub mod fault;
 pub mod laws;
 pub mod lines;
 pub mod place;
+#[cfg(test)]
+mod tests;
 
+use clap::error::ErrorKind;
 use clap::{Arg, ArgMatches, Command};
 use fault::Fault;
 use std::alloc::Global;
@@ -83,6 +86,7 @@ fn run_words(rt: &HostRuntime) -> Result<u8, Fault> {
     }
     match words_of(alloc)?.try_get_matches_from(words.as_slice()) {
         Ok(matches) => Ok(run(rt, &matches)),
+        Err(error) if error.kind() == ErrorKind::OutOfMemory => Err(Fault::Memory),
         Err(error) => {
             error.print(rt)?;
             Ok(if error.use_stderr() { WORDS_REFUSED } else { 0 })
