@@ -3,6 +3,7 @@ use Rattle.std.proofs.Common.{◌≡◌, ℕ, zero, suc, ◌+◌, ◌-◌, ◌�
 use Rattle.std.specs.List.{concat, AllByRecursion}
 use Rattle.std.proofs.lemmas.Bool.{cases_lt, false≢true, ne_eqb, eq-eqb, eqb-true}
 use Rattle.std.proofs.lemmas.List.{take-append-drop}
+use Rattle.cip_objects.specs.Contents.{Contents}
 use Rattle.enip_wire.specs.Frames.{Frame}
 use Rattle.enip_wire.specs.Numbers.{number_at}
 use Rattle.enip_wire.specs.Stream.{taken_of, sight_of, Sight}
@@ -10,10 +11,10 @@ use Rattle.enip_wire.specs.Stream.Sight.{Nothing_yet, A_frame, A_long_header}
 use Rattle.enip_cmd.specs.declared.commands.Session.{Session}
 use Rattle.enip_cmd.specs.declared.place.Place.{Place}
 use Rattle.enip_cmd.specs.Lookup.{first_with, with_first, without_first}
-use Rattle.enip_cmd.specs.Turn.{State, Turned, Said, Served, begun, served, registered, sends}
+use Rattle.enip_cmd.specs.Turn.{State, Turned, Said, Replied, Served, begun, served, registered, sends}
 use Rattle.enip_cmd.specs.Turn.Event.{At}
 use Rattle.enip_cmd.specs.Turn.Said.{Silent, Sends, Begins, Refuses}
-use Rattle.enip_cmd.specs.Desk.{Desk, Call, Done, Fed_places, Fed_place, done, new_desk, state_of, handle_of, opened, fed, fed_place, fed_places, shown_to}
+use Rattle.enip_cmd.specs.Desk.{Desk, Call, Done, Fed_places, Fed_place, done, new_desk, state_of, handle_of, opened, unserved, fed, fed_place, fed_places, shown_to}
 use Rattle.enip_cmd.specs.Desk.Call.{Begins_one, Feeds, Ends_one}
 use Rattle.enip_cmd.specs.Runs.{all_done, desk_after, spoken, one_by_one, Pours}
 use Rattle.enip_cmd.specs.Runs.Pours.{Ended, Taken, Went_on, Closed}
@@ -25,15 +26,12 @@ use Rattle.enip_cmd.proofs.RunningLemmas.{IsRunning, running-empty, taken_of-som
 abbrev done_by : Desk → ℕ → Fed_places → Done
 done_by d now x =
     record {
-      desk = record { moment = max d.moment now; next = d.next; places = x.places };
+      desk = record { moment = max d.moment now; objects = x.objects; next = d.next; places = x.places };
       events = At now ∷ x.events;
       taken = x.taken;
       said = x.said;
       close = x.close;
     }
-
-abbrev unserved : List Place → Fed_places
-unserved places = record { places = places; events = []; taken = 0; said = Silent; close = true }
 
 -- a peer that is held and open
 record IsLive (places : List Place) (peer : ℕ) (p : Place) : Type 0 where
@@ -44,26 +42,26 @@ record IsLive (places : List Place) (peer : ℕ) (p : Place) : Type 0 where
 record IsDead (places : List Place) (peer : ℕ) : Type 0 where
   closed : (p : Place) → first_with handle_of peer places ≡ Some p → p.session.closed ≡ true
 
-fed-live : (places : List Place) (peer : ℕ) (p : Place) (piece : List ℕ) → IsLive places peer p
-    → fed_places places peer piece ≡ fed_by places peer (fed_place p piece)
-fed-live places peer p piece live =
-    ap (fed places peer piece) live.found
-    ∙ ap (λ b. cond b (unserved places) (fed_by places peer (fed_place p piece))) live.alive
+fed-live : (m : Contents) (places : List Place) (peer : ℕ) (p : Place) (piece : List ℕ) → IsLive places peer p
+    → fed_places m places peer piece ≡ fed_by places peer (fed_place m p piece)
+fed-live m places peer p piece live =
+    ap (fed m places peer piece) live.found
+    ∙ ap (λ b. cond b (unserved m places) (fed_by places peer (fed_place m p piece))) live.alive
 
 done-live : (d : Desk) (now peer : ℕ) (p : Place) (piece : List ℕ) → IsLive d.places peer p
-    → done d (Feeds now peer piece) ≡ done_by d now (fed_by d.places peer (fed_place p piece))
-done-live d now peer p piece live = ap (done_by d now) (fed-live d.places peer p piece live)
+    → done d (Feeds now peer piece) ≡ done_by d now (fed_by d.places peer (fed_place d.objects p piece))
+done-live d now peer p piece live = ap (done_by d now) (fed-live d.objects d.places peer p piece live)
 
-fed-dead : (places : List Place) (peer : ℕ) (piece : List ℕ) (o : Option Place) → first_with handle_of peer places ≡ o
-    → IsDead places peer → fed places peer piece o ≡ unserved places
-fed-dead places peer piece None e dead = refl
-fed-dead places peer piece (Some p) e dead =
-    ap (λ b. cond b (unserved places) (fed_by places peer (fed_place p piece))) (dead.closed p e)
+fed-dead : (m : Contents) (places : List Place) (peer : ℕ) (piece : List ℕ) (o : Option Place) → first_with handle_of peer places ≡ o
+    → IsDead places peer → fed m places peer piece o ≡ unserved m places
+fed-dead m places peer piece None e dead = refl
+fed-dead m places peer piece (Some p) e dead =
+    ap (λ b. cond b (unserved m places) (fed_by places peer (fed_place m p piece))) (dead.closed p e)
 
 done-dead : (d : Desk) (now peer : ℕ) (piece : List ℕ) → IsDead d.places peer
-    → done d (Feeds now peer piece) ≡ done_by d now (unserved d.places)
+    → done d (Feeds now peer piece) ≡ done_by d now (unserved d.objects d.places)
 done-dead d now peer piece dead =
-    ap (done_by d now) (fed-dead d.places peer piece (first_with handle_of peer d.places) refl dead)
+    ap (done_by d now) (fed-dead d.objects d.places peer piece (first_with handle_of peer d.places) refl dead)
 
 -- each peer is one or the other
 data Status (places : List Place) (peer : ℕ) : Type 0 where
@@ -103,27 +101,32 @@ with_first-twice {X} number n a b (x ∷ xs) h = go (eqb (number x) n) refl (wit
     go false t rest = ap (λ s. cond s (b ∷ with_first number n a xs) (x ∷ with_first number n b (with_first number n a xs))) t ∙ ap (λ ys. x ∷ ys) rest
 
 -- the number of bytes taken matters to nothing else
-shown-place : (s : Session) (held : List ℕ) (n m : ℕ) (x : Sight) → (shown_to s held n x).place ≡ (shown_to s held m x).place
-shown-place s held n m Nothing_yet = refl
-shown-place s held n m (A_frame f) = refl
-shown-place s held n m (A_long_header h) = refl
+shown-place : (o : Contents) (s : Session) (held : List ℕ) (n m : ℕ) (x : Sight) → (shown_to o s held n x).place ≡ (shown_to o s held m x).place
+shown-place o s held n m Nothing_yet = refl
+shown-place o s held n m (A_frame f) = refl
+shown-place o s held n m (A_long_header h) = refl
 
-shown-answer : (s : Session) (held : List ℕ) (n m : ℕ) (x : Sight) → (shown_to s held n x).answer ≡ (shown_to s held m x).answer
-shown-answer s held n m Nothing_yet = refl
-shown-answer s held n m (A_frame f) = refl
-shown-answer s held n m (A_long_header h) = refl
+shown-answer : (o : Contents) (s : Session) (held : List ℕ) (n m : ℕ) (x : Sight) → (shown_to o s held n x).answer ≡ (shown_to o s held m x).answer
+shown-answer o s held n m Nothing_yet = refl
+shown-answer o s held n m (A_frame f) = refl
+shown-answer o s held n m (A_long_header h) = refl
 
-shown-taken : (s : Session) (held : List ℕ) (n : ℕ) (x : Sight) → (shown_to s held n x).taken ≡ n
-shown-taken s held n Nothing_yet = refl
-shown-taken s held n (A_frame f) = refl
-shown-taken s held n (A_long_header h) = refl
+shown-objects : (o : Contents) (s : Session) (held : List ℕ) (n m : ℕ) (x : Sight) → (shown_to o s held n x).objects ≡ (shown_to o s held m x).objects
+shown-objects o s held n m Nothing_yet = refl
+shown-objects o s held n m (A_frame f) = refl
+shown-objects o s held n m (A_long_header h) = refl
 
-abbrev shown_after : Place → List ℕ → ℕ → Fed_place
-shown_after p piece n = shown_to p.session (p.reader ++ take n piece) n (sight_of (p.reader ++ take n piece))
+shown-taken : (o : Contents) (s : Session) (held : List ℕ) (n : ℕ) (x : Sight) → (shown_to o s held n x).taken ≡ n
+shown-taken o s held n Nothing_yet = refl
+shown-taken o s held n (A_frame f) = refl
+shown-taken o s held n (A_long_header h) = refl
 
-fed-taken : (p : Place) (piece : List ℕ) → (fed_place p piece).taken ≡ taken_of p.reader piece
-fed-taken p piece =
-    shown-taken p.session (p.reader ++ take (taken_of p.reader piece) piece) (taken_of p.reader piece)
+abbrev shown_after : Contents → Place → List ℕ → ℕ → Fed_place
+shown_after o p piece n = shown_to o p.session (p.reader ++ take n piece) n (sight_of (p.reader ++ take n piece))
+
+fed-taken : (o : Contents) (p : Place) (piece : List ℕ) → (fed_place o p piece).taken ≡ taken_of p.reader piece
+fed-taken o p piece =
+    shown-taken o p.session (p.reader ++ take (taken_of p.reader piece) piece) (taken_of p.reader piece)
     (sight_of (p.reader ++ take (taken_of p.reader piece) piece))
 
 max-twice : (a b : ℕ) → max (max a b) b ≡ max a b
@@ -134,8 +137,8 @@ dead-run : (d : Desk) (now peer : ℕ) (bytes : List ℕ) → IsDead d.places pe
     → (desk_after d (one_by_one now peer bytes) ≡ d) × (spoken (map (λ x. x.said) (all_done d (one_by_one now peer bytes))) ≡ [])
 dead-run d now peer [] dead still = (refl, refl)
 dead-run d now peer (b ∷ bs) dead still =
-    let e : done d (Feeds now peer (b ∷ [])) ≡ done_by d now (unserved d.places) = done-dead d now peer (b ∷ []) dead in
-    let same : (done_by d now (unserved d.places)).desk ≡ d = ap (λ m. let x : Desk = record { moment = m; next = d.next; places = d.places } in x) still in
+    let e : done d (Feeds now peer (b ∷ [])) ≡ done_by d now (unserved d.objects d.places) = done-dead d now peer (b ∷ []) dead in
+    let same : (done_by d now (unserved d.objects d.places)).desk ≡ d = ap (λ m. let x : Desk = record { moment = m; objects = d.objects; next = d.next; places = d.places } in x) still in
     let whole : (done d (Feeds now peer (b ∷ []))).desk ≡ d = ap (λ x. x.desk) e ∙ same in
     let rest : (desk_after d (one_by_one now peer bs) ≡ d) × (spoken (map (λ x. x.said) (all_done d (one_by_one now peer bs))) ≡ [])
     = dead-run d now peer bs dead still in (
@@ -152,29 +155,32 @@ next_place p b = record { session = p.session; reader = p.reader ++ b ∷ [] }
 first-step : (d : Desk) (now peer : ℕ) (p : Place) (b : ℕ) → IsLive d.places peer p → IsRunning p.reader
     → IsRunning (p.reader ++ b ∷ [])
     → done d (Feeds now peer (b ∷ []))
-    ≡ done_by d now (fed_by d.places peer (shown_to p.session (p.reader ++ b ∷ []) 1 Nothing_yet))
+    ≡ done_by d now (fed_by d.places peer (shown_to d.objects p.session (p.reader ++ b ∷ []) 1 Nothing_yet))
 first-step d now peer p b live running next =
     done-live d now peer p (b ∷ []) live
-    ∙ ap (λ n. done_by d now (fed_by d.places peer (shown_after p (b ∷ []) n))) (taken_of-one p.reader b running)
-    ∙ ap (λ x. done_by d now (fed_by d.places peer (shown_to p.session (p.reader ++ b ∷ []) 1 x)))
+    ∙ ap (λ n. done_by d now (fed_by d.places peer (shown_after d.objects p (b ∷ []) n))) (taken_of-one p.reader b running)
+    ∙ ap (λ x. done_by d now (fed_by d.places peer (shown_to d.objects p.session (p.reader ++ b ∷ []) 1 x)))
     (sight_of-running (p.reader ++ b ∷ []) next)
 
 -- what the rest of a piece does after its first byte
-rest-shown : (p : Place) (b : ℕ) (bs : List ℕ) → 2 ≤ taken_of p.reader (b ∷ bs)
-    → ((fed_place (next_place p b) bs).place ≡ (fed_place p (b ∷ bs)).place)
-    × ((fed_place (next_place p b) bs).answer ≡ (fed_place p (b ∷ bs)).answer)
-rest-shown p b bs two =
-    let n : ℕ = taken_of (p.reader ++ b ∷ []) bs in
+rest-shown : (o : Contents) (p : Place) (b : ℕ) (bs : List ℕ) → 2 ≤ taken_of p.reader (b ∷ bs)
+    → ((fed_place o (next_place p b) bs).place ≡ (fed_place o p (b ∷ bs)).place)
+    × ((fed_place o (next_place p b) bs).answer ≡ (fed_place o p (b ∷ bs)).answer)
+    × ((fed_place o (next_place p b) bs).objects ≡ (fed_place o p (b ∷ bs)).objects)
+rest-shown o p b bs two =
     let t : taken_of p.reader (b ∷ bs) ≡ suc (taken_of (p.reader ++ b ∷ []) bs) = omega (arith, taken_of-next p.reader b bs) in
     let whole : (p.reader ++ b ∷ []) ++ take (taken_of (p.reader ++ b ∷ []) bs) bs
     ≡ p.reader ++ take (taken_of p.reader (b ∷ bs)) (b ∷ bs)
     = append_assoc p.reader (b ∷ []) (take (taken_of (p.reader ++ b ∷ []) bs) bs)
     ∙ ap (λ k. p.reader ++ take k (b ∷ bs)) (sym t) in (
-      ap (λ h. (shown_to p.session h (taken_of (p.reader ++ b ∷ []) bs) (sight_of h)).place) whole
-          ∙ shown-place p.session (p.reader ++ take (taken_of p.reader (b ∷ bs)) (b ∷ bs)) (taken_of (p.reader ++ b ∷ []) bs)
+      ap (λ h. (shown_to o p.session h (taken_of (p.reader ++ b ∷ []) bs) (sight_of h)).place) whole
+          ∙ shown-place o p.session (p.reader ++ take (taken_of p.reader (b ∷ bs)) (b ∷ bs)) (taken_of (p.reader ++ b ∷ []) bs)
           (taken_of p.reader (b ∷ bs)) (sight_of (p.reader ++ take (taken_of p.reader (b ∷ bs)) (b ∷ bs))),
-      ap (λ h. (shown_to p.session h (taken_of (p.reader ++ b ∷ []) bs) (sight_of h)).answer) whole
-          ∙ shown-answer p.session (p.reader ++ take (taken_of p.reader (b ∷ bs)) (b ∷ bs)) (taken_of (p.reader ++ b ∷ []) bs)
+      ap (λ h. (shown_to o p.session h (taken_of (p.reader ++ b ∷ []) bs) (sight_of h)).answer) whole
+          ∙ shown-answer o p.session (p.reader ++ take (taken_of p.reader (b ∷ bs)) (b ∷ bs)) (taken_of (p.reader ++ b ∷ []) bs)
+          (taken_of p.reader (b ∷ bs)) (sight_of (p.reader ++ take (taken_of p.reader (b ∷ bs)) (b ∷ bs))),
+      ap (λ h. (shown_to o p.session h (taken_of (p.reader ++ b ∷ []) bs) (sight_of h)).objects) whole
+          ∙ shown-objects o p.session (p.reader ++ take (taken_of p.reader (b ∷ bs)) (b ∷ bs)) (taken_of (p.reader ++ b ∷ []) bs)
           (taken_of p.reader (b ∷ bs)) (sight_of (p.reader ++ take (taken_of p.reader (b ∷ bs)) (b ∷ bs))),
     )
 
@@ -185,17 +191,17 @@ record AreSteps (d : Desk) (now peer : ℕ) (bytes : List ℕ) (x : Done) : Type
 
 only-step : (d : Desk) (now peer : ℕ) (p : Place) (b : ℕ) (bs : List ℕ) → IsLive d.places peer p → IsRunning p.reader
     → taken_of p.reader (b ∷ bs) ≡ 1
-    → AreSteps d now peer (take (taken_of p.reader (b ∷ bs)) (b ∷ bs)) (done_by d now (fed_by d.places peer (fed_place p (b ∷ bs))))
+    → AreSteps d now peer (take (taken_of p.reader (b ∷ bs)) (b ∷ bs)) (done_by d now (fed_by d.places peer (fed_place d.objects p (b ∷ bs))))
 only-step d now peer p b bs live running one =
-    let e : done d (Feeds now peer (b ∷ [])) ≡ done_by d now (fed_by d.places peer (fed_place p (b ∷ bs)))
+    let e : done d (Feeds now peer (b ∷ [])) ≡ done_by d now (fed_by d.places peer (fed_place d.objects p (b ∷ bs)))
     = done-live d now peer p (b ∷ []) live
-    ∙ ap (λ n. done_by d now (fed_by d.places peer (shown_after p (b ∷ []) n))) (taken_of-one p.reader b running)
-    ∙ sym (ap (λ n. done_by d now (fed_by d.places peer (shown_after p (b ∷ bs) n))) one) in
-    subst (λ n. AreSteps d now peer (take n (b ∷ bs)) (done_by d now (fed_by d.places peer (fed_place p (b ∷ bs))))) (sym one)
+    ∙ ap (λ n. done_by d now (fed_by d.places peer (shown_after d.objects p (b ∷ []) n))) (taken_of-one p.reader b running)
+    ∙ sym (ap (λ n. done_by d now (fed_by d.places peer (shown_after d.objects p (b ∷ bs) n))) one) in
+    subst (λ n. AreSteps d now peer (take n (b ∷ bs)) (done_by d now (fed_by d.places peer (fed_place d.objects p (b ∷ bs))))) (sym one)
     (record { desk = ap (λ x. x.desk) e; said = ap (λ x. spoken (x.said ∷ [])) e })
 
 steps : (bs : List ℕ) (b : ℕ) (d : Desk) (now peer : ℕ) (p : Place) → IsLive d.places peer p → IsRunning p.reader
-    → AreSteps d now peer (take (taken_of p.reader (b ∷ bs)) (b ∷ bs)) (done_by d now (fed_by d.places peer (fed_place p (b ∷ bs))))
+    → AreSteps d now peer (take (taken_of p.reader (b ∷ bs)) (b ∷ bs)) (done_by d now (fed_by d.places peer (fed_place d.objects p (b ∷ bs))))
 steps [] b d now peer p live running =
     only-step d now peer p b [] live running (taken_of-one p.reader b running)
 steps (c ∷ cs) b d now peer p live running =
@@ -204,36 +210,38 @@ steps (c ∷ cs) b d now peer p live running =
     go : (1 < taken_of p.reader (b ∷ c ∷ cs)) ⊎ (taken_of p.reader (b ∷ c ∷ cs) ≤ 1)
         → ((e : Desk) → IsLive e.places peer (next_place p b) → IsRunning (p.reader ++ b ∷ [])
         → AreSteps e now peer (take (taken_of (p.reader ++ b ∷ []) (c ∷ cs)) (c ∷ cs))
-        (done_by e now (fed_by e.places peer (fed_place (next_place p b) (c ∷ cs)))))
+        (done_by e now (fed_by e.places peer (fed_place e.objects (next_place p b) (c ∷ cs)))))
         → AreSteps d now peer (take (taken_of p.reader (b ∷ c ∷ cs)) (b ∷ c ∷ cs))
-        (done_by d now (fed_by d.places peer (fed_place p (b ∷ c ∷ cs))))
+        (done_by d now (fed_by d.places peer (fed_place d.objects p (b ∷ c ∷ cs))))
     go (inr few) later =
         only-step d now peer p b (c ∷ cs) live running (omega (arith, taken_of-some p.reader b (c ∷ cs) running))
     go (inl many) later =
         let next : IsRunning (p.reader ++ b ∷ []) = running-next p.reader b (c ∷ cs) running many in
         let handle : handle_of (next_place p b) ≡ peer = first_with-number handle_of peer p d.places live.found in
-        let one : Done = done_by d now (fed_by d.places peer (shown_to p.session (p.reader ++ b ∷ []) 1 Nothing_yet)) in
-        let e : done d (Feeds now peer (b ∷ [])) ≡ done_by d now (fed_by d.places peer (shown_to p.session (p.reader ++ b ∷ []) 1 Nothing_yet))
+        let one : Done = done_by d now (fed_by d.places peer (shown_to d.objects p.session (p.reader ++ b ∷ []) 1 Nothing_yet)) in
+        let e : done d (Feeds now peer (b ∷ [])) ≡ done_by d now (fed_by d.places peer (shown_to d.objects p.session (p.reader ++ b ∷ []) 1 Nothing_yet))
         = first-step d now peer p b live running next in
-        let after : Desk = record { moment = max d.moment now; next = d.next; places = with_first handle_of peer (next_place p b) d.places } in
+        let after : Desk = record { moment = max d.moment now; objects = d.objects; next = d.next; places = with_first handle_of peer (next_place p b) d.places } in
         let still : IsLive (with_first handle_of peer (next_place p b) d.places) peer (next_place p b)
         = record { found = first_with-set handle_of peer p (next_place p b) d.places live.found handle; alive = live.alive } in
         let rest : AreSteps after now peer (take (taken_of (p.reader ++ b ∷ []) (c ∷ cs)) (c ∷ cs))
-        (done_by after now (fed_by (with_first handle_of peer (next_place p b) d.places) peer (fed_place (next_place p b) (c ∷ cs))))
+        (done_by after now (fed_by (with_first handle_of peer (next_place p b) d.places) peer (fed_place d.objects (next_place p b) (c ∷ cs))))
         = later after still next in
         let t : taken_of p.reader (b ∷ c ∷ cs) ≡ suc (taken_of (p.reader ++ b ∷ []) (c ∷ cs)) = omega (arith, taken_of-next p.reader b (c ∷ cs)) in
-        let shown : ((fed_place (next_place p b) (c ∷ cs)).place ≡ (fed_place p (b ∷ c ∷ cs)).place)
-        × ((fed_place (next_place p b) (c ∷ cs)).answer ≡ (fed_place p (b ∷ c ∷ cs)).answer)
-        = rest-shown p b (c ∷ cs) many in
-        let places : with_first handle_of peer (fed_place (next_place p b) (c ∷ cs)).place (with_first handle_of peer (next_place p b) d.places)
-        ≡ with_first handle_of peer (fed_place p (b ∷ c ∷ cs)).place d.places
-        = with_first-twice handle_of peer (next_place p b) (fed_place (next_place p b) (c ∷ cs)).place d.places handle
+        let shown : ((fed_place d.objects (next_place p b) (c ∷ cs)).place ≡ (fed_place d.objects p (b ∷ c ∷ cs)).place)
+        × ((fed_place d.objects (next_place p b) (c ∷ cs)).answer ≡ (fed_place d.objects p (b ∷ c ∷ cs)).answer)
+        × ((fed_place d.objects (next_place p b) (c ∷ cs)).objects ≡ (fed_place d.objects p (b ∷ c ∷ cs)).objects)
+        = rest-shown d.objects p b (c ∷ cs) many in
+        let places : with_first handle_of peer (fed_place d.objects (next_place p b) (c ∷ cs)).place (with_first handle_of peer (next_place p b) d.places)
+        ≡ with_first handle_of peer (fed_place d.objects p (b ∷ c ∷ cs)).place d.places
+        = with_first-twice handle_of peer (next_place p b) (fed_place d.objects (next_place p b) (c ∷ cs)).place d.places handle
         ∙ ap (λ x. with_first handle_of peer x d.places) shown.0 in
-        let same : (done_by after now (fed_by (with_first handle_of peer (next_place p b) d.places) peer (fed_place (next_place p b) (c ∷ cs)))).desk
-        ≡ (done_by d now (fed_by d.places peer (fed_place p (b ∷ c ∷ cs)))).desk
-        = ap (λ m. let x : Desk = record { moment = m; next = d.next; places = with_first handle_of peer (fed_place (next_place p b) (c ∷ cs)).place (with_first handle_of peer (next_place p b) d.places) } in x) (max-twice d.moment now)
-        ∙ ap (λ ps. let x : Desk = record { moment = max d.moment now; next = d.next; places = ps } in x) places in
-        subst (λ n. AreSteps d now peer (take n (b ∷ c ∷ cs)) (done_by d now (fed_by d.places peer (fed_place p (b ∷ c ∷ cs))))) (sym t)
+        let same : (done_by after now (fed_by (with_first handle_of peer (next_place p b) d.places) peer (fed_place d.objects (next_place p b) (c ∷ cs)))).desk
+        ≡ (done_by d now (fed_by d.places peer (fed_place d.objects p (b ∷ c ∷ cs)))).desk
+        = ap (λ m. let x : Desk = record { moment = m; objects = (fed_place d.objects (next_place p b) (c ∷ cs)).objects; next = d.next; places = with_first handle_of peer (fed_place d.objects (next_place p b) (c ∷ cs)).place (with_first handle_of peer (next_place p b) d.places) } in x) (max-twice d.moment now)
+        ∙ ap (λ o. let x : Desk = record { moment = max d.moment now; objects = o; next = d.next; places = with_first handle_of peer (fed_place d.objects (next_place p b) (c ∷ cs)).place (with_first handle_of peer (next_place p b) d.places) } in x) shown.2
+        ∙ ap (λ ps. let x : Desk = record { moment = max d.moment now; objects = (fed_place d.objects p (b ∷ c ∷ cs)).objects; next = d.next; places = ps } in x) places in
+        subst (λ n. AreSteps d now peer (take n (b ∷ c ∷ cs)) (done_by d now (fed_by d.places peer (fed_place d.objects p (b ∷ c ∷ cs))))) (sym t)
         (
         record {
           desk = ap (λ x. desk_after x.desk (one_by_one now peer (take (taken_of (p.reader ++ b ∷ []) (c ∷ cs)) (c ∷ cs)))) e
@@ -249,27 +257,30 @@ steps-done : (d : Desk) (now peer : ℕ) (p : Place) (b : ℕ) (bs : List ℕ) �
 steps-done d now peer p b bs live running =
     subst (λ x. AreSteps d now peer (take x.taken (b ∷ bs)) x) (sym (done-live d now peer p (b ∷ bs) live))
     (
-    subst (λ n. AreSteps d now peer (take n (b ∷ bs)) (done_by d now (fed_by d.places peer (fed_place p (b ∷ bs)))))
-    (sym (fed-taken p (b ∷ bs))) (steps bs b d now peer p live running)
+    subst (λ n. AreSteps d now peer (take n (b ∷ bs)) (done_by d now (fed_by d.places peer (fed_place d.objects p (b ∷ bs)))))
+    (sym (fed-taken d.objects p (b ∷ bs))) (steps bs b d now peer p live running)
     )
 
 -- no frame closes a peer
+abbrev RepliesOpen : Replied → Type 0
+RepliesOpen r = r.close ≡ false
+
 abbrev KeepsOpen : Served → Type 0
 KeepsOpen r = r.close ≡ false
 
-close-registered : (s : Session) (f : Frame) → KeepsOpen (registered s f)
+close-registered : (s : Session) (f : Frame) → RepliesOpen (registered s f)
 close-registered s f =
-    both KeepsOpen (not (eqb (length f.body) 4)) _ _ refl
+    both RepliesOpen (not (eqb (length f.body) 4)) _ _ refl
     (
-    both KeepsOpen s.registered _ _ refl
+    both RepliesOpen s.registered _ _ refl
     (
-    both KeepsOpen (not (eqb (number_at 0 2 f.body) 1)) _ _ refl
-    (both KeepsOpen (not (eqb (number_at 2 2 f.body) 0)) _ _ refl refl)
+    both RepliesOpen (not (eqb (number_at 0 2 f.body) 1)) _ _ refl
+    (both RepliesOpen (not (eqb (number_at 2 2 f.body) 0)) _ _ refl refl)
     )
     )
 
-close-served : (s : Session) (f : Frame) → KeepsOpen (served s f)
-close-served s f =
+close-served : (o : Contents) (s : Session) (f : Frame) → KeepsOpen (served o s f)
+close-served o s f =
     both KeepsOpen (not (eqb f.header.options 0)) _ _ refl
     (
     both KeepsOpen (not (eqb f.header.status 0)) _ _ refl
@@ -279,11 +290,11 @@ close-served s f =
     )
     )
 
-close-shown : (s : Session) (held : List ℕ) (n : ℕ) (x : Sight) → (shown_to s held n x).close ≡ true
-    → (shown_to s held n x).place.session.closed ≡ true
-close-shown s held n Nothing_yet e = absurd (false≢true e)
-close-shown s held n (A_frame f) e = absurd (false≢true (sym (close-served s f) ∙ e))
-close-shown s held n (A_long_header h) e = refl
+close-shown : (o : Contents) (s : Session) (held : List ℕ) (n : ℕ) (x : Sight) → (shown_to o s held n x).close ≡ true
+    → (shown_to o s held n x).place.session.closed ≡ true
+close-shown o s held n Nothing_yet e = absurd (false≢true e)
+close-shown o s held n (A_frame f) e = absurd (false≢true (sym (close-served o s f) ∙ e))
+close-shown o s held n (A_long_header h) e = refl
 
 some-same : {X : Type 0} → (x y : X) (o : Option X) → o ≡ Some x → o ≡ Some y → x ≡ y
 some-same x y o e f = let g : Some x ≡ Some y = sym e ∙ f in cc
@@ -292,17 +303,17 @@ some-same x y o e f = let g : Some x ≡ Some y = sym e ∙ f in cc
 closed-dead : (d : Desk) (now peer : ℕ) (p : Place) (piece : List ℕ) → IsLive d.places peer p
     → (done d (Feeds now peer piece)).close ≡ true → IsDead (done d (Feeds now peer piece)).desk.places peer
 closed-dead d now peer p piece live e =
-    let x : done d (Feeds now peer piece) ≡ done_by d now (fed_by d.places peer (fed_place p piece)) = done-live d now peer p piece live in
-    let shut : (fed_place p piece).place.session.closed ≡ true
-    = close-shown p.session (p.reader ++ take (taken_of p.reader piece) piece) (taken_of p.reader piece)
+    let x : done d (Feeds now peer piece) ≡ done_by d now (fed_by d.places peer (fed_place d.objects p piece)) = done-live d now peer p piece live in
+    let shut : (fed_place d.objects p piece).place.session.closed ≡ true
+    = close-shown d.objects p.session (p.reader ++ take (taken_of p.reader piece) piece) (taken_of p.reader piece)
     (sight_of (p.reader ++ take (taken_of p.reader piece) piece)) (sym (ap (λ y. y.close) x) ∙ e) in
-    let there : first_with handle_of peer (with_first handle_of peer (fed_place p piece).place d.places) ≡ Some (fed_place p piece).place
-    = first_with-set handle_of peer p (fed_place p piece).place d.places live.found
-    (handle-fed_place p piece ∙ first_with-number handle_of peer p d.places live.found) in
+    let there : first_with handle_of peer (with_first handle_of peer (fed_place d.objects p piece).place d.places) ≡ Some (fed_place d.objects p piece).place
+    = first_with-set handle_of peer p (fed_place d.objects p piece).place d.places live.found
+    (handle-fed_place d.objects p piece ∙ first_with-number handle_of peer p d.places live.found) in
     subst (λ y. IsDead y.desk.places peer) (sym x)
     (
     record {
-      closed = λ q f. subst (λ z. z.session.closed ≡ true) (some-same (fed_place p piece).place q _ there f) shut;
+      closed = λ q f. subst (λ z. z.session.closed ≡ true) (some-same (fed_place d.objects p piece).place q _ there f) shut;
     }
     )
 
@@ -335,27 +346,27 @@ ready-append : (places : List Place) (p : Place) → AreReady places → IsReady
 ready-append [] p r h = (h, tt)
 ready-append (q ∷ qs) p r h = (r.0, ready-append qs p r.1 h)
 
-ready-shown : (s : Session) (held : List ℕ) (n : ℕ) (x : Sight) → (x ≡ Nothing_yet → IsRunning held) → IsReady (shown_to s held n x).place
-ready-shown s held n Nothing_yet h = record { running = λ c. h refl }
-ready-shown s held n (A_frame f) h = record { running = λ c. running-empty }
-ready-shown s held n (A_long_header l) h = record { running = λ c. absurd (false≢true (sym c)) }
+ready-shown : (o : Contents) (s : Session) (held : List ℕ) (n : ℕ) (x : Sight) → (x ≡ Nothing_yet → IsRunning held) → IsReady (shown_to o s held n x).place
+ready-shown o s held n Nothing_yet h = record { running = λ c. h refl }
+ready-shown o s held n (A_frame f) h = record { running = λ c. running-empty }
+ready-shown o s held n (A_long_header l) h = record { running = λ c. absurd (false≢true (sym c)) }
 
-ready-fed_place : (p : Place) (piece : List ℕ) → IsRunning p.reader → IsReady (fed_place p piece).place
-ready-fed_place p piece r =
-    ready-shown p.session (p.reader ++ take (taken_of p.reader piece) piece) (taken_of p.reader piece)
+ready-fed_place : (o : Contents) (p : Place) (piece : List ℕ) → IsRunning p.reader → IsReady (fed_place o p piece).place
+ready-fed_place o p piece r =
+    ready-shown o p.session (p.reader ++ take (taken_of p.reader piece) piece) (taken_of p.reader piece)
     (sight_of (p.reader ++ take (taken_of p.reader piece) piece)) (running-taken p.reader piece r)
 
-ready-fed : (places : List Place) (peer : ℕ) (piece : List ℕ) → AreReady places → AreReady (fed_places places peer piece).places
-ready-fed places peer piece r = go (status_of places peer (first_with handle_of peer places) refl)
+ready-fed : (o : Contents) (places : List Place) (peer : ℕ) (piece : List ℕ) → AreReady places → AreReady (fed_places o places peer piece).places
+ready-fed o places peer piece r = go (status_of places peer (first_with handle_of peer places) refl)
   where
-    go : Status places peer → AreReady (fed_places places peer piece).places
+    go : Status places peer → AreReady (fed_places o places peer piece).places
     go (Live p live) =
-        subst (λ x. AreReady x.places) (sym (fed-live places peer p piece live))
+        subst (λ x. AreReady x.places) (sym (fed-live o places peer p piece live))
         (
-        ready-set peer (fed_place p piece).place places r
-        (ready-fed_place p piece ((ready-first peer p places r live.found).running live.alive))
+        ready-set peer (fed_place o p piece).place places r
+        (ready-fed_place o p piece ((ready-first peer p places r live.found).running live.alive))
         )
-    go (Dead dead) = subst (λ x. AreReady x.places) (sym (fed-dead places peer piece (first_with handle_of peer places) refl dead)) r
+    go (Dead dead) = subst (λ x. AreReady x.places) (sym (fed-dead o places peer piece (first_with handle_of peer places) refl dead)) r
 
 ready-opened : (d : Desk) (said : Said) → AreReady d.places → AreReady (opened d said).places
 ready-opened d Silent r = r
@@ -365,7 +376,7 @@ ready-opened d (Refuses full) r = r
 
 ready-call : (d : Desk) (c : Call) → AreReady d.places → AreReady (done d c).desk.places
 ready-call d Begins_one r = ready-opened d (begun (state_of d)).said r
-ready-call d (Feeds now peer piece) r = ready-fed d.places peer piece r
+ready-call d (Feeds now peer piece) r = ready-fed d.objects d.places peer piece r
 ready-call d (Ends_one peer) r = ready-removed peer d.places r
 
 ready-after : (d : Desk) (calls : List Call) → AreReady d.places → AreReady (desk_after d calls).places
@@ -479,12 +490,12 @@ poured {now} {peer} (Went_on {d} {last} {b} {bs} {pieces} {said} e pours) ready 
     going-on d now peer b bs (concat pieces) said last ready e (poured pours (ready-call d (Feeds now peer (b ∷ bs)) ready))
 poured {now} {peer} (Closed {d} {b} {bs} {pieces} e) ready = closing d now peer b bs (concat pieces) ready e
 
-pub poured-said : (calls : List Call) (now peer : ℕ) (pieces : List (List ℕ)) (said : List Said) (last : Desk)
-    → Pours now peer (desk_after new_desk calls) pieces said last
-    → spoken said ≡ spoken (map (λ x. x.said) (all_done (desk_after new_desk calls) (one_by_one now peer (concat pieces))))
-poured-said calls now peer pieces said last pours = (poured pours (ready-after new_desk calls tt)).said
+pub poured-said : (m : Contents) (calls : List Call) (now peer : ℕ) (pieces : List (List ℕ)) (said : List Said) (last : Desk)
+    → Pours now peer (desk_after (new_desk m) calls) pieces said last
+    → spoken said ≡ spoken (map (λ x. x.said) (all_done (desk_after (new_desk m) calls) (one_by_one now peer (concat pieces))))
+poured-said m calls now peer pieces said last pours = (poured pours (ready-after (new_desk m) calls tt)).said
 
-pub poured-desk : (calls : List Call) (now peer : ℕ) (pieces : List (List ℕ)) (said : List Said) (last : Desk)
-    → Pours now peer (desk_after new_desk calls) pieces said last
-    → last ≡ desk_after (desk_after new_desk calls) (one_by_one now peer (concat pieces))
-poured-desk calls now peer pieces said last pours = (poured pours (ready-after new_desk calls tt)).desk
+pub poured-desk : (m : Contents) (calls : List Call) (now peer : ℕ) (pieces : List (List ℕ)) (said : List Said) (last : Desk)
+    → Pours now peer (desk_after (new_desk m) calls) pieces said last
+    → last ≡ desk_after (desk_after (new_desk m) calls) (one_by_one now peer (concat pieces))
+poured-desk m calls now peer pieces said last pours = (poured pours (ready-after (new_desk m) calls tt)).desk

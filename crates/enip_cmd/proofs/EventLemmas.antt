@@ -2,16 +2,17 @@
 use Rattle.std.proofs.Common.{not, ltb, take, ◌+◌, ◌≡◌, ℕ, List, [], ◌∷◌, ◌++◌, Bool, true, false, cond, eqb, Option, Some, None, length, max, map, refl, sym, ap, subst, ◌∙◌, append_assoc}
 use Rattle.std.specs.List.{flat_map}
 use Rattle.std.specs.Option.{option_map}
+use Rattle.cip_objects.specs.Contents.{Contents}
 use Rattle.enip_wire.specs.Stream.{Sight, sight_of, taken_of}
 use Rattle.enip_wire.specs.Stream.Sight.{Nothing_yet, A_frame, A_long_header}
 use Rattle.enip_cmd.specs.declared.adapter.Full.TheVariants.{Places, Handles}
 use Rattle.enip_cmd.specs.declared.commands.Session.{Session}
 use Rattle.enip_cmd.specs.declared.place.Place.{Place}
 use Rattle.enip_cmd.specs.Lookup.{first_with, with_first, without_first}
-use Rattle.enip_cmd.specs.Turn.{State, Event, Said, Turned, Served, turn, begun, to_peer, served, refused_long, sends, answers, after}
+use Rattle.enip_cmd.specs.Turn.{State, Event, Said, Turned, Served, turn, begun, to_peer, served, leaving, refused_long, sends, answers, after}
 use Rattle.enip_cmd.specs.Turn.Event.{Begin, End, At, Framed, Long}
 use Rattle.enip_cmd.specs.Turn.Said.{Silent, Sends, Begins, Refuses}
-use Rattle.enip_cmd.specs.Desk.{Desk, Call, Done, Fed_places, Fed_place, done, state_of, handle_of, opened, fed, fed_place, fed_places, shown_to, events_of}
+use Rattle.enip_cmd.specs.Desk.{Desk, Call, Done, Fed_places, Fed_place, done, state_of, handle_of, opened, unserved, fed, fed_place, fed_places, shown_to, events_of}
 use Rattle.enip_cmd.specs.Desk.Call.{Begins_one, Feeds, Ends_one}
 use Rattle.enip_cmd.specs.Runs.{all_done, desk_after, spoken}
 
@@ -90,6 +91,7 @@ begun_by d full used =
     record {
       state = record {
         moment = d.moment;
+        objects = d.objects;
         next = d.next + 1;
         peers = (state_of d).peers ++ record { handle = d.next; registered = false; closed = false } ∷ [];
       };
@@ -103,7 +105,7 @@ begin-state : (d : Desk) (full used : Bool) → (begun_by d full used).state ≡
 begin-state d true used = refl
 begin-state d false true = refl
 begin-state d false false =
-    ap (λ ps. let s : State = record { moment = d.moment; next = d.next + 1; peers = ps } in s)
+    ap (λ ps. let s : State = record { moment = d.moment; objects = d.objects; next = d.next + 1; peers = ps } in s)
     (
     sym (
     map-append_one (λ (p : Place). p.session) d.places
@@ -119,7 +121,7 @@ end-turns : (d : Desk) (peer : ℕ) → IsTurns d (done d (Ends_one peer))
 end-turns d peer =
     record {
       said = refl;
-      state = ap (λ ps. let s : State = record { moment = d.moment; next = d.next; peers = ps } in s)
+      state = ap (λ ps. let s : State = record { moment = d.moment; objects = d.objects; next = d.next; peers = ps } in s)
           (sym (map-without_first (λ (p : Place). p.session) (λ s. s.handle) peer d.places));
     }
 
@@ -128,7 +130,7 @@ to_peer-open : (s : State) (peer : ℕ) (serves : Session → Served) (session :
     → first_with (λ p. p.handle) peer s.peers ≡ Some session → session.closed ≡ false
     → to_peer s peer serves (first_with (λ p. p.handle) peer s.peers)
     ≡ record {
-      state = record s { peers = with_first (λ p. p.handle) peer (serves session).session s.peers };
+      state = record s { objects = (serves session).objects; peers = with_first (λ p. p.handle) peer (serves session).session s.peers };
       said = sends (serves session).answer;
       close = (serves session).close;
     }
@@ -137,27 +139,29 @@ to_peer-open s peer serves session e alive =
     ∙ ap (
     λ b. cond b (let t : Turned = record { state = s; said = Silent; close = true } in t) (
     record {
-      state = record s { peers = with_first (λ p. p.handle) peer (serves session).session s.peers };
+      state = record s { objects = (serves session).objects; peers = with_first (λ p. p.handle) peer (serves session).session s.peers };
       said = sends (serves session).answer;
       close = (serves session).close;
     }
     )
     ) alive
 
--- what a piece does to the peers is the turns of its events
-record IsFedTurns (moment next : ℕ) (places : List Place) (x : Fed_places) : Type 0 where
-  said : spoken (answers (record { moment = moment; next = next; peers = map (λ p. p.session) places }) x.events)
-      ≡ spoken (x.said ∷ [])
-  state : after (record { moment = moment; next = next; peers = map (λ p. p.session) places }) x.events
-      ≡ record { moment = moment; next = next; peers = map (λ p. p.session) x.places }
+abbrev peers_are : ℕ → Contents → ℕ → List Session → State
+peers_are moment m next peers = record { moment = moment; objects = m; next = next; peers = peers }
 
-abbrev peers_are : ℕ → ℕ → List Session → State
-peers_are moment next peers = record { moment = moment; next = next; peers = peers }
+abbrev sessions : List Place → List Session
+sessions places = map (λ p. p.session) places
+
+-- what a piece does to the peers is the turns of its events
+record IsFedTurns (moment : ℕ) (m : Contents) (next : ℕ) (places : List Place) (x : Fed_places) : Type 0 where
+  said : spoken (answers (peers_are moment m next (sessions places)) x.events) ≡ spoken (x.said ∷ [])
+  state : after (peers_are moment m next (sessions places)) x.events ≡ peers_are moment x.objects next (sessions x.places)
 
 abbrev pub fed_by : List Place → ℕ → Fed_place → Fed_places
 fed_by places peer x =
     record {
       places = with_first handle_of peer x.place places;
+      objects = x.objects;
       events = events_of peer x.event;
       taken = x.taken;
       said = sends x.answer;
@@ -169,66 +173,68 @@ session-first : (places : List Place) (peer : ℕ) (p : Place) → first_with ha
 session-first places peer p e =
     map-first_with (λ (q : Place). q.session) (λ (s : Session). s.handle) peer places ∙ ap (option_map (λ (q : Place). q.session)) e
 
-shown-turns : (moment next peer n : ℕ) (places : List Place) (p : Place) (held : List ℕ) (x : Sight)
+-- what is served is the turn of its event
+turned-state : (moment next peer : ℕ) (m : Contents) (places : List Place) (p : Place) (serves : Session → Served) (held : List ℕ)
     → first_with handle_of peer places ≡ Some p → p.session.closed ≡ false
-    → IsFedTurns moment next places (fed_by places peer (shown_to p.session held n x))
-shown-turns moment next peer n places p held Nothing_yet e alive =
+    → to_peer (peers_are moment m next (sessions places)) peer serves (first_with (λ (s : Session). s.handle) peer (sessions places))
+    ≡ record {
+      state = peers_are moment (serves p.session).objects next (sessions (with_first handle_of peer (record { session = (serves p.session).session; reader = held }) places));
+      said = sends (serves p.session).answer;
+      close = (serves p.session).close;
+    }
+turned-state moment next peer m places p serves held e alive =
+    to_peer-open (peers_are moment m next (sessions places)) peer serves p.session (session-first places peer p e) alive
+    ∙ ap (
+    λ ps. let t : Turned = record { state = peers_are moment (serves p.session).objects next ps; said = sends (serves p.session).answer; close = (serves p.session).close } in t
+    ) (sym (map-with_first (λ (q : Place). q.session) (λ (s : Session). s.handle) peer (record { session = (serves p.session).session; reader = held }) places))
+
+shown-turns : (moment next peer n : ℕ) (m : Contents) (places : List Place) (p : Place) (held : List ℕ) (x : Sight)
+    → first_with handle_of peer places ≡ Some p → p.session.closed ≡ false
+    → IsFedTurns moment m next places (fed_by places peer (shown_to m p.session held n x))
+shown-turns moment next peer n m places p held Nothing_yet e alive =
     record {
       said = refl;
-      state = ap (peers_are moment next)
+      state = ap (peers_are moment m next)
           (
-          sym (with_first-same (λ (s : Session). s.handle) peer p.session (map (λ (q : Place). q.session) places) (session-first places peer p e))
+          sym (with_first-same (λ (s : Session). s.handle) peer p.session (sessions places) (session-first places peer p e))
           ∙ sym (map-with_first (λ (q : Place). q.session) (λ (s : Session). s.handle) peer (record { session = p.session; reader = held }) places)
           );
     }
-shown-turns moment next peer n places p held (A_frame f) e alive =
-    let turned : turn (peers_are moment next (map (λ (q : Place). q.session) places)) (Framed peer f)
+shown-turns moment next peer n m places p held (A_frame f) e alive =
+    let turned : turn (peers_are moment m next (sessions places)) (Framed peer f)
     ≡ record {
-      state = peers_are moment next (with_first (λ (s : Session). s.handle) peer (served p.session f).session (map (λ (q : Place). q.session) places));
-      said = sends (served p.session f).answer;
-      close = (served p.session f).close;
+      state = peers_are moment (served m p.session f).objects next (sessions (with_first handle_of peer (record { session = (served m p.session f).session; reader = [] }) places));
+      said = sends (served m p.session f).answer;
+      close = (served m p.session f).close;
     }
-    = to_peer-open (peers_are moment next (map (λ (q : Place). q.session) places)) peer (λ s. served s f) p.session (session-first places peer p e) alive in
-    record {
-      said = ap (λ t. spoken (t.said ∷ [])) turned;
-      state = ap (λ t. t.state) turned
-          ∙ ap (peers_are moment next)
-          (sym (map-with_first (λ (q : Place). q.session) (λ (s : Session). s.handle) peer (record { session = (served p.session f).session; reader = [] }) places));
-    }
-shown-turns moment next peer n places p held (A_long_header h) e alive =
-    let turned : turn (peers_are moment next (map (λ (q : Place). q.session) places)) (Long peer h)
+    = turned-state moment next peer m places p (λ s. served m s f) [] e alive in
+    record { said = ap (λ t. spoken (t.said ∷ [])) turned; state = ap (λ t. t.state) turned }
+shown-turns moment next peer n m places p held (A_long_header h) e alive =
+    let turned : turn (peers_are moment m next (sessions places)) (Long peer h)
     ≡ record {
-      state = peers_are moment next (with_first (λ (s : Session). s.handle) peer (refused_long p.session h).session (map (λ (q : Place). q.session) places));
-      said = sends (refused_long p.session h).answer;
-      close = (refused_long p.session h).close;
+      state = peers_are moment (leaving m (refused_long p.session h)).objects next (sessions (with_first handle_of peer (record { session = (leaving m (refused_long p.session h)).session; reader = held }) places));
+      said = sends (leaving m (refused_long p.session h)).answer;
+      close = (leaving m (refused_long p.session h)).close;
     }
-    = to_peer-open (peers_are moment next (map (λ (q : Place). q.session) places)) peer (λ s. refused_long s h) p.session (session-first places peer p e) alive in
-    record {
-      said = ap (λ t. spoken (t.said ∷ [])) turned;
-      state = ap (λ t. t.state) turned
-          ∙ ap (peers_are moment next)
-          (sym (map-with_first (λ (q : Place). q.session) (λ (s : Session). s.handle) peer (record { session = (refused_long p.session h).session; reader = held }) places));
-    }
+    = turned-state moment next peer m places p (λ s. leaving m (refused_long s h)) held e alive in
+    record { said = ap (λ t. spoken (t.said ∷ [])) turned; state = ap (λ t. t.state) turned }
 
-fed-turns : (moment next peer : ℕ) (places : List Place) (piece : List ℕ) (o : Option Place)
-    → first_with handle_of peer places ≡ o → IsFedTurns moment next places (fed places peer piece o)
-fed-turns moment next peer places piece None e = record { said = refl; state = refl }
-fed-turns moment next peer places piece (Some p) e = go p.session.closed refl
+fed-turns : (moment next peer : ℕ) (m : Contents) (places : List Place) (piece : List ℕ) (o : Option Place)
+    → first_with handle_of peer places ≡ o → IsFedTurns moment m next places (fed m places peer piece o)
+fed-turns moment next peer m places piece None e = record { said = refl; state = refl }
+fed-turns moment next peer m places piece (Some p) e = go p.session.closed refl
   where
     go : (b : Bool) → p.session.closed ≡ b
-        → IsFedTurns moment next places (
-        cond b (record { places = places; events = []; taken = 0; said = Silent; close = true })
-        (fed_by places peer (fed_place p piece))
-        )
+        → IsFedTurns moment m next places (cond b (unserved m places) (fed_by places peer (fed_place m p piece)))
     go true c = record { said = refl; state = refl }
     go false c =
-        shown-turns moment next peer (taken_of p.reader piece) places p (p.reader ++ take (taken_of p.reader piece) piece)
+        shown-turns moment next peer (taken_of p.reader piece) m places p (p.reader ++ take (taken_of p.reader piece) piece)
         (sight_of (p.reader ++ take (taken_of p.reader piece) piece)) e c
 
 feed-turns : (d : Desk) (now peer : ℕ) (piece : List ℕ) → IsTurns d (done d (Feeds now peer piece))
 feed-turns d now peer piece =
-    let t : IsFedTurns (max d.moment now) d.next d.places (fed_places d.places peer piece)
-    = fed-turns (max d.moment now) d.next peer d.places piece (first_with handle_of peer d.places) refl in
+    let t : IsFedTurns (max d.moment now) d.objects d.next d.places (fed_places d.objects d.places peer piece)
+    = fed-turns (max d.moment now) d.next peer d.objects d.places piece (first_with handle_of peer d.places) refl in
     record { said = t.said; state = t.state }
 
 call-turns : (d : Desk) (c : Call) → IsTurns d (done d c)

@@ -2,6 +2,7 @@
 use Rattle.std.proofs.Common.{not, ◌≡◌, ◌≢◌, ℕ, suc, ◌+◌, ◌≤◌, ◌<◌, List, [], ◌∷◌, ◌++◌, Bool, true, false, cond, eqb, ltb, Option, Some, None, length, max, map, take, refl, sym, ap, subst, ◌∙◌, arith, add-one}
 use Rattle.std.specs.List.{AllByRecursion}
 use Rattle.std.proofs.lemmas.Bool.{eqb-true, eqb-false, ne_eqb}
+use Rattle.cip_objects.specs.Contents.{Contents}
 use Rattle.enip_wire.specs.declared.header.Header.{Header}
 use Rattle.enip_wire.specs.Frames.{Frame}
 use Rattle.enip_wire.specs.Numbers.{number_at}
@@ -10,7 +11,7 @@ use Rattle.enip_wire.specs.Stream.Sight.{Nothing_yet, A_frame, A_long_header}
 use Rattle.enip_cmd.specs.declared.commands.Session.{Session}
 use Rattle.enip_cmd.specs.declared.place.Place.{Place}
 use Rattle.enip_cmd.specs.Lookup.{first_with, with_first, without_first}
-use Rattle.enip_cmd.specs.Turn.{State, Turned, Said, Served, begun, served, registered, refused_long, sends}
+use Rattle.enip_cmd.specs.Turn.{State, Turned, Said, Replied, Served, begun, served, registered, refused_long, sends}
 use Rattle.enip_cmd.specs.Turn.Said.{Silent, Sends, Begins, Refuses}
 use Rattle.enip_cmd.specs.Desk.{Desk, Call, Done, Fed_places, Fed_place, done, state_of, handle_of, opened, fed, fed_place, fed_places, shown_to}
 use Rattle.enip_cmd.specs.Desk.Call.{Begins_one, Feeds, Ends_one}
@@ -21,22 +22,25 @@ pub both : {X : Type 0} → (P : X → Type 0) (b : Bool) (x y : X) → P x → 
 both P true x y p q = p
 both P false x y p q = q
 
+abbrev RepliesSame : Session → Replied → Type 0
+RepliesSame s r = r.session.handle ≡ s.handle
+
 abbrev SameHandle : Session → Served → Type 0
 SameHandle s r = r.session.handle ≡ s.handle
 
-pub handle-registered : (s : Session) (f : Frame) → SameHandle s (registered s f)
+pub handle-registered : (s : Session) (f : Frame) → RepliesSame s (registered s f)
 handle-registered s f =
-    both (SameHandle s) (not (eqb (length f.body) 4)) _ _ refl
+    both (RepliesSame s) (not (eqb (length f.body) 4)) _ _ refl
     (
-    both (SameHandle s) s.registered _ _ refl
+    both (RepliesSame s) s.registered _ _ refl
     (
-    both (SameHandle s) (not (eqb (number_at 0 2 f.body) 1)) _ _ refl
-    (both (SameHandle s) (not (eqb (number_at 2 2 f.body) 0)) _ _ refl refl)
+    both (RepliesSame s) (not (eqb (number_at 0 2 f.body) 1)) _ _ refl
+    (both (RepliesSame s) (not (eqb (number_at 2 2 f.body) 0)) _ _ refl refl)
     )
     )
 
-pub handle-served : (s : Session) (f : Frame) → SameHandle s (served s f)
-handle-served s f =
+pub handle-served : (m : Contents) (s : Session) (f : Frame) → SameHandle s (served m s f)
+handle-served m s f =
     both (SameHandle s) (not (eqb f.header.options 0)) _ _ refl
     (
     both (SameHandle s) (not (eqb f.header.status 0)) _ _ refl
@@ -46,14 +50,14 @@ handle-served s f =
     )
     )
 
-handle-shown : (s : Session) (held : List ℕ) (n : ℕ) (x : Sight) → handle_of (shown_to s held n x).place ≡ s.handle
-handle-shown s held n Nothing_yet = refl
-handle-shown s held n (A_frame f) = handle-served s f
-handle-shown s held n (A_long_header h) = refl
+handle-shown : (m : Contents) (s : Session) (held : List ℕ) (n : ℕ) (x : Sight) → handle_of (shown_to m s held n x).place ≡ s.handle
+handle-shown m s held n Nothing_yet = refl
+handle-shown m s held n (A_frame f) = handle-served m s f
+handle-shown m s held n (A_long_header h) = refl
 
-pub handle-fed_place : (p : Place) (piece : List ℕ) → handle_of (fed_place p piece).place ≡ handle_of p
-handle-fed_place p piece =
-    handle-shown p.session (p.reader ++ take (taken_of p.reader piece) piece) (taken_of p.reader piece)
+pub handle-fed_place : (m : Contents) (p : Place) (piece : List ℕ) → handle_of (fed_place m p piece).place ≡ handle_of p
+handle-fed_place m p piece =
+    handle-shown m p.session (p.reader ++ take (taken_of p.reader piece) piece) (taken_of p.reader piece)
     (sight_of (p.reader ++ take (taken_of p.reader piece) piece))
 
 -- the item that is found has the number
@@ -113,22 +117,22 @@ opened-kept peer place d (Sends bytes) e = e
 opened-kept peer place d (Begins handle) e = first_with-append handle_of peer place d.places _ e
 opened-kept peer place d (Refuses full) e = e
 
-fed-kept : (peer other : ℕ) (places : List Place) (piece : List ℕ) (o : Option Place) → other ≢ peer
+fed-kept : (m : Contents) (peer other : ℕ) (places : List Place) (piece : List ℕ) (o : Option Place) → other ≢ peer
     → first_with handle_of other places ≡ o
-    → first_with handle_of peer (fed places other piece o).places ≡ first_with handle_of peer places
-fed-kept peer other places piece None d e = refl
-fed-kept peer other places piece (Some p) d e =
+    → first_with handle_of peer (fed m places other piece o).places ≡ first_with handle_of peer places
+fed-kept m peer other places piece None d e = refl
+fed-kept m peer other places piece (Some p) d e =
     both (λ (x : Fed_places). first_with handle_of peer x.places ≡ first_with handle_of peer places) p.session.closed _ _ refl
     (
-    first_with-changed handle_of peer other (fed_place p piece).place places
-    (handle-fed_place p piece ∙ first_with-number handle_of other p places e) d
+    first_with-changed handle_of peer other (fed_place m p piece).place places
+    (handle-fed_place m p piece ∙ first_with-number handle_of other p places e) d
     )
 
 call-kept : (peer : ℕ) (place : Place) (d : Desk) (c : Call) → IsForOther peer c → first_with handle_of peer d.places ≡ Some place
     → first_with handle_of peer (done d c).desk.places ≡ Some place
 call-kept peer place d Begins_one o e = opened-kept peer place d (begun (state_of d)).said e
 call-kept peer place d (Feeds now other piece) o e =
-    fed-kept peer other d.places piece (first_with handle_of other d.places) o refl ∙ e
+    fed-kept d.objects peer other d.places piece (first_with handle_of other d.places) o refl ∙ e
 call-kept peer place d (Ends_one other) o e = first_with-removed handle_of peer other d.places o ∙ e
 
 pub calls-kept : (peer : ℕ) (place : Place) (d : Desk) (calls : List Call) → AllByRecursion (IsForOther peer) calls
@@ -159,12 +163,12 @@ sends-rises : (n : ℕ) (o : Option (List ℕ)) (later : List Said) → RisesFro
 sends-rises n None later r = r
 sends-rises n (Some bytes) later r = r
 
-fed-rises : (n other : ℕ) (places : List Place) (piece : List ℕ) (o : Option Place) (later : List Said)
-    → RisesFrom n (handles_in later) → RisesFrom n (handles_in ((fed places other piece o).said ∷ later))
-fed-rises n other places piece None later r = r
-fed-rises n other places piece (Some p) later r =
+fed-rises : (m : Contents) (n other : ℕ) (places : List Place) (piece : List ℕ) (o : Option Place) (later : List Said)
+    → RisesFrom n (handles_in later) → RisesFrom n (handles_in ((fed m places other piece o).said ∷ later))
+fed-rises m n other places piece None later r = r
+fed-rises m n other places piece (Some p) later r =
     both (λ (x : Fed_places). RisesFrom n (handles_in (x.said ∷ later))) p.session.closed _ _ r
-    (sends-rises n (fed_place p piece).answer later r)
+    (sends-rises n (fed_place m p piece).answer later r)
 
 pub handles-rise : (d : Desk) (calls : List Call) → RisesFrom d.next (handles_in (map (λ x. x.said) (all_done d calls)))
 handles-rise d [] = tt
@@ -172,6 +176,6 @@ handles-rise d (Begins_one ∷ cs) =
     opened-rises d (begun (state_of d)).said (map (λ x. x.said) (all_done (done d Begins_one).desk cs)) (begun-next (state_of d))
     (handles-rise (done d Begins_one).desk cs)
 handles-rise d (Feeds now other piece ∷ cs) =
-    fed-rises d.next other d.places piece (first_with handle_of other d.places)
+    fed-rises d.objects d.next other d.places piece (first_with handle_of other d.places)
     (map (λ x. x.said) (all_done (done d (Feeds now other piece)).desk cs)) (handles-rise (done d (Feeds now other piece)).desk cs)
 handles-rise d (Ends_one other ∷ cs) = handles-rise (done d (Ends_one other)).desk cs

@@ -1,6 +1,7 @@
 use Rattle.std.specs.Prelude.{ℕ, ◌≡◌, List, Bool, true, false, Option, Some, None}
 use Rattle.std.specs.Prelude.{Result, Ok, Err}
 use Rattle.std.specs.Borrow.{Bor}
+use Rattle.cip_objects.specs.Contents.{Contents}
 use Rattle.enip_cmd.specs.declared.adapter.Full.{Full}
 use Rattle.enip_cmd.specs.declared.place.Place.{Place}
 use Rattle.enip_cmd.specs.declared.place.Outcome.{Outcome}
@@ -38,9 +39,10 @@ abbrev pub written_said : Bool → List ℕ → Said
 written_said true bytes = Sends bytes
 written_said false bytes = Silent
 
--- The places, the outcome and the buffer after a piece are these.
-pub record IsFed (left : List Place) (outcome : Outcome) (bytes : List ℕ) (fed : Fed_places) : Type 0 where
+-- The places, the objects, the outcome and the buffer after a piece are these.
+pub record IsFed (left : List Place) (kept : Contents) (outcome : Outcome) (bytes : List ℕ) (fed : Fed_places) : Type 0 where
   pub places : left ≡ fed.places
+  pub objects : kept ≡ fed.objects
   pub taken : outcome.taken ≡ fed.taken
   pub said : written_said outcome.answered bytes ≡ fed.said
   pub close : outcome.close ≡ fed.close

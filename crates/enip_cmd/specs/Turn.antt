@@ -1,4 +1,5 @@
 use Rattle.std.specs.Prelude.{ℕ, ◌+◌, max, List, [], ◌∷◌, ◌++◌, length, ◌==◌, nat_lt, not, if◌then◌else◌, Bool, true, false, Option, Some, None}
+use Rattle.cip_objects.specs.Contents.{Contents}
 use Rattle.enip_wire.specs.declared.header.Header.{Header}
 use Rattle.enip_wire.specs.Numbers.{le, number_at}
 use Rattle.enip_wire.specs.Frames.{Frame, frame}
@@ -26,16 +27,27 @@ reply asked session status bytes =
     )
 
 -- What becomes of a peer's session, and what the peer is sent.
-pub record Served : Type 0 where
+pub record Replied : Type 0 where
   pub session : Session
   pub answer : Option (List ℕ)
   pub close : Bool
 
-abbrev pub silent : Session → Served
+-- The same, and what becomes of the objects.
+pub record Served : Type 0 where
+  pub session : Session
+  pub objects : Contents
+  pub answer : Option (List ℕ)
+  pub close : Bool
+
+-- The objects are left as they are.
+abbrev pub leaving : Contents → Replied → Served
+leaving m r = record { session = r.session; objects = m; answer = r.answer; close = r.close }
+
+abbrev pub silent : Session → Replied
 silent s = record { session = s; answer = None; close = false }
 
 -- A refusal: the session field is that of the frame that asked, and there are no data.
-abbrev pub refusal : Session → Header → ℕ → Served
+abbrev pub refusal : Session → Header → ℕ → Replied
 refusal s asked status = record { session = s; answer = Some (reply asked asked.session status []); close = false }
 
 -- Protocol version 1, no option flags. (Volume 2, RegisterSession.)
@@ -45,7 +57,7 @@ version_one = le 2 1 ++ le 2 0
 -- RegisterSession, by the first check that fails: invalid length 0x65; a session stands already 0x01;
 -- unsupported protocol revision 0x69, with the one that is served; poorly formed data 0x03.
 -- (Volume 2, RegisterSession.)
-abbrev pub registered : Session → Frame → Served
+abbrev pub registered : Session → Frame → Replied
 registered s f =
     if not (length f.body == 4)
     then refusal s f.header 0x65
@@ -63,18 +75,18 @@ registered s f =
 
 -- A whole frame, by its options, its status and its command: NOP 0x0000 has no answer, RegisterSession is
 -- 0x0065, and each other command is unsupported, 0x01. (Volume 2, encapsulation commands.)
-abbrev pub served : Session → Frame → Served
-served s f =
+abbrev pub served : Contents → Session → Frame → Served
+served m s f =
     if not (f.header.options == 0)
-    then silent s
+    then leaving m (silent s)
     else if not (f.header.status == 0)
-    then silent s
+    then leaving m (silent s)
     else if f.header.command == 0x0000
-    then silent s
-    else if f.header.command == 0x0065 then registered s f else refusal s f.header 0x01
+    then leaving m (silent s)
+    else if f.header.command == 0x0065 then leaving m (registered s f) else leaving m (refusal s f.header 0x01)
 
 -- A header whose length is too long: invalid length 0x65, and the connection is closed.
-abbrev pub refused_long : Session → Header → Served
+abbrev pub refused_long : Session → Header → Replied
 refused_long s asked =
     record {
       session = record s { closed = true };
@@ -82,10 +94,11 @@ refused_long s asked =
       close = true;
     }
 
--- The adapter: the greatest moment so far, the next session handle, and the peers in the order in which
--- they began.
+-- The adapter: the greatest moment so far, the next session handle, the objects, and the peers in the order
+-- in which they began.
 pub record State : Type 0 where
   pub moment : ℕ
+  pub objects : Contents
   pub next : ℕ
   pub peers : List Session
 
@@ -136,7 +149,10 @@ to_peer s peer serves (Some session) =
     if session.closed
     then record { state = s; said = Silent; close = true }
     else record {
-      state = record s { peers = with_first (λ p. p.handle) peer (serves session).session s.peers };
+      state = record s {
+        objects = (serves session).objects;
+        peers = with_first (λ p. p.handle) peer (serves session).session s.peers;
+      };
       said = sends (serves session).answer;
       close = (serves session).close;
     }
@@ -147,8 +163,8 @@ turn s Begin = begun s
 turn s (End peer) =
     record { state = record s { peers = without_first (λ p. p.handle) peer s.peers }; said = Silent; close = false }
 turn s (At now) = record { state = record s { moment = max s.moment now }; said = Silent; close = false }
-turn s (Framed peer f) = to_peer s peer (λ p. served p f) (first_with (λ p. p.handle) peer s.peers)
-turn s (Long peer h) = to_peer s peer (λ p. refused_long p h) (first_with (λ p. p.handle) peer s.peers)
+turn s (Framed peer f) = to_peer s peer (λ p. served s.objects p f) (first_with (λ p. p.handle) peer s.peers)
+turn s (Long peer h) = to_peer s peer (λ p. leaving s.objects (refused_long p h)) (first_with (λ p. p.handle) peer s.peers)
 
 -- The answers to a list of events, and the state after it.
 abbrev pub answers : State → List Event → List Said

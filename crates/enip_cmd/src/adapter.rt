@@ -10,6 +10,7 @@ ghost use Rattle.std.specs.Io.BufRead.{Rests};
 
 use crate::commands::{Answer, LONGEST_ANSWER, Session};
 use crate::place::{Outcome, Place};
+use cip_objects::Objects;
 use enip_wire::reader::FrameReader;
 use std::alloc::{AllocError, Global};
 use std::marker::Model;
@@ -56,10 +57,11 @@ pub struct Fed<'a> {
     pub close: bool,
 }
 
-/// An adapter that serves NOP and RegisterSession to at most nine peers.
+/// An adapter that serves its objects to at most nine peers.
 #[derive(Drop)]
 pub struct Adapter {
     moment: u64,
+    objects: Objects,
     next: u64,
     places: Vec<Place>,
     free: Vec<FrameReader>,
@@ -69,11 +71,13 @@ pub struct Adapter {
 impl Model for Adapter {
     ghost use Rattle.std.specs.Prelude.{◌≡◌, ◌≤◌, ◌+◌, ◌^◌, [], All, vec_len};
     ghost use Rattle.std.specs.Vec.{vec_capacity};
-    ghost use Rattle.enip_cmd.specs.Desk.{Desk};
+    ghost use Rattle.enip_cmd.specs.Desk.{Desk, desk_code};
 
     ghost Value = { Desk };
 
-    ghost view = { λ a. record { moment = a.moment; next = a.next; places = a.places.items } };
+    ghost coded = { desk_code };
+
+    ghost view = { λ a. record { moment = a.moment; objects = a.objects; next = a.next; places = a.places.items } };
 
     ghost use Rattle.enip_cmd.specs.Room.{IsRoomy};
 
@@ -86,8 +90,8 @@ impl Adapter {
     ghost use Rattle.enip_cmd.specs.contracts.adapter.Adapter.{the_row};
 
     /// An adapter with no peer, whose first session handle is 1. All its memory is taken here.
-    pub fn new(alloc: Global) -> Result<Adapter, AllocError>
-        ensures { IfOk result (λ a. a ≡ new_desk) }
+    pub fn new(alloc: Global, objects: Objects) -> Result<Adapter, AllocError>
+        ensures { IfOk result (λ a. a ≡ new_desk objects) }
     {
         let mut places = Vec::with_capacity(alloc, PLACES)?;
         let mut free = Vec::with_capacity(alloc, PLACES)?;
@@ -96,6 +100,7 @@ impl Adapter {
         }
         Ok(Adapter {
             moment: 0,
+            objects,
             next: 1,
             places,
             free,
@@ -137,7 +142,13 @@ impl Adapter {
         ensures fits { IfSome result.answer (λ frame. length frame.now ≤ LONGEST_ANSWER) }
     {
         self.moment = self.moment.max(now);
-        let outcome = feed_places(&mut self.places, peer.handle, piece, &mut self.answer);
+        let outcome = feed_places(
+            &mut self.objects,
+            &mut self.places,
+            peer.handle,
+            piece,
+            &mut self.answer,
+        );
         Fed {
             taken: outcome.taken,
             answer: if outcome.answered {
@@ -172,8 +183,14 @@ fn index_of(places: &[Place], handle: u32) -> Option<usize>
 }
 
 /// Feeds a piece to the peer with this handle.
-fn feed_places(places: &mut [Place], handle: u32, piece: &[u8], answer: &mut Answer) -> Outcome
-    ensures fed { IsFed places.new result answer.new.items (fed_places places.old handle piece.now) }
+fn feed_places(
+    objects: &mut Objects,
+    places: &mut [Place],
+    handle: u32,
+    piece: &[u8],
+    answer: &mut Answer,
+) -> Outcome
+    ensures fed { IsFed places.new objects.new result answer.new.items (fed_places objects.old places.old handle piece.now) }
     ensures within { result.taken ≤ length piece.now }
 {
     let Some(index) = index_of(places, handle) else {
@@ -182,5 +199,5 @@ fn feed_places(places: &mut [Place], handle: u32, piece: &[u8], answer: &mut Ans
     if places[index].session.closed {
         return Outcome::NOT_SERVED;
     }
-    places[index].feed(piece, answer)
+    places[index].feed(objects, piece, answer)
 }

@@ -7,6 +7,7 @@ use crate::commands::LONGEST_ANSWER;
 use crate::configuration::Configuration;
 use crate::fault::Fault;
 use crate::lines::{Line, Number};
+use cip_objects::Objects;
 use memchr::memchr;
 use std::alloc::Global;
 use std::io::{BufWriter, Read, Write};
@@ -43,8 +44,9 @@ fn run<R: Read + Drop, W: Write + Drop>(
     input: R,
     output: W,
 ) -> Result<(), Fault> {
-    Configuration::read(alloc, config)?;
-    let mut desk = Desk::new(alloc, output)?;
+    let configuration = Configuration::read(alloc, config)?;
+    let objects = Objects::new(alloc, &configuration.objects)?;
+    let mut desk = Desk::new(alloc, objects, output)?;
     let read = desk.read_all(alloc, input);
     let flushed = desk.output.flush();
     read?;
@@ -75,9 +77,9 @@ struct Desk<W: Write + Drop> {
 }
 
 impl<W: Write + Drop> Desk<W> {
-    fn new(alloc: Global, output: W) -> Result<Desk<W>, Fault> {
+    fn new(alloc: Global, objects: Objects, output: W) -> Result<Desk<W>, Fault> {
         Ok(Desk {
-            adapter: Adapter::new(alloc)?,
+            adapter: Adapter::new(alloc, objects)?,
             now: 0,
             seats: [Seat::Free; 9],
             output: BufWriter::new(alloc, output)?,

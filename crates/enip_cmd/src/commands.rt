@@ -7,6 +7,7 @@ ghost use Rattle.enip_cmd.specs.Answers.{said, status_code};
 
 use arrayvec::ArrayVec;
 use byteorder::{ByteOrder, LittleEndian};
+use cip_objects::Objects;
 use enip_wire::header::Header;
 use enip_wire::reader::FrameView;
 
@@ -45,9 +46,15 @@ pub struct Session {
 }
 
 /// Serves a whole frame, and says whether it is answered.
-pub fn serve(session: &mut Session, frame: FrameView<'_>, answer: &mut Answer) -> bool
-    ensures session { session.new ≡ (served session.old (frame_of frame.entry)).session }
-    ensures answer { said result answer.new.items ≡ (served session.old (frame_of frame.entry)).answer }
+pub fn serve(
+    objects: &mut Objects,
+    session: &mut Session,
+    frame: FrameView<'_>,
+    answer: &mut Answer,
+) -> bool
+    ensures session { session.new ≡ (served objects.old session.old (frame_of frame.entry)).session }
+    ensures objects { objects.new ≡ (served objects.old session.old (frame_of frame.entry)).objects }
+    ensures answer { said result answer.new.items ≡ (served objects.old session.old (frame_of frame.entry)).answer }
 {
     if frame.header.options != 0 || frame.header.status != 0 {
         return false;

@@ -1,6 +1,7 @@
 //! The configuration of the adapter, a TOML text.
 
 use crate::fault::Fault;
+use cip_objects::{AssemblyConfig, Config, CounterConfig};
 use std::alloc::Global;
 
 /// The text is no TOML.
@@ -10,10 +11,9 @@ const NOT_TOML: u8 = 7;
 const BAD_KEY: u8 = 8;
 
 /// What the adapter is told of the device.
-#[derive(Clone, Copy, Debug, PartialEq, Eq)]
+#[derive(Debug, Drop)]
 pub struct Configuration {
-    /// The vendor's number. (Volume 1, Identity.)
-    pub vendor: u16,
+    pub objects: Config,
 }
 
 impl Configuration {
@@ -29,8 +29,29 @@ impl Configuration {
             return Err(Fault::Configuration(BAD_KEY));
         };
         match u16::try_from(*vendor) {
-            Ok(vendor) => Ok(Configuration { vendor }),
+            Ok(vendor) => Ok(Configuration {
+                objects: config_of(alloc, vendor)?,
+            }),
             Err(_) => Err(Fault::Configuration(BAD_KEY)),
         }
     }
+}
+
+fn config_of(alloc: Global, vendor: u16) -> Result<Config, Fault> {
+    Ok(Config {
+        vendor,
+        device_type: 43,
+        product_code: 7,
+        major: 2,
+        minor: 5,
+        serial: 16909060,
+        name: String::from_str(alloc, "Demo")?,
+        status: 0,
+        state: 3,
+        counter: CounterConfig {
+            value: 0,
+            limit: 100,
+        },
+        assemblies: Vec::new(alloc),
+    })
 }

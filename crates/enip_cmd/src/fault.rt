@@ -3,6 +3,7 @@
 ghost use Rattle.std.specs.Prelude.{◌≡◌};
 ghost use Rattle.enip_cmd.specs.Statuses.{exit_status};
 
+use cip_objects::ConfigFault;
 use std::alloc::{AllocError, AllocFailed};
 use std::io;
 use thiserror::Error;
@@ -54,6 +55,19 @@ impl From<io::Error> for Fault {
         match error.kind() {
             io::ErrorKind::OutOfMemory => Fault::Memory,
             _ => Fault::Device,
+        }
+    }
+}
+
+impl From<ConfigFault> for Fault {
+    fn from(fault: ConfigFault) -> Fault {
+        match fault {
+            ConfigFault::Name => Fault::Configuration(1),
+            ConfigFault::Size => Fault::Configuration(2),
+            ConfigFault::Members => Fault::Configuration(3),
+            ConfigFault::DoubleInstance => Fault::Configuration(4),
+            ConfigFault::Limit => Fault::Configuration(5),
+            ConfigFault::Memory => Fault::Memory,
         }
     }
 }

@@ -3,6 +3,7 @@
 
 ghost use Rattle.std.specs.Prelude.{ℕ, List, ◌≡◌, map, Some};
 ghost use Rattle.std.specs.List.{flat_map, concat, AllByRecursion};
+ghost use Rattle.cip_objects.specs.Contents.{Contents};
 ghost use Rattle.enip_cmd.specs.declared.place.Place.{Place};
 ghost use Rattle.enip_cmd.specs.Lookup.{first_with};
 ghost use Rattle.enip_cmd.specs.Turn.{Said, answers, after};
@@ -34,10 +35,10 @@ pub fn handles_rise()
 /// Where a peer's stream is cut changes nothing: after any calls, its pieces leave the desk and draw the
 /// answers that its bytes do one by one.
 pub fn cuts_change_nothing()
-    ensures said { (calls : List Call) (now peer : ℕ) (pieces : List (List ℕ)) (said : List Said) (last : Desk)
-        → Pours now peer (desk_after new_desk calls) pieces said last
-        → spoken said ≡ spoken (map (λ x. x.said) (all_done (desk_after new_desk calls) (one_by_one now peer (concat pieces)))) }
-    ensures desk { (calls : List Call) (now peer : ℕ) (pieces : List (List ℕ)) (said : List Said) (last : Desk)
-        → Pours now peer (desk_after new_desk calls) pieces said last
-        → last ≡ desk_after (desk_after new_desk calls) (one_by_one now peer (concat pieces)) }
+    ensures said { (m : Contents) (calls : List Call) (now peer : ℕ) (pieces : List (List ℕ)) (said : List Said) (last : Desk)
+        → Pours now peer (desk_after (new_desk m) calls) pieces said last
+        → spoken said ≡ spoken (map (λ x. x.said) (all_done (desk_after (new_desk m) calls) (one_by_one now peer (concat pieces)))) }
+    ensures desk { (m : Contents) (calls : List Call) (now peer : ℕ) (pieces : List (List ℕ)) (said : List Said) (last : Desk)
+        → Pours now peer (desk_after (new_desk m) calls) pieces said last
+        → last ≡ desk_after (desk_after (new_desk m) calls) (one_by_one now peer (concat pieces)) }
 {}

@@ -4,6 +4,7 @@ ghost use Rattle.std.specs.Prelude.{◌≡◌, ◌≤◌, length};
 ghost use Rattle.enip_cmd.specs.Answers.{said};
 
 use crate::commands::{self, Answer, Session};
+use cip_objects::Objects;
 use enip_wire::reader::{FrameReader, Held};
 
 /// A place that a peer holds.
@@ -37,11 +38,12 @@ impl Place {
     ghost use Rattle.enip_cmd.specs.Desk.{fed_place};
 
     /// Takes bytes of a piece up to the end of one frame, and serves the frame.
-    pub fn feed(&mut self, piece: &[u8], answer: &mut Answer) -> Outcome
-        ensures place { self.new ≡ (fed_place self.old piece.now).place }
-        ensures taken { result.taken ≡ (fed_place self.old piece.now).taken }
-        ensures answer { said result.answered answer.new.items ≡ (fed_place self.old piece.now).answer }
-        ensures close { result.close ≡ (fed_place self.old piece.now).close }
+    pub fn feed(&mut self, objects: &mut Objects, piece: &[u8], answer: &mut Answer) -> Outcome
+        ensures place { self.new ≡ (fed_place objects.old self.old piece.now).place }
+        ensures objects { objects.new ≡ (fed_place objects.old self.old piece.now).objects }
+        ensures taken { result.taken ≡ (fed_place objects.old self.old piece.now).taken }
+        ensures answer { said result.answered answer.new.items ≡ (fed_place objects.old self.old piece.now).answer }
+        ensures close { result.close ≡ (fed_place objects.old self.old piece.now).close }
         ensures within { result.taken ≤ length piece.now }
     {
         let taken = self.reader.push(piece);
@@ -52,7 +54,7 @@ impl Place {
                 close: false,
             },
             Held::Frame(frame) => {
-                let answered = commands::serve(&mut self.session, frame, answer);
+                let answered = commands::serve(objects, &mut self.session, frame, answer);
                 self.reader.clear();
                 Outcome {
                     taken,

@@ -1,0 +1,105 @@
+-- An originator under calls in any order.
+use Rattle.std.proofs.Common.{◌≡◌, ◌≢◌, ℕ, suc, ◌+◌, ◌%◌, ◌<◌, ◌^◌, Bool, true, false, if◌then◌else◌, Option, Some, None, List, [], ◌∷◌, refl, sym, slice_index, arith}
+use Rattle.std.proofs.lemmas.Bool.{and_parts, eqb-true}
+use Rattle.cip_class3.specs.Item.{count_of, NeighboursDiffer}
+use Rattle.cip_class3.specs.OriginatorRule.{OriginatorState, Phase, Idle, Waiting, GivenUp, nothing_sent, unfit, refusal, submitted, answers, is_reply, accepted, is_waiting}
+use Rattle.cip_class3.specs.Calls.{Call, Submit, Resend, Receive, GiveUp, Event, Took, Accepted, after_submit, seen_of_submit, events_of, counts_taken, AcceptedOnce}
+use Rattle.cip_class3.specs.declared.originator.Refused.{Refused}
+
+-- what is to hold of the counts that are taken from a state on, after the count before it
+abbrev Differ : List Call → Type 0
+Differ calls = (originator : OriginatorState) (before : ℕ) → before ≢ originator.next → originator.next < 2 ^ 16 →
+    NeighboursDiffer (before ∷ counts_taken (events_of originator calls))
+
+at_submit : (why : Option Refused) (originator : OriginatorState) (request : List ℕ) (calls : List Call) (before : ℕ) →
+    before ≢ originator.next → originator.next < 2 ^ 16 → Differ calls →
+    NeighboursDiffer (before ∷ counts_taken (seen_of_submit why originator.next (events_of (after_submit why originator request) calls)))
+at_submit None originator request calls before other fits later =
+    (other, later (submitted originator request) originator.next (λ (e : originator.next ≡ (originator.next + 1) % 2 ^ 16). omega arith) (omega arith))
+at_submit (Some why) originator request calls before other fits later = later originator before other fits
+
+at_receive : (is : Bool) (originator : OriginatorState) (bytes : List ℕ) (calls : List Call) (before : ℕ) →
+    before ≢ originator.next → originator.next < 2 ^ 16 → Differ calls →
+    NeighboursDiffer (before ∷ counts_taken
+    (let later = events_of (if is then accepted originator else originator) calls in if is then Accepted (count_of bytes) ∷ later else later))
+at_receive true originator bytes calls before other fits later = later (accepted originator) before other fits
+at_receive false originator bytes calls before other fits later = later originator before other fits
+
+at_give_up : (is : Bool) (originator : OriginatorState) (calls : List Call) (before : ℕ) →
+    before ≢ originator.next → originator.next < 2 ^ 16 → Differ calls →
+    NeighboursDiffer (before ∷ counts_taken (events_of (if is then record originator { phase = GivenUp } else originator) calls))
+at_give_up true originator calls before other fits later = later (record originator { phase = GivenUp }) before other fits
+at_give_up false originator calls before other fits later = later originator before other fits
+
+differ : (calls : List Call) → Differ calls
+differ [] originator before other fits = tt
+differ (Submit request ∷ calls) originator before other fits =
+    at_submit (refusal originator request) originator request calls before other fits (differ calls)
+differ (Resend ∷ calls) originator before other fits = differ calls originator before other fits
+differ (Receive bytes ∷ calls) originator before other fits =
+    at_receive (is_reply originator.t_o originator.phase bytes) originator bytes calls before other fits (differ calls)
+differ (GiveUp ∷ calls) originator before other fits = at_give_up (is_waiting originator.phase) originator calls before other fits (differ calls)
+
+without_first : (first : ℕ) (counts : List ℕ) → NeighboursDiffer (first ∷ counts) → NeighboursDiffer counts
+without_first first [] differs = tt
+without_first first (next ∷ counts) differs = differs.1
+
+-- no two requests that are taken one after the other have the same count
+pub counts_taken-differ : (originator : OriginatorState) (calls : List Call) → originator.next < 2 ^ 16 →
+    NeighboursDiffer (counts_taken (events_of originator calls))
+counts_taken-differ originator calls fits =
+    without_first (suc originator.next) _ (differ calls originator (suc originator.next) (λ (e : suc originator.next ≡ originator.next). omega arith) fits)
+
+-- what is to hold of the events from a state on
+abbrev Sound : Phase → List Event → Type 0
+Sound Idle events = AcceptedOnce events
+Sound (Waiting count request) events = AcceptedOnce (Took count ∷ events)
+Sound GivenUp events = AcceptedOnce events
+
+abbrev state : ℕ → ℕ → ℕ → ℕ → Phase → OriginatorState
+state o_t t_o next tries phase = record { o_t = o_t; t_o = t_o; next = next; phase = phase; tries = tries }
+
+abbrev AllSound : List Call → Type 0
+AllSound calls = (o_t t_o next tries : ℕ) (phase : Phase) → Sound phase (events_of (state o_t t_o next tries phase) calls)
+
+took_before : (count : ℕ) (events : List Event) → AcceptedOnce events → AcceptedOnce (Took count ∷ events)
+took_before count [] once = tt
+took_before count (Took next ∷ events) once = once
+took_before count (Accepted same ∷ events) once = absurd once
+
+submit_sound : (why : Option Refused) (o_t t_o next tries : ℕ) (request : List ℕ) (calls : List Call) → AllSound calls →
+    let originator = state o_t t_o next tries Idle in
+    AcceptedOnce (seen_of_submit why next (events_of (after_submit why originator request) calls))
+submit_sound None o_t t_o next tries request calls later = later o_t t_o ((next + 1) % 2 ^ 16) (tries + 1) (Waiting next request)
+submit_sound (Some why) o_t t_o next tries request calls later = later o_t t_o next tries Idle
+
+receive_sound : (is : Bool) (o_t t_o next tries count : ℕ) (request bytes : List ℕ) (calls : List Call) →
+    answers t_o count (slice_index request 0) bytes ≡ is → AllSound calls →
+    let originator = state o_t t_o next tries (Waiting count request) in
+    AcceptedOnce (Took count ∷ (let later = events_of (if is then accepted originator else originator) calls in
+    if is then Accepted (count_of bytes) ∷ later else later))
+receive_sound true o_t t_o next tries count request bytes calls is later =
+    (sym (eqb-true _ _ (and_parts _ _ ((and_parts _ _ is).0)).1), later o_t t_o next 0 Idle)
+receive_sound false o_t t_o next tries count request bytes calls is later = later o_t t_o next tries (Waiting count request)
+
+sound : (calls : List Call) → AllSound calls
+sound [] o_t t_o next tries Idle = tt
+sound [] o_t t_o next tries (Waiting count request) = tt
+sound [] o_t t_o next tries GivenUp = tt
+sound (Submit request ∷ calls) o_t t_o next tries Idle = submit_sound (unfit o_t request) o_t t_o next tries request calls (sound calls)
+sound (Submit request ∷ calls) o_t t_o next tries (Waiting count waiting) = sound calls o_t t_o next tries (Waiting count waiting)
+sound (Submit request ∷ calls) o_t t_o next tries GivenUp = sound calls o_t t_o next tries GivenUp
+sound (Resend ∷ calls) o_t t_o next tries Idle = sound calls o_t t_o next tries Idle
+sound (Resend ∷ calls) o_t t_o next tries (Waiting count request) = sound calls o_t t_o next tries (Waiting count request)
+sound (Resend ∷ calls) o_t t_o next tries GivenUp = sound calls o_t t_o next tries GivenUp
+sound (Receive bytes ∷ calls) o_t t_o next tries Idle = sound calls o_t t_o next tries Idle
+sound (Receive bytes ∷ calls) o_t t_o next tries (Waiting count request) =
+    receive_sound _ o_t t_o next tries count request bytes calls refl (sound calls)
+sound (Receive bytes ∷ calls) o_t t_o next tries GivenUp = sound calls o_t t_o next tries GivenUp
+sound (GiveUp ∷ calls) o_t t_o next tries Idle = sound calls o_t t_o next tries Idle
+sound (GiveUp ∷ calls) o_t t_o next tries (Waiting count request) = took_before count (events_of (state o_t t_o next tries GivenUp) calls) (sound calls o_t t_o next tries GivenUp)
+sound (GiveUp ∷ calls) o_t t_o next tries GivenUp = sound calls o_t t_o next tries GivenUp
+
+-- from a state in which no request waits, a reply is accepted at most once for each request
+pub events_of-accepted_once : (first o_t t_o : ℕ) (calls : List Call) → AcceptedOnce (events_of (nothing_sent first o_t t_o) calls)
+events_of-accepted_once first o_t t_o calls = sound calls o_t t_o first 0 Idle

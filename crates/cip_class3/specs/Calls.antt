@@ -1,0 +1,60 @@
+-- Calls of an originator in any order, and what is seen of them.
+use Rattle.std.specs.Prelude.{◌≡◌, ℕ, if◌then◌else◌, Option, Some, None, List, [], ◌∷◌}
+use Rattle.cip_class3.specs.Item.{count_of}
+use Rattle.cip_class3.specs.OriginatorRule.{OriginatorState, refusal, submitted, is_reply, heard, given_up}
+use Rattle.cip_class3.specs.declared.originator.Refused.{Refused}
+
+-- a call
+pub data Call : Type 0 where
+  Submit : (request : List ℕ) → Call
+  Resend : Call
+  Receive : (bytes : List ℕ) → Call
+  GiveUp : Call
+
+-- what a call can be seen to do: a request is taken with this count, or a reply with this count is accepted
+pub data Event : Type 0 where
+  Took : (count : ℕ) → Event
+  Accepted : (count : ℕ) → Event
+
+abbrev pub after_submit : Option Refused → OriginatorState → List ℕ → OriginatorState
+after_submit None originator request = submitted originator request
+after_submit (Some why) originator request = originator
+
+abbrev pub after_call : OriginatorState → Call → OriginatorState
+after_call originator (Submit request) = after_submit (refusal originator request) originator request
+after_call originator Resend = originator
+after_call originator (Receive bytes) = heard originator bytes
+after_call originator GiveUp = given_up originator
+
+-- what is seen of a submit, and then later
+abbrev pub seen_of_submit : Option Refused → ℕ → List Event → List Event
+seen_of_submit None count later = Took count ∷ later
+seen_of_submit (Some why) count later = later
+
+-- what is seen of a call, and then later
+abbrev pub seen_of_call : OriginatorState → Call → List Event → List Event
+seen_of_call originator (Submit request) later = seen_of_submit (refusal originator request) originator.next later
+seen_of_call originator Resend later = later
+seen_of_call originator (Receive bytes) later =
+    if is_reply originator.t_o originator.phase bytes then Accepted (count_of bytes) ∷ later else later
+seen_of_call originator GiveUp later = later
+
+-- what is seen of the calls, in order
+abbrev pub events_of : OriginatorState → List Call → List Event
+events_of originator [] = []
+events_of originator (call ∷ calls) = seen_of_call originator call (events_of (after_call originator call) calls)
+
+-- the counts of the requests that were taken
+abbrev pub counts_taken : List Event → List ℕ
+counts_taken [] = []
+counts_taken (Took count ∷ events) = count ∷ counts_taken events
+counts_taken (Accepted count ∷ events) = counts_taken events
+
+-- Each accepted reply has the count of the request that was taken last before it, and no other is accepted
+-- before the next request is taken.
+abbrev pub AcceptedOnce : List Event → Type 0
+AcceptedOnce [] = Unit {0}
+AcceptedOnce (Accepted count ∷ events) = ⊥
+AcceptedOnce (Took count ∷ []) = Unit {0}
+AcceptedOnce (Took count ∷ Accepted same ∷ events) = (count ≡ same) × AcceptedOnce events
+AcceptedOnce (Took count ∷ Took next ∷ events) = AcceptedOnce (Took next ∷ events)

@@ -1,0 +1,19 @@
+-- The item of a class 3 connection: a sequence count and a message (Volume 2, connected data item).
+use Rattle.std.specs.Prelude.{◌≢◌, ℕ, List, [], ◌∷◌, ◌++◌, drop}
+use Rattle.byteorder.specs.Endian.{little_number, little_bytes}
+
+-- two bytes of sequence count, least first, and a request or a reply
+abbrev pub item : ℕ → List ℕ → List ℕ
+item count message = little_bytes 2 count ++ message
+
+abbrev pub count_of : List ℕ → ℕ
+count_of bytes = little_number 2 bytes
+
+abbrev pub message_of : List ℕ → List ℕ
+message_of bytes = drop 2 bytes
+
+-- no two counts that stand side by side are the same
+abbrev pub NeighboursDiffer : List ℕ → Type 0
+NeighboursDiffer [] = Unit {0}
+NeighboursDiffer (count ∷ []) = Unit {0}
+NeighboursDiffer (count ∷ next ∷ counts) = (count ≢ next) × NeighboursDiffer (next ∷ counts)

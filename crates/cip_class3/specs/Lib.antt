@@ -1,0 +1,9 @@
+pub mod Calls
+pub mod Came
+pub mod Deliveries
+pub mod Item
+pub mod Originator
+pub mod OriginatorRule
+pub mod Rows
+pub mod Target
+pub mod TargetRule

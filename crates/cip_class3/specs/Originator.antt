@@ -1,0 +1,49 @@
+-- What a contract sees of an `Originator`.
+use Rattle.std.specs.Prelude.{◌≡◌, ℕ, ◌≤◌, List, length, take, drop}
+use Rattle.cip_class3.specs.Item.{item}
+use Rattle.cip_class3.specs.OriginatorRule.{OriginatorState, Phase, Idle, Waiting, GivenUp}
+use Rattle.cip_class3.specs.declared.originator.Progress.{Progress}
+use Rattle.cip_class3.specs.declared.originator.Progress.TheVariants as progress
+use Rattle.cip_class3.specs.declared.originator.Originator.TheInside.{Inside}
+
+-- the request that waits stands behind the two bytes of its count, at the front of the block
+abbrev pub phase_of : Progress → List ℕ → Phase
+phase_of progress.Idle block = Idle
+phase_of (progress.Waiting count length) block = Waiting count (drop 2 (take length block))
+phase_of progress.GivenUp block = GivenUp
+
+-- A request can be submitted only once the one before it was answered: the count of submits since then
+-- follows from the phase.
+abbrev pub tries_of : Progress → ℕ
+tries_of progress.Idle = 0
+tries_of (progress.Waiting count length) = 1
+tries_of progress.GivenUp = 1
+
+abbrev pub originator_state : Inside → OriginatorState
+originator_state originator = record {
+  o_t = originator.o_t;
+  t_o = originator.t_o;
+  next = originator.next;
+  phase = phase_of originator.progress originator.block.items;
+  tries = tries_of originator.progress;
+}
+
+-- an item of this count and length stands at the front of the block
+pub record StandsInFront (count item_length : ℕ) (block : List ℕ) : Type 0 where
+  pub from : 4 ≤ item_length
+  pub to : item_length ≤ length block
+  pub item : take item_length block ≡ item count (drop 2 (take item_length block))
+
+-- the item of the request that waits, if one does, is in the block
+abbrev pub HoldsItem : Progress → List ℕ → Type 0
+HoldsItem progress.Idle block = Unit {0}
+HoldsItem (progress.Waiting count length) block = StandsInFront count length block
+HoldsItem progress.GivenUp block = Unit {0}
+
+pub record IsOriginator (originator : Inside) : Type 0 where
+  pub o_t_from : 4 ≤ originator.o_t
+  pub o_t_to : originator.o_t ≤ 511
+  pub t_o_from : 10 ≤ originator.t_o
+  pub t_o_to : originator.t_o ≤ 511
+  pub block : length originator.block.items ≡ originator.o_t
+  pub item : HoldsItem originator.progress originator.block.items

@@ -1,0 +1,56 @@
+-- Worked rows of the two rules.
+use Rattle.std.specs.Prelude.{◌≡◌, ℕ, true, false, Some, None, List, [], ◌∷◌, replicate, refl}
+use Rattle.cip_class3.specs.Item.{item, count_of}
+use Rattle.cip_class3.specs.TargetRule.{is_held}
+use Rattle.cip_class3.specs.OriginatorRule.{OriginatorState, Waiting, nothing_sent, refusal, submitted, is_reply}
+use Rattle.cip_class3.specs.declared.originator.Refused.TheVariants.{Busy, TooLong, NoRequest}
+
+-- service 0x32 at class 0x64, instance 1, with the number 5
+abbrev pub add_five : List ℕ
+add_five = 0x32 ∷ 2 ∷ 0x20 ∷ 0x64 ∷ 0x24 ∷ 1 ∷ 5 ∷ 0 ∷ 0 ∷ 0 ∷ []
+
+-- the least byte of the count comes first
+pub item-add_five : item 1 add_five ≡ 1 ∷ 0 ∷ add_five
+item-add_five = refl
+
+pub count_of-item : count_of (1 ∷ 0 ∷ add_five) ≡ 1
+count_of-item = refl
+
+-- where nothing is held, count 0 isn't either
+pub is_held-nothing : is_held None 0 ≡ false
+is_held-nothing = refl
+
+pub is_held-zero : (reply : List ℕ) → is_held (Some (record { count = 0; reply = reply })) 0 ≡ true
+is_held-zero reply = refl
+
+abbrev pub idle : OriginatorState
+idle = nothing_sent 65535 500 500
+
+-- 498 bytes and their count are 500; with 499 they are too many
+pub refusal-longest : refusal idle (replicate 498 14) ≡ None
+refusal-longest = refl
+
+pub refusal-longer : refusal idle (replicate 499 14) ≡ Some TooLong
+refusal-longer = refl
+
+-- one byte, or a service with bit 7
+pub refusal-short : refusal idle (0x32 ∷ []) ≡ Some NoRequest
+refusal-short = refl
+
+pub refusal-reply : refusal idle (0xb2 ∷ 2 ∷ 0x20 ∷ 0x64 ∷ 0x24 ∷ 1 ∷ []) ≡ Some NoRequest
+refusal-reply = refl
+
+-- a second request while one waits, of whatever form
+pub refusal-waiting : refusal (submitted idle add_five) (0x32 ∷ []) ≡ Some Busy
+refusal-waiting = refl
+
+-- count 0 follows count 65,535
+pub next-submitted : (submitted idle add_five).next ≡ 0
+next-submitted = refl
+
+-- the reply has the count, and the service with bit 7; five bytes are none
+pub is_reply-reply : is_reply 500 (Waiting 1 add_five) (1 ∷ 0 ∷ 0xb2 ∷ 0 ∷ 0 ∷ 0 ∷ []) ≡ true
+is_reply-reply = refl
+
+pub is_reply-short : is_reply 500 (Waiting 1 add_five) (1 ∷ 0 ∷ 0xb2 ∷ 0 ∷ 0 ∷ []) ≡ false
+is_reply-short = refl

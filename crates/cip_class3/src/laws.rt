@@ -1,0 +1,41 @@
+//! What follows from the rules of the two ends over whole lists of items and calls.
+//!
+//! The functions do nothing: each one's clauses are the law.
+ghost use Rattle.std.specs.Prelude.{◌≡◌, ℕ, ◌<◌, ◌^◌, List};
+ghost use Rattle.cip_class3.specs.Item.{NeighboursDiffer};
+ghost use Rattle.cip_class3.specs.TargetRule.{TargetState, room_of};
+ghost use Rattle.cip_class3.specs.Deliveries.{Delivery, AreDelivered, items_of, requests_of, router_after, answers_to, executed_once, answers_once};
+ghost use Rattle.cip_class3.specs.OriginatorRule.{nothing_sent};
+ghost use Rattle.cip_class3.specs.Calls.{Call, events_of, counts_taken, AcceptedOnce};
+
+use cip_objects::Router;
+
+/// Each request that reaches a target is executed once, however often it comes, and is answered with the
+/// same bytes each time.
+///
+/// The requests come in order, each any number of times in a row, and each has another count than the one
+/// before it.
+pub fn each_request_once<R: Router>()
+    // The router has executed each request once, and in that order.
+    ensures once { (target : TargetState) (router : R) (deliveries : List Delivery) →
+        AreDelivered target deliveries →
+        router_after R.after R.answer target router (items_of deliveries)
+        ≡ executed_once R.after R.answer (room_of target) router (requests_of deliveries) }
+    // Each time a request comes, its count and the reply of its one execution answer it.
+    ensures same_bytes { (target : TargetState) (router : R) (deliveries : List Delivery) →
+        AreDelivered target deliveries →
+        answers_to R.after R.answer target router (items_of deliveries)
+        ≡ answers_once R.after R.answer (room_of target) router deliveries }
+{}
+
+/// Two requests that an originator takes one after the other never have the same count, whatever the calls.
+pub fn counts_differ()
+    ensures { (first o_t t_o : ℕ) (calls : List Call) → first < 2 ^ 16 →
+        NeighboursDiffer (counts_taken (events_of (nothing_sent first o_t t_o) calls)) }
+{}
+
+/// A reply is accepted at most once for each request that an originator takes, whatever the calls.
+pub fn one_reply_each()
+    ensures { (first o_t t_o : ℕ) (calls : List Call) →
+        AcceptedOnce (events_of (nothing_sent first o_t t_o) calls) }
+{}

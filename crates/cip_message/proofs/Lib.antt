@@ -1,0 +1,12 @@
+pub mod Bytes
+pub mod Steps
+pub mod Segments
+pub mod Paths
+pub mod ShortPaths
+pub mod Requests
+pub mod Replies
+pub mod Keys
+pub mod Joined
+pub mod Opens
+pub mod Closes
+pub mod Rows

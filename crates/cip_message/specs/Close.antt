@@ -1,0 +1,74 @@
+-- The data of a Forward_Close request (Volume 1, Connection Manager).
+use Rattle.std.specs.Prelude.{◌≡◌, ℕ, ◌+◌, ◌*◌, ◌/◌, ◌%◌, ◌<◌, ◌≤◌, ◌^◌, List, [], ◌∷◌, ◌++◌, length, slice_index, drop, Result, Ok, Err, nat_lt, if◌then◌else◌}
+use Rattle.cip_message.specs.Numbers.{le, AreBytes, number_at}
+use Rattle.cip_message.specs.declared.close.CloseRequest.{CloseRequest}
+use Rattle.cip_message.specs.declared.open.LengthFault.{LengthFault}
+use Rattle.cip_message.specs.declared.open.LengthFault.TheVariants.{Short, Long}
+
+-- a close request, apart from where its path lies in memory
+pub record Close : Type 0 where
+  pub priority : ℕ
+  pub ticks : ℕ
+  pub connection_serial : ℕ
+  pub originator_vendor : ℕ
+  pub originator_serial : ℕ
+  pub path : List ℕ
+
+-- what has a spelling: each number is within its field, and the path is of whole words, at most 255
+pub record IsClose (c : Close) : Type 0 where
+  pub priority : c.priority < 2 ^ 8
+  pub ticks : c.ticks < 2 ^ 8
+  pub connection_serial : c.connection_serial < 2 ^ 16
+  pub originator_vendor : c.originator_vendor < 2 ^ 16
+  pub originator_serial : c.originator_serial < 2 ^ 32
+  pub whole_words : length c.path % 2 ≡ 0
+  pub counted : length c.path ≤ 510
+  pub path : AreBytes c.path
+
+-- its spellings, one for each value of the reserved byte: priority and ticks, the three numbers that
+-- name the connection, path size in words, reserved, path
+abbrev pub close_with : ℕ → Close → List ℕ
+close_with reserved c =
+  c.priority ∷ c.ticks ∷ [] ++ le 2 c.connection_serial ++ le 2 c.originator_vendor ++ le 4 c.originator_serial
+  ++ (length c.path / 2) ∷ reserved ∷ [] ++ c.path
+
+-- b is a spelling of the close request c
+pub record SpellsClose (c : Close) (b : List ℕ) : Type 0 where
+  pub reserved : ℕ
+  pub is_close : IsClose c
+  pub spelled : b ≡ close_with reserved c
+
+-- the spelling that is written, with 0 in the reserved byte
+abbrev pub close : Close → List ℕ
+close c = close_with 0 c
+
+-- what a close request of the code shows
+abbrev pub view : CloseRequest → Close
+view v = record {
+  priority = v.priority;
+  ticks = v.ticks;
+  connection_serial = v.connection_serial;
+  originator_vendor = v.originator_vendor;
+  originator_serial = v.originator_serial;
+  path = v.path.now }
+
+-- how long a text says it is: 12 bytes, and the path that byte 10 counts in words (0 where it ends before)
+abbrev pub said_length : List ℕ → ℕ
+said_length b = 12 + 2 * slice_index b 10
+
+-- the fields at their places
+unfoldable pub close_fields : List ℕ → Close
+close_fields b = record {
+  priority = slice_index b 0;
+  ticks = slice_index b 1;
+  connection_serial = number_at 2 2 b;
+  originator_vendor = number_at 4 2 b;
+  originator_serial = number_at 6 4 b;
+  path = drop 12 b }
+
+-- reading a close request
+unfoldable pub close_of : List ℕ → Result Close LengthFault
+close_of b =
+  if nat_lt (length b) (said_length b) then Err Short
+  else if nat_lt (said_length b) (length b) then Err Long
+  else Ok (close_fields b)

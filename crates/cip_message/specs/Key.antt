@@ -1,0 +1,69 @@
+-- The electronic key (Volume 1, appendix on segments: key segment, format 4) and the rule by which a
+-- device answers it (Volume 1, Connection Manager).
+use Rattle.std.specs.Prelude.{◌≡◌, ◌⊎◌, ℕ, ◌+◌, ◌-◌, ◌<◌, ◌≤◌, ◌^◌, Bool, true, false, ◌&&◌, ◌||◌, ◌==◌, IsTrue, List, [], ◌∷◌, ◌++◌, length, slice_index, drop, Option, Some, None, nat_lt, nat_le, if◌then◌else◌}
+use Rattle.byteorder.specs.Endian.{little_number}
+use Rattle.cip_message.specs.Numbers.{le}
+use Rattle.cip_message.specs.declared.key.Key.{Key}
+use Rattle.cip_message.specs.declared.key.Device.{Device}
+
+-- what has a spelling
+pub record IsKey (k : Key) : Type 0 where
+  pub vendor : k.vendor < 2 ^ 16
+  pub device_type : k.device_type < 2 ^ 16
+  pub product_code : k.product_code < 2 ^ 16
+  pub major : k.major < 2 ^ 7
+  pub minor : k.minor < 2 ^ 8
+
+-- its spelling: segment type, key format, vendor, device type, product code, major revision with the
+-- compatibility bit above it, minor revision
+abbrev pub key : Key → List ℕ
+key k =
+  0x34 ∷ 0x04 ∷ (le 2 k.vendor ++ le 2 k.device_type ++ le 2 k.product_code
+    ++ (k.major + (if k.compatible then 128 else 0)) ∷ k.minor ∷ [])
+
+-- what a key asks of a number: 0 asks nothing, another asks for itself
+abbrev pub IsMet : ℕ → ℕ → Type 0
+IsMet asked has = (asked ≡ 0) ⊎ (asked ≡ has)
+
+-- what it asks of the minor revision: with the compatibility bit one up to the device's will do
+abbrev pub IsMinorMet : Bool → ℕ → ℕ → Type 0
+IsMinorMet compatible asked has = IsMet asked has ⊎ (IsTrue compatible × (asked ≤ has))
+
+-- the device meets the key, by each of the three tests
+pub record MeetsVendor (d : Device) (k : Key) : Type 0 where
+  pub vendor : IsMet k.vendor d.vendor
+  pub product_code : IsMet k.product_code d.product_code
+
+abbrev pub MeetsType : Device → Key → Type 0
+MeetsType d k = IsMet k.device_type d.device_type
+
+pub record MeetsRevision (d : Device) (k : Key) : Type 0 where
+  pub major : IsMet k.major d.major
+  pub minor : IsMinorMet k.compatible k.minor d.minor
+
+-- the same tests, computed
+abbrev pub is_met : ℕ → ℕ → Bool
+is_met asked has = (asked == 0) || (asked == has)
+
+-- the extended status that refuses the key: the first test that fails
+abbrev pub refusal : Device → Key → Option ℕ
+refusal d k =
+  if is_met k.vendor d.vendor && is_met k.product_code d.product_code then
+    (if is_met k.device_type d.device_type then
+      (if is_met k.major d.major && (is_met k.minor d.minor || (k.compatible && nat_le k.minor d.minor)) then None
+      else Some 0x0116)
+    else Some 0x0115)
+  else Some 0x0114
+
+-- reading a key that is the whole text
+unfoldable pub key_of : List ℕ → Option Key
+key_of b =
+  if (length b == 10) && (slice_index b 0 == 0x34) && (slice_index b 1 == 0x04) then
+    Some (record {
+      vendor = little_number 2 (drop 2 b);
+      device_type = little_number 2 (drop 4 b);
+      product_code = little_number 2 (drop 6 b);
+      major = (if nat_lt (slice_index b 8) 128 then slice_index b 8 else slice_index b 8 - 128);
+      compatible = nat_le 128 (slice_index b 8);
+      minor = slice_index b 9 })
+  else None

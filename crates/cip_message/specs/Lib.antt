@@ -1,0 +1,10 @@
+pub mod Numbers
+pub mod Reading
+pub mod Path
+pub mod PathReading
+pub mod PathWriting
+pub mod Request
+pub mod Reply
+pub mod Key
+pub mod Open
+pub mod Close

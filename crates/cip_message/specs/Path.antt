@@ -1,0 +1,106 @@
+-- Paths to an object (Volume 1, appendix on segments: logical segments, padded form).
+use Rattle.std.specs.Prelude.{◌≡◌, ◌≢◌, ◌⊎◌, ℕ, ◌<◌, ◌^◌, List, [], ◌∷◌, ◌++◌, Option, Some, None}
+use Rattle.cip_message.specs.Numbers.{le}
+use Rattle.cip_message.specs.declared.path.Segment.{Segment}
+use Rattle.cip_message.specs.declared.path.Segment.TheVariants.{Class, Instance, Member, Attribute}
+use Rattle.cip_message.specs.declared.path.Path.{Path}
+use Rattle.cip_message.specs.declared.path.PathFault.{PathFault}
+use Rattle.cip_message.specs.declared.path.PathFault.TheVariants as fault
+
+-- a value in 8 bits, behind the first byte of its segment
+pub record In8 (first value : ℕ) (b : List ℕ) : Type 0 where
+  pub fits : value < 2 ^ 8
+  pub spelled : b ≡ first ∷ value ∷ []
+
+-- a value in 16 bits, behind the first byte and a pad byte of any value
+pub record In16 (first value : ℕ) (b : List ℕ) : Type 0 where
+  pub fits : value < 2 ^ 16
+  pub pad : ℕ
+  pub pad_fits : pad < 2 ^ 8
+  pub spelled : b ≡ first ∷ pad ∷ le 2 value
+
+-- the same in 32 bits
+pub record In32 (first value : ℕ) (b : List ℕ) : Type 0 where
+  pub fits : value < 2 ^ 32
+  pub pad : ℕ
+  pub pad_fits : pad < 2 ^ 8
+  pub spelled : b ≡ first ∷ pad ∷ le 4 value
+
+-- the spellings of a segment: any width that holds its value
+abbrev pub IsSegment : Segment → List ℕ → Type 0
+IsSegment (Class v) b = In8 0x20 v b ⊎ In16 0x21 v b
+IsSegment (Instance v) b = In8 0x24 v b ⊎ (In16 0x25 v b ⊎ In32 0x26 v b)
+IsSegment (Member v) b = In8 0x28 v b ⊎ In16 0x29 v b
+IsSegment (Attribute v) b = In8 0x30 v b ⊎ In16 0x31 v b
+
+-- spellings of these segments, joined in order
+abbrev pub AreSegments : List Segment → List ℕ → Type 0
+AreSegments [] b = b ≡ []
+AreSegments (g ∷ gs) b = (s t : List ℕ) × IsSegment g s × AreSegments gs t × (b ≡ s ++ t)
+
+-- a segment where there is a value for it
+abbrev pub optional : (ℕ → Segment) → Option ℕ → List Segment
+optional kind None = []
+optional kind (Some v) = kind v ∷ []
+
+-- the segments of a path: class, instance, attribute if any, member if any
+abbrev pub segments : Path → List Segment
+segments p = Class p.class ∷ Instance p.instance ∷ (optional Attribute p.attribute ++ optional Member p.member)
+
+-- b is a spelling of the path p
+unfoldable pub IsPath : Path → List ℕ → Type 0
+IsPath p b = AreSegments (segments p) b
+
+-- the first bytes of segments
+abbrev pub IsFirstByte : ℕ → Type 0
+IsFirstByte x =
+  (x ≡ 0x20) ⊎ ((x ≡ 0x21) ⊎ ((x ≡ 0x24) ⊎ ((x ≡ 0x25) ⊎ ((x ≡ 0x26) ⊎ ((x ≡ 0x28) ⊎ ((x ≡ 0x29) ⊎ ((x ≡ 0x30) ⊎ (x ≡ 0x31))))))))
+
+-- the bytes begin with the first byte of no segment
+pub record BeginsNone (b : List ℕ) : Type 0 where
+  pub first : ℕ
+  pub more : List ℕ
+  pub begins : b ≡ first ∷ more
+  pub not_first : ¬ IsFirstByte first
+
+-- the bytes are a proper front of a segment, and not empty
+pub record IsFront (b : List ℕ) : Type 0 where
+  pub segment : Segment
+  pub more : List ℕ
+  pub some : b ≢ []
+  pub proper : more ≢ []
+  pub spelled : IsSegment segment (b ++ more)
+
+-- segments that begin the segments of some path
+abbrev pub Begins : List Segment → Type 0
+Begins gs = (p : Path) × (more : List Segment) × (segments p ≡ gs ++ more)
+
+-- the bytes begin with a segment that can't follow gs
+pub record IsOutOfOrder (gs : List Segment) (b : List ℕ) : Type 0 where
+  pub segment : Segment
+  pub text : List ℕ
+  pub more : List ℕ
+  pub spelled : IsSegment segment text
+  pub begins : b ≡ text ++ more
+  pub wrong : ¬ Begins (gs ++ segment ∷ [])
+
+-- the bytes are at their end, and gs are not the segments of a path: class or instance is missing
+pub record EndsEarly (gs : List Segment) (b : List ℕ) : Type 0 where
+  pub ends : b ≡ []
+  pub missing : (p : Path) → segments p ≢ gs
+
+-- what is wrong with b, which follows the segments gs
+abbrev pub IsWrong : PathFault → List Segment → List ℕ → Type 0
+IsWrong fault.Segment gs b = BeginsNone b
+IsWrong fault.Cut gs b = IsFront b
+IsWrong fault.Order gs b = IsOutOfOrder gs b ⊎ EndsEarly gs b
+
+-- the bytes b are segments that begin a path's, and then what is wrong
+pub record path_fault (k : PathFault) (b : List ℕ) : Type 0 where
+  pub before : List Segment
+  pub front : List ℕ
+  pub rest : List ℕ
+  pub begins : Begins before
+  pub spelled : AreSegments before front
+  pub joined : b ≡ front ++ rest
+  pub wrong : IsWrong k before rest

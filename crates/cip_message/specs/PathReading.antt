@@ -1,0 +1,96 @@
+-- Reading a path from left to right. What it means is said in `Path`, without an order of steps.
+use Rattle.std.specs.Prelude.{ℕ, List, [], ◌∷◌, length, drop, slice_index, Option, Some, None, Result, Ok, Err, nat_lt, ◌==◌, if◌then◌else◌}
+use Rattle.byteorder.specs.Endian.{little_from}
+use Rattle.cip_message.specs.Reading.{◌>>=◌}
+use Rattle.cip_message.specs.declared.path.Segment.{Segment}
+use Rattle.cip_message.specs.declared.path.Segment.TheVariants.{Class, Instance, Member, Attribute}
+use Rattle.cip_message.specs.declared.path.Path.{Path}
+use Rattle.cip_message.specs.declared.path.PathFault.{PathFault}
+use Rattle.cip_message.specs.declared.path.PathFault.TheVariants as fault
+
+-- a value in 8, 16 or 32 bits behind the first byte, and what follows it
+abbrev pub value8_of : List ℕ → Result (ℕ × List ℕ) PathFault
+value8_of b = if nat_lt (length b) 2 then Err fault.Cut else Ok (slice_index b 1, drop 2 b)
+
+abbrev pub value16_of : List ℕ → Result (ℕ × List ℕ) PathFault
+value16_of b = if nat_lt (length b) 4 then Err fault.Cut else Ok (little_from 2 2 b, drop 4 b)
+
+abbrev pub value32_of : List ℕ → Result (ℕ × List ℕ) PathFault
+value32_of b = if nat_lt (length b) 6 then Err fault.Cut else Ok (little_from 2 4 b, drop 6 b)
+
+-- the segment of that kind whose value was read, and what follows it
+abbrev pub with_kind : (ℕ → Segment) → Result (ℕ × List ℕ) PathFault → Result (Segment × List ℕ) PathFault
+with_kind kind read = read >>= λ x. Ok (kind x.0, x.1)
+
+-- the segment at the front of bytes that begin with x
+abbrev pub segment_at : ℕ → List ℕ → Result (Segment × List ℕ) PathFault
+segment_at x b =
+  if x == 0x20 then with_kind Class (value8_of b) else
+  if x == 0x21 then with_kind Class (value16_of b) else
+  if x == 0x24 then with_kind Instance (value8_of b) else
+  if x == 0x25 then with_kind Instance (value16_of b) else
+  if x == 0x26 then with_kind Instance (value32_of b) else
+  if x == 0x28 then with_kind Member (value8_of b) else
+  if x == 0x29 then with_kind Member (value16_of b) else
+  if x == 0x30 then with_kind Attribute (value8_of b) else
+  if x == 0x31 then with_kind Attribute (value16_of b) else
+  Err fault.Segment
+
+-- the segment at the front, where one is wanted
+unfoldable pub segment_of : List ℕ → Result (Segment × List ℕ) PathFault
+segment_of [] = Err fault.Order
+segment_of (x ∷ xs) = segment_at x (x ∷ xs)
+
+abbrev pub as_class : Segment → List ℕ → Result (ℕ × List ℕ) PathFault
+as_class (Class v) rest = Ok (v, rest)
+as_class _ rest = Err fault.Order
+
+abbrev pub as_instance : Segment → List ℕ → Result (ℕ × List ℕ) PathFault
+as_instance (Instance v) rest = Ok (v, rest)
+as_instance _ rest = Err fault.Order
+
+-- an attribute or a member may be left out: what stands there is then left for the next
+abbrev pub as_attribute : Segment → List ℕ → List ℕ → Result (Option ℕ × List ℕ) PathFault
+as_attribute (Attribute v) rest b = Ok (Some v, rest)
+as_attribute _ rest b = Ok (None, b)
+
+abbrev pub as_member : Segment → List ℕ → List ℕ → Result (Option ℕ × List ℕ) PathFault
+as_member (Member v) rest b = Ok (Some v, rest)
+as_member _ rest b = Ok (None, b)
+
+unfoldable pub class_of : List ℕ → Result (ℕ × List ℕ) PathFault
+class_of b = do
+  g ← segment_of b
+  as_class g.0 g.1
+
+unfoldable pub instance_of : List ℕ → Result (ℕ × List ℕ) PathFault
+instance_of b = do
+  g ← segment_of b
+  as_instance g.0 g.1
+
+unfoldable pub attribute_of : List ℕ → Result (Option ℕ × List ℕ) PathFault
+attribute_of [] = Ok (None, [])
+attribute_of (x ∷ xs) = do
+  g ← segment_of (x ∷ xs)
+  as_attribute g.0 g.1 (x ∷ xs)
+
+unfoldable pub member_of : List ℕ → Result (Option ℕ × List ℕ) PathFault
+member_of [] = Ok (None, [])
+member_of (x ∷ xs) = do
+  g ← segment_of (x ∷ xs)
+  as_member g.0 g.1 (x ∷ xs)
+
+-- the path p, where nothing is left
+unfoldable pub whole_of : Path → List ℕ → Result Path PathFault
+whole_of p [] = Ok p
+whole_of p (x ∷ xs) = do
+  g ← segment_of (x ∷ xs)
+  Err fault.Order
+
+unfoldable pub path_of : List ℕ → Result Path PathFault
+path_of b = do
+  class ← class_of b
+  instance ← instance_of class.1
+  attribute ← attribute_of instance.1
+  member ← member_of attribute.1
+  whole_of (record { class = class.0; instance = instance.0; attribute = attribute.0; member = member.0 }) member.1

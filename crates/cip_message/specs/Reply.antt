@@ -1,0 +1,59 @@
+-- Replies of the message router (Volume 1, message router response format).
+use Rattle.std.specs.Prelude.{◌≡◌, ℕ, ◌+◌, ◌*◌, ◌<◌, ◌≤◌, ◌^◌, List, [], ◌∷◌, ◌++◌, length, take, drop, slice_index, Result, Ok, Err, nat_lt, if◌then◌else◌}
+use Rattle.std.specs.List.{flat_map}
+use Rattle.cip_message.specs.Numbers.{le, AreBytes, AreWords, words_of}
+use Rattle.cip_message.specs.declared.reply.ReplyView.{ReplyView}
+use Rattle.cip_message.specs.declared.reply.ReplyFault.{ReplyFault}
+use Rattle.cip_message.specs.declared.reply.ReplyFault.TheVariants.{Short, NotReply, Extra}
+
+-- a reply, apart from where it lies in memory
+pub record Reply : Type 0 where
+  pub service : ℕ
+  pub status : ℕ
+  pub additional : List ℕ
+  pub «data» : List ℕ
+
+-- what has a spelling: its service has bit 7 set, and there are at most 255 additional words
+pub record IsReply (a : Reply) : Type 0 where
+  pub service : a.service < 2 ^ 8
+  pub bit7 : 128 ≤ a.service
+  pub status : a.status < 2 ^ 8
+  pub counted : length a.additional < 2 ^ 8
+  pub additional : AreWords a.additional
+  pub «data» : AreBytes a.data
+
+-- its spellings, one for each value of the reserved byte:
+-- service, reserved, general status, number of additional words, these words, data
+abbrev pub reply_with : ℕ → Reply → List ℕ
+reply_with reserved a =
+  a.service ∷ reserved ∷ a.status ∷ length a.additional ∷ (flat_map (le 2) a.additional ++ a.data)
+
+-- b is a spelling of the reply a
+pub record SpellsReply (a : Reply) (b : List ℕ) : Type 0 where
+  pub reserved : ℕ
+  pub is_reply : IsReply a
+  pub spelled : b ≡ reply_with reserved a
+
+-- the spelling that is written, with 0 in the reserved byte
+abbrev pub reply : Reply → List ℕ
+reply a = reply_with 0 a
+
+-- the reply of these fields
+abbrev pub reply_of_fields : ℕ → ℕ → List ℕ → List ℕ → Reply
+reply_of_fields service status additional bytes =
+  record { service = service; status = status; additional = additional; «data» = bytes }
+
+-- what a view of a reply shows
+abbrev pub view : ReplyView → Reply
+view v = reply_of_fields v.service v.status (words_of v.additional.now) v.data.now
+
+-- reading a reply
+unfoldable pub reply_of : List ℕ → Result Reply ReplyFault
+reply_of [] = Err Short
+reply_of (service ∷ []) = Err Short
+reply_of (service ∷ reserved ∷ []) = Err Short
+reply_of (service ∷ reserved ∷ status ∷ []) = Err Short
+reply_of (service ∷ reserved ∷ status ∷ words ∷ rest) =
+  if nat_lt service 128 then Err NotReply
+  else if nat_lt (length rest) (2 * words) then Err Extra
+  else Ok (reply_of_fields service status (words_of (take (2 * words) rest)) (drop (2 * words) rest))

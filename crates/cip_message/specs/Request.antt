@@ -1,0 +1,36 @@
+-- Requests of the message router (Volume 1, message router request format).
+use Rattle.std.specs.Prelude.{◌≡◌, ℕ, ◌*◌, ◌/◌, ◌%◌, ◌<◌, ◌≤◌, ◌^◌, List, [], ◌∷◌, ◌++◌, length, take, drop, Result, Ok, Err, nat_lt, if◌then◌else◌}
+use Rattle.cip_message.specs.Numbers.{AreBytes}
+use Rattle.cip_message.specs.declared.request.RequestView.{RequestView}
+use Rattle.cip_message.specs.declared.request.RequestFault.{RequestFault}
+use Rattle.cip_message.specs.declared.request.RequestFault.TheVariants.{Short, PathSize}
+
+-- a request, apart from where it lies in memory
+pub record Request : Type 0 where
+  pub service : ℕ
+  pub path : List ℕ
+  pub «data» : List ℕ
+
+-- what has a spelling: the path is of whole words, at most 255 of them
+pub record IsRequest (q : Request) : Type 0 where
+  pub service : q.service < 2 ^ 8
+  pub whole_words : length q.path % 2 ≡ 0
+  pub counted : length q.path ≤ 510
+  pub path : AreBytes q.path
+  pub «data» : AreBytes q.data
+
+-- its spelling: service, size of the path in words, path, data
+abbrev pub request : Request → List ℕ
+request q = q.service ∷ (length q.path / 2) ∷ (q.path ++ q.data)
+
+-- what a view of a request shows
+abbrev pub view : RequestView → Request
+view v = record { service = v.service; path = v.path.now; «data» = v.data.now }
+
+-- reading a request
+unfoldable pub request_of : List ℕ → Result Request RequestFault
+request_of [] = Err Short
+request_of (service ∷ []) = Err Short
+request_of (service ∷ words ∷ rest) =
+  if nat_lt (length rest) (2 * words) then Err PathSize
+  else Ok (record { service = service; path = take (2 * words) rest; «data» = drop (2 * words) rest })

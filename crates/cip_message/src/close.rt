@@ -1,0 +1,98 @@
+//! The data of a Forward_Close request, which closes a connection (Volume 1, Connection Manager).
+
+ghost use Rattle.std.specs.Prelude.{◌≡◌, ◌↔◌, ◌+◌, ◌%◌, ◌<◌, ◌≤◌, ◌++◌, length, IsOk, OnOk, OnErr};
+ghost use Rattle.arrayvec.specs.ArrayVec.{array_vec_len};
+ghost use Rattle.cip_message.specs.Reading.{Gives};
+ghost use Rattle.cip_message.specs.Close.{Close, IsClose, SpellsClose, close, view, said_length, close_fields, close_of};
+
+use crate::open::LengthFault;
+use crate::writing::{append, append_u16, append_u32, append_u8, Full};
+use arrayvec::ArrayVec;
+use byteorder::{ByteOrder, LittleEndian};
+
+/// Which connection a request to close means: the three numbers that its opening gave. `path` is its
+/// bytes, of whole words.
+#[derive(Clone, Copy, Debug)]
+pub struct CloseRequest<'a> {
+    /// Priority and tick time.
+    pub priority: u8,
+    /// Timeout ticks.
+    pub ticks: u8,
+    pub connection_serial: u16,
+    pub originator_vendor: u16,
+    pub originator_serial: u32,
+    pub path: &'a [u8],
+}
+
+impl<'a> CloseRequest<'a> {
+    /// The close request that is the whole text, whose reserved byte may have any value. The path is
+    /// lent from it.
+    pub fn read(bytes: &'a [u8]) -> Result<CloseRequest<'a>, LengthFault>
+        // What is read is spelled so, and what is spelled so is read.
+        ensures close_request { (c : Close) → Gives view result (Ok c) ↔ SpellsClose c bytes.now }
+        ensures short { Gives view result (Err LengthFault.Short) ↔ (length bytes.now < said_length bytes.now) }
+        ensures long { Gives view result (Err LengthFault.Long) ↔ (said_length bytes.now < length bytes.now) }
+        ensures exact { Gives view result (close_of bytes.now) }
+    {
+        close_at(bytes)
+    }
+
+    /// Appends the request's spelling, with 0 in the reserved byte. The path is whole words, at most
+    /// 255 of them.
+    ///
+    /// # Errors
+    ///
+    /// `Full` where the request doesn't fit, and then nothing is written.
+    pub fn write<const N: usize>(&self, out: &mut ArrayVec<u8, N>) -> Result<(), Full>
+        requires whole_words { length self.now.path.now % 2 ≡ 0 }
+        requires counted { length self.now.path.now ≤ 510 }
+        ensures fits { IsOk result ↔ (array_vec_len out.old + length (close (view self.now)) ≤ N) }
+        ensures ok { OnOk result (out.new.items ≡ out.old.items ++ close (view self.now)) }
+        ensures spelled { OnOk result (IsClose (view self.now)) }
+        ensures err { OnErr result (out.new ≡ out.old) }
+    {
+        if out.remaining_capacity() < 12 + self.path.len() {
+            return Err(Full);
+        }
+        append_u8(out, self.priority);
+        append_u8(out, self.ticks);
+        append_u16(out, self.connection_serial);
+        append_u16(out, self.originator_vendor);
+        append_u32(out, self.originator_serial);
+        append(out, &[(self.path.len() / 2) as u8, 0]);
+        append(out, self.path);
+        Ok(())
+    }
+}
+
+#[tactic(auto, unfolding(crate::specs::Close::close_of))]
+fn close_at(bytes: &[u8]) -> Result<CloseRequest<'_>, LengthFault>
+    ensures { Gives view result (close_of bytes.now) }
+{
+    if bytes.len() < 12 {
+        return Err(LengthFault::Short);
+    }
+    let said = 12 + 2 * usize::from(bytes[10]);
+    if bytes.len() < said {
+        return Err(LengthFault::Short);
+    }
+    if said < bytes.len() {
+        return Err(LengthFault::Long);
+    }
+    Ok(fields_at(bytes))
+}
+
+#[tactic(auto, unfolding(crate::specs::Close::close_fields))]
+fn fields_at(bytes: &[u8]) -> CloseRequest<'_>
+    requires { 12 ≤ length bytes.now }
+    ensures { view result ≡ close_fields bytes.now }
+{
+    CloseRequest {
+        priority: bytes[0],
+        ticks: bytes[1],
+        connection_serial: LittleEndian::read_u16(&bytes[2..]),
+        originator_vendor: LittleEndian::read_u16(&bytes[4..]),
+        originator_serial: LittleEndian::read_u32(&bytes[6..]),
+        path: &bytes[12..],
+    }
+}

@@ -1,0 +1,106 @@
+//! The electronic key, by which who opens a connection says which device it means (Volume 1, appendix
+//! on segments, and Connection Manager).
+
+ghost use Rattle.std.specs.Prelude.{◌≡◌, ◌↔◌, IsNone};
+ghost use Rattle.cip_message.specs.declared.key.Key.{Key};
+ghost use Rattle.cip_message.specs.Key.{IsKey, MeetsVendor, MeetsType, MeetsRevision, key as key_text, refusal, key_of, is_met as is_met_by};
+
+use byteorder::{ByteOrder, LittleEndian};
+
+/// What an electronic key asks of a device. A number 0 asks nothing.
+#[derive(Clone, Copy, Debug, PartialEq, Eq)]
+pub struct Key {
+    pub vendor: u16,
+    pub device_type: u16,
+    pub product_code: u16,
+    /// Up to 127.
+    pub major: u8,
+    /// A minor revision up to the device's will do.
+    pub compatible: bool,
+    pub minor: u8,
+}
+
+/// What a device is, as a key asks for it.
+#[derive(Clone, Copy, Debug, PartialEq, Eq)]
+pub struct Device {
+    pub vendor: u16,
+    pub device_type: u16,
+    pub product_code: u16,
+    pub major: u8,
+    pub minor: u8,
+}
+
+/// Extended status: the vendor or the product code isn't the device's.
+pub const VENDOR_OR_PRODUCT_CODE: u16 = 0x0114;
+/// Extended status: the device type isn't the device's.
+pub const DEVICE_TYPE: u16 = 0x0115;
+/// Extended status: the revision isn't one that the device has.
+pub const REVISION: u16 = 0x0116;
+
+/// The key that is the whole text, or `None` where it isn't exactly one key.
+pub fn read_key(bytes: &[u8]) -> Option<Key>
+    // What is read is spelled so, and what is spelled so is read.
+    ensures key { (k : Key) → (result ≡ Some k) ↔ (IsKey k × (bytes.now ≡ key_text k)) }
+    ensures exact { result ≡ key_of bytes.now }
+{
+    key_at(bytes)
+}
+
+#[tactic(auto, unfolding(crate::specs::Key::key_of))]
+fn key_at(bytes: &[u8]) -> Option<Key>
+    ensures { result ≡ key_of bytes.now }
+{
+    if bytes.len() != 10 || bytes[0] != 0x34 || bytes[1] != 0x04 {
+        return None;
+    }
+    let revision = bytes[8];
+    Some(Key {
+        vendor: LittleEndian::read_u16(&bytes[2..]),
+        device_type: LittleEndian::read_u16(&bytes[4..]),
+        product_code: LittleEndian::read_u16(&bytes[6..]),
+        major: if revision < 0x80 { revision } else { revision - 0x80 },
+        compatible: revision >= 0x80,
+        minor: bytes[9],
+    })
+}
+
+fn is_met(asked: u16, has: u16) -> bool
+    ensures { result ≡ is_met_by asked has }
+{
+    asked == 0 || asked == has
+}
+
+impl Device {
+    /// The extended status that refuses the key, or `None` where the device meets it.
+    pub fn accepts(&self, key: &Key) -> Option<u16>
+        ensures accepted { IsNone result
+            ↔ (MeetsVendor self.now key.now × MeetsType self.now key.now × MeetsRevision self.now key.now) }
+        // The first test that fails gives the status.
+        ensures vendor { (result ≡ Some VENDOR_OR_PRODUCT_CODE) ↔ ¬ MeetsVendor self.now key.now }
+        ensures device_type { (result ≡ Some DEVICE_TYPE)
+            ↔ (MeetsVendor self.now key.now × ¬ MeetsType self.now key.now) }
+        ensures revision { (result ≡ Some REVISION)
+            ↔ (MeetsVendor self.now key.now × MeetsType self.now key.now × ¬ MeetsRevision self.now key.now) }
+        ensures exact { result ≡ refusal self.now key.now }
+    {
+        self.refusal_of(key)
+    }
+
+    fn refusal_of(&self, key: &Key) -> Option<u16>
+        ensures { result ≡ refusal self.now key.now }
+    {
+        if !is_met(key.vendor, self.vendor) || !is_met(key.product_code, self.product_code) {
+            return Some(VENDOR_OR_PRODUCT_CODE);
+        }
+        if !is_met(key.device_type, self.device_type) {
+            return Some(DEVICE_TYPE);
+        }
+        let same_major = is_met(u16::from(key.major), u16::from(self.major));
+        let same_minor = is_met(u16::from(key.minor), u16::from(self.minor));
+        if same_major && (same_minor || key.compatible && key.minor <= self.minor) {
+            None
+        } else {
+            Some(REVISION)
+        }
+    }
+}

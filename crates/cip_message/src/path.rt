@@ -1,0 +1,312 @@
+//! Paths to an object, as logical segments in padded form (Volume 1, appendix on segments).
+
+ghost use Rattle.std.specs.Prelude.{◌≡◌, ◌↔◌, ℕ, ◌+◌, ◌<◌, ◌≤◌, ◌^◌, ◌++◌, length, IsOk, OnOk, OnErr, IfSome};
+ghost use Rattle.arrayvec.specs.ArrayVec.{array_vec_len};
+ghost use Rattle.cip_message.specs.Reading.{Gives};
+ghost use Rattle.cip_message.specs.declared.path.Path.{Path};
+ghost use Rattle.cip_message.specs.declared.path.PathFault.{PathFault};
+ghost use Rattle.cip_message.specs.Path.{IsPath, path_fault};
+ghost use Rattle.cip_message.specs.PathReading.{value8_of, value16_of, value32_of, segment_of, class_of, instance_of, attribute_of, member_of, whole_of, path_of};
+ghost use Rattle.cip_message.specs.PathWriting.{short16, short32, short_optional, short, FitsPath, IsShortest, OneSegment};
+
+use crate::writing::{append, Full};
+use arrayvec::ArrayVec;
+use byteorder::{ByteOrder, LittleEndian};
+use thiserror::Error;
+
+/// Where a request goes: a class, an instance of it (0 is the class itself), and perhaps one of its
+/// attributes and a member of that.
+#[derive(Clone, Copy, Debug, PartialEq, Eq)]
+pub struct Path {
+    pub class: u16,
+    pub instance: u32,
+    pub attribute: Option<u16>,
+    pub member: Option<u16>,
+}
+
+/// One logical segment of a path: what it names, and its number.
+#[derive(Clone, Copy, Debug, PartialEq, Eq)]
+pub enum Segment {
+    Class(u16),
+    Instance(u32),
+    Member(u16),
+    Attribute(u16),
+}
+
+/// Why bytes are no path: the first fault from the left.
+#[derive(Clone, Copy, Debug, PartialEq, Eq, Error)]
+pub enum PathFault {
+    /// A byte that begins no segment of a class, instance, member or attribute.
+    #[error("no segment begins so")]
+    Segment,
+    /// A segment that can't come next, or the end where the class or the instance is missing.
+    #[error("segments out of order")]
+    Order,
+    /// The bytes end within a segment.
+    #[error("cut within a segment")]
+    Cut,
+}
+
+fn value8(bytes: &[u8]) -> Result<(u16, &[u8]), PathFault>
+    ensures { Gives (λ x. (x.0, x.1.now)) result (value8_of bytes.now) }
+{
+    if bytes.len() < 2 {
+        return Err(PathFault::Cut);
+    }
+    Ok((u16::from(bytes[1]), &bytes[2..]))
+}
+
+fn value16(bytes: &[u8]) -> Result<(u16, &[u8]), PathFault>
+    ensures { Gives (λ x. (x.0, x.1.now)) result (value16_of bytes.now) }
+{
+    if bytes.len() < 4 {
+        return Err(PathFault::Cut);
+    }
+    Ok((LittleEndian::read_u16(&bytes[2..]), &bytes[4..]))
+}
+
+fn value32(bytes: &[u8]) -> Result<(u32, &[u8]), PathFault>
+    ensures { Gives (λ x. (x.0, x.1.now)) result (value32_of bytes.now) }
+{
+    if bytes.len() < 6 {
+        return Err(PathFault::Cut);
+    }
+    Ok((LittleEndian::read_u32(&bytes[2..]), &bytes[6..]))
+}
+
+/// The segment at the front, and what follows it.
+#[tactic(auto, unfolding(crate::specs::PathReading::segment_of))]
+fn first_segment(bytes: &[u8]) -> Result<(Segment, &[u8]), PathFault>
+    ensures { Gives (λ x. (x.0, x.1.now)) result (segment_of bytes.now) }
+{
+    let [first, ..] = bytes else {
+        return Err(PathFault::Order);
+    };
+    match *first {
+        0x20 => {
+            let (value, rest) = value8(bytes)?;
+            Ok((Segment::Class(value), rest))
+        }
+        0x21 => {
+            let (value, rest) = value16(bytes)?;
+            Ok((Segment::Class(value), rest))
+        }
+        0x24 => {
+            let (value, rest) = value8(bytes)?;
+            Ok((Segment::Instance(u32::from(value)), rest))
+        }
+        0x25 => {
+            let (value, rest) = value16(bytes)?;
+            Ok((Segment::Instance(u32::from(value)), rest))
+        }
+        0x26 => {
+            let (value, rest) = value32(bytes)?;
+            Ok((Segment::Instance(value), rest))
+        }
+        0x28 => {
+            let (value, rest) = value8(bytes)?;
+            Ok((Segment::Member(value), rest))
+        }
+        0x29 => {
+            let (value, rest) = value16(bytes)?;
+            Ok((Segment::Member(value), rest))
+        }
+        0x30 => {
+            let (value, rest) = value8(bytes)?;
+            Ok((Segment::Attribute(value), rest))
+        }
+        0x31 => {
+            let (value, rest) = value16(bytes)?;
+            Ok((Segment::Attribute(value), rest))
+        }
+        _ => Err(PathFault::Segment),
+    }
+}
+
+#[tactic(auto, unfolding(crate::specs::PathReading::class_of))]
+fn class(bytes: &[u8]) -> Result<(u16, &[u8]), PathFault>
+    ensures { Gives (λ x. (x.0, x.1.now)) result (class_of bytes.now) }
+{
+    match first_segment(bytes)? {
+        (Segment::Class(value), rest) => Ok((value, rest)),
+        _ => Err(PathFault::Order),
+    }
+}
+
+#[tactic(auto, unfolding(crate::specs::PathReading::instance_of))]
+fn instance(bytes: &[u8]) -> Result<(u32, &[u8]), PathFault>
+    ensures { Gives (λ x. (x.0, x.1.now)) result (instance_of bytes.now) }
+{
+    match first_segment(bytes)? {
+        (Segment::Instance(value), rest) => Ok((value, rest)),
+        _ => Err(PathFault::Order),
+    }
+}
+
+/// The attribute at the front, if one stands there. Another segment is left where it is.
+#[tactic(auto, unfolding(crate::specs::PathReading::attribute_of))]
+fn attribute(bytes: &[u8]) -> Result<(Option<u16>, &[u8]), PathFault>
+    ensures { Gives (λ x. (x.0, x.1.now)) result (attribute_of bytes.now) }
+{
+    if bytes.is_empty() {
+        return Ok((None, bytes));
+    }
+    match first_segment(bytes)? {
+        (Segment::Attribute(value), rest) => Ok((Some(value), rest)),
+        _ => Ok((None, bytes)),
+    }
+}
+
+/// The member at the front, if one stands there. Another segment is left where it is.
+#[tactic(auto, unfolding(crate::specs::PathReading::member_of))]
+fn member(bytes: &[u8]) -> Result<(Option<u16>, &[u8]), PathFault>
+    ensures { Gives (λ x. (x.0, x.1.now)) result (member_of bytes.now) }
+{
+    if bytes.is_empty() {
+        return Ok((None, bytes));
+    }
+    match first_segment(bytes)? {
+        (Segment::Member(value), rest) => Ok((Some(value), rest)),
+        _ => Ok((None, bytes)),
+    }
+}
+
+#[tactic(auto, unfolding(crate::specs::PathReading::whole_of))]
+fn whole(path: Path, bytes: &[u8]) -> Result<Path, PathFault>
+    ensures { result ≡ whole_of path bytes.now }
+{
+    if bytes.is_empty() {
+        return Ok(path);
+    }
+    first_segment(bytes)?;
+    Err(PathFault::Order)
+}
+
+/// The path that the bytes spell, all of the bytes.
+pub fn read_path(bytes: &[u8]) -> Result<Path, PathFault>
+    // What is read is spelled so, and what is spelled so is read.
+    ensures path { (p : Path) → (result ≡ Ok p) ↔ IsPath p bytes.now }
+    // Which fault it is.
+    ensures refused { (k : PathFault) → (result ≡ Err k) ↔ path_fault k bytes.now }
+    ensures exact { result ≡ path_of bytes.now }
+{
+    path_at(bytes)
+}
+
+#[tactic(auto, unfolding(crate::specs::PathReading::path_of))]
+fn path_at(bytes: &[u8]) -> Result<Path, PathFault>
+    ensures { result ≡ path_of bytes.now }
+{
+    let (class, rest) = class(bytes)?;
+    let (instance, rest) = instance(rest)?;
+    let (attribute, rest) = attribute(rest)?;
+    let (member, rest) = member(rest)?;
+    let path = Path {
+        class,
+        instance,
+        attribute,
+        member,
+    };
+    whole(path, rest)
+}
+
+fn size16(value: u16) -> usize
+    ensures size { (first : ℕ) → result ≡ length (short16 first value) }
+    ensures small { result ≤ 6 }
+    ensures fits { value < 2 ^ 16 }
+{
+    if value < 0x100 { 2 } else { 4 }
+}
+
+fn size32(value: u32) -> usize
+    ensures size { (first : ℕ) → result ≡ length (short32 first value) }
+    ensures small { result ≤ 6 }
+    ensures fits { value < 2 ^ 32 }
+{
+    if value < 0x100 {
+        2
+    } else if value < 0x1_0000 {
+        4
+    } else {
+        6
+    }
+}
+
+fn size_optional(value: Option<u16>) -> usize
+    ensures size { (first : ℕ) → result ≡ length (short_optional first value) }
+    ensures small { result ≤ 6 }
+    ensures fits { IfSome value (λ v. v < 2 ^ 16) }
+{
+    match value {
+        None => 0,
+        Some(value) => size16(value),
+    }
+}
+
+fn append16<const N: usize>(out: &mut ArrayVec<u8, N>, first: u8, value: u16)
+    requires first { first < 2 ^ 7 }
+    requires room { array_vec_len out.old + length (short16 first value) ≤ N }
+    ensures { out.new.items ≡ out.old.items ++ short16 first value }
+{
+    if value < 0x100 {
+        append(out, &[first, value as u8]);
+    } else {
+        append(out, &[first + 1, 0]);
+        append(out, &value.to_le_bytes());
+    }
+}
+
+fn append32<const N: usize>(out: &mut ArrayVec<u8, N>, first: u8, value: u32)
+    requires first { first < 2 ^ 7 }
+    requires room { array_vec_len out.old + length (short32 first value) ≤ N }
+    ensures { out.new.items ≡ out.old.items ++ short32 first value }
+{
+    if value < 0x1_0000 {
+        append16(out, first, value as u16);
+    } else {
+        append(out, &[first + 2, 0]);
+        append(out, &value.to_le_bytes());
+    }
+}
+
+fn append_optional<const N: usize>(out: &mut ArrayVec<u8, N>, first: u8, value: Option<u16>)
+    requires first { first < 2 ^ 7 }
+    requires room { array_vec_len out.old + length (short_optional first value) ≤ N }
+    ensures { out.new.items ≡ out.old.items ++ short_optional first value }
+{
+    if let Some(value) = value {
+        append16(out, first, value);
+    }
+}
+
+/// Appends the shortest spelling of the path, with pad bytes 0.
+///
+/// # Errors
+///
+/// `Full` where it doesn't fit, and then nothing is written.
+#[tactic(auto, unfolding(crate::specs::PathWriting::short))]
+pub fn write_path<const N: usize>(out: &mut ArrayVec<u8, N>, path: Path) -> Result<(), Full>
+    ensures fits { IsOk result ↔ (array_vec_len out.old + length (short path) ≤ N) }
+    ensures ok { OnOk result (out.new.items ≡ out.old.items ++ short path) }
+    ensures err { OnErr result (out.new ≡ out.old) }
+    ensures shortest { IsShortest path }
+{
+    let size = size16(path.class)
+        + size32(path.instance)
+        + size_optional(path.attribute)
+        + size_optional(path.member);
+    if out.remaining_capacity() < size {
+        return Err(Full);
+    }
+    append16(out, 0x20, path.class);
+    append32(out, 0x24, path.instance);
+    append_optional(out, 0x30, path.attribute);
+    append_optional(out, 0x28, path.member);
+    Ok(())
+}
+
+/// A segment that spells a front of a text is the only one that does.
+pub fn one_segment()
+    ensures { OneSegment }
+{
+}

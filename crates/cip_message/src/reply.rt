@@ -1,0 +1,133 @@
+//! Replies of the message router (Volume 1, message router response format).
+
+ghost use Rattle.std.specs.Prelude.{◌≡◌, ◌↔◌, ◌+◌, ◌*◌, ◌<◌, ◌≤◌, ◌++◌, length, slice_get, slice_index, IsOk, OnOk, OnErr};
+ghost use Rattle.std.specs.List.{flat_map};
+ghost use Rattle.arrayvec.specs.ArrayVec.{array_vec_len};
+ghost use Rattle.cip_message.specs.Numbers.{le};
+ghost use Rattle.cip_message.specs.Reading.{Gives};
+ghost use Rattle.cip_message.specs.Reply.{Reply, SpellsReply, reply, reply_of_fields, view, reply_of};
+
+use crate::writing::{append, Full};
+use arrayvec::ArrayVec;
+use byteorder::{ByteOrder, LittleEndian};
+use thiserror::Error;
+
+/// A reply as it lies in a text: the request's service with bit 7 set, the general status, the
+/// additional status words as bytes (two each, least first), and the data.
+#[derive(Clone, Copy, Debug)]
+pub struct ReplyView<'a> {
+    pub service: u8,
+    pub status: u8,
+    pub additional: &'a [u8],
+    pub data: &'a [u8],
+}
+
+/// Why a text is no reply: the first of these that holds.
+#[derive(Clone, Copy, Debug, PartialEq, Eq, Error)]
+pub enum ReplyFault {
+    /// Fewer than the four bytes before the additional words.
+    #[error("shorter than a reply's first four bytes")]
+    Short,
+    /// Bit 7 of the service is clear.
+    #[error("not a reply")]
+    NotReply,
+    /// The additional words go past the end.
+    #[error("the additional words go past the end")]
+    Extra,
+}
+
+impl<'a> ReplyView<'a> {
+    /// The reply that is the whole text. Words and data are lent from it; the reserved byte may have
+    /// any value.
+    pub fn read(bytes: &'a [u8]) -> Result<ReplyView<'a>, ReplyFault>
+        // What is read is spelled so, and what is spelled so is read.
+        ensures reply { (a : Reply) → Gives view result (Ok a) ↔ SpellsReply a bytes.now }
+        ensures short { Gives view result (Err ReplyFault.Short) ↔ (length bytes.now < 4) }
+        ensures not_reply { Gives view result (Err ReplyFault.NotReply)
+            ↔ ((4 ≤ length bytes.now) × (slice_index bytes.now 0 < 128)) }
+        ensures extra { Gives view result (Err ReplyFault.Extra)
+            ↔ ((4 ≤ length bytes.now) × (128 ≤ slice_index bytes.now 0)
+                × (length bytes.now < 4 + 2 * slice_index bytes.now 3)) }
+        ensures exact { Gives view result (reply_of bytes.now) }
+    {
+        reply_at(bytes)
+    }
+
+    /// The additional status word at that place, if there is one.
+    pub fn additional_word(&self, place: usize) -> Option<u16>
+        ensures { result ≡ slice_get (view self.now).additional place }
+    {
+        let words = self.additional;
+        if words.len() / 2 <= place {
+            return None;
+        }
+        Some(LittleEndian::read_u16(&words[2 * place..]))
+    }
+}
+
+#[tactic(auto, unfolding(crate::specs::Reply::reply_of))]
+fn reply_at(bytes: &[u8]) -> Result<ReplyView<'_>, ReplyFault>
+    ensures { Gives view result (reply_of bytes.now) }
+{
+    let [service, _reserved, status, words, rest @ ..] = bytes else {
+        return Err(ReplyFault::Short);
+    };
+    if *service < 0x80 {
+        return Err(ReplyFault::NotReply);
+    }
+    let size = 2 * usize::from(*words);
+    if rest.len() < size {
+        return Err(ReplyFault::Extra);
+    }
+    Ok(ReplyView {
+        service: *service,
+        status: *status,
+        additional: &rest[..size],
+        data: &rest[size..],
+    })
+}
+
+/// Appends the words, each of two bytes, least first.
+fn append_words<const N: usize>(out: &mut ArrayVec<u8, N>, words: &[u16])
+    requires { array_vec_len out.old + 2 * length words.now ≤ N }
+    ensures words { out.new.items ≡ out.old.items ++ flat_map (le 2) words.now }
+    ensures len { array_vec_len out.new ≡ array_vec_len out.old + 2 * length words.now }
+{
+    for word in words {
+        append(out, &word.to_le_bytes());
+    }
+}
+
+/// Appends a whole reply: `service` with bit 7 set, the reserved byte 0, the general status, the
+/// additional status words, and the data.
+///
+/// # Errors
+///
+/// `Full` where the reply doesn't fit, and then nothing is written.
+#[tactic(auto, using(crate::proofs::Replies::length_words))]
+pub fn write_reply<const N: usize>(
+    out: &mut ArrayVec<u8, N>,
+    service: u8,
+    status: u8,
+    additional: &[u16],
+    data: &[u8],
+) -> Result<(), Full>
+    requires { length additional.now < 256 }
+    ensures fits { IsOk result ↔ (array_vec_len out.old + length (reply (reply_of_fields service status additional.now «data».now)) ≤ N) }
+    ensures ok { OnOk result (out.new.items ≡ out.old.items ++ reply (reply_of_fields service status additional.now «data».now)) }
+    ensures err { OnErr result (out.new ≡ out.old) }
+    // It is a reply's spelling, where bit 7 is set.
+    ensures spelled { 128 ≤ service
+        → SpellsReply (reply_of_fields service status additional.now «data».now)
+            (reply (reply_of_fields service status additional.now «data».now)) }
+{
+    let room = out.remaining_capacity();
+    let before = 4 + 2 * additional.len();
+    if room < before || room - before < data.len() {
+        return Err(Full);
+    }
+    append(out, &[service, 0, status, additional.len() as u8]);
+    append_words(out, additional);
+    append(out, data);
+    Ok(())
+}

@@ -1,0 +1,87 @@
+//! Requests of the message router (Volume 1, message router request format).
+
+ghost use Rattle.std.specs.Prelude.{◌≡◌, ◌↔◌, ◌+◌, ◌*◌, ◌%◌, ◌<◌, ◌≤◌, ◌++◌, length, slice_index, IsOk, OnOk, OnErr, Ok, Err};
+ghost use Rattle.arrayvec.specs.ArrayVec.{array_vec_len};
+ghost use Rattle.cip_message.specs.Reading.{Gives};
+ghost use Rattle.cip_message.specs.Request.{Request, IsRequest, request, view, request_of};
+
+use crate::writing::{append, append_u8, Full};
+use arrayvec::ArrayVec;
+use thiserror::Error;
+
+/// A request as it lies in a text: its service, the bytes of its path, and its data.
+#[derive(Clone, Copy, Debug)]
+pub struct RequestView<'a> {
+    pub service: u8,
+    pub path: &'a [u8],
+    pub data: &'a [u8],
+}
+
+/// Why a text is no request.
+#[derive(Clone, Copy, Debug, PartialEq, Eq, Error)]
+pub enum RequestFault {
+    /// Fewer than the two bytes before the path.
+    #[error("shorter than a request's first two bytes")]
+    Short,
+    /// The path goes past the end.
+    #[error("the path goes past the end")]
+    PathSize,
+}
+
+impl<'a> RequestView<'a> {
+    /// The request that is the whole text. Path and data are lent from it.
+    pub fn read(bytes: &'a [u8]) -> Result<RequestView<'a>, RequestFault>
+        // What is read is spelled so, and what is spelled so is read.
+        ensures request { (q : Request) → Gives view result (Ok q) ↔ (IsRequest q × (bytes.now ≡ request q)) }
+        ensures short { Gives view result (Err RequestFault.Short) ↔ (length bytes.now < 2) }
+        ensures path_size { Gives view result (Err RequestFault.PathSize)
+            ↔ ((2 ≤ length bytes.now) × (length bytes.now < 2 + 2 * slice_index bytes.now 1)) }
+        ensures exact { Gives view result (request_of bytes.now) }
+    {
+        request_at(bytes)
+    }
+
+    /// Appends the request's spelling. The path is whole words, at most 255 of them.
+    ///
+    /// # Errors
+    ///
+    /// `Full` where the request doesn't fit, and then nothing is written.
+    #[tactic(auto, using(crate::proofs::Requests::length_parts))]
+    pub fn write<const N: usize>(&self, out: &mut ArrayVec<u8, N>) -> Result<(), Full>
+        requires whole_words { length self.now.path.now % 2 ≡ 0 }
+        requires counted { length self.now.path.now ≤ 510 }
+        ensures fits { IsOk result ↔ (array_vec_len out.old + length (request (view self.now)) ≤ N) }
+        ensures ok { OnOk result (out.new.items ≡ out.old.items ++ request (view self.now)) }
+        ensures spelled { OnOk result (IsRequest (view self.now)) }
+        ensures err { OnErr result (out.new ≡ out.old) }
+    {
+        let room = out.remaining_capacity();
+        let before = 2 + self.path.len();
+        if room < before || room - before < self.data.len() {
+            return Err(Full);
+        }
+        append_u8(out, self.service);
+        append_u8(out, (self.path.len() / 2) as u8);
+        append(out, self.path);
+        append(out, self.data);
+        Ok(())
+    }
+}
+
+#[tactic(auto, unfolding(crate::specs::Request::request_of))]
+fn request_at(bytes: &[u8]) -> Result<RequestView<'_>, RequestFault>
+    ensures { Gives view result (request_of bytes.now) }
+{
+    let [service, words, rest @ ..] = bytes else {
+        return Err(RequestFault::Short);
+    };
+    let size = 2 * usize::from(*words);
+    if rest.len() < size {
+        return Err(RequestFault::PathSize);
+    }
+    Ok(RequestView {
+        service: *service,
+        path: &rest[..size],
+        data: &rest[size..],
+    })
+}

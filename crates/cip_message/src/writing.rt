@@ -1,0 +1,52 @@
+//! Writing at the end of a buffer of fixed capacity.
+
+ghost use Rattle.std.specs.Prelude.{◌≡◌, ◌+◌, ◌^◌, ◌<◌, ◌≤◌, [], ◌∷◌, ◌++◌, length};
+ghost use Rattle.arrayvec.specs.ArrayVec.{array_vec_len};
+ghost use Rattle.cip_message.specs.Numbers.{le, AreBytes};
+
+use arrayvec::ArrayVec;
+use thiserror::Error;
+
+/// The text doesn't fit into what is left of the buffer, which is unchanged.
+#[derive(Clone, Copy, Debug, PartialEq, Eq, Error)]
+#[error("the text doesn't fit")]
+pub struct Full;
+
+/// Appends the bytes, for which there is room.
+pub(crate) fn append<const N: usize>(out: &mut ArrayVec<u8, N>, bytes: &[u8])
+    requires { array_vec_len out.old + length bytes.now ≤ N }
+    ensures text { out.new.items ≡ out.old.items ++ bytes.now }
+    ensures bytes { AreBytes bytes.now }
+{
+    let _written = out.try_extend_from_slice(bytes);
+}
+
+/// Appends a byte.
+pub(crate) fn append_u8<const N: usize>(out: &mut ArrayVec<u8, N>, value: u8)
+    requires { array_vec_len out.old < N }
+    ensures text { out.new.items ≡ out.old.items ++ value ∷ [] }
+    ensures len { array_vec_len out.new ≡ array_vec_len out.old + 1 }
+    ensures fits { value < 2 ^ 8 }
+{
+    out.push(value);
+}
+
+/// Appends the two bytes of a number, least first.
+pub(crate) fn append_u16<const N: usize>(out: &mut ArrayVec<u8, N>, value: u16)
+    requires { array_vec_len out.old + 2 ≤ N }
+    ensures text { out.new.items ≡ out.old.items ++ le 2 value }
+    ensures len { array_vec_len out.new ≡ array_vec_len out.old + 2 }
+    ensures fits { value < 2 ^ 16 }
+{
+    append(out, &value.to_le_bytes());
+}
+
+/// Appends the four bytes of a number, least first.
+pub(crate) fn append_u32<const N: usize>(out: &mut ArrayVec<u8, N>, value: u32)
+    requires { array_vec_len out.old + 4 ≤ N }
+    ensures text { out.new.items ≡ out.old.items ++ le 4 value }
+    ensures len { array_vec_len out.new ≡ array_vec_len out.old + 4 }
+    ensures fits { value < 2 ^ 32 }
+{
+    append(out, &value.to_le_bytes());
+}

@@ -1,0 +1,206 @@
+-- What each service that went well has left.
+use Rattle.std.proofs.Common.{◌≡◌, ℕ, ◌+◌, ◌%◌, ◌^◌, ◌<◌, ◌≤◌, eqb, Bool, true, false, cond, ◌&&◌, ◌||◌, not, nat_le, nat_lt, List, [], ◌∷◌, length, Option, Some, None, option_map, Result, Ok, Err, refl, sym, ap, ◌∙◌, arith}
+use Rattle.std.proofs.lemmas.Bool.Decides.{nat_tests}
+use Rattle.std.specs.Option.{ok_or}
+use Rattle.byteorder.specs.Endian.{little_bytes, little_number}
+use Rattle.cip_message.specs.declared.path.Path.{Path}
+use Rattle.cip_message.specs.declared.path.PathFault.{PathFault}
+use Rattle.cip_message.specs.declared.request.RequestFault.{RequestFault}
+use Rattle.cip_message.specs.Numbers.{le, AreBytes}
+use Rattle.cip_message.specs.PathReading.{path_of}
+use Rattle.cip_message.specs.Request.{Request, request_of}
+use Rattle.cip_objects.specs.declared.service.Service.{Service}
+use Rattle.cip_objects.specs.declared.service.Service.TheVariants.{GetAttributesAll, GetAttributeList, GetAttributeSingle, SetAttributeSingle, GetMember, SetMember, Add, Clear}
+use Rattle.cip_objects.specs.declared.status.Status.{Status}
+use Rattle.cip_objects.specs.declared.status.Status.TheVariants.{Success, PathDestinationUnknown, ServiceNotSupported}
+use Rattle.cip_objects.specs.Check.{◌>>=◌, ◌>>◌, demand, exactly}
+use Rattle.cip_objects.specs.Contents.{Contents, value_at, bytes_at, number_at, with_value}
+use Rattle.cip_objects.specs.Reading.{Answer, chosen, named_member}
+use Rattle.cip_objects.specs.Changing.{Change, change, added, spliced, is_allowed, set_attribute_single, set_member, add, clear}
+use Rattle.cip_objects.specs.Execution.{Outcome, reads, changes, perform, sized, formed, outcome}
+use Rattle.cip_objects.specs.Service.{service_code, service_in}
+use Rattle.cip_objects.specs.Tables.{Shape, shape_at, services_of, settable_size, class_or_first, assembly_services}
+
+-- what a check that held found
+pub record Found {A B : Type 0} (r : Result A Status) (f : A → Result B Status) (y : B) : Type 0 where
+  pub value : A
+  pub first : r ≡ Ok value
+  pub rest : f value ≡ Ok y
+
+pub bound : {A B : Type 0} (r : Result A Status) (f : A → Result B Status) (y : B) → (r >>= f) ≡ Ok y → Found r f y
+bound (Ok x) f y e = record { value = x; first = refl; rest = e }
+bound (Err s) f y e = absurd (cc)
+
+pub after_check : {B : Type 0} (r : Result (Unit {0}) Status) (s : Result B Status) (y : B) → (r >> s) ≡ Ok y → (r ≡ Ok tt) × (s ≡ Ok y)
+after_check (Ok x) s y e = (refl, e)
+after_check (Err t) s y e = absurd (cc)
+
+pub demanded : (b : Bool) (s : Status) → demand b s ≡ Ok tt → b ≡ true
+demanded true s e = refl
+demanded false s e = absurd (cc)
+
+pub found_some : {A : Type 0} (o : Option A) (s : Status) (x : A) → ok_or o s ≡ Ok x → o ≡ Some x
+found_some None s x e = absurd (cc)
+found_some (Some y) s x e = cc
+
+same_ok : {A : Type 0} (x y : A) → ◌≡◌ {A = Result A Status} (Ok x) (Ok y) → x ≡ y
+same_ok x y e = cc
+
+-- a set attribute: which it is, and what is known of its data
+pub record Sets (m : Contents) (path : Path) (content : List ℕ) (c : Change) : Type 0 where
+  pub attribute : ℕ
+  pub size : ℕ
+  pub named : path.attribute ≡ Some attribute
+  pub can : settable_size m.shapes path.class path.instance attribute ≡ Some size
+  pub allowed : is_allowed m path.class content ≡ true
+  pub leaves : c.after ≡ with_value m path.class path.instance attribute content
+  pub answers : c.content ≡ []
+
+pub set_effect : (m : Contents) (path : Path) (content : List ℕ) (c : Change) → set_attribute_single m path content ≡ Ok c → Sets m path content c
+unfolding set_attribute_single
+set_effect m path content c e =
+    let a = bound (ok_or path.attribute _) _ c e in
+    let v = bound (ok_or (value_at m path.class path.instance a.value) _) _ c a.rest in
+    let n = bound (ok_or (settable_size m.shapes path.class path.instance a.value) _) _ c v.rest in
+    let x = after_check (exactly n.value content) _ c n.rest in
+    let w = after_check (demand (is_allowed m path.class content) _) _ c x.1 in
+    let done = same_ok (record { after = with_value m path.class path.instance a.value content; content = [] }) c w.1 in
+    record {
+      attribute = a.value;
+      size = n.value;
+      named = found_some path.attribute _ a.value a.first;
+      can = found_some _ _ n.value n.first;
+      allowed = demanded (is_allowed m path.class content) _ w.0;
+      leaves = sym (ap (λ z. z.after) done);
+      answers = sym (ap (λ z. z.content) done);
+    }
+
+-- a set member: the new data of its assembly
+pub record SetsMember (m : Contents) (path : Path) (c : Change) : Type 0 where
+  pub value : List ℕ
+  pub leaves : c.after ≡ with_value m 4 path.instance 3 value
+  pub answers : c.content ≡ []
+
+pub member_effect : (m : Contents) (path : Path) (content : List ℕ) (c : Change) → set_member m path content ≡ Ok c → SetsMember m path c
+unfolding set_member
+member_effect m path content c e =
+    let s = bound (named_member m.shapes path) _ c e in
+    let n = bound (ok_or (settable_size m.shapes 4 path.instance 3) _) _ c s.rest in
+    let x = after_check (exactly s.value.size content) _ c n.rest in
+    let done = same_ok _ c x.1 in
+    record {
+      value = spliced (bytes_at m 4 path.instance 3) s.value.offset content;
+      leaves = sym (ap (λ z. z.after) done);
+      answers = sym (ap (λ z. z.content) done);
+    }
+
+-- an addition
+pub record Adds (m : Contents) (content : List ℕ) (c : Change) : Type 0 where
+  pub within : number_at m 100 1 1 + little_number 4 content ≤ number_at m 100 1 2
+  pub leaves : c.after ≡ added m (number_at m 100 1 1 + little_number 4 content)
+  pub answers : c.content ≡ le 4 (number_at m 100 1 1 + little_number 4 content)
+
+at_most : (a b : ℕ) → nat_le a b ≡ true → a ≤ b
+at_most a b e = grind (arith, nat_tests)
+
+pub add_effect : (m : Contents) (content : List ℕ) (c : Change) → add m content ≡ Ok c → Adds m content c
+unfolding add
+add_effect m content c e =
+    let x = after_check (exactly 4 content) _ c e in
+    let w = after_check (demand (nat_le (number_at m 100 1 1 + little_number 4 content) (number_at m 100 1 2)) _) _ c x.1 in
+    let done = same_ok _ c w.1 in
+    record {
+      within = at_most _ _ (demanded _ _ w.0);
+      leaves = sym (ap (λ z. z.after) done);
+      answers = sym (ap (λ z. z.content) done);
+    }
+
+pub record Clears (m : Contents) (c : Change) : Type 0 where
+  pub leaves : c.after ≡ with_value m 100 1 1 (le 4 0)
+  pub answers : c.content ≡ le 4 (number_at m 100 1 1)
+
+pub clear_effect : (m : Contents) (content : List ℕ) (c : Change) → clear m content ≡ Ok c → Clears m c
+unfolding clear
+clear_effect m content c e =
+    let x = after_check (exactly 0 content) _ c e in
+    let done = same_ok _ c x.1 in
+    record {
+      leaves = sym (ap (λ z. z.after) done);
+      answers = sym (ap (λ z. z.content) done);
+    }
+
+-- a service that reads leaves all as it was
+pub read_effect : (m : Contents) (r : Result Answer Status) (o : Outcome) → reads m r ≡ Ok o → o.after ≡ m
+read_effect m (Ok a) o e = sym (ap (λ z. z.after) (same_ok _ o e))
+read_effect m (Err s) o e = absurd (cc)
+
+-- a service that changes succeeds
+pub record Changes (r : Result Change Status) (o : Outcome) : Type 0 where
+  pub change : Change
+  pub first : r ≡ Ok change
+  pub after : o.after ≡ change.after
+  pub status : o.status ≡ Success
+  pub content : o.content ≡ change.content
+
+pub change_effect : (r : Result Change Status) (o : Outcome) → changes r ≡ Ok o → Changes r o
+change_effect (Ok c) o e = let done = same_ok (record { after = c.after; status = Success; content = c.content }) o e in
+    record {
+      change = c;
+      first = refl;
+      after = sym (ap (λ z. z.after) done);
+      status = sym (ap (λ z. z.status) done);
+      content = sym (ap (λ z. z.content) done);
+    }
+change_effect (Err s) o e = absurd (cc)
+
+-- the steps of a request that went well
+pub record Goes (m : Contents) (text : List ℕ) (o : Outcome) : Type 0 where
+  pub request : Request
+  pub path : Path
+  pub service : Service
+  pub is_request : request_of text ≡ Ok request
+  pub is_path : path_of request.path ≡ Ok path
+  pub is_chosen : chosen m.shapes path.class path.instance request.service ≡ Ok service
+  pub is_performed : perform m service path request.data ≡ Ok o
+
+sized_ok : (r : Result Request RequestFault) (q : Request) → sized r ≡ Ok q → r ≡ Ok q
+sized_ok (Ok p) q e = ap (λ x. Ok x) (same_ok p q e)
+sized_ok (Err f) q e = absurd (cc)
+
+formed_ok : (r : Result Path PathFault) (p : Path) → formed r ≡ Ok p → r ≡ Ok p
+formed_ok (Ok x) p e = ap (λ x. Ok x) (same_ok x p e)
+formed_ok (Err f) p e = absurd (cc)
+
+pub goes : (m : Contents) (text : List ℕ) (o : Outcome) → outcome m text ≡ Ok o → Goes m text o
+unfolding outcome
+goes m text o e =
+    let q = bound (sized (request_of text)) _ o e in
+    let p = bound (formed (path_of q.value.path)) _ o q.rest in
+    let s = bound (chosen m.shapes p.value.class p.value.instance q.value.service) _ o p.rest in
+    record {
+      request = q.value;
+      path = p.value;
+      service = s.value;
+      is_request = sized_ok (request_of text) q.value q.first;
+      is_path = formed_ok (path_of q.value.path) p.value p.first;
+      is_chosen = s.first;
+      is_performed = s.rest;
+    }
+
+equal : (a b : ℕ) → eqb a b ≡ true → a ≡ b
+equal a b e = grind (arith, nat_tests)
+
+in_cons : (t : Bool) (code : ℕ) (x : Service) (rest : Option Service) (s : Service) → eqb (service_code x) code ≡ t → (rest ≡ Some s → service_code s ≡ code) → cond t (Some x) rest ≡ Some s → service_code s ≡ code
+in_cons true code x rest s h later e = let same : x ≡ s = cc in ap service_code (sym same) ∙ equal (service_code x) code h
+in_cons false code x rest s h later e = later e
+
+in_list : (code : ℕ) (services : List Service) (s : Service) → service_in code services ≡ Some s → service_code s ≡ code
+in_list code [] s e = absurd (cc)
+in_list code (x ∷ xs) s e = in_cons (eqb (service_code x) code) code x (service_in code xs) s refl (in_list code xs s) e
+
+-- the service that was chosen has the code of the request
+pub chosen_code : (shapes : List Shape) (class instance code : ℕ) (s : Service) → chosen shapes class instance code ≡ Ok s → service_code s ≡ code
+unfolding chosen
+chosen_code shapes class instance code s e =
+    let offered = bound (ok_or (services_of shapes class instance) _) _ s e in
+    in_list code offered.value s (found_some (service_in code offered.value) _ s offered.rest)

@@ -1,0 +1,15 @@
+pub mod Blocks
+pub mod Map
+pub mod Lookup
+pub mod Shapes
+pub mod Writes
+pub mod Numbers
+pub mod Words
+pub mod Settable
+pub mod Executed
+pub mod Sound
+pub mod Keys
+pub mod Effects
+pub mod CounterRun
+pub mod Refuses
+pub mod Sets

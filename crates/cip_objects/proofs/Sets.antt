@@ -1,0 +1,191 @@
+-- Sets and gets.
+use Rattle.std.proofs.Common.{◌≡◌, ℕ, ◌+◌, ◌*◌, ◌<◌, ◌≤◌, ◌⊎◌, inl, inr, eqb, Bool, true, false, cond, ◌&&◌, nat_lt, List, [], ◌∷◌, length, Option, Some, None, option_map, Result, Ok, Err, refl, sym, ap, ◌∙◌, arith, subst, suc}
+use Rattle.std.proofs.lemmas.Bool.Decides.{nat_tests, eqb_tells}
+use Rattle.std.specs.Option.{ok_or}
+use Rattle.cip_message.specs.declared.path.Path.{Path}
+use Rattle.cip_message.specs.declared.path.PathFault.{PathFault}
+use Rattle.cip_message.specs.declared.request.RequestFault.{RequestFault}
+use Rattle.cip_message.specs.Numbers.{le}
+use Rattle.cip_message.specs.PathReading.{path_of}
+use Rattle.cip_message.specs.Request.{Request, request_of}
+use Rattle.cip_objects.specs.declared.service.Service.{Service}
+use Rattle.cip_objects.specs.declared.service.Service.TheVariants.{GetAttributesAll, GetAttributeList, GetAttributeSingle, SetAttributeSingle, GetMember, SetMember, Add, Clear}
+use Rattle.cip_objects.specs.declared.status.Status.{Status}
+use Rattle.cip_objects.specs.declared.status.Status.TheVariants.{Success, ReplyDataTooLarge, PathDestinationUnknown, ServiceNotSupported, AttributeNotSupported}
+use Rattle.cip_objects.specs.Check.{◌>>=◌, ◌>>◌, demand, exactly}
+use Rattle.cip_objects.specs.Contents.{Contents, value_at, with_value}
+use Rattle.cip_objects.specs.Reading.{Answer, chosen, get_attribute_single}
+use Rattle.cip_objects.specs.Changing.{set_attribute_single, set_member, add, clear}
+use Rattle.cip_objects.specs.Execution.{Outcome, perform, outcome, Executed, fitted, exec, reply_to, run, reads}
+use Rattle.cip_objects.specs.ExecutionLaws.{exec_too_large}
+use Rattle.cip_objects.specs.Laws.{Reads, IsChanging, too_large_law, changes_fit_law, get_after_set_law, set_leaves_others_law}
+use Rattle.cip_objects.specs.Router.{general_status}
+use Rattle.cip_objects.specs.Service.{service_code, service_in}
+use Rattle.cip_objects.specs.Status.{status_code}
+use Rattle.cip_objects.specs.Tables.{Shape, shape_at, services_of, class_or_first, assembly_services}
+use Rattle.cip_objects.proofs.Effects.{goes, Goes, set_effect, Sets, member_effect, add_effect, clear_effect, change_effect, Changes, chosen_code}
+use Rattle.cip_objects.proofs.Keys.{value_at-same, value_at-other}
+use Rattle.cip_objects.proofs.Refuses.{Refuses, outcome_refuses}
+
+pub too_large : too_large_law
+too_large m room text e = exec_too_large m room text e
+
+pub changes_fit : changes_fit_law
+changes_fit m SetAttributeSingle path content text o room h e fits =
+    let c = change_effect (set_attribute_single m path content) o e in
+    let none : o.content ≡ [] = c.content ∙ (set_effect m path content c.change c.first).answers in
+    rw none (omega arith)
+changes_fit m SetMember path content text o room h e fits =
+    let c = change_effect (set_member m path content) o e in
+    let none : o.content ≡ [] = c.content ∙ (member_effect m path content c.change c.first).answers in
+    rw none (omega arith)
+changes_fit m Add path content text o room h e fits =
+    let c = change_effect (add m content) o e in
+    rw (c.content ∙ (add_effect m content c.change c.first).answers) fits
+changes_fit m Clear path content text o room h e fits =
+    let c = change_effect (clear m content) o e in
+    rw (c.content ∙ (clear_effect m content c.change c.first).answers) fits
+changes_fit m GetAttributesAll path content text o room h e fits = absurd h
+changes_fit m GetAttributeList path content text o room h e fits = absurd h
+changes_fit m GetAttributeSingle path content text o room h e fits = absurd h
+changes_fit m GetMember path content text o room h e fits = absurd h
+
+-- a service of code 0x10 is Set_Attribute_Single
+is_set : (s : Service) → service_code s ≡ 0x10 → s ≡ SetAttributeSingle
+is_set GetAttributesAll e = absurd (omega arith)
+is_set GetAttributeList e = absurd (omega arith)
+is_set GetAttributeSingle e = absurd (omega arith)
+is_set SetAttributeSingle e = refl
+is_set GetMember e = absurd (omega arith)
+is_set SetMember e = absurd (omega arith)
+is_set Add e = absurd (omega arith)
+is_set Clear e = absurd (omega arith)
+
+-- what a set that went well has done
+record WasSet (m : Contents) (path value : List ℕ) (p : Path) (o : Outcome) : Type 0 where
+  attribute : ℕ
+  named : p.attribute ≡ Some attribute
+  is_path : path_of path ≡ Ok p
+  offers : chosen m.shapes p.class p.instance 0x10 ≡ Ok SetAttributeSingle
+  leaves : o.after ≡ with_value m p.class p.instance attribute value
+
+same_request : (q r : Request) → ◌≡◌ {A = Result Request RequestFault} (Ok q) (Ok r) → q ≡ r
+same_request q r e = cc
+
+same_path : (q r : Path) → ◌≡◌ {A = Result Path PathFault} (Ok q) (Ok r) → q ≡ r
+same_path q r e = cc
+
+was_set : (m : Contents) (set path value : List ℕ) (o : Outcome) → Reads set 0x10 path value → outcome m set ≡ Ok o → (p : Path) × WasSet m path value p o
+was_set m set path value o e done =
+    let g = goes m set o done in
+    let q : g.request ≡ record { service = 0x10; path = path; «data» = value } = same_request g.request _ (sym g.is_request ∙ e) in
+    let s : g.service ≡ SetAttributeSingle = is_set g.service (chosen_code m.shapes g.path.class g.path.instance g.request.service g.service g.is_chosen ∙ ap (λ r. r.service) q) in
+    let performed : perform m SetAttributeSingle g.path value ≡ Ok o = ap (λ k. perform m k g.path value) (sym s) ∙ ap (λ r. perform m g.service g.path r.data) (sym q) ∙ g.is_performed in
+    let c = change_effect (set_attribute_single m g.path value) o performed in
+    let x = set_effect m g.path value c.change c.first in (
+      g.path,
+      record {
+        attribute = x.attribute;
+        named = x.named;
+        is_path = ap (λ r. path_of r.path) (sym q) ∙ g.is_path;
+        offers = ap (λ r. chosen m.shapes g.path.class g.path.instance r.service) (sym q) ∙ g.is_chosen ∙ ap (λ k. Ok k) s;
+        leaves = c.after ∙ x.leaves;
+      },
+    )
+
+table_get : (b1 b4 b6 b100 z o : Bool) (x : Option Shape) (s : Service) → (ok_or (cond b1 (cond z (Some (GetAttributeSingle ∷ [])) (cond o (Some (GetAttributesAll ∷ GetAttributeList ∷ GetAttributeSingle ∷ [])) None)) (cond b4 (cond z (Some (GetAttributeSingle ∷ [])) (option_map (λ _. assembly_services) x)) (cond b6 (cond o (Some []) None) (cond b100 (cond z (Some (GetAttributeSingle ∷ [])) (cond o (Some (GetAttributeList ∷ GetAttributeSingle ∷ SetAttributeSingle ∷ Add ∷ Clear ∷ [])) None)) None)))) PathDestinationUnknown >>= λ offered. ok_or (service_in 0x10 offered) ServiceNotSupported) ≡ Ok s → (ok_or (cond b1 (cond z (Some (GetAttributeSingle ∷ [])) (cond o (Some (GetAttributesAll ∷ GetAttributeList ∷ GetAttributeSingle ∷ [])) None)) (cond b4 (cond z (Some (GetAttributeSingle ∷ [])) (option_map (λ _. assembly_services) x)) (cond b6 (cond o (Some []) None) (cond b100 (cond z (Some (GetAttributeSingle ∷ [])) (cond o (Some (GetAttributeList ∷ GetAttributeSingle ∷ SetAttributeSingle ∷ Add ∷ Clear ∷ [])) None)) None)))) PathDestinationUnknown >>= λ offered. ok_or (service_in 0x0e offered) ServiceNotSupported) ≡ Ok GetAttributeSingle
+table_get true b4 b6 b100 true o x s e = absurd (cc)
+table_get true b4 b6 b100 false true x s e = absurd (cc)
+table_get true b4 b6 b100 false false x s e = absurd (cc)
+table_get false true b6 b100 true o x s e = absurd (cc)
+table_get false true b6 b100 false o None s e = absurd (cc)
+table_get false true b6 b100 false o (Some y) s e = refl
+table_get false false true b100 z true x s e = absurd (cc)
+table_get false false true b100 z false x s e = absurd (cc)
+table_get false false false true true o x s e = absurd (cc)
+table_get false false false true false true x s e = refl
+table_get false false false true false false x s e = absurd (cc)
+table_get false false false false z o x s e = absurd (cc)
+
+-- what can be set can be got
+offers_get : (shapes : List Shape) (class instance : ℕ) (s : Service) → chosen shapes class instance 0x10 ≡ Ok s → chosen shapes class instance 0x0e ≡ Ok GetAttributeSingle
+unfolding chosen services_of
+offers_get shapes class instance s e =
+    table_get (eqb class 1) (eqb class 4) (eqb class 6) (eqb class 100) (eqb instance 0) (eqb instance 1) (shape_at instance shapes) s e
+
+-- a reply that says success is that of an outcome, which was left
+record Succeeded (m : Contents) (r : Result Outcome Status) (x : Executed) : Type 0 where
+  made : Outcome
+  is_made : r ≡ Ok made
+  after : x.after ≡ made.after
+
+by_fit : (over : Bool) (m : Contents) (text : List ℕ) (o : Outcome) → general_status (cond {A = Executed} over (record { after = m; answer = reply_to text ReplyDataTooLarge [] }) (record { after = o.after; answer = reply_to text o.status o.content })).answer ≡ 0 → Succeeded m (Ok o) (cond {A = Executed} over (record { after = m; answer = reply_to text ReplyDataTooLarge [] }) (record { after = o.after; answer = reply_to text o.status o.content }))
+by_fit true m text o e = absurd (omega arith)
+by_fit false m text o e = record { made = o; is_made = refl; after = refl }
+
+succeeded : (m : Contents) (room : ℕ) (text : List ℕ) (r : Result Outcome Status) → Refuses r → general_status (fitted m room text r).answer ≡ 0 → Succeeded m r (fitted m room text r)
+succeeded m room text (Err s) h e = absurd (let bad : true ≡ false = sym (ap (λ n. eqb n 0) e) ∙ h in cc)
+succeeded m room text (Ok o) h e = by_fit (nat_lt room (length (reply_to text o.status o.content))) m text o e
+
+-- what a get makes where the attribute is there
+get_makes : (m : Contents) (get path value : List ℕ) (p : Path) (a : ℕ) → Reads get 0x0e path [] → path_of path ≡ Ok p → chosen m.shapes p.class p.instance 0x0e ≡ Ok GetAttributeSingle → p.attribute ≡ Some a → value_at m p.class p.instance a ≡ Some value → outcome m get ≡ Ok (record { after = m; status = Success; content = value })
+unfolding outcome get_attribute_single
+get_makes m get path value p a e f g h v = rw (e, f, g, h, v) refl
+
+not_over : (later n : ℕ) → 4 + n ≤ later → nat_lt later (suc (suc (suc (suc n)))) ≡ false
+not_over later n h = grind (arith, nat_tests)
+
+fits_later : (m : Contents) (later : ℕ) (get value : List ℕ) → 4 + length value ≤ later → (fitted m later get (Ok (record { after = m; status = Success; content = value }))).answer ≡ reply_to get Success value
+fits_later m later get value h =
+    ap (λ t. (cond {A = Executed} t (record { after = m; answer = reply_to get ReplyDataTooLarge [] }) (record { after = m; answer = reply_to get Success value })).answer) (not_over later (length value) h)
+
+got : (m : Contents) (later : ℕ) (get value : List ℕ) → outcome m get ≡ Ok (record { after = m; status = Success; content = value }) → 4 + length value ≤ later → (exec m later get).answer ≡ reply_to get Success value
+unfolding exec
+got m later get value e h = ap (λ r. (fitted m later get r).answer) e ∙ fits_later m later get value h
+
+after_set : (m : Contents) (room : ℕ) (set path value : List ℕ) → Reads set 0x10 path value → general_status (exec m room set).answer ≡ 0 → (o : Outcome) × (outcome m set ≡ Ok o) × ((exec m room set).after ≡ o.after)
+unfolding exec
+after_set m room set path value e s =
+    let x = succeeded m room set (outcome m set) (outcome_refuses m set) s in
+    (x.made, x.is_made, x.after)
+
+pub get_after_set : get_after_set_law
+get_after_set m room later set get path value e f s fits =
+    let x = after_set m room set path value e s in
+    let w = was_set m set path value x.0 e x.1 in
+    let p = w.0 in
+    let n = with_value m p.class p.instance w.1.attribute value in
+    let made = get_makes n get path value p w.1.attribute f w.1.is_path (offers_get m.shapes p.class p.instance SetAttributeSingle w.1.offers) w.1.named (value_at-same m p.class p.instance w.1.attribute value) in
+    ap (λ k. (exec m room set).answer ∷ (exec k later get).answer ∷ []) (x.2 ∙ w.1.leaves)
+    ∙ ap (λ r. (exec m room set).answer ∷ r ∷ []) (got n later get value made fits)
+
+either_room : (over : Bool) (m : Contents) (text : List ℕ) (o : Outcome) → ◌⊎◌ ((cond {A = Executed} over (record { after = m; answer = reply_to text ReplyDataTooLarge [] }) (record { after = o.after; answer = reply_to text o.status o.content })).after ≡ m) ((p : Outcome) × (◌≡◌ {A = Result Outcome Status} (Ok o) (Ok p)) × ((cond {A = Executed} over (record { after = m; answer = reply_to text ReplyDataTooLarge [] }) (record { after = o.after; answer = reply_to text o.status o.content })).after ≡ p.after))
+either_room true m text o = inl refl
+either_room false m text o = inr (o, refl, refl)
+
+-- an execution leaves the contents, or what its outcome left
+left : (m : Contents) (room : ℕ) (text : List ℕ) (r : Result Outcome Status) → ((fitted m room text r).after ≡ m) ⊎ ((o : Outcome) × (r ≡ Ok o) × ((fitted m room text r).after ≡ o.after))
+left m room text (Err s) = inl refl
+left m room text (Ok o) = either_room (nat_lt room (length (reply_to text o.status o.content))) m text o
+
+exec_left : (m : Contents) (room : ℕ) (text : List ℕ) → ((exec m room text).after ≡ m) ⊎ ((o : Outcome) × (outcome m text ≡ Ok o) × ((exec m room text).after ≡ o.after))
+unfolding exec
+exec_left m room text = left m room text (outcome m text)
+
+other_key : (d c j i b a : ℕ) → ((d ≡ c) × (j ≡ i) × (b ≡ a) → ⊥) → eqb d c && (eqb j i && eqb b a) ≡ false
+other_key d c j i b a h = grind (arith, nat_tests)
+
+leaves_others : (m : Contents) (room : ℕ) (set path value : List ℕ) (p : Path) → Reads set 0x10 path value → path_of path ≡ Ok p → (class instance attribute : ℕ) → ((class ≡ p.class) × (instance ≡ p.instance) × (Some attribute ≡ p.attribute) → ⊥)
+    → ((exec m room set).after ≡ m) ⊎ ((o : Outcome) × (outcome m set ≡ Ok o) × ((exec m room set).after ≡ o.after)) → value_at (exec m room set).after class instance attribute ≡ value_at m class instance attribute
+leaves_others m room set path value p e f class instance attribute other (inl same) = ap (λ k. value_at k class instance attribute) same
+leaves_others m room set path value p e f class instance attribute other (inr x) =
+    let w = was_set m set path value x.0 e x.1 in
+    let here : w.0 ≡ p = same_path w.0 p (sym w.1.is_path ∙ f) in
+    ap (λ k. value_at k class instance attribute) (x.2 ∙ w.1.leaves)
+    ∙ value_at-other m w.0.class w.0.instance w.1.attribute value class instance attribute
+    (other_key class w.0.class instance w.0.instance attribute w.1.attribute
+    (λ k. other (k.0 ∙ ap (λ y. y.class) here, k.1 ∙ ap (λ y. y.instance) here, ap (λ n. Some n) k.2 ∙ sym w.1.named ∙ ap (λ y. y.attribute) here)))
+
+pub set_leaves_others : set_leaves_others_law
+set_leaves_others m room set path value p e f class instance attribute other =
+    leaves_others m room set path value p e f class instance attribute other (exec_left m room set)

@@ -1,0 +1,19 @@
+-- The tables made from the assemblies.
+use Rattle.std.proofs.Common.{◌≡◌, ℕ, eqb, Bool, true, false, cond, List, [], ◌∷◌, map, Option, Some, None, option_map, refl, sym, ap, ◌∙◌}
+use Rattle.cip_objects.specs.Tables.{Shape, shape_at}
+use Rattle.cip_objects.specs.Contents.{Contents}
+use Rattle.cip_objects.specs.Entries.{IdentityValues, CounterValues, Block, block_at, shape_of, contents_of}
+
+-- the shape of an instance is that of its assembly
+pub shape_at-map : (i : ℕ) (bs : List Block) → shape_at i (map shape_of bs) ≡ option_map shape_of (block_at i bs)
+shape_at-map i [] = refl
+shape_at-map i (b ∷ bs) =
+    elim (eqb b.instance i) as (λ t. cond t (Some (shape_of b)) (shape_at i (map shape_of bs)) ≡ option_map shape_of (cond t (Some b) (block_at i bs))) [
+      | true ↦ refl
+      | false ↦ shape_at-map i bs
+    ]
+
+-- the shape of an instance in the contents that the assemblies make
+pub shape_at-contents : (d : IdentityValues) (bs : List Block) (c : CounterValues) (m : Contents) (i : ℕ) → contents_of d bs c ≡ m → shape_at i m.shapes ≡ option_map shape_of (block_at i bs)
+unfolding contents_of
+shape_at-contents d bs c m i e = ap (λ x. shape_at i x.shapes) (sym e) ∙ shape_at-map i bs

@@ -1,0 +1,60 @@
+-- What holds of a configuration that no check refuses.
+use Rattle.std.proofs.Common.{◌≡◌, ℕ, zero, suc, ◌<◌, ◌≤◌, eqb, Bool, true, false, cond, ◌||◌, nat_lt, List, [], ◌∷◌, length, get_or, map, sum, Option, Some, None, refl, sym, ap, ◌∙◌, arith}
+use Rattle.std.proofs.lemmas.Bool.Decides.{nat_tests}
+use Rattle.std.specs.List.{list_any, All}
+use Rattle.std.specs.String.{string_bytes}
+use Rattle.cip_objects.specs.declared.config.Config.{Config}
+use Rattle.cip_objects.specs.declared.config.AssemblyConfig.{AssemblyConfig}
+use Rattle.cip_objects.specs.declared.config.ConfigFault.{ConfigFault}
+use Rattle.cip_objects.specs.Configuration.{fault_of, is_misnamed, is_missized, is_wrongly_split, is_misnumbered, instances, block_of}
+use Rattle.cip_objects.specs.Entries.{NoneIsClass}
+
+pub record IsSound (c : Config) : Type 0 where
+  pub name : length (string_bytes c.name) ≤ 32
+  pub few : length c.assemblies.items ≤ 16
+  pub small : All (λ a. sum a.members.items ≤ 480) c.assemblies.items
+  pub split : All (λ a. length a.members.items ≤ 64) c.assemblies.items
+  pub numbered : NoneIsClass (map block_of c.assemblies.items)
+
+none_cond : (b : Bool) (x : ConfigFault) (r : Option ConfigFault) → cond b (Some x) r ≡ None → (b ≡ false) × (r ≡ None)
+none_cond true x r e = absurd (cc)
+none_cond false x r e = (refl, e)
+
+or_false : (a b : Bool) → a || b ≡ false → (a ≡ false) × (b ≡ false)
+or_false true b e = absurd (cc)
+or_false false b e = (refl, e)
+
+none_any : {A : Type 0} (p : A → Bool) (xs : List A) → list_any p xs ≡ false → (k : ℕ) (d : A) → k < length xs → p (get_or xs k d) ≡ false
+none_any p [] e k d h = absurd (omega arith)
+none_any p (x ∷ xs) e zero d h = (or_false (p x) (list_any p xs) e).0
+none_any p (x ∷ xs) e (suc k) d h = none_any p xs (or_false (p x) (list_any p xs) e).1 k d (omega arith)
+
+at_most : (a b : ℕ) → nat_lt a b ≡ false → b ≤ a
+at_most a b e = grind (arith, nat_tests)
+
+above : (n : ℕ) → eqb n 0 ≡ false → 0 < n
+above n e = grind (arith, nat_tests)
+
+numbers : (xs : List AssemblyConfig) → is_misnumbered (instances xs) ≡ false → NoneIsClass (map block_of xs)
+numbers [] e = tt
+numbers (x ∷ xs) e =
+    let here = or_false _ (is_misnumbered (instances xs)) e in
+    let number = or_false (eqb x.instance 0) _ here.0 in
+    (above x.instance number.0, numbers xs here.1)
+
+pub sound : (c : Config) → fault_of c ≡ None → IsSound c
+unfolding fault_of
+sound c e =
+    let name = none_cond (is_misnamed (string_bytes c.name)) _ _ e in
+    let size = none_cond (nat_lt 16 (length c.assemblies.items) || list_any is_missized c.assemblies.items) _ _ name.1 in
+    let split = none_cond (list_any is_wrongly_split c.assemblies.items) _ _ size.1 in
+    let number = none_cond (is_misnumbered (instances c.assemblies.items)) _ _ split.1 in
+    let named = or_false (nat_lt 32 (length (string_bytes c.name))) _ name.0 in
+    let sized = or_false (nat_lt 16 (length c.assemblies.items)) (list_any is_missized c.assemblies.items) size.0 in
+    record {
+      name = at_most 32 (length (string_bytes c.name)) named.0;
+      few = at_most 16 (length c.assemblies.items) sized.0;
+      small = λ k d h. at_most 480 (sum (get_or c.assemblies.items k d).members.items) (or_false _ _ (none_any is_missized c.assemblies.items sized.1 k d h)).1;
+      split = λ k d h. at_most 64 (length (get_or c.assemblies.items k d).members.items) (or_false _ _ (none_any is_wrongly_split c.assemblies.items split.0 k d h)).0;
+      numbered = numbers c.assemblies.items number.0;
+    }

@@ -1,0 +1,204 @@
+-- Writing at one key of the object map.
+use Rattle.std.proofs.Common.{◌≡◌, ◌≢◌, ℕ, zero, suc, ◌+◌, ◌<◌, eqb, Bool, true, false, cond, ◌&&◌, List, [], ◌∷◌, ◌++◌, length, get_or, map, max, Option, Some, None, refl, sym, ap, ◌∙◌, arith, flat_map, set, sum, subst, unwrap_or}
+use Rattle.std.proofs.lemmas.Bool.Decides.{nat_tests}
+use Rattle.std.specs.Option.{option_or}
+use Rattle.std.specs.FinMap.{find, get, insert, from_entries}
+use Rattle.std.specs.Ordering.{eq_by_cmp}
+use Rattle.byteorder.specs.Endian.{little_bytes}
+use Rattle.cip_objects.specs.ObjectMap.{Key, key, key_cmp}
+use Rattle.cip_objects.specs.Tables.{Shape, IDENTITY, ASSEMBLY, COUNTER}
+use Rattle.cip_objects.specs.Contents.{Contents, with_value, bytes_at}
+use Rattle.cip_objects.specs.Places.{IsFirst}
+use Rattle.cip_objects.specs.Entries.{IdentityValues, Block, CounterValues, Entries, Attributes, entries_at, attribute_in, class_attributes, identity_attributes, block_attributes, counter_attributes, block_at, greatest_of, entries_of, contents_of, shape_of, device_of, NoneIsClass}
+use Rattle.cip_objects.proofs.Blocks.{eqb-other, eqb-same, first_at}
+use Rattle.cip_objects.specs.Lookup.{block_value}
+use Rattle.cip_objects.specs.Changing.{spliced}
+use Rattle.cip_objects.proofs.Lookup.{blocks_of, value_at-contents_of}
+use Rattle.cip_objects.proofs.Map.{find_append, find_at, key_total, Updates, Absent, insert_updates, updates_front, updates_back, absent_at, updates_at, tied_parts}
+
+-- the assemblies with these data at one place
+abbrev pub with_content : List Block → ℕ → List ℕ → List Block
+with_content [] k v = []
+with_content (b ∷ bs) zero v = record b { content = v } ∷ bs
+with_content (b ∷ bs) (suc k) v = b ∷ with_content bs k v
+
+pub set-content : (bs : List Block) (k : ℕ) (v : List ℕ) (d : Block) → set bs k (record (get_or bs k d) { content = v }) ≡ with_content bs k v
+set-content [] k v d = refl
+set-content (b ∷ bs) zero v d = refl
+set-content (b ∷ bs) (suc k) v d = ap (λ l. b ∷ l) (set-content bs k v d)
+
+pub length-content : (bs : List Block) (k : ℕ) (v : List ℕ) → length (with_content bs k v) ≡ length bs
+length-content [] k v = refl
+length-content (b ∷ bs) zero v = refl
+length-content (b ∷ bs) (suc k) v = ap suc (length-content bs k v)
+
+pub greatest-content : (bs : List Block) (k : ℕ) (v : List ℕ) → greatest_of (with_content bs k v) ≡ greatest_of bs
+greatest-content [] k v = refl
+greatest-content (b ∷ bs) zero v = refl
+greatest-content (b ∷ bs) (suc k) v = ap (max b.instance) (greatest-content bs k v)
+
+pub shapes-content : (bs : List Block) (k : ℕ) (v : List ℕ) → map shape_of (with_content bs k v) ≡ map shape_of bs
+shapes-content [] k v = refl
+shapes-content (b ∷ bs) zero v = refl
+shapes-content (b ∷ bs) (suc k) v = ap (λ l. shape_of b ∷ l) (shapes-content bs k v)
+
+pub numbered-content : (bs : List Block) (k : ℕ) (v : List ℕ) → NoneIsClass bs → NoneIsClass (with_content bs k v)
+numbered-content [] k v h = tt
+numbered-content (b ∷ bs) zero v h = h
+numbered-content (b ∷ bs) (suc k) v h = (h.0, numbered-content bs k v h.1)
+
+set_data : (p q r : Bool) (x y v z : List ℕ) → (q ≡ true → p ≡ false) → cond p (Some x) (cond q (Some v) (cond r (Some z) None)) ≡ cond q (Some v) (cond p (Some x) (cond q (Some y) (cond r (Some z) None)))
+set_data true true r x y v z h = absurd (let e = h refl in cc)
+set_data true false r x y v z h = refl
+set_data false true r x y v z h = refl
+set_data false false r x y v z h = refl
+
+apart : (n a b : ℕ) → (a ≡ b → ⊥) → eqb n a ≡ true → eqb n b ≡ false
+apart n a b h e = grind (arith, nat_tests)
+
+-- one assembly with other data
+block_updates : (b : Block) (v : List ℕ) → Updates (key ASSEMBLY b.instance 3) v (entries_at ASSEMBLY b.instance (block_attributes b)) (entries_at ASSEMBLY b.instance (block_attributes (record b { content = v })))
+block_updates b v =
+    updates_at ASSEMBLY b.instance 3 v (block_attributes b) (block_attributes (record b { content = v }))
+    (λ a. set_data (eqb a 1) (eqb a 3) (eqb a 4) (little_bytes 2 (length b.members)) b.content v (little_bytes 2 (sum b.members)) (apart a 3 1 (λ e. omega arith)))
+
+updates_key : (i j : ℕ) (v : List ℕ) (old new : Entries) → i ≡ j → Updates (key ASSEMBLY i 3) v old new → Updates (key ASSEMBLY j 3) v old new
+updates_key i j v old new e u = subst (λ n. Updates (key ASSEMBLY n 3) v old new) e u
+
+other_instance : (i j : ℕ) → (j ≡ i → ⊥) → eqb ASSEMBLY ASSEMBLY && eqb i j ≡ false
+other_instance i j h = eqb-other i j (λ e. h (sym e))
+
+pub blocks_update : (bs : List Block) (i k : ℕ) (v : List ℕ) (d : Block) → IsFirst bs i k → Updates (key ASSEMBLY i 3) v (blocks_of bs) (blocks_of (with_content bs k v))
+blocks_update [] i k v d f = absurd (omega (arith, f.within))
+blocks_update (b ∷ bs) i zero v d f =
+    updates_front (key ASSEMBLY i 3) v (entries_at ASSEMBLY b.instance (block_attributes b)) (entries_at ASSEMBLY b.instance (block_attributes (record b { content = v }))) (blocks_of bs)
+    (updates_key b.instance i v _ _ (f.here d) (block_updates b v))
+blocks_update (b ∷ bs) i (suc k) v d f =
+    updates_back (key ASSEMBLY i 3) v (entries_at ASSEMBLY b.instance (block_attributes b)) (blocks_of bs) (blocks_of (with_content bs k v))
+    (absent_at (key ASSEMBLY i 3) ASSEMBLY b.instance (block_attributes b) (other_instance i b.instance (f.before 0 d (omega arith))))
+    (blocks_update bs i k v d (record { within = omega (arith, f.within); here = f.here; before = λ j e lt. f.before (suc j) e (omega arith) }))
+
+-- the first with that number is of no class itself
+pub first_above : (bs : List Block) (i k : ℕ) (d : Block) → NoneIsClass bs → IsFirst bs i k → 0 < i
+first_above [] i k d h f = absurd (omega (arith, f.within))
+first_above (b ∷ bs) i zero d h f = let e = f.here d in omega (arith, h.0, e)
+first_above (b ∷ bs) i (suc k) d h f =
+    first_above bs i k d h.1 (record { within = omega (arith, f.within); here = f.here; before = λ j e lt. f.before (suc j) e (omega arith) })
+
+-- all entries, with these numbers for the class of the assemblies, these entries of the assemblies and these of the counter
+abbrev assembled : IdentityValues → ℕ → ℕ → Entries → Entries → Entries
+assembled d greatest number blocks counter =
+    entries_at IDENTITY 0 (class_attributes 1 1 1)
+    ++ (entries_at IDENTITY 1 (identity_attributes d)
+    ++ (entries_at ASSEMBLY 0 (class_attributes 2 greatest number)
+    ++ (blocks
+    ++ (entries_at COUNTER 0 (class_attributes 1 1 1)
+    ++ counter))))
+
+assembled_block : (d : IdentityValues) (g n i : ℕ) (v : List ℕ) (old new counter : Entries) → 0 < i → Updates (key ASSEMBLY i 3) v old new → Updates (key ASSEMBLY i 3) v (assembled d g n old counter) (assembled d g n new counter)
+assembled_block d g n i v old new counter h u =
+    let q = key ASSEMBLY i 3 in
+    updates_back q v (entries_at IDENTITY 0 (class_attributes 1 1 1)) _ _ (absent_at q IDENTITY 0 (class_attributes 1 1 1) refl)
+    (updates_back q v (entries_at IDENTITY 1 (identity_attributes d)) _ _ (absent_at q IDENTITY 1 (identity_attributes d) refl)
+    (updates_back q v (entries_at ASSEMBLY 0 (class_attributes 2 g n)) _ _ (absent_at q ASSEMBLY 0 (class_attributes 2 g n) (eqb-other i 0 (λ z. omega arith)))
+    (updates_front q v old new (entries_at COUNTER 0 (class_attributes 1 1 1) ++ counter) u)))
+
+absent_front : (k : Key) (front rest : Entries) → Absent k front → Absent k rest → Absent k (front ++ rest)
+absent_front k front rest a b = record {
+  misses = λ q e. find_append q front rest ∙ ap (λ o. option_or o (find key_cmp q rest)) (a.misses q e) ∙ b.misses q e;
+}
+
+-- no assembly has an attribute of the counter
+absent_blocks : (a : ℕ) (bs : List Block) → Absent (key COUNTER 1 a) (blocks_of bs)
+absent_blocks a [] = record { misses = λ q e. refl }
+absent_blocks a (b ∷ bs) =
+    absent_front (key COUNTER 1 a) (entries_at ASSEMBLY b.instance (block_attributes b)) (blocks_of bs)
+    (absent_at (key COUNTER 1 a) ASSEMBLY b.instance (block_attributes b) refl) (absent_blocks a bs)
+
+assembled_counter : (d : IdentityValues) (g n a : ℕ) (v : List ℕ) (bs : List Block) (old new : Entries) → Updates (key COUNTER 1 a) v old new → Updates (key COUNTER 1 a) v (assembled d g n (blocks_of bs) old) (assembled d g n (blocks_of bs) new)
+assembled_counter d g n a v bs old new u =
+    let q = key COUNTER 1 a in
+    updates_back q v (entries_at IDENTITY 0 (class_attributes 1 1 1)) _ _ (absent_at q IDENTITY 0 (class_attributes 1 1 1) refl)
+    (updates_back q v (entries_at IDENTITY 1 (identity_attributes d)) _ _ (absent_at q IDENTITY 1 (identity_attributes d) refl)
+    (updates_back q v (entries_at ASSEMBLY 0 (class_attributes 2 g n)) _ _ (absent_at q ASSEMBLY 0 (class_attributes 2 g n) refl)
+    (updates_back q v (blocks_of bs) _ _ (absent_blocks a bs)
+    (updates_back q v (entries_at COUNTER 0 (class_attributes 1 1 1)) _ _ (absent_at q COUNTER 0 (class_attributes 1 1 1) refl) u))))
+
+written : (old new : Entries) (m : Contents) (q : Key) (v : List ℕ) (shapes : List Shape) → Updates q v old new → m.values ≡ from_entries old → shapes ≡ m.shapes → ◌≡◌ {A = Contents} (record { values = from_entries new; shapes = shapes; device = m.device }) (record m { values = insert m.values q v })
+written old new m q v shapes u e f = λ i. record {
+  values = (sym (insert_updates q v old new u) ∙ ap (λ x. insert x q v) (sym e)) i;
+  shapes = f i;
+  device = m.device;
+}
+
+-- the contents with other data in one assembly
+pub content_written : (d : IdentityValues) (bs : List Block) (c : CounterValues) (i k : ℕ) (v : List ℕ) (e : Block) → NoneIsClass bs → IsFirst bs i k → contents_of d (with_content bs k v) c ≡ with_value (contents_of d bs c) ASSEMBLY i 3 v
+unfolding contents_of entries_of
+content_written d bs c i k v e h f =
+    ap (λ g. record { values = from_entries (assembled d g (length (with_content bs k v)) (blocks_of (with_content bs k v)) (entries_at COUNTER 1 (counter_attributes c))); shapes = map shape_of (with_content bs k v); device = device_of d }) (greatest-content bs k v)
+    ∙ ap (λ n. record { values = from_entries (assembled d (greatest_of bs) n (blocks_of (with_content bs k v)) (entries_at COUNTER 1 (counter_attributes c))); shapes = map shape_of (with_content bs k v); device = device_of d }) (length-content bs k v)
+    ∙ written (assembled d (greatest_of bs) (length bs) (blocks_of bs) (entries_at COUNTER 1 (counter_attributes c))) (assembled d (greatest_of bs) (length bs) (blocks_of (with_content bs k v)) (entries_at COUNTER 1 (counter_attributes c))) (contents_of d bs c) (key ASSEMBLY i 3) v (map shape_of (with_content bs k v))
+    (assembled_block d (greatest_of bs) (length bs) i v (blocks_of bs) (blocks_of (with_content bs k v)) (entries_at COUNTER 1 (counter_attributes c)) (first_above bs i k e h f) (blocks_update bs i k v e f))
+    refl (shapes-content bs k v)
+
+-- the contents with another number of the counter
+counter_written : (d : IdentityValues) (bs : List Block) (c n : CounterValues) (a : ℕ) (v : List ℕ) → ((x : ℕ) → attribute_in x (counter_attributes n) ≡ cond (eqb x a) (Some v) (attribute_in x (counter_attributes c))) → contents_of d bs n ≡ with_value (contents_of d bs c) COUNTER 1 a v
+unfolding contents_of entries_of
+counter_written d bs c n a v h =
+    written (assembled d (greatest_of bs) (length bs) (blocks_of bs) (entries_at COUNTER 1 (counter_attributes c))) (assembled d (greatest_of bs) (length bs) (blocks_of bs) (entries_at COUNTER 1 (counter_attributes n))) (contents_of d bs c) (key COUNTER 1 a) v (map shape_of bs)
+    (assembled_counter d (greatest_of bs) (length bs) a v bs (entries_at COUNTER 1 (counter_attributes c)) (entries_at COUNTER 1 (counter_attributes n)) (updates_at COUNTER 1 a v (counter_attributes c) (counter_attributes n) h))
+    refl refl
+
+first_set : (p q r : Bool) (x y z v : List ℕ) → cond p (Some v) (cond q (Some y) (cond r (Some z) None)) ≡ cond p (Some v) (cond p (Some x) (cond q (Some y) (cond r (Some z) None)))
+first_set true q r x y z v = refl
+first_set false q r x y z v = refl
+
+second_set : (p q r : Bool) (x y z v : List ℕ) → (q ≡ true → p ≡ false) → cond p (Some x) (cond q (Some v) (cond r (Some z) None)) ≡ cond q (Some v) (cond p (Some x) (cond q (Some y) (cond r (Some z) None)))
+second_set true true r x y z v h = absurd (let e = h refl in cc)
+second_set true false r x y z v h = refl
+second_set false true r x y z v h = refl
+second_set false false r x y z v h = refl
+
+third_set : (p q r : Bool) (x y z v : List ℕ) → (r ≡ true → p ≡ false) → (r ≡ true → q ≡ false) → cond p (Some x) (cond q (Some y) (cond r (Some v) None)) ≡ cond r (Some v) (cond p (Some x) (cond q (Some y) (cond r (Some z) None)))
+third_set true q true x y z v h k = absurd (let e = h refl in cc)
+third_set true q false x y z v h k = refl
+third_set false true true x y z v h k = absurd (let e = k refl in cc)
+third_set false true false x y z v h k = refl
+third_set false false true x y z v h k = refl
+third_set false false false x y z v h k = refl
+
+pub value_written : (d : IdentityValues) (bs : List Block) (c : CounterValues) (v : ℕ) → contents_of d bs (record c { value = v }) ≡ with_value (contents_of d bs c) COUNTER 1 1 (little_bytes 4 v)
+value_written d bs c v =
+    counter_written d bs c (record c { value = v }) 1 (little_bytes 4 v)
+    (λ x. first_set (eqb x 1) (eqb x 2) (eqb x 3) (little_bytes 4 c.value) (little_bytes 4 c.limit) (little_bytes 4 c.additions) (little_bytes 4 v))
+
+pub limit_written : (d : IdentityValues) (bs : List Block) (c : CounterValues) (v : ℕ) → contents_of d bs (record c { limit = v }) ≡ with_value (contents_of d bs c) COUNTER 1 2 (little_bytes 4 v)
+limit_written d bs c v =
+    counter_written d bs c (record c { limit = v }) 2 (little_bytes 4 v)
+    (λ x. second_set (eqb x 1) (eqb x 2) (eqb x 3) (little_bytes 4 c.value) (little_bytes 4 c.limit) (little_bytes 4 c.additions) (little_bytes 4 v) (apart x 2 1 (λ e. omega arith)))
+
+pub additions_written : (d : IdentityValues) (bs : List Block) (c : CounterValues) (v : ℕ) → contents_of d bs (record c { additions = v }) ≡ with_value (contents_of d bs c) COUNTER 1 3 (little_bytes 4 v)
+additions_written d bs c v =
+    counter_written d bs c (record c { additions = v }) 3 (little_bytes 4 v)
+    (λ x. third_set (eqb x 1) (eqb x 2) (eqb x 3) (little_bytes 4 c.value) (little_bytes 4 c.limit) (little_bytes 4 c.additions) (little_bytes 4 v) (apart x 3 1 (λ e. omega arith)) (apart x 3 2 (λ e. omega arith)))
+
+-- the data of an assembly are what the map holds at its attribute 3
+pub content_read : (d : IdentityValues) (bs : List Block) (c : CounterValues) (m : Contents) (i k : ℕ) (e : Block) → contents_of d bs c ≡ m → NoneIsClass bs → IsFirst bs i k → bytes_at m ASSEMBLY i 3 ≡ (get_or bs k e).content
+content_read d bs c m i k e is h f =
+    ap (λ x. bytes_at x ASSEMBLY i 3) (sym is)
+    ∙ ap (λ o. unwrap_or o []) (value_at-contents_of d bs c h ASSEMBLY i 3)
+    ∙ ap (λ t. unwrap_or (cond t (attribute_in 3 (class_attributes 2 (greatest_of bs) (length bs))) (block_value 3 (block_at i bs))) []) (eqb-other i 0 (let above = first_above bs i k e h f in λ z. omega arith))
+    ∙ ap (λ o. unwrap_or (block_value 3 o) []) (first_at bs i k e f)
+
+-- the contents once the first assembly of a number has other data
+pub content_set : (d : IdentityValues) (bs : List Block) (c : CounterValues) (m : Contents) (i k : ℕ) (b : Block) (new : Block) (offset : ℕ) (bytes : List ℕ) → contents_of d bs c ≡ m → NoneIsClass bs → IsFirst bs i k → b ≡ get_or bs k b → new ≡ record b { content = spliced b.content offset bytes } → contents_of d (set bs k new) c ≡ with_value m ASSEMBLY i 3 (spliced (bytes_at m ASSEMBLY i 3) offset bytes)
+content_set d bs c m i k b new offset bytes is h f here e =
+    ap (λ x. contents_of d (set bs k x) c) (e ∙ ap (λ (x : Block). record x { content = spliced b.content offset bytes }) here)
+    ∙ ap (λ l. contents_of d l c) (set-content bs k (spliced b.content offset bytes) b)
+    ∙ content_written d bs c i k (spliced b.content offset bytes) b h f
+    ∙ ap (λ x. with_value x ASSEMBLY i 3 (spliced b.content offset bytes)) is
+    ∙ ap (λ x. with_value m ASSEMBLY i 3 (spliced x offset bytes)) (ap (λ x. x.content) here ∙ sym (content_read d bs c m i k b is h f))
+
+pub numbered_set : (bs : List Block) (k : ℕ) (b new : Block) (v : List ℕ) → NoneIsClass bs → b ≡ get_or bs k b → new ≡ record b { content = v } → NoneIsClass (set bs k new)
+numbered_set bs k b new v h here e =
+    subst NoneIsClass (sym (ap (λ x. set bs k x) (e ∙ ap (λ (x : Block). record x { content = v }) here) ∙ set-content bs k v b)) (numbered-content bs k v h)

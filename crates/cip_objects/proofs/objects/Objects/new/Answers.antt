@@ -1,0 +1,45 @@
+use Rattle.std.proofs.Common.{◌≡◌, ◌≤◌, None, sym, ap, ◌∙◌, arith, length, map}
+use Rattle.std.proofs.lemmas.List.{length-map}
+use Rattle.cip_objects.specs.Configuration.{fault_of, configured, block_of, identity_of, counter_of}
+use Rattle.cip_objects.specs.Counter.{counter_values}
+use Rattle.cip_objects.specs.Entries.{contents_of, NoneIsClass, Block}
+use Rattle.std.specs.String.{string_bytes}
+use Rattle.cip_objects.proofs.Sound.{sound}
+use Rattle.cip_objects.proofs.objects.Objects.new.Goals as goal
+
+pub name_of-requires : goal.name_of-requires
+name_of-requires c =
+    let s = sound c.args.config.now (sym c.in_default.ensures) in
+    rw c.as_bytes.ensures.value s.name
+
+pub assemblies_of-requires-clause-few : goal.assemblies_of-requires-clause-few
+assemblies_of-requires-clause-few c =
+    let s = sound c.args.config.now (sym c.in_default.ensures) in
+    rw c.deref.ensures.value s.split
+
+pub assemblies_of-requires-clause-small : goal.assemblies_of-requires-clause-small
+assemblies_of-requires-clause-small c =
+    let s = sound c.args.config.now (sym c.in_default.ensures) in
+    rw c.deref.ensures.value s.small
+
+pub invariant_of-result : goal.invariant_of-result
+invariant_of-result c =
+    let s = sound c.args.config.now (sym c.in_default.ensures) in
+    let items : c.in_ok-assemblies_of.field-0.items ≡ map block_of c.args.config.now.assemblies.items = c.in_ok-assemblies_of.ensures ∙ ap (map block_of) c.deref.ensures.value in
+    record {
+      few = omega (arith, s.few, ap length items, length-map c.args.config.now.assemblies.items block_of);
+      numbered = rw items s.numbered;
+      value = rw c.new.ensures.new c.new.ensures.value;
+      limit = rw c.new.ensures.new c.new.ensures.limit;
+      additions = rw c.new.ensures.new (omega arith);
+    }
+
+pub returns-clause-made : goal.returns-clause-made
+unfolding configured
+returns-clause-made c =
+    let config = c.args.config.now in
+    let items : c.in_ok-assemblies_of.field-0.items ≡ map block_of config.assemblies.items = c.in_ok-assemblies_of.ensures ∙ ap (map block_of) c.deref.ensures.value in
+    let name : c.name_of.result.items ≡ string_bytes config.name = c.name_of.ensures ∙ c.as_bytes.ensures.value in
+    ap (λ k. contents_of (record (identity_of config) { name = c.name_of.result.items }) c.in_ok-assemblies_of.field-0.items (counter_values k)) c.new.ensures.new
+    ∙ ap (λ n. contents_of (record (identity_of config) { name = n }) c.in_ok-assemblies_of.field-0.items (counter_of config)) name
+    ∙ ap (λ bs. contents_of (identity_of config) bs (counter_of config)) items

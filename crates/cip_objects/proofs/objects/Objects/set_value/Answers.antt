@@ -1,0 +1,12 @@
+use Rattle.std.proofs.Common.{ap, ◌∙◌}
+use Rattle.byteorder.specs.Endian.{little_bytes}
+use Rattle.cip_objects.specs.Contents.{with_value}
+use Rattle.cip_objects.specs.Counter.{counter_values}
+use Rattle.cip_objects.specs.Tables.{COUNTER}
+use Rattle.cip_objects.proofs.Writes.{value_written}
+use Rattle.cip_objects.proofs.objects.Objects.set_value.Goals as goal
+
+pub returns : goal.returns
+returns c =
+    let o = c.self.inside in
+    value_written o.identity o.assemblies.items (counter_values o.counter) c.args.value ∙ ap (λ m. with_value m COUNTER 1 1 (little_bytes 4 c.args.value)) c.self.view_is

@@ -1,0 +1,8 @@
+-- What each assembly keeps: the data have the size that the members have together.
+use Rattle.std.specs.Prelude.{◌≡◌, ◌≤◌, vec_len, sum, length}
+use Rattle.cip_objects.specs.declared.assembly.Assembly.TheInside.{Inside}
+
+pub record IsWhole (a : Inside) : Type 0 where
+  pub size : vec_len a.content ≡ sum a.members.items
+  pub small : vec_len a.content ≤ 480
+  pub few : vec_len a.members ≤ 64

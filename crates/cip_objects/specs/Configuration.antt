@@ -1,0 +1,66 @@
+-- What a configuration makes, and what is refused: the first check that fails.
+use Rattle.std.specs.Prelude.{ℕ, Bool, false, ◌==◌, ◌||◌, nat_lt, if◌then◌else◌, List, [], ◌∷◌, length, map, sum, replicate, Option, Some, None}
+use Rattle.std.specs.List.{list_any}
+use Rattle.std.specs.String.{string_bytes}
+use Rattle.cip_objects.specs.declared.config.Config.{Config}
+use Rattle.cip_objects.specs.declared.config.AssemblyConfig.{AssemblyConfig}
+use Rattle.cip_objects.specs.declared.config.ConfigFault.{ConfigFault}
+use Rattle.cip_objects.specs.declared.config.ConfigFault.TheVariants.{Name, Size, Members, DoubleInstance, Limit}
+use Rattle.cip_objects.specs.Contents.{Contents}
+use Rattle.cip_objects.specs.Entries.{IdentityValues, Block, CounterValues, contents_of}
+
+-- a name of over 32 bytes, or with a byte outside 0x20 to 0x7e
+abbrev pub is_misnamed : List ℕ → Bool
+is_misnamed name = nat_lt 32 (length name) || list_any (λ byte. nat_lt byte 0x20 || nat_lt 0x7e byte) name
+
+-- an assembly of 0 or over 480 bytes
+abbrev pub is_missized : AssemblyConfig → Bool
+is_missized a = (sum a.members.items == 0) || nat_lt 480 (sum a.members.items)
+
+-- an assembly of over 64 members, or with one of 0 bytes
+abbrev pub is_wrongly_split : AssemblyConfig → Bool
+is_wrongly_split a = nat_lt 64 (length a.members.items) || list_any (λ size. size == 0) a.members.items
+
+-- a number that is 0, the class itself, or stands twice
+abbrev pub is_misnumbered : List ℕ → Bool
+is_misnumbered [] = false
+is_misnumbered (n ∷ ns) = ((n == 0) || list_any (λ m. m == n) ns) || is_misnumbered ns
+
+abbrev pub instances : List AssemblyConfig → List ℕ
+instances assemblies = map (λ a. a.instance) assemblies
+
+-- the first check that fails, but for want of memory
+unfoldable pub fault_of : Config → Option ConfigFault
+fault_of c =
+    if is_misnamed (string_bytes c.name) then Some Name
+    else (if nat_lt 16 (length c.assemblies.items) || list_any is_missized c.assemblies.items then Some Size
+    else (if list_any is_wrongly_split c.assemblies.items then Some Members
+    else (if is_misnumbered (instances c.assemblies.items) then Some DoubleInstance
+    else (if nat_lt c.counter.limit c.counter.value then Some Limit
+    else None))))
+
+-- the Identity object of a configuration
+abbrev pub identity_of : Config → IdentityValues
+identity_of c = record {
+  vendor = c.vendor;
+  device_type = c.device_type;
+  product_code = c.product_code;
+  major = c.major;
+  minor = c.minor;
+  status = c.status;
+  serial = c.serial;
+  name = string_bytes c.name;
+  state = c.state;
+}
+
+-- an assembly of a configuration: its data begin as zeros
+abbrev pub block_of : AssemblyConfig → Block
+block_of a = record { instance = a.instance; settable = a.settable; members = a.members.items; content = replicate (sum a.members.items) 0 }
+
+-- the counter of a configuration: nothing was added yet
+abbrev pub counter_of : Config → CounterValues
+counter_of c = record { value = c.counter.value; limit = c.counter.limit; additions = 0 }
+
+-- the contents of a configuration
+unfoldable pub configured : Config → Contents
+configured c = contents_of (identity_of c) (map block_of c.assemblies.items) (counter_of c)

@@ -1,0 +1,48 @@
+-- What the objects are to a caller: the object map, and the constant tables beside it.
+use Rattle.std.specs.Prelude.{◌≡◌, ℕ, Bool, List, [], Option, unwrap_or, refl}
+use Rattle.std.specs.FinMap.{FinMap, get, insert, code}
+use Rattle.std.specs.Coded.{Coded, code_by, coded×, coded_ℕ, coded_bool, coded_list}
+use Rattle.byteorder.specs.Endian.{little_number}
+use Rattle.cip_message.specs.declared.key.Device.{Device}
+use Rattle.cip_objects.specs.ObjectMap.{Key, key, key_cmp, ObjectMap}
+use Rattle.cip_objects.specs.Tables.{Shape}
+
+-- the map, and of the tables what differs from one configuration to another: the assemblies' shapes, and the five
+-- numbers that an electronic key is tested against
+pub record Contents : Type 0 where
+  pub values : ObjectMap
+  pub shapes : List Shape
+  pub device : Device
+
+-- the value of an attribute, None where there is no such attribute
+abbrev pub value_at : Contents → ℕ → ℕ → ℕ → Option (List ℕ)
+value_at m class instance attribute = get m.values (key class instance attribute)
+
+-- its bytes, none where there is no such attribute
+abbrev pub bytes_at : Contents → ℕ → ℕ → ℕ → List ℕ
+bytes_at m class instance attribute = unwrap_or (value_at m class instance attribute) []
+
+-- its number, where it is one of four bytes
+unfoldable pub number_at : Contents → ℕ → ℕ → ℕ → ℕ
+number_at m class instance attribute = little_number 4 (bytes_at m class instance attribute)
+
+-- the contents with that value at that key, all else as before
+abbrev pub with_value : Contents → ℕ → ℕ → ℕ → List ℕ → Contents
+with_value m class instance attribute value = record m { values = insert m.values (key class instance attribute) value }
+
+-- how such values are stored
+abbrev pub key_code : Coded Key
+key_code =
+    code_by (ℕ × (ℕ × ℕ)) (coded× coded_ℕ (coded× coded_ℕ coded_ℕ)) (λ k. (k.class, (k.instance, k.attribute))) (λ p. key p.0 p.1.0 p.1.1) (λ _. refl)
+
+abbrev pub shape_code : Coded Shape
+shape_code =
+    code_by (ℕ × (Bool × List ℕ)) (coded× coded_ℕ (coded× coded_bool (coded_list coded_ℕ))) (λ s. (s.instance, (s.settable, s.members))) (λ p. record { instance = p.0; settable = p.1.0; members = p.1.1 }) (λ _. refl)
+
+abbrev pub device_code : Coded Device
+device_code =
+    code_by (ℕ × (ℕ × (ℕ × (ℕ × ℕ)))) (coded× coded_ℕ (coded× coded_ℕ (coded× coded_ℕ (coded× coded_ℕ coded_ℕ)))) (λ d. (d.vendor, (d.device_type, (d.product_code, (d.major, d.minor))))) (λ p. record { vendor = p.0; device_type = p.1.0; product_code = p.1.1.0; major = p.1.1.1.0; minor = p.1.1.1.1 }) (λ _. refl)
+
+abbrev pub contents_code : Coded Contents
+contents_code =
+    code_by (ObjectMap × (List Shape × Device)) (coded× (code key_code (coded_list coded_ℕ)) (coded× (coded_list shape_code) device_code)) (λ m. (m.values, (m.shapes, m.device))) (λ p. record { values = p.0; shapes = p.1.0; device = p.1.1 }) (λ _. refl)

@@ -1,0 +1,113 @@
+-- What the object map holds, instance by instance (Volume 1: Identity and Assembly objects; the counter is the
+-- vendor's own).
+use Rattle.std.specs.Prelude.{ℕ, ◌<◌, Bool, List, [], ◌∷◌, ◌++◌, Option, Some, None, ◌==◌, if◌then◌else◌, length, sum, map, max}
+use Rattle.std.specs.List.{flat_map}
+use Rattle.std.specs.FinMap.{from_entries}
+use Rattle.byteorder.specs.Endian.{little_bytes}
+use Rattle.cip_message.specs.declared.key.Device.{Device}
+use Rattle.cip_objects.specs.ObjectMap.{Key, key, ObjectMap}
+use Rattle.cip_objects.specs.Tables.{Shape, IDENTITY, ASSEMBLY, COUNTER}
+use Rattle.cip_objects.specs.Contents.{Contents}
+
+abbrev pub Entries : Type 0
+Entries = List (Key × List ℕ)
+
+-- the Identity object's values
+pub record IdentityValues : Type 0 where
+  pub vendor : ℕ
+  pub device_type : ℕ
+  pub product_code : ℕ
+  pub major : ℕ
+  pub minor : ℕ
+  pub status : ℕ
+  pub serial : ℕ
+  pub name : List ℕ
+  pub state : ℕ
+
+-- an assembly: its shape, and its data
+pub record Block : Type 0 where
+  pub instance : ℕ
+  pub settable : Bool
+  pub members : List ℕ
+  pub content : List ℕ
+
+-- the counter's three numbers
+pub record CounterValues : Type 0 where
+  pub value : ℕ
+  pub limit : ℕ
+  pub additions : ℕ
+
+-- the attributes of one instance, each a number and a value
+abbrev pub Attributes : Type 0
+Attributes = List (ℕ × List ℕ)
+
+-- the value of the attribute of this number
+abbrev pub attribute_in : ℕ → Attributes → Option (List ℕ)
+attribute_in attribute [] = None
+attribute_in attribute (a ∷ attributes) = if attribute == a.0 then Some a.1 else attribute_in attribute attributes
+
+-- the entries of an instance of a class
+abbrev pub entries_at : ℕ → ℕ → Attributes → Entries
+entries_at class instance [] = []
+entries_at class instance (a ∷ attributes) = (key class instance a.0, a.1) ∷ entries_at class instance attributes
+
+-- a class: revision, greatest instance, number of instances
+abbrev pub class_attributes : ℕ → ℕ → ℕ → Attributes
+class_attributes revision greatest number =
+    (1, little_bytes 2 revision) ∷ (2, little_bytes 2 greatest) ∷ (3, little_bytes 2 number) ∷ []
+
+-- vendor, device type, product code, revision, status, serial number, product name, state
+abbrev pub identity_attributes : IdentityValues → Attributes
+identity_attributes d =
+    (1, little_bytes 2 d.vendor)
+    ∷ (2, little_bytes 2 d.device_type)
+    ∷ (3, little_bytes 2 d.product_code)
+    ∷ (4, d.major ∷ d.minor ∷ [])
+    ∷ (5, little_bytes 2 d.status)
+    ∷ (6, little_bytes 4 d.serial)
+    ∷ (7, length d.name ∷ d.name)
+    ∷ (8, d.state ∷ [])
+    ∷ []
+
+-- number of members, data, size
+abbrev pub block_attributes : Block → Attributes
+block_attributes b = (1, little_bytes 2 (length b.members)) ∷ (3, b.content) ∷ (4, little_bytes 2 (sum b.members)) ∷ []
+
+-- value, limit, additions
+abbrev pub counter_attributes : CounterValues → Attributes
+counter_attributes c = (1, little_bytes 4 c.value) ∷ (2, little_bytes 4 c.limit) ∷ (3, little_bytes 4 c.additions) ∷ []
+
+-- the greatest instance number, 0 where there is none
+abbrev pub greatest_of : List Block → ℕ
+greatest_of [] = 0
+greatest_of (b ∷ bs) = max b.instance (greatest_of bs)
+
+-- every entry of the map, instance by instance
+unfoldable pub entries_of : IdentityValues → List Block → CounterValues → Entries
+entries_of d bs c =
+    entries_at IDENTITY 0 (class_attributes 1 1 1)
+    ++ (entries_at IDENTITY 1 (identity_attributes d)
+    ++ (entries_at ASSEMBLY 0 (class_attributes 2 (greatest_of bs) (length bs))
+    ++ (flat_map (λ b. entries_at ASSEMBLY b.instance (block_attributes b)) bs
+    ++ (entries_at COUNTER 0 (class_attributes 1 1 1)
+    ++ entries_at COUNTER 1 (counter_attributes c)))))
+
+abbrev pub shape_of : Block → Shape
+shape_of b = record { instance = b.instance; settable = b.settable; members = b.members }
+
+abbrev pub device_of : IdentityValues → Device
+device_of d = record { vendor = d.vendor; device_type = d.device_type; product_code = d.product_code; major = d.major; minor = d.minor }
+
+-- the contents that these values make
+unfoldable pub contents_of : IdentityValues → List Block → CounterValues → Contents
+contents_of d bs c = record { values = from_entries (entries_of d bs c); shapes = map shape_of bs; device = device_of d }
+
+-- the assembly of this instance number: the first, if one stood twice
+abbrev pub block_at : ℕ → List Block → Option Block
+block_at instance [] = None
+block_at instance (b ∷ bs) = if b.instance == instance then Some b else block_at instance bs
+
+-- no assembly has the number of the class itself
+abbrev pub NoneIsClass : List Block → Type 0
+NoneIsClass [] = Unit {0}
+NoneIsClass (b ∷ bs) = (0 < b.instance) × NoneIsClass bs

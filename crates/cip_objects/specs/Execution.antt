@@ -1,0 +1,104 @@
+-- Execution of router requests by the objects (Volume 1, Message Router): the map after a request, and its reply.
+use Rattle.std.specs.Prelude.{ℕ, List, [], ◌∷◌, ◌++◌, length, slice_index, nat_lt, if◌then◌else◌, Result, Ok, Err}
+use Rattle.cip_message.specs.declared.path.Path.{Path}
+use Rattle.cip_message.specs.declared.path.PathFault.{PathFault}
+use Rattle.cip_message.specs.declared.request.RequestFault.{RequestFault}
+use Rattle.cip_message.specs.PathReading.{path_of}
+use Rattle.cip_message.specs.Request.{Request, request_of}
+use Rattle.cip_message.specs.Reply.{reply, reply_of_fields}
+use Rattle.cip_objects.specs.declared.service.Service.{Service}
+use Rattle.cip_objects.specs.declared.service.Service.TheVariants.{GetAttributesAll, GetAttributeList, GetAttributeSingle, SetAttributeSingle, GetMember, SetMember, Add, Clear}
+use Rattle.cip_objects.specs.declared.status.Status.{Status}
+use Rattle.cip_objects.specs.declared.status.Status.TheVariants.{Success, PathSizeInvalid, PathSegmentError, ReplyDataTooLarge}
+use Rattle.cip_objects.specs.Check.{◌>>=◌, ◌>>◌}
+use Rattle.cip_objects.specs.Contents.{Contents}
+use Rattle.cip_objects.specs.Reading.{Answer, chosen, get_attribute_single, get_attributes_all, get_attribute_list, get_member}
+use Rattle.cip_objects.specs.Changing.{Change, set_attribute_single, set_member, add, clear}
+use Rattle.cip_objects.specs.Router.{reply_service}
+use Rattle.cip_objects.specs.Status.{status_code}
+
+-- what an execution leaves, the general status, and the data of the reply
+pub record Outcome : Type 0 where
+  pub after : Contents
+  pub status : Status
+  pub content : List ℕ
+
+-- a service that reads leaves all as it was
+abbrev pub reads : Contents → Result Answer Status → Result Outcome Status
+reads m (Ok a) = Ok (record { after = m; status = a.status; content = a.content })
+reads m (Err s) = Err s
+
+abbrev pub changes : Result Change Status → Result Outcome Status
+changes (Ok c) = Ok (record { after = c.after; status = Success; content = c.content })
+changes (Err s) = Err s
+
+abbrev pub perform : Contents → Service → Path → List ℕ → Result Outcome Status
+perform m GetAttributesAll path content = reads m (get_attributes_all m path content)
+perform m GetAttributeList path content = reads m (get_attribute_list m path content)
+perform m GetAttributeSingle path content = reads m (get_attribute_single m path content)
+perform m SetAttributeSingle path content = changes (set_attribute_single m path content)
+perform m GetMember path content = reads m (get_member m path content)
+perform m SetMember path content = changes (set_member m path content)
+perform m Add path content = changes (add m content)
+perform m Clear path content = changes (clear m content)
+
+-- a request whose path goes past its end, and a path that is none
+abbrev pub sized : Result Request RequestFault → Result Request Status
+sized (Ok q) = Ok q
+sized (Err f) = Err PathSizeInvalid
+
+abbrev pub formed : Result Path PathFault → Result Path Status
+formed (Ok p) = Ok p
+formed (Err f) = Err PathSegmentError
+
+-- an outcome whose data are written behind a front, where that fits into the room
+abbrev pub limited : ℕ → List ℕ → Result Outcome Status → Result Outcome Status
+limited room front (Ok o) =
+    if nat_lt room (length (front ++ o.content)) then Err ReplyDataTooLarge
+    else Ok (record { after = o.after; status = o.status; content = front ++ o.content })
+limited room front (Err s) = Err s
+
+-- what a call answered, and the contents and the text that it left
+abbrev pub performed : Contents → Result Status Status → List ℕ → Result Outcome Status
+performed after (Ok status) text = Ok (record { after = after; status = status; content = text })
+performed after (Err s) text = Err s
+
+-- the outcome of a request, apart from the room for its reply: the first check that fails decides
+unfoldable pub outcome : Contents → List ℕ → Result Outcome Status
+outcome m text = do
+  request ← sized (request_of text)
+  path ← formed (path_of request.path)
+  service ← chosen m.shapes path.class path.instance request.service
+  perform m service path request.data
+
+-- a reply of this status: the service of the request with bit 7, no additional words
+abbrev pub reply_to : List ℕ → Status → List ℕ → List ℕ
+reply_to text status content = reply (reply_of_fields (reply_service (slice_index text 0)) (status_code status) [] content)
+
+-- the map after a request and its reply
+pub record Executed : Type 0 where
+  pub after : Contents
+  pub answer : List ℕ
+
+-- a check that failed changes nothing, and neither does a reply that is over the room
+abbrev pub fitted : Contents → ℕ → List ℕ → Result Outcome Status → Executed
+fitted m room text (Err s) = record { after = m; answer = reply_to text s [] }
+fitted m room text (Ok o) =
+    if nat_lt room (length (reply_to text o.status o.content)) then record { after = m; answer = reply_to text ReplyDataTooLarge [] }
+    else record { after = o.after; answer = reply_to text o.status o.content }
+
+-- the execution of a request, with so much room for its reply
+unfoldable pub exec : Contents → ℕ → List ℕ → Executed
+exec m room text = fitted m room text (outcome m text)
+
+-- the map after these requests, each a room and a text, from left to right, and their replies
+pub record Ran : Type 0 where
+  pub after : Contents
+  pub answers : List (List ℕ)
+
+abbrev pub run : Contents → List (ℕ × List ℕ) → Ran
+run m [] = record { after = m; answers = [] }
+run m (request ∷ requests) =
+    let now = exec m request.0 request.1 in
+    let later = run now.after requests in
+    record { after = later.after; answers = now.answer ∷ later.answers }

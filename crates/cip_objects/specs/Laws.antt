@@ -1,0 +1,48 @@
+-- What executions of requests promise, in the words of objects, attributes and requests.
+use Rattle.std.specs.Prelude.{◌≡◌, ℕ, ◌+◌, ◌≤◌, List, [], ◌∷◌, length, Option, Some, Result, Ok, Err}
+use Rattle.cip_message.specs.declared.path.Path.{Path}
+use Rattle.cip_message.specs.PathReading.{path_of}
+use Rattle.cip_message.specs.Request.{Request, request_of}
+use Rattle.cip_objects.specs.declared.service.Service.{Service}
+use Rattle.cip_objects.specs.declared.service.Service.TheVariants.{GetAttributesAll, GetAttributeList, GetAttributeSingle, SetAttributeSingle, GetMember, SetMember, Add, Clear}
+use Rattle.cip_objects.specs.declared.status.Status.TheVariants.{Success}
+use Rattle.cip_objects.specs.Contents.{Contents, value_at}
+use Rattle.cip_objects.specs.Execution.{Outcome, perform, reply_to, exec, run}
+use Rattle.cip_objects.specs.Router.{general_status, REPLY_TOO_LARGE}
+
+-- the text is a request of this service, with this path and these data
+abbrev pub Reads : List ℕ → ℕ → List ℕ → List ℕ → Type 0
+Reads text service path content = request_of text ≡ Ok (record { service = service; path = path; «data» = content })
+
+-- a reply that is too large goes with the map as it was
+abbrev pub too_large_law : Type 0
+too_large_law =
+    (m : Contents) (room : ℕ) (text : List ℕ) → general_status (exec m room text).answer ≡ REPLY_TOO_LARGE → (exec m room text).after ≡ m
+
+-- the services that change the map
+abbrev pub IsChanging : Service → Type 0
+IsChanging SetAttributeSingle = Unit {0}
+IsChanging SetMember = Unit {0}
+IsChanging Add = Unit {0}
+IsChanging Clear = Unit {0}
+IsChanging GetAttributesAll = ⊥
+IsChanging GetAttributeList = ⊥
+IsChanging GetAttributeSingle = ⊥
+IsChanging GetMember = ⊥
+
+-- with room for 8 bytes or more each service that changes the map gives a reply that fits
+abbrev pub changes_fit_law : Type 0
+changes_fit_law =
+    (m : Contents) (service : Service) (path : Path) (content text : List ℕ) (o : Outcome) (room : ℕ) → IsChanging service → perform m service path content ≡ Ok o → 8 ≤ room → length (reply_to text o.status o.content) ≤ room
+
+-- what a get answers after a set that succeeded is what was set
+abbrev pub get_after_set_law : Type 0
+get_after_set_law =
+    (m : Contents) (room later : ℕ) (set get path value : List ℕ) → Reads set 0x10 path value → Reads get 0x0e path [] → general_status (exec m room set).answer ≡ 0 → 4 + length value ≤ later
+    → (run m ((room, set) ∷ (later, get) ∷ [])).answers ≡ (exec m room set).answer ∷ reply_to get Success value ∷ []
+
+-- a set at one key leaves every other
+abbrev pub set_leaves_others_law : Type 0
+set_leaves_others_law =
+    (m : Contents) (room : ℕ) (set path value : List ℕ) (p : Path) → Reads set 0x10 path value → path_of path ≡ Ok p
+    → (class instance attribute : ℕ) → ((class ≡ p.class) × (instance ≡ p.instance) × (Some attribute ≡ p.attribute) → ⊥) → value_at (exec m room set).after class instance attribute ≡ value_at m class instance attribute

@@ -1,0 +1,19 @@
+-- What every reply of a router has (Volume 1, Message Router response format).
+use Rattle.std.specs.Prelude.{◌≡◌, ℕ, ◌+◌, ◌≤◌, nat_lt, if◌then◌else◌, List, length, slice_index}
+
+-- the service of the reply to a request of this service: bit 7 is set
+abbrev pub reply_service : ℕ → ℕ
+reply_service service = if nat_lt service 128 then service + 128 else service
+
+-- the general status of a reply: service, a reserved byte, the status, the size of the additional status
+abbrev pub general_status : List ℕ → ℕ
+general_status reply = slice_index reply 2
+
+-- the general status "reply data too large"
+abbrev pub REPLY_TOO_LARGE : ℕ
+REPLY_TOO_LARGE = 0x11
+
+-- reply has the four bytes that each reply begins with, and its service answers the request's
+pub record IsReplyTo (request reply : List ℕ) : Type 0 where
+  pub head : 4 ≤ length reply
+  pub service : slice_index reply 0 ≡ reply_service (slice_index request 0)

@@ -1,0 +1,38 @@
+-- Worked rows: members of 1, 2 and 1 bytes, instance numbers, services and statuses.
+use Rattle.std.specs.Prelude.{◌≡◌, List, [], ◌∷◌, Option, Some, None, true, false, refl}
+use Rattle.cip_objects.specs.declared.service.Service.TheVariants.{GetAttributeSingle, SetMember, Add, Clear}
+use Rattle.cip_objects.specs.Changing.{spliced}
+use Rattle.cip_objects.specs.Configuration.{is_misnumbered}
+use Rattle.cip_objects.specs.Service.{service_in}
+use Rattle.cip_objects.specs.Tables.{span_of, assembly_services}
+
+-- the second member lies behind the first
+pub second_member : span_of (1 ∷ 2 ∷ 1 ∷ []) 2 ≡ Some (record { offset = 1; size = 2 })
+second_member = refl
+
+pub no_fourth_member : span_of (1 ∷ 2 ∷ 1 ∷ []) 4 ≡ None
+no_fourth_member = refl
+
+pub no_member_zero : span_of (1 ∷ 2 ∷ 1 ∷ []) 0 ≡ None
+no_member_zero = refl
+
+-- setting it replaces the two bytes in the middle
+pub set_second_member : spliced (0 ∷ 0 ∷ 0 ∷ 0 ∷ []) 1 (0xaa ∷ 0xbb ∷ []) ≡ 0 ∷ 0xaa ∷ 0xbb ∷ 0 ∷ []
+set_second_member = refl
+
+-- an assembly has Set_Member, and no Add
+pub assembly_sets_members : service_in 0x19 assembly_services ≡ Some SetMember
+assembly_sets_members = refl
+
+pub assembly_adds_nothing : service_in 0x32 assembly_services ≡ None
+assembly_adds_nothing = refl
+
+-- numbers that stand once, twice, and the class's own
+pub numbers_once : is_misnumbered (100 ∷ 101 ∷ []) ≡ false
+numbers_once = refl
+
+pub number_twice : is_misnumbered (100 ∷ 101 ∷ 100 ∷ []) ≡ true
+number_twice = refl
+
+pub number_zero : is_misnumbered (100 ∷ 0 ∷ []) ≡ true
+number_zero = refl

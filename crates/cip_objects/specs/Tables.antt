@@ -1,0 +1,75 @@
+-- The constant tables beside the object map: what the configuration fixes for good. Which services an instance
+-- of a class has, which attributes can be set, and where the members of an assembly lie.
+use Rattle.std.specs.Prelude.{ℕ, ◌+◌, ◌-◌, Bool, true, false, List, [], ◌∷◌, Option, Some, None, option_map, ◌==◌, ◌&&◌, ◌||◌, if◌then◌else◌, nat_lt, length, slice_index, sum, take}
+use Rattle.cip_objects.specs.declared.service.Service.{Service}
+use Rattle.cip_objects.specs.declared.service.Service.TheVariants.{GetAttributesAll, GetAttributeList, GetAttributeSingle, SetAttributeSingle, GetMember, SetMember, Add, Clear}
+use Rattle.cip_objects.specs.declared.assembly.Span.{Span}
+
+-- what stays of an assembly: its instance number, whether its data can be set, its members' sizes in bytes
+pub record Shape : Type 0 where
+  pub instance : ℕ
+  pub settable : Bool
+  pub members : List ℕ
+
+-- the classes (Volume 1: Identity, Assembly, Connection Manager; the counter is in the vendor's range)
+abbrev pub IDENTITY : ℕ
+IDENTITY = 0x01
+
+abbrev pub ASSEMBLY : ℕ
+ASSEMBLY = 0x04
+
+abbrev pub CONNECTION_MANAGER : ℕ
+CONNECTION_MANAGER = 0x06
+
+abbrev pub COUNTER : ℕ
+COUNTER = 0x64
+
+-- the assembly of this instance number: the first, if one stood twice
+abbrev pub shape_at : ℕ → List Shape → Option Shape
+shape_at instance [] = None
+shape_at instance (s ∷ shapes) = if s.instance == instance then Some s else shape_at instance shapes
+
+-- the services of a class with one instance, which has these
+abbrev pub class_or_first : ℕ → List Service → Option (List Service)
+class_or_first instance services =
+    if instance == 0 then Some (GetAttributeSingle ∷ [])
+    else (if instance == 1 then Some services else None)
+
+abbrev pub assembly_services : List Service
+assembly_services = GetAttributeList ∷ GetAttributeSingle ∷ SetAttributeSingle ∷ GetMember ∷ SetMember ∷ []
+
+-- the services of an instance of a class, None where there is no such class or instance. Instance 0 is the class
+-- itself. The Connection Manager has none here: its services are the manager's.
+unfoldable pub services_of : List Shape → ℕ → ℕ → Option (List Service)
+services_of shapes class instance =
+    if class == IDENTITY then class_or_first instance (GetAttributesAll ∷ GetAttributeList ∷ GetAttributeSingle ∷ [])
+    else (if class == ASSEMBLY then
+    (if instance == 0 then Some (GetAttributeSingle ∷ []) else option_map (λ _. assembly_services) (shape_at instance shapes))
+    else (if class == CONNECTION_MANAGER then (if instance == 1 then Some [] else None)
+    else (if class == COUNTER then
+    class_or_first instance (GetAttributeList ∷ GetAttributeSingle ∷ SetAttributeSingle ∷ Add ∷ Clear ∷ [])
+    else None)))
+
+abbrev pub size_if_settable : Option Shape → Option ℕ
+size_if_settable None = None
+size_if_settable (Some s) = if s.settable then Some (sum s.members) else None
+
+-- the length of an attribute that can be set, None where it can't: the data of an assembly that is settable, and
+-- the counter's limit
+unfoldable pub settable_size : List Shape → ℕ → ℕ → ℕ → Option ℕ
+settable_size shapes class instance attribute =
+    if (class == ASSEMBLY) && (attribute == 3) then size_if_settable (shape_at instance shapes)
+    else (if (class == COUNTER) && ((instance == 1) && (attribute == 2)) then Some 4 else None)
+
+-- where a member lies in the data of its assembly: members are numbered from 1 and lie one after another
+abbrev pub span_of : List ℕ → ℕ → Option Span
+span_of members number =
+    if (number == 0) || nat_lt (length members) number then None
+    else Some (record { offset = sum (take (number - 1) members); size = slice_index members (number - 1) })
+
+abbrev pub span_in : Option Shape → ℕ → Option Span
+span_in None number = None
+span_in (Some s) number = span_of s.members number
+
+abbrev pub member_at : List Shape → ℕ → ℕ → Option Span
+member_at shapes instance number = span_in (shape_at instance shapes) number

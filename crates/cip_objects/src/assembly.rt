@@ -1,0 +1,169 @@
+//! An assembly: members that lie one after another in its data (Volume 1, class 0x04).
+ghost use Rattle.std.specs.Prelude.{◌≡◌, ◌≤◌, ◌+◌, ◌-◌, ◌*◌, ◌<◌, length, sum, take, drop, slice_index, option_map, option_copied, ◌++◌, IfOk, IfSome, replicate, MatchOption};
+ghost use Rattle.cip_objects.specs.Entries.{attribute_in, block_attributes, block_at, greatest_of};
+ghost use Rattle.cip_objects.specs.Places.{IsFirst};
+ghost use Rattle.cip_objects.specs.Tables.{span_of};
+ghost use Rattle.cip_objects.specs.Value.{value_bytes};
+
+use crate::value::Value;
+use std::alloc::{AllocError, Global};
+use std::marker::Model;
+
+/// The most bytes of an assembly's data.
+pub(crate) const SIZE_LIMIT: usize = 480;
+
+/// The most members of an assembly.
+pub(crate) const MEMBER_LIMIT: usize = 64;
+
+/// Where a member lies in the data, in bytes.
+#[derive(Clone, Copy, Debug)]
+pub(crate) struct Span {
+    pub(crate) offset: usize,
+    pub(crate) size: usize,
+}
+
+/// An instance of the Assembly object.
+#[derive(Debug, Drop)]
+pub(crate) struct Assembly {
+    instance: u16,
+    settable: bool,
+    members: Vec<u16>,
+    content: Vec<u8>,
+}
+
+impl Model for Assembly {
+    ghost use Rattle.std.specs.Prelude.{vec_len};
+    ghost use Rattle.cip_objects.specs.Entries.{Block};
+
+    ghost Value = { Block };
+
+    ghost view = { λ a. record { instance = a.instance; settable = a.settable; members = a.members.items; content = a.content.items } };
+
+    ghost use Rattle.cip_objects.specs.Assembly.{IsWhole};
+
+    ghost invariant = { λ a. IsWhole a };
+}
+
+impl Assembly {
+    /// An assembly of these members, whose data are zeros.
+    pub(crate) fn new(
+        alloc: Global,
+        instance: u16,
+        settable: bool,
+        members: &[u16],
+    ) -> Result<Assembly, AllocError>
+        requires few { length members.now ≤ 64 }
+        requires small { sum members.now ≤ 480 }
+        ensures { IfOk result (λ a. a ≡ record { instance = instance; settable = settable; members = members.now; content = replicate (sum members.now) 0 }) }
+    {
+        Ok(Assembly {
+            instance,
+            settable,
+            members: Vec::from_slice(alloc, members)?,
+            content: Vec::from_elem(alloc, 0, total(members))?,
+        })
+    }
+
+    /// Where the member of this number lies. Members are numbered from 1.
+    pub(crate) fn span(&self, number: u16) -> Option<Span>
+        ensures place { result ≡ span_of self.now.members number }
+        ensures inside { IfSome result (λ s. s.offset + s.size ≤ length self.now.content) }
+    {
+        let number = usize::from(number);
+        if number == 0 || self.members.len() < number {
+            return None;
+        }
+        Some(Span {
+            offset: total(&self.members[..number - 1]),
+            size: usize::from(self.members[number - 1]),
+        })
+    }
+
+    /// The value of an attribute of the instance.
+    pub(crate) fn attribute(&self, attribute: u16) -> Option<Value<'_>>
+        ensures value { option_map value_bytes result ≡ attribute_in attribute (block_attributes self.now) }
+        ensures short { IfSome result (λ value. length (value_bytes value) ≤ 480) }
+    {
+        match attribute {
+            1 => Some(Value::Word(self.members.len() as u16)),
+            3 => Some(Value::Bytes(self.content.as_slice())),
+            4 => Some(Value::Word(self.content.len() as u16)),
+            _ => None,
+        }
+    }
+
+    /// The instance number.
+    pub(crate) fn instance(&self) -> u16
+        ensures { result ≡ self.now.instance }
+    {
+        self.instance
+    }
+
+    /// How many bytes the data have.
+    pub(crate) fn size(&self) -> usize
+        ensures members { result ≡ sum self.now.members }
+        ensures content { result ≡ length self.now.content }
+    {
+        self.content.len()
+    }
+
+    /// Whether the data can be set.
+    pub(crate) fn is_settable(&self) -> bool
+        ensures { result ≡ self.now.settable }
+    {
+        self.settable
+    }
+
+    /// The data.
+    pub(crate) fn content(&self) -> &[u8]
+        ensures { result.now ≡ self.now.content }
+    {
+        self.content.as_slice()
+    }
+
+    /// Replaces the bytes from `offset` on.
+    pub(crate) fn write(&mut self, offset: usize, bytes: &[u8])
+        requires { offset + length bytes.now ≤ length self.old.content }
+        ensures { self.new ≡ record self.old {
+          content = take offset self.old.content
+              ++ (bytes.now ++ drop (offset + length bytes.now) self.old.content);
+        } }
+    {
+        self.content[offset..offset + bytes.len()].copy_from_slice(bytes);
+    }
+}
+
+/// The bytes that members of these sizes have together.
+fn total(members: &[u16]) -> usize
+    requires { length members.now ≤ 64 }
+    ensures { result ≡ sum members.now }
+{
+    let mut all: usize = 0;
+    for size in members {
+        all += usize::from(*size);
+    }
+    all
+}
+
+/// The place of the first assembly of this instance number.
+pub(crate) fn place(assemblies: &[Assembly], instance: u32) -> Option<usize>
+    ensures { MatchOption result (block_at instance assemblies.now ≡ None) (IsFirst assemblies.now instance) }
+{
+    for (i, assembly) in assemblies.iter().enumerate() {
+        if u32::from(assembly.instance()) == instance {
+            return Some(i);
+        }
+    }
+    None
+}
+
+/// The greatest instance number, 0 where there is no assembly.
+pub(crate) fn greatest(assemblies: &[Assembly]) -> u16
+    ensures { result ≡ greatest_of assemblies.now }
+{
+    let mut most: u16 = 0;
+    for assembly in assemblies {
+        most = most.max(assembly.instance());
+    }
+    most
+}

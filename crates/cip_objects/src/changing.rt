@@ -1,0 +1,90 @@
+//! The services that change (Volume 1, common services; Add and Clear are the counter's own).
+ghost use Rattle.std.specs.Prelude.{◌≡◌, ◌≤◌, ◌+◌, length, [], OnErr};
+ghost use Rattle.cip_message.specs.Numbers.{le};
+ghost use Rattle.cip_objects.specs.Changing.{changed, set_attribute_single, set_member, add, clear, limited_by};
+
+use crate::Status;
+use crate::check::exactly;
+use crate::objects::{ASSEMBLY, Objects};
+use byteorder::{ByteOrder, LittleEndian};
+use cip_message::Path;
+
+impl Objects {
+    /// Set_Attribute_Single.
+    #[tactic(auto, unfolding(crate::specs::Changing::set_attribute_single))]
+    pub(crate) fn set_attribute_single(&mut self, path: Path, data: &[u8]) -> Result<(), Status>
+        ensures changed { changed (λ _. []) self.new result ≡ set_attribute_single self.old path «data».now }
+        ensures err { OnErr result (self.new ≡ self.old) }
+    {
+        let attribute = path.attribute.ok_or(Status::AttributeNotSupported)?;
+        self.value(path.class, path.instance, attribute)
+            .ok_or(Status::AttributeNotSupported)?;
+        let size = self
+            .settable_size(path.class, path.instance, attribute)
+            .ok_or(Status::AttributeNotSettable)?;
+        exactly(size, data)?;
+        if path.class == ASSEMBLY {
+            self.write_content(path.instance, 0, data);
+            return Ok(());
+        }
+        self.change_limit(data)
+    }
+
+    /// Sets the counter's limit, where it isn't below the value.
+    fn change_limit(&mut self, data: &[u8]) -> Result<(), Status>
+        requires { length «data».now ≡ 4 }
+        ensures changed { changed (λ _. []) self.new result ≡ limited_by self.old «data».now }
+        ensures err { OnErr result (self.new ≡ self.old) }
+    {
+        let limit = LittleEndian::read_u32(data);
+        if limit < self.counter().value {
+            return Err(Status::InvalidAttributeValue);
+        }
+        self.set_limit(limit);
+        Ok(())
+    }
+
+    /// Set_Member.
+    #[tactic(auto, unfolding(crate::specs::Changing::set_member))]
+    pub(crate) fn set_member(&mut self, path: Path, data: &[u8]) -> Result<(), Status>
+        ensures changed { changed (λ _. []) self.new result ≡ set_member self.old path «data».now }
+        ensures err { OnErr result (self.new ≡ self.old) }
+    {
+        let span = self.named_member(path)?;
+        self.settable_size(ASSEMBLY, path.instance, 3)
+            .ok_or(Status::AttributeNotSettable)?;
+        exactly(span.size, data)?;
+        self.write_content(path.instance, span.offset, data);
+        Ok(())
+    }
+
+    /// Add: answers the new value.
+    #[tactic(auto, unfolding(crate::specs::Changing::add))]
+    pub(crate) fn add(&mut self, data: &[u8]) -> Result<u32, Status>
+        ensures changed { changed (le 4) self.new result ≡ add self.old «data».now }
+        ensures err { OnErr result (self.new ≡ self.old) }
+    {
+        exactly(4, data)?;
+        let counter = self.counter();
+        let total = u64::from(counter.value) + u64::from(LittleEndian::read_u32(data));
+        if u64::from(counter.limit) < total {
+            return Err(Status::InvalidParameter);
+        }
+        let value = total as u32;
+        self.set_value(value);
+        self.set_additions(counter.additions.wrapping_add(1));
+        Ok(value)
+    }
+
+    /// Clear: answers the old value.
+    #[tactic(auto, unfolding(crate::specs::Changing::clear))]
+    pub(crate) fn clear(&mut self, data: &[u8]) -> Result<u32, Status>
+        ensures changed { changed (le 4) self.new result ≡ clear self.old «data».now }
+        ensures err { OnErr result (self.new ≡ self.old) }
+    {
+        exactly(0, data)?;
+        let counter = self.counter();
+        self.set_value(0);
+        Ok(counter.value)
+    }
+}

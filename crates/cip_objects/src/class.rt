@@ -1,0 +1,24 @@
+//! The attributes that a class has as such, at instance 0.
+ghost use Rattle.std.specs.Prelude.{◌≡◌, option_map, IfSome, length, ◌≤◌};
+ghost use Rattle.cip_objects.specs.Entries.{attribute_in, class_attributes};
+ghost use Rattle.cip_objects.specs.Value.{value_bytes};
+
+use crate::value::Value;
+
+/// The value of an attribute of a class (Volume 1, class attributes): revision, greatest instance, number of instances.
+pub(crate) fn class_attribute(
+    revision: u16,
+    greatest: u16,
+    number: u16,
+    attribute: u16,
+) -> Option<Value<'static>>
+    ensures value { option_map value_bytes result ≡ attribute_in attribute (class_attributes revision greatest number) }
+    ensures short { IfSome result (λ value. length (value_bytes value) ≤ 480) }
+{
+    match attribute {
+        1 => Some(Value::Word(revision)),
+        2 => Some(Value::Word(greatest)),
+        3 => Some(Value::Word(number)),
+        _ => None,
+    }
+}

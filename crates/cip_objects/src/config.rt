@@ -1,0 +1,206 @@
+//! What the objects are made from, and what is refused.
+ghost use Rattle.std.specs.Prelude.{◌≡◌, ◌≤◌, ◌+◌, ◌<◌, ◌==◌, ◌||◌, not, nat_lt, length, sum, Some, None};
+ghost use Rattle.std.specs.List.{list_any};
+ghost use Rattle.cip_objects.specs.Configuration.{is_misnamed, is_missized, is_wrongly_split, is_misnumbered, instances};
+
+use crate::assembly::{MEMBER_LIMIT, SIZE_LIMIT};
+use crate::identity::NAME_LIMIT;
+use std::alloc::{AllocError, AllocFailed};
+use thiserror::Error;
+
+/// The most assemblies.
+const ASSEMBLY_LIMIT: usize = 16;
+
+/// What a device is configured to be.
+#[derive(Debug, Drop)]
+pub struct Config {
+    /// The vendor's number.
+    pub vendor: u16,
+    /// The device type of the vendor's profile.
+    pub device_type: u16,
+    /// The vendor's number of the product.
+    pub product_code: u16,
+    /// The major revision, 1 to 127.
+    pub major: u8,
+    /// The minor revision.
+    pub minor: u8,
+    /// The serial number.
+    pub serial: u32,
+    /// The product's name: at most 32 bytes, each 0x20 to 0x7e.
+    pub name: String,
+    /// The status word of the Identity object.
+    pub status: u16,
+    /// The state of the Identity object.
+    pub state: u8,
+    /// The counter.
+    pub counter: CounterConfig,
+    /// The assemblies, at most 16.
+    pub assemblies: Vec<AssemblyConfig>,
+}
+
+/// What the counter begins with.
+#[derive(Clone, Copy, Debug)]
+pub struct CounterConfig {
+    /// The first value.
+    pub value: u32,
+    /// The limit, at least the first value.
+    pub limit: u32,
+}
+
+/// An assembly: 1 to 480 bytes, in at most 64 members.
+#[derive(Debug, Drop)]
+pub struct AssemblyConfig {
+    /// The instance number, not 0 and none but its own.
+    pub instance: u16,
+    /// Whether the data can be set.
+    pub settable: bool,
+    /// The sizes of the members in bytes, none of them 0.
+    pub members: Vec<u16>,
+}
+
+/// Why there are no objects of a configuration: the first of these that holds.
+#[derive(Clone, Copy, Debug, PartialEq, Eq, Error)]
+pub enum ConfigFault {
+    /// The name is over 32 bytes, or has a byte outside 0x20 to 0x7e.
+    #[error("the name is too long, or has a byte that can't be printed")]
+    Name,
+    /// There are over 16 assemblies, or one has 0 or over 480 bytes.
+    #[error("too many assemblies, or one with no byte or too many")]
+    Size,
+    /// An assembly has over 64 members, or one of 0 bytes.
+    #[error("an assembly with too many members, or one of no byte")]
+    Members,
+    /// An instance number is 0, which is the class itself, or stands twice.
+    #[error("an instance number that is 0 or stands twice")]
+    DoubleInstance,
+    /// The counter's first value is over its limit.
+    #[error("the counter's first value is over its limit")]
+    Limit,
+    /// No memory.
+    #[error("out of memory")]
+    Memory,
+}
+
+impl From<AllocError> for ConfigFault {
+    ghost use Rattle.cip_objects.specs.declared.config.ConfigFault.TheVariants.{Memory};
+
+    ghost from_gives = { λ _ fault. fault ≡ Memory };
+
+    fn from(_: AllocError) -> ConfigFault {
+        ConfigFault::Memory
+    }
+}
+
+impl<T: Drop> From<AllocFailed<T>> for ConfigFault {
+    ghost use Rattle.cip_objects.specs.declared.config.ConfigFault.TheVariants.{Memory};
+
+    ghost from_gives = { λ _ fault. fault ≡ Memory };
+
+    fn from(_: AllocFailed<T>) -> ConfigFault {
+        ConfigFault::Memory
+    }
+}
+
+impl Config {
+    ghost use Rattle.cip_objects.specs.Configuration.{fault_of};
+
+    /// The first check that fails, but for want of memory.
+    #[tactic(auto, unfolding(crate::specs::Configuration::fault_of))]
+    pub(crate) fn fault(&self) -> Option<ConfigFault>
+        ensures { result ≡ fault_of self.now }
+    {
+        if is_misnamed(self.name.as_bytes()) {
+            return Some(ConfigFault::Name);
+        }
+        if self.assemblies.len() > ASSEMBLY_LIMIT || has_missized(&self.assemblies) {
+            return Some(ConfigFault::Size);
+        }
+        if has_wrongly_split(&self.assemblies) {
+            return Some(ConfigFault::Members);
+        }
+        if has_double(&self.assemblies) {
+            return Some(ConfigFault::DoubleInstance);
+        }
+        if self.counter.limit < self.counter.value {
+            return Some(ConfigFault::Limit);
+        }
+        None
+    }
+}
+
+/// Whether a name is too long or can't be printed.
+fn is_misnamed(name: &[u8]) -> bool
+    ensures { result ≡ is_misnamed name.now }
+{
+    if name.len() > NAME_LIMIT {
+        return true;
+    }
+    for byte in name {
+        if *byte < 0x20 || *byte > 0x7e {
+            return true;
+        }
+    }
+    false
+}
+
+/// Whether an assembly has no byte or too many.
+fn has_missized(assemblies: &[AssemblyConfig]) -> bool
+    ensures { result ≡ list_any is_missized assemblies.now }
+{
+    for assembly in assemblies {
+        if is_missized(&assembly.members) {
+            return true;
+        }
+    }
+    false
+}
+
+/// Whether members of these sizes have no byte together or too many.
+fn is_missized(members: &[u16]) -> bool
+    ensures { result ≡ (sum members.now == 0) || nat_lt 480 (sum members.now) }
+{
+    let mut all: usize = 0;
+    for size in members {
+        all += usize::from(*size);
+        if all > SIZE_LIMIT {
+            return true;
+        }
+    }
+    all == 0
+}
+
+/// Whether an assembly has too many members, or one of no byte.
+fn has_wrongly_split(assemblies: &[AssemblyConfig]) -> bool
+    ensures { result ≡ list_any is_wrongly_split assemblies.now }
+{
+    for assembly in assemblies {
+        if assembly.members.len() > MEMBER_LIMIT || assembly.members.contains(&0) {
+            return true;
+        }
+    }
+    false
+}
+
+/// Whether an instance number is 0 or stands twice.
+fn has_double(assemblies: &[AssemblyConfig]) -> bool
+    ensures { result ≡ is_misnumbered (instances assemblies.now) }
+{
+    for (i, assembly) in assemblies.iter().enumerate() {
+        if assembly.instance == 0 || stands(assembly.instance, &assemblies[i + 1..]) {
+            return true;
+        }
+    }
+    false
+}
+
+/// Whether an assembly has this instance number.
+fn stands(instance: u16, assemblies: &[AssemblyConfig]) -> bool
+    ensures { result ≡ list_any (λ n. n == instance) (instances assemblies.now) }
+{
+    for assembly in assemblies {
+        if assembly.instance == instance {
+            return true;
+        }
+    }
+    false
+}

@@ -1,0 +1,126 @@
+//! Execution of router requests (Volume 1, Message Router).
+ghost use Rattle.std.specs.Prelude.{◌≡◌, ◌≤◌, [], length, OnErr, slice_set};
+ghost use Rattle.cip_message.specs.Reply.{reply as spelled, reply_of_fields};
+ghost use Rattle.cip_objects.specs.Execution.{performed, limited, perform, outcome, exec};
+ghost use Rattle.cip_objects.specs.Router.{reply_service};
+ghost use Rattle.cip_objects.specs.Status.{status_code};
+
+use crate::objects::Objects;
+use crate::router::{ReplyBuf, Router};
+use crate::text::append;
+use crate::{Service, Status};
+use cip_message::{Path, RequestView, read_path};
+
+impl Objects {
+    /// Performs a service that the instance has, and appends the data of its reply.
+    fn perform(
+        &mut self,
+        service: Service,
+        path: Path,
+        data: &[u8],
+        room: usize,
+        reply: &mut ReplyBuf,
+    ) -> Result<Status, Status>
+        requires room_from { 8 ≤ room }
+        requires room_to { room ≤ 512 }
+        requires head { length reply.old.items ≡ 4 }
+        ensures outcome { performed self.new result reply.new.items ≡ limited room reply.old.items (perform self.old service path «data».now) }
+        ensures err { OnErr result (self.new ≡ self.old) }
+    {
+        match service {
+            Service::GetAttributesAll => self.get_attributes_all(path, data, room, reply),
+            Service::GetAttributeList => self.get_attribute_list(path, data, room, reply),
+            Service::GetAttributeSingle => self.get_attribute_single(path, data, room, reply),
+            Service::SetAttributeSingle => {
+                self.set_attribute_single(path, data)?;
+                Ok(Status::Success)
+            }
+            Service::GetMember => self.get_member(path, data, room, reply),
+            Service::SetMember => {
+                self.set_member(path, data)?;
+                Ok(Status::Success)
+            }
+            Service::Add => {
+                let value = self.add(data)?;
+                append(&value.to_le_bytes(), room, reply)?;
+                Ok(Status::Success)
+            }
+            Service::Clear => {
+                let value = self.clear(data)?;
+                append(&value.to_le_bytes(), room, reply)?;
+                Ok(Status::Success)
+            }
+        }
+    }
+
+    /// Reads a request and performs it: the first check that fails is answered.
+    #[tactic(auto, unfolding(crate::specs::Execution::outcome))]
+    fn requested(
+        &mut self,
+        request: &[u8],
+        room: usize,
+        reply: &mut ReplyBuf,
+    ) -> Result<Status, Status>
+        requires room_from { 8 ≤ room }
+        requires room_to { room ≤ 512 }
+        requires head { length reply.old.items ≡ 4 }
+        ensures outcome { performed self.new result reply.new.items ≡ limited room reply.old.items (outcome self.old request.now) }
+        ensures err { OnErr result (self.new ≡ self.old) }
+    {
+        let Ok(view) = RequestView::read(request) else {
+            return Err(Status::PathSizeInvalid);
+        };
+        let Ok(path) = read_path(view.path) else {
+            return Err(Status::PathSegmentError);
+        };
+        let service = self.chosen(path.class, path.instance, view.service)?;
+        self.perform(service, path, view.data, room, reply)
+    }
+}
+
+/// Begins a reply to a request of this service: bit 7, a reserved byte, the status, no additional words.
+fn begin(service: u8, status: Status, reply: &mut ReplyBuf)
+    ensures { reply.new.items ≡ spelled (reply_of_fields (reply_service service) (status_code status) [] []) }
+{
+    let service = if service < 0x80 {
+        service + 0x80
+    } else {
+        service
+    };
+    reply.clear();
+    reply.push(service);
+    reply.push(0);
+    reply.push(status.code());
+    reply.push(0);
+}
+
+/// Puts the status into a reply that was begun.
+fn set_status(status: Status, reply: &mut ReplyBuf)
+    requires { 4 ≤ length reply.old.items }
+    ensures { reply.new.items ≡ slice_set reply.old.items 2 (status_code status) }
+{
+    reply.as_mut_slice()[2] = status.code();
+}
+
+impl Router for Objects {
+    ghost use Rattle.cip_objects.specs.ExecutionLaws.{exec_too_large, exec_begins, exec_within};
+
+    ghost after = { λ m room text. (exec m room text).after };
+
+    ghost answer = { λ m room text. (exec m room text).answer };
+
+    /// The map and the reply of the definition `exec`. Takes no memory.
+    fn execute(&mut self, request: &[u8], room: usize, reply: &mut ReplyBuf) {
+        begin(request[0], Status::Success, reply);
+        match self.requested(request, room, reply) {
+            Ok(status) => set_status(status, reply),
+            Err(status) => begin(request[0], status, reply),
+        }
+    }
+
+    ghost too_large = { λ m room text h e. exec_too_large m room text e };
+
+    ghost begins = { λ m room text h g. exec_begins m room text };
+
+    ghost within = { λ m room text h g. exec_within m room text h };
+}

@@ -1,0 +1,63 @@
+//! The Identity object (Volume 1, class 0x01).
+ghost use Rattle.std.specs.Prelude.{◌≡◌, ◌≤◌, length, option_map, IfSome};
+ghost use Rattle.cip_objects.specs.Entries.{attribute_in, identity_attributes};
+ghost use Rattle.cip_objects.specs.Value.{value_bytes};
+
+use crate::value::Value;
+use arrayvec::ArrayVec;
+use std::marker::Model;
+
+/// The most bytes of a product name.
+pub(crate) const NAME_LIMIT: usize = 32;
+
+/// The one instance of the Identity object.
+#[derive(Debug, Drop)]
+pub(crate) struct Identity {
+    pub(crate) vendor: u16,
+    pub(crate) device_type: u16,
+    pub(crate) product_code: u16,
+    pub(crate) major: u8,
+    pub(crate) minor: u8,
+    pub(crate) status: u16,
+    pub(crate) serial: u32,
+    pub(crate) name: ArrayVec<u8, 32>,
+    pub(crate) state: u8,
+}
+
+impl Model for Identity {
+    ghost use Rattle.cip_objects.specs.Entries.{IdentityValues};
+
+    ghost Value = { IdentityValues };
+
+    ghost view = { λ d. record {
+      vendor = d.vendor;
+      device_type = d.device_type;
+      product_code = d.product_code;
+      major = d.major;
+      minor = d.minor;
+      status = d.status;
+      serial = d.serial;
+      name = d.name.items;
+      state = d.state;
+    } };
+}
+
+impl Identity {
+    /// The value of an attribute of the instance.
+    pub(crate) fn attribute(&self, attribute: u16) -> Option<Value<'_>>
+        ensures value { option_map value_bytes result ≡ attribute_in attribute (identity_attributes self.now) }
+        ensures short { IfSome result (λ value. length (value_bytes value) ≤ 480) }
+    {
+        match attribute {
+            1 => Some(Value::Word(self.vendor)),
+            2 => Some(Value::Word(self.device_type)),
+            3 => Some(Value::Word(self.product_code)),
+            4 => Some(Value::Pair(self.major, self.minor)),
+            5 => Some(Value::Word(self.status)),
+            6 => Some(Value::Double(self.serial)),
+            7 => Some(Value::Text(self.name.len() as u8, self.name.as_slice())),
+            8 => Some(Value::Byte(self.state)),
+            _ => None,
+        }
+    }
+}

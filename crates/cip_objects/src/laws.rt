@@ -1,0 +1,30 @@
+//! What executions promise, as laws over the definitions: each function has the law as its clause, and no body.
+
+ghost use Rattle.cip_objects.specs.Laws.{too_large_law, changes_fit_law, get_after_set_law, set_leaves_others_law};
+ghost use Rattle.cip_objects.specs.Run.{counter_law};
+
+/// A reply that is too large goes with the map as it was.
+pub fn too_large_changes_nothing()
+    ensures { too_large_law }
+{}
+
+/// With room for 8 bytes or more, each service that changes the map gives a reply that fits.
+pub fn changes_fit()
+    ensures { changes_fit_law }
+{}
+
+/// What a get answers after a set that succeeded is what was set.
+pub fn get_after_set()
+    ensures { get_after_set_law }
+{}
+
+/// A set at one key leaves every other.
+pub fn set_leaves_others()
+    ensures { set_leaves_others_law }
+{}
+
+/// Over every run, the counter's value is the sum of the accepted additions since it was last cleared, never over
+/// its limit, and its additions count those that were accepted, modulo 2^32.
+pub fn counter_counts()
+    ensures { counter_law }
+{}

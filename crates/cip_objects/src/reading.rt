@@ -1,0 +1,197 @@
+//! The services that read (Volume 1, common services).
+ghost use Rattle.std.specs.Prelude.{◌≡◌, ◌≤◌, ◌+◌, ◌++◌, length, take, drop, IsSome, IfOk, OnOk, is_some};
+ghost use Rattle.std.specs.List.{flat_map};
+ghost use Rattle.cip_message.specs.Numbers.{words_of};
+ghost use Rattle.cip_objects.specs.Contents.{bytes_at};
+ghost use Rattle.cip_objects.specs.Reading.{answered, limited, get_attribute_single, get_attributes_all, get_attribute_list, get_member, named_member, listed, is_there, all_there, ALL_ATTRIBUTES};
+ghost use Rattle.cip_objects.specs.Tables.{shape_at};
+ghost use Rattle.cip_objects.specs.Text.{Writes};
+
+use crate::Status;
+use crate::assembly::Span;
+use crate::check::exactly;
+use crate::objects::{ASSEMBLY, Objects};
+use crate::router::ReplyBuf;
+use crate::text::append;
+use byteorder::{ByteOrder, LittleEndian};
+use cip_message::Path;
+
+impl Objects {
+    /// Get_Attribute_Single.
+    #[tactic(auto, unfolding(crate::specs::Reading::get_attribute_single))]
+    pub(crate) fn get_attribute_single(
+        &self,
+        path: Path,
+        data: &[u8],
+        room: usize,
+        reply: &mut ReplyBuf,
+    ) -> Result<Status, Status>
+        requires { room ≤ 512 }
+        ensures { answered result reply.new.items ≡ limited room reply.old.items (get_attribute_single self.now path «data».now) }
+    {
+        let attribute = path.attribute.ok_or(Status::AttributeNotSupported)?;
+        let value = self
+            .value(path.class, path.instance, attribute)
+            .ok_or(Status::AttributeNotSupported)?;
+        exactly(0, data)?;
+        value.append(room, reply)?;
+        Ok(Status::Success)
+    }
+
+    /// Get_Attributes_All.
+    #[tactic(auto, unfolding(crate::specs::Reading::get_attributes_all))]
+    pub(crate) fn get_attributes_all(
+        &self,
+        path: Path,
+        data: &[u8],
+        room: usize,
+        reply: &mut ReplyBuf,
+    ) -> Result<Status, Status>
+        requires room { room ≤ 512 }
+        requires fits { length reply.old.items ≤ room }
+        ensures { answered result reply.new.items ≡ limited room reply.old.items (get_attributes_all self.now path «data».now) }
+    {
+        exactly(0, data)?;
+        self.append_all(path, room, reply)?;
+        Ok(Status::Success)
+    }
+
+    /// Appends the values of attributes 1 to 7.
+    fn append_all(&self, path: Path, room: usize, reply: &mut ReplyBuf) -> Result<(), Status>
+        requires room { room ≤ 512 }
+        requires fits { length reply.old.items ≤ room }
+        ensures { Writes room (reply.old.items ++ flat_map (bytes_at self.now path.class path.instance) ALL_ATTRIBUTES) result reply.new.items }
+    {
+        for attribute in [1, 2, 3, 4, 5, 6, 7].iter() {
+            self.append_value(path, *attribute, room, reply)?;
+        }
+        Ok(())
+    }
+
+    /// Appends the value of an attribute, nothing where there is no such attribute.
+    fn append_value(
+        &self,
+        path: Path,
+        attribute: u16,
+        room: usize,
+        reply: &mut ReplyBuf,
+    ) -> Result<(), Status>
+        requires room { room ≤ 512 }
+        requires fits { length reply.old.items ≤ room }
+        ensures { Writes room (reply.old.items ++ bytes_at self.now path.class path.instance attribute) result reply.new.items }
+    {
+        match self.value(path.class, path.instance, attribute) {
+            Some(value) => value.append(room, reply),
+            None => Ok(()),
+        }
+    }
+
+    /// Get_Attribute_List.
+    #[tactic(auto, unfolding(crate::specs::Reading::get_attribute_list))]
+    pub(crate) fn get_attribute_list(
+        &self,
+        path: Path,
+        data: &[u8],
+        room: usize,
+        reply: &mut ReplyBuf,
+    ) -> Result<Status, Status>
+        requires { room ≤ 512 }
+        ensures { answered result reply.new.items ≡ limited room reply.old.items (get_attribute_list self.now path «data».now) }
+    {
+        if data.len() < 2 {
+            return Err(Status::NotEnoughData);
+        }
+        let count = LittleEndian::read_u16(data);
+        exactly(2 + 2 * usize::from(count), data)?;
+        append(&count.to_le_bytes(), room, reply)?;
+        if self.append_list(path, &data[2..], room, reply)? {
+            Ok(Status::Success)
+        } else {
+            Ok(Status::AttributeListError)
+        }
+    }
+
+    /// Appends each attribute of a list of numbers, two bytes each, and answers whether all are there.
+    #[tactic(auto, using(crate::proofs::Words::words))]
+    fn append_list(
+        &self,
+        path: Path,
+        list: &[u8],
+        room: usize,
+        reply: &mut ReplyBuf,
+    ) -> Result<bool, Status>
+        requires room { room ≤ 512 }
+        requires fits { length reply.old.items ≤ room }
+        ensures text { Writes room (reply.old.items ++ flat_map (listed self.now path) (words_of list.now)) result reply.new.items }
+        ensures there { IfOk result (λ all. all ≡ all_there self.now path (words_of list.now)) }
+    {
+        let mut all = true;
+        for i in 0..list.len() / 2 {
+            let attribute = LittleEndian::read_u16(&list[2 * i..]);
+            let there = self.append_listed(path, attribute, room, reply)?;
+            all = all && there;
+        }
+        Ok(all)
+    }
+
+    /// Appends one attribute of a list, and answers whether it is there.
+    #[tactic(auto, unfolding(crate::specs::Reading::listed))]
+    fn append_listed(
+        &self,
+        path: Path,
+        attribute: u16,
+        room: usize,
+        reply: &mut ReplyBuf,
+    ) -> Result<bool, Status>
+        requires { room ≤ 512 }
+        ensures text { Writes room (reply.old.items ++ listed self.now path attribute) result reply.new.items }
+        ensures there { IfOk result (λ there. there ≡ is_there self.now path attribute) }
+    {
+        append(&attribute.to_le_bytes(), room, reply)?;
+        match self.value(path.class, path.instance, attribute) {
+            Some(value) => {
+                append(&[0, 0], room, reply)?;
+                value.append(room, reply)?;
+                Ok(true)
+            }
+            None => {
+                append(&[0x14, 0], room, reply)?;
+                Ok(false)
+            }
+        }
+    }
+
+    /// Where the member lies that the path names.
+    #[tactic(auto, unfolding(crate::specs::Reading::named_member))]
+    pub(crate) fn named_member(&self, path: Path) -> Result<Span, Status>
+        ensures place { result ≡ named_member self.now.shapes path }
+        ensures there { OnOk result (IsSome (shape_at path.instance self.now.shapes)) }
+        ensures inside { IfOk result (λ s. s.offset + s.size ≤ length (bytes_at self.now ASSEMBLY path.instance 3)) }
+    {
+        if path.attribute != Some(3) {
+            return Err(Status::AttributeNotSupported);
+        }
+        let number = path.member.ok_or(Status::InvalidMemberId)?;
+        self.span(path.instance, number)
+            .ok_or(Status::InvalidMemberId)
+    }
+
+    /// Get_Member.
+    #[tactic(auto, unfolding(crate::specs::Reading::get_member))]
+    pub(crate) fn get_member(
+        &self,
+        path: Path,
+        data: &[u8],
+        room: usize,
+        reply: &mut ReplyBuf,
+    ) -> Result<Status, Status>
+        requires { room ≤ 512 }
+        ensures { answered result reply.new.items ≡ limited room reply.old.items (get_member self.now path «data».now) }
+    {
+        let span = self.named_member(path)?;
+        exactly(0, data)?;
+        let content = self.content(path.instance);
+        append(&content[span.offset..span.offset + span.size], room, reply)?;
+        Ok(Status::Success)
+    }
+}

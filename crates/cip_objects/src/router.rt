@@ -1,0 +1,42 @@
+//! What executes a router request: the trait that the ends of a connection are written over.
+ghost use Rattle.std.specs.Prelude.{◌≡◌, ℕ, List, ◌≤◌, length};
+ghost use Rattle.cip_objects.specs.Router.{general_status, IsReplyTo, REPLY_TOO_LARGE};
+
+use arrayvec::ArrayVec;
+
+/// The bytes of one router reply: at most 512.
+pub type ReplyBuf = ArrayVec<u8, 512>;
+
+/// What executes router requests (Volume 1, Message Router).
+///
+/// A router names its whole meaning by two functions of its state, of the room and of the request: `after`,
+/// the state that it is left in, and `answer`, the reply. So a contract over a router says what was executed,
+/// and how often, without a word on what is behind it.
+pub trait Router {
+    ghost after: { Self → ℕ → List ℕ → Self };
+
+    ghost answer: { Self → ℕ → List ℕ → List ℕ };
+
+    /// Executes a request of at least 2 bytes, and leaves its reply in `reply`, whose old content is dropped.
+    ///
+    /// The reply has at most `room` bytes, 8 to 512.
+    fn execute(&mut self, request: &[u8], room: usize, reply: &mut ReplyBuf)
+        requires request { 2 ≤ length request.now }
+        requires room_from { 8 ≤ room }
+        requires room_to { room ≤ 512 }
+        ensures state { self.new ≡ after self.old room request.now }
+        ensures reply { reply.new.items ≡ answer self.old room request.now }
+        ensures fits { length reply.new.items ≤ room };
+
+    // A reply that says "reply data too large" goes with an unchanged state.
+    ghost too_large: { (router : Self) (room : ℕ) (request : List ℕ) →
+        8 ≤ room → general_status (answer router room request) ≡ REPLY_TOO_LARGE → after router room request ≡ router };
+
+    // Each reply has the head of one, and its service is the request's with bit 7 set.
+    ghost begins: { (router : Self) (room : ℕ) (request : List ℕ) →
+        8 ≤ room → 2 ≤ length request → IsReplyTo request (answer router room request) };
+
+    // No reply is longer than the room.
+    ghost within: { (router : Self) (room : ℕ) (request : List ℕ) →
+        8 ≤ room → 2 ≤ length request → length (answer router room request) ≤ room };
+}

@@ -1,0 +1,20 @@
+//! A reply that is written in place, as far as there is room for it.
+ghost use Rattle.std.specs.Prelude.{◌≡◌, ◌≤◌, ◌++◌, [], ◌∷◌};
+ghost use Rattle.cip_objects.specs.Text.{Writes};
+
+use crate::Status;
+use crate::router::ReplyBuf;
+
+/// Appends bytes to a reply, where it then has at most `room` bytes.
+pub(crate) fn append(bytes: &[u8], room: usize, reply: &mut ReplyBuf) -> Result<(), Status>
+    requires { room ≤ 512 }
+    ensures { Writes room (reply.old.items ++ bytes.now) result reply.new.items }
+{
+    if room < reply.len() + bytes.len() {
+        return Err(Status::ReplyDataTooLarge);
+    }
+    match reply.try_extend_from_slice(bytes) {
+        Ok(()) => Ok(()),
+        Err(_) => Err(Status::ReplyDataTooLarge),
+    }
+}
