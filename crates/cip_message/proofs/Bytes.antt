@@ -1,8 +1,7 @@
 -- Lists of bytes, and numbers of two and four of them.
 use Rattle.std.proofs.Common.{◌≡◌, ℕ, zero, suc, ◌+◌, ◌-◌, ◌*◌, ◌^◌, ◌<◌, ◌≤◌, List, [], ◌∷◌, ◌++◌, length, get_or, take, drop, refl, sym, ap, ◌∙◌, arith, inl, inr, drop-cons, ◌/◌, ◌%◌, append_assoc}
 use Rattle.std.proofs.lemmas.Bool.{cases_lt}
-use Rattle.std.proofs.lemmas.List.{length-append, length-drop, length-take, take_all, drop-drop, get_or-drop, get_or-take, get_or_past}
-use Rattle.std.specs.Int.{w16, w32}
+use Rattle.std.proofs.lemmas.List.{length-drop, length-take, take_all, drop-drop, get_or-drop, get_or-take, get_or_past}
 use Rattle.std.proofs.lemmas.Nat.{le_bytes_2, le_bytes_4}
 use Rattle.byteorder.specs.Endian.{little_from, little_number}
 use Rattle.byteorder.specs.Numbers.{little_number-reads_back}

@@ -1,8 +1,8 @@
 -- A close request that is read is the one spelled, and what is spelled is read.
-use Rattle.std.proofs.Common.{◌≡◌, ◌↔◌, ℕ, suc, ◌+◌, ◌*◌, ◌/◌, ◌%◌, ◌^◌, ◌<◌, ◌≤◌, Bool, true, false, cond, ltb, List, [], ◌∷◌, ◌++◌, length, slice_index, get_or, drop, Result, Ok, Err, refl, sym, ap, subst, ◌∙◌, arith, append_assoc}
+use Rattle.std.proofs.Common.{◌≡◌, ◌↔◌, ℕ, ◌+◌, ◌*◌, ◌/◌, ◌%◌, ◌<◌, ◌≤◌, Bool, true, false, cond, ltb, List, [], ◌∷◌, ◌++◌, length, slice_index, drop, Result, Ok, Err, refl, sym, ap, subst, ◌∙◌, arith}
 use Rattle.std.proofs.lemmas.Bool.{ltb-true, ltb-false, le-ltb, lt-ltb}
-use Rattle.std.proofs.lemmas.List.{length-append, length-drop}
-use Rattle.cip_message.specs.Numbers.{le, AreBytes, number_at}
+use Rattle.std.proofs.lemmas.List.{length-drop}
+use Rattle.cip_message.specs.Numbers.{le}
 use Rattle.cip_message.specs.Reading.{Gives}
 use Rattle.cip_message.specs.declared.close.CloseRequest.{CloseRequest}
 use Rattle.cip_message.specs.declared.open.LengthFault.{LengthFault}
@@ -18,7 +18,8 @@ made priority ticks serial vendor originator path = record {
   connection_serial = serial;
   originator_vendor = vendor;
   originator_serial = originator;
-  path = path }
+  path = path;
+}
 
 same_close : (c : Close) (p t a b d : ℕ) (q : List ℕ) → p ≡ c.priority → t ≡ c.ticks → a ≡ c.connection_serial → b ≡ c.originator_vendor → d ≡ c.originator_serial → q ≡ c.path → made p t a b d q ≡ c
 same_close c p t a b d q ep et ea eb ed eq = rw (ep, et, ea, eb, ed, eq) refl
@@ -58,7 +59,8 @@ fields_fit b n fits e len =
       originator_serial = omega (arith, f6 0, f6 1, f6 2, f6 3);
       whole_words = (half_of n (length (drop 12 b)) (omega (arith, length-drop 12 b))).1;
       counted = omega (arith, length-drop 12 b, fits 10);
-      path = IsBytes-drop 12 b fits }
+      path = IsBytes-drop 12 b fits;
+    }
 
 close_text : (b : List ℕ) → IsBytes b → length b ≡ said_length b → SpellsClose (close_fields b) b
 unfolding close_fields
@@ -68,7 +70,7 @@ close_text b fits len =
     record {
       reserved = slice_index b 11;
       is_close = fields_fit b n fits refl len;
-      spelled = text_by b fits (omega arith) ∙ ap (λ (k : ℕ). close_by k (slice_index b 11) (close_fields b)) (sym half)
+      spelled = text_by b fits (omega arith) ∙ ap (λ (k : ℕ). close_by k (slice_index b 11) (close_fields b)) (sym half);
     }
 
 -- ---- what is spelled is read
@@ -83,7 +85,7 @@ spelled_fields : (r : ℕ) (c : Close) → IsClose c → close_fields (close_wit
 unfolding close_fields
 spelled_fields r c h =
     same_close c _ _ _ _ _ _ refl refl (le2_again c.connection_serial h.connection_serial []) (le2_again c.originator_vendor h.originator_vendor [])
-      (le4_again c.originator_serial h.originator_serial []) refl
+    (le4_again c.originator_serial h.originator_serial []) refl
 
 -- ---- both
 
@@ -123,7 +125,7 @@ close_as_said b c len e =
 close_again : (b : List ℕ) (c : Close) → SpellsClose c b → close_of b ≡ Ok c
 close_again b c h =
     close_as_said b c (ap length h.spelled ∙ spelled_length h.reserved c ∙ sym (ap said_length h.spelled ∙ spelled_said h.reserved c h.is_close))
-      (ap close_fields h.spelled ∙ spelled_fields h.reserved c h.is_close)
+    (ap close_fields h.spelled ∙ spelled_fields h.reserved c h.is_close)
 
 short_iff : (b : List ℕ) → (close_of b ≡ Err Short) ↔ (length b < said_length b)
 unfolding close_of
@@ -132,9 +134,10 @@ short_iff b =
 
 long_iff : (b : List ℕ) → (close_of b ≡ Err Long) ↔ (said_length b < length b)
 unfolding close_of
-long_iff b =
-    ((λ e. ltb-true _ _ (tests_long (ltb (length b) (said_length b)) (ltb (said_length b) (length b)) (close_fields b) e)),
-     (λ h. let low : ltb (length b) (said_length b) ≡ false = le-ltb _ _ (omega arith) in rw (low, lt-ltb (said_length b) (length b) h) refl))
+long_iff b = (
+  (λ e. ltb-true _ _ (tests_long (ltb (length b) (said_length b)) (ltb (said_length b) (length b)) (close_fields b) e)),
+  (λ h. let low : ltb (length b) (said_length b) ≡ false = le-ltb _ _ (omega arith) in rw (low, lt-ltb (said_length b) (length b) h) refl),
+)
 
 -- ---- of what a reader returned
 

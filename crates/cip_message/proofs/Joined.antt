@@ -21,9 +21,10 @@ six_grow old a b c d e f n1 n2 n3 n4 n5 n6 p1 p2 p3 p4 p5 p6 =
 
 -- two fronts of one text that are as long are the same
 pub same_front : (a c x y : List ℕ) → length c ≡ length a → a ++ x ≡ c ++ y → (a ≡ c) × (x ≡ y)
-same_front a c x y len e =
-    (sym (take_at a x (length a) refl) ∙ ap (take (length a)) e ∙ take_at c y (length a) len,
-     sym (drop_at a x (length a) refl) ∙ ap (drop (length a)) e ∙ drop_at c y (length a) len)
+same_front a c x y len e = (
+  sym (take_at a x (length a) refl) ∙ ap (take (length a)) e ∙ take_at c y (length a) len,
+  sym (drop_at a x (length a) refl) ∙ ap (drop (length a)) e ∙ drop_at c y (length a) len,
+)
 
 pub seven_grow : (old a b c d e f g n1 n2 n3 n4 n5 n6 n7 : List ℕ) → n1 ≡ old ++ a → n2 ≡ n1 ++ b → n3 ≡ n2 ++ c → n4 ≡ n3 ++ d → n5 ≡ n4 ++ e → n6 ≡ n5 ++ f → n7 ≡ n6 ++ g
     → n7 ≡ old ++ (a ++ b ++ c ++ d ++ e ++ f ++ g)

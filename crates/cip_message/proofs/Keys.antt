@@ -1,14 +1,14 @@
 -- A key that is read is the one spelled, what is spelled is read, and a device's answer by its tests.
-use Rattle.std.proofs.Common.{◌≡◌, ◌≢◌, ◌⊎◌, ◌↔◌, ℕ, suc, ◌+◌, ◌*◌, ◌/◌, ◌%◌, ◌-◌, ◌^◌, ◌<◌, ◌≤◌, Bool, true, false, cond, ltb, leb, eqb, List, [], ◌∷◌, ◌++◌, length, slice_index, take, drop, Option, Some, None, refl, sym, ap, subst, ◌∙◌, arith, inl, inr}
+use Rattle.std.proofs.Common.{◌≡◌, ◌⊎◌, ◌↔◌, ℕ, ◌+◌, ◌*◌, ◌-◌, ◌^◌, ◌<◌, ◌≤◌, Bool, true, false, cond, ltb, leb, eqb, List, [], ◌∷◌, ◌++◌, length, slice_index, drop, Option, Some, None, refl, sym, ap, subst, ◌∙◌, arith, inl, inr}
 use Rattle.std.specs.Prelude.{◌&&◌, ◌||◌, IsTrue, IsNone}
-use Rattle.std.proofs.lemmas.Bool.{ltb-true, ltb-false, le-ltb, lt-ltb, eqb-true, eqb-false, cases_lt}
+use Rattle.std.proofs.lemmas.Bool.{le-ltb, lt-ltb, eqb-true, cases_lt}
 use Rattle.std.proofs.lemmas.Bool.Decides.{nat_tests}
 use Rattle.std.proofs.Common.{eq-eqb, leb-true, le-leb}
-use Rattle.byteorder.specs.Endian.{little_number, little_from}
+use Rattle.byteorder.specs.Endian.{little_number}
 use Rattle.cip_message.specs.declared.key.Key.{Key}
 use Rattle.cip_message.specs.declared.key.Device.{Device}
 use Rattle.cip_message.specs.Numbers.{le}
-use Rattle.cip_message.specs.Key.{IsKey, key, IsMet, IsMinorMet, MeetsVendor, MeetsType, MeetsRevision, is_met, refusal, key_of}
+use Rattle.cip_message.specs.Key.{IsKey, key, IsMet, MeetsVendor, MeetsType, MeetsRevision, is_met, refusal, key_of}
 use Rattle.cip_message.proofs.Bytes.{IsBytes, le2_back, le2_again}
 
 -- ---- reading
@@ -20,7 +20,7 @@ made v d p m c i = record { vendor = v; device_type = d; product_code = p; major
 abbrev fields : List ℕ → Key
 fields b =
     made (little_number 2 (drop 2 b)) (little_number 2 (drop 4 b)) (little_number 2 (drop 6 b))
-      (cond (ltb (slice_index b 8) 128) (slice_index b 8) (slice_index b 8 - 128)) (leb 128 (slice_index b 8)) (slice_index b 9)
+    (cond (ltb (slice_index b 8) 128) (slice_index b 8) (slice_index b 8 - 128)) (leb 128 (slice_index b 8)) (slice_index b 9)
 
 some_if : (b : Bool) (x k : Key) → cond b (Some x) None ≡ Some k → (b ≡ true) × (x ≡ k)
 some_if true x k e = (refl, cc)
@@ -56,7 +56,7 @@ join_key a c d e f g h i r x y z ex ey ez er = rw (ex, ey, ez, er) refl
 number_back : (a b : ℕ) → a < 256 → b < 256 → le 2 (a + 256 * (b + 0)) ≡ a ∷ b ∷ []
 number_back a b ha hb = ap (le 2) (let e : a + 256 * (b + 0) ≡ a + 256 * b = omega arith in e) ∙ le2_back a b ha hb
 
-key_taken : (b : List ℕ) (k : Key) → IsBytes b → key_of b ≡ Some k → IsKey k × (b ≡ key k)
+pub key_taken : (b : List ℕ) (k : Key) → IsBytes b → key_of b ≡ Some k → IsKey k × (b ≡ key k)
 unfolding key_of
 key_taken (x ∷ y ∷ a ∷ c ∷ d ∷ e ∷ f ∷ g ∷ h ∷ i ∷ []) k fits q =
     let b = x ∷ y ∷ a ∷ c ∷ d ∷ e ∷ f ∷ g ∷ h ∷ i ∷ [] in
@@ -67,7 +67,8 @@ key_taken (x ∷ y ∷ a ∷ c ∷ d ∷ e ∷ f ∷ g ∷ h ∷ i ∷ []) k fit
       device_type = omega (arith, fits 4, fits 5);
       product_code = omega (arith, fits 6, fits 7);
       major = revision_fits h (fits 8);
-      minor = fits 9 } in
+      minor = fits 9;
+    } in
     let joined = join_key a c d e f g h i _ _ _ _ (number_back a c (fits 2) (fits 3)) (number_back d e (fits 4) (fits 5)) (number_back f g (fits 6) (fits 7)) (revision_back h) in
     let front : b ≡ 0x34 ∷ 0x04 ∷ a ∷ c ∷ d ∷ e ∷ f ∷ g ∷ h ∷ i ∷ [] = rw (eqb-true x 0x34 t.0, eqb-true y 0x04 t.1) refl in
     subst (λ (j : Key). IsKey j × (b ≡ key j)) s.1 (is, front ∙ sym joined)
@@ -82,12 +83,12 @@ key_taken b k fits q = absurd cc
 key_same : (k : Key) (v d p m i : ℕ) (c : Bool) → v ≡ k.vendor → d ≡ k.device_type → p ≡ k.product_code → m ≡ k.major → c ≡ k.compatible → i ≡ k.minor → made v d p m c i ≡ k
 key_same k v d p m i c ev ed ep em ec ei = rw (ev, ed, ep, em, ec, ei) refl
 
-key_again : (k : Key) → IsKey k → key_of (key k) ≡ Some k
+pub key_again : (k : Key) → IsKey k → key_of (key k) ≡ Some k
 unfolding key_of
 key_again k h =
     ap (λ (j : Key). Some j)
-      (key_same k _ _ _ _ _ _ (le2_again k.vendor h.vendor []) (le2_again k.device_type h.device_type []) (le2_again k.product_code h.product_code [])
-        (major_again k.major k.compatible h.major) (compatible_again k.major k.compatible h.major) refl)
+    (key_same k _ _ _ _ _ _ (le2_again k.vendor h.vendor []) (le2_again k.device_type h.device_type []) (le2_again k.product_code h.product_code [])
+    (major_again k.major k.compatible h.major) (compatible_again k.major k.compatible h.major) refl)
 
 pub key_iff : (b : List ℕ) (r : Option Key) → IsBytes b → r ≡ key_of b → (k : Key) → (r ≡ Some k) ↔ (IsKey k × (b ≡ key k))
 key_iff b r fits e k = ((λ q. key_taken b k fits (sym e ∙ q)), (λ h. e ∙ ap key_of h.1 ∙ key_again k h.0))

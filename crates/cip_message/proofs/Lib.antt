@@ -2,6 +2,7 @@ pub mod Bytes
 pub mod Steps
 pub mod Segments
 pub mod Paths
+pub mod PathFaults
 pub mod ShortPaths
 pub mod Requests
 pub mod Replies
@@ -10,3 +11,4 @@ pub mod Joined
 pub mod Opens
 pub mod Closes
 pub mod Rows
+pub mod OpenPaths

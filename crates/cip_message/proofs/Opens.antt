@@ -1,15 +1,15 @@
 -- An open request that is read is the one spelled, and what is spelled is read.
-use Rattle.std.proofs.Common.{◌≡◌, ◌↔◌, ℕ, suc, ◌+◌, ◌*◌, ◌/◌, ◌%◌, ◌^◌, ◌<◌, ◌≤◌, Bool, true, false, cond, ltb, List, [], ◌∷◌, ◌++◌, length, slice_index, take, drop, Result, Ok, Err, refl, sym, ap, subst, ◌∙◌, arith, inl, inr}
-use Rattle.std.proofs.Common.{get_or, append_assoc}
+use Rattle.std.proofs.Common.{◌≡◌, ◌↔◌, ℕ, ◌+◌, ◌*◌, ◌/◌, ◌%◌, ◌^◌, ◌<◌, ◌≤◌, Bool, true, false, cond, ltb, List, [], ◌∷◌, ◌++◌, length, slice_index, drop, Result, Ok, Err, refl, sym, ap, subst, ◌∙◌, arith}
+use Rattle.std.proofs.Common.{append_assoc}
 use Rattle.std.proofs.lemmas.Bool.{ltb-true, ltb-false, le-ltb, lt-ltb}
-use Rattle.std.proofs.lemmas.List.{length-append, length-drop, take_at, get_or_append_left}
-use Rattle.cip_message.specs.Numbers.{le, AreBytes, number_at}
+use Rattle.std.proofs.lemmas.List.{length-drop, get_or_append_left}
+use Rattle.cip_message.specs.Numbers.{le, number_at}
 use Rattle.cip_message.specs.Reading.{Gives}
 use Rattle.cip_message.specs.declared.open.OpenRequest.{OpenRequest}
 use Rattle.cip_message.specs.declared.open.LengthFault.{LengthFault}
 use Rattle.cip_message.specs.declared.open.LengthFault.TheVariants.{Short, Long}
 use Rattle.cip_message.proofs.Bytes.{IsBytes, IsBytes-drop, le2_again, le4_again, at1, at2, at3, at4, parts_then}
-use Rattle.cip_message.proofs.Steps.{ok_is, gives_iff, iff_then, chosen}
+use Rattle.cip_message.proofs.Steps.{ok_is, gives_iff, iff_then}
 use Rattle.cip_message.specs.Open.{Open, IsOpen, SpellsOpen, front, back, open_with, open_fields, open_of, said_length, view, OneOpen}
 use Rattle.cip_message.proofs.Joined.{same_front}
 
@@ -28,7 +28,8 @@ made priority ticks o_t_id t_o_id serial vendor originator multiplier o_t_rpi o_
   t_o_rpi = t_o_rpi;
   t_o_parameters = t_o;
   transport = transport;
-  path = path }
+  path = path;
+}
 
 -- the fields, one by one
 pub same_open : (o : Open) (p t a b c d e m f g h i j : ℕ) (q : List ℕ) → p ≡ o.priority → t ≡ o.ticks → a ≡ o.o_t_id → b ≡ o.t_o_id → c ≡ o.connection_serial → d ≡ o.originator_vendor → e ≡ o.originator_serial
@@ -73,26 +74,30 @@ fields_fit : (b : List ℕ) (n : ℕ) → IsBytes b → n ≡ slice_index b 35 �
 unfolding open_fields
 fields_fit b n fits e len = record {
   front = record {
-  priority = fits 0;
-  ticks = fits 1;
-  o_t_id = number4 2;
-  t_o_id = number4 6;
-  connection_serial = number2 10;
-  originator_vendor = number2 12;
-  originator_serial = number4 14 };
+    priority = fits 0;
+    ticks = fits 1;
+    o_t_id = number4 2;
+    t_o_id = number4 6;
+    connection_serial = number2 10;
+    originator_vendor = number2 12;
+    originator_serial = number4 14;
+  };
   back = record {
-  multiplier = fits 18;
-  o_t_rpi = number4 22;
-  o_t_parameters = number2 26;
-  t_o_rpi = number4 28;
-  t_o_parameters = number2 32;
-  transport = fits 34 };
+    multiplier = fits 18;
+    o_t_rpi = number4 22;
+    o_t_parameters = number2 26;
+    t_o_rpi = number4 28;
+    t_o_parameters = number2 32;
+    transport = fits 34;
+  };
   whole_words = (half_of n (length (drop 36 b)) (omega (arith, length-drop 36 b))).1;
   counted = omega (arith, length-drop 36 b, fits 35);
-  path = IsBytes-drop 36 b fits }
+  path = IsBytes-drop 36 b fits;
+}
   where
     number2 : (k : ℕ) → number_at k 2 b < 2 ^ 16
     number2 k = let f = IsBytes-drop k b fits in omega (arith, f 0, f 1)
+
     number4 : (k : ℕ) → number_at k 4 b < 2 ^ 32
     number4 k = let f = IsBytes-drop k b fits in omega (arith, f 0, f 1, f 2, f 3)
 
@@ -106,7 +111,7 @@ open_text b fits len =
     record {
       reserved = number_at 19 3 b;
       is_open = fields_fit b n fits refl len;
-      spelled = front_text b fits long ∙ ap (λ (t : List ℕ). front (open_fields b) ++ t) back_is ∙ sym (append_assoc (front (open_fields b)) (back (number_at 19 3 b) (open_fields b)) (drop 36 b))
+      spelled = front_text b fits long ∙ ap (λ (t : List ℕ). front (open_fields b) ++ t) back_is ∙ sym (append_assoc (front (open_fields b)) (back (number_at 19 3 b) (open_fields b)) (drop 36 b));
     }
 
 -- ---- what is spelled is read
@@ -121,8 +126,8 @@ spelled_fields : (r : ℕ) (o : Open) → IsOpen o → open_fields (open_with r 
 unfolding open_fields
 spelled_fields r o h =
     same_open o _ _ _ _ _ _ _ _ _ _ _ _ _ _ refl refl (le4_again o.o_t_id h.front.o_t_id []) (le4_again o.t_o_id h.front.t_o_id []) (le2_again o.connection_serial h.front.connection_serial [])
-      (le2_again o.originator_vendor h.front.originator_vendor []) (le4_again o.originator_serial h.front.originator_serial []) refl (le4_again o.o_t_rpi h.back.o_t_rpi [])
-      (le2_again o.o_t_parameters h.back.o_t_parameters []) (le4_again o.t_o_rpi h.back.t_o_rpi []) (le2_again o.t_o_parameters h.back.t_o_parameters []) refl refl
+    (le2_again o.originator_vendor h.front.originator_vendor []) (le4_again o.originator_serial h.front.originator_serial []) refl (le4_again o.o_t_rpi h.back.o_t_rpi [])
+    (le2_again o.o_t_parameters h.back.o_t_parameters []) (le4_again o.t_o_rpi h.back.t_o_rpi []) (le2_again o.t_o_parameters h.back.t_o_parameters []) refl refl
 
 -- ---- both
 
@@ -175,9 +180,10 @@ short_iff b =
 
 long_iff : (b : List ℕ) → (open_of b ≡ Err Long) ↔ (said_length b < length b)
 unfolding open_of
-long_iff b =
-    ((λ e. ltb-true _ _ (tests_long (ltb (length b) (said_length b)) (ltb (said_length b) (length b)) (open_fields b) e)),
-     (λ h. let low : ltb (length b) (said_length b) ≡ false = le-ltb _ _ (omega arith) in rw (low, lt-ltb (said_length b) (length b) h) refl))
+long_iff b = (
+  (λ e. ltb-true _ _ (tests_long (ltb (length b) (said_length b)) (ltb (said_length b) (length b)) (open_fields b) e)),
+  (λ h. let low : ltb (length b) (said_length b) ≡ false = le-ltb _ _ (omega arith) in rw (low, lt-ltb (said_length b) (length b) h) refl),
+)
 
 -- ---- of what a reader returned
 
@@ -197,6 +203,6 @@ open_is_one o q a b x y h g e =
     let la = as_said o a h in
     let lb = as_said q b g in
     let words : slice_index a 35 ≡ slice_index b 35 =
-      sym (get_or_append_left a x 0 35 (omega arith)) ∙ ap (λ (t : List ℕ). slice_index t 35) e ∙ get_or_append_left b y 0 35 (omega arith) in
+    sym (get_or_append_left a x 0 35 (omega arith)) ∙ ap (λ (t : List ℕ). slice_index t 35) e ∙ get_or_append_left b y 0 35 (omega arith) in
     let both = same_front a b x y (omega arith) e in
     (ok_is {E = LengthFault} o q (sym (open_again a o h) ∙ ap open_of both.0 ∙ open_again b q g), both.0, both.1)

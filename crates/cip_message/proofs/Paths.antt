@@ -1,5 +1,5 @@
 -- A path that is read is the one spelled, what is spelled is read, and each fault comes where it is stated.
-use Rattle.std.proofs.Common.{◌≡◌, ◌≢◌, ◌⊎◌, ◌↔◌, ℕ, suc, ◌<◌, ◌^◌, List, [], ◌∷◌, ◌++◌, Option, Some, None, Result, Ok, Err, refl, sym, ap, subst, ◌∙◌, append_assoc, arith, inl, inr}
+use Rattle.std.proofs.Common.{◌≡◌, ◌≢◌, ℕ, List, [], ◌∷◌, ◌++◌, Option, Some, None, Result, Ok, Err, refl, sym, ap, subst, ◌∙◌, append_assoc, inl, inr}
 use Rattle.std.proofs.lemmas.List.{append-nil}
 use Rattle.cip_message.specs.declared.path.Segment.{Segment}
 use Rattle.cip_message.specs.declared.path.Segment.TheVariants.{Class, Instance, Member, Attribute}
@@ -7,16 +7,16 @@ use Rattle.cip_message.specs.declared.path.Path.{Path}
 use Rattle.cip_message.specs.declared.path.PathFault.{PathFault}
 use Rattle.cip_message.specs.declared.path.PathFault.TheVariants as fault
 use Rattle.cip_message.specs.Reading.{◌>>=◌}
-use Rattle.cip_message.specs.Path.{IsSegment, AreSegments, optional, segments, IsPath, BeginsNone, IsFront, Begins, IsOutOfOrder, EndsEarly, IsWrong, path_fault}
+use Rattle.cip_message.specs.Path.{IsSegment, AreSegments, optional, segments, IsPath, Begins, IsWrong, path_fault}
 use Rattle.cip_message.specs.PathReading.{segment_of, as_class, as_instance, as_attribute, as_member, class_of, instance_of, attribute_of, member_of, whole_of, path_of}
 use Rattle.cip_message.proofs.Bytes.{IsBytes, IsBytes-second}
-use Rattle.cip_message.proofs.Steps.{bind_ok, bind_err, ok_is, err_is}
-use Rattle.cip_message.proofs.Segments.{TakesSegment, SegmentFault, segment_taken, segment_again, segment_fault, segment_none, segment_cut, segment_none_at_end}
+use Rattle.cip_message.proofs.Steps.{bind_ok, bind_err, ok_is}
+use Rattle.cip_message.proofs.Segments.{SegmentFault, segment_taken, segment_again, segment_fault, segment_none, segment_cut, segment_none_at_end}
 
 -- ---- where reading stops
 
 -- why reading stops at b, behind the segments gs, told by the segment at its front
-data Stop (k : PathFault) (gs : List Segment) (b : List ℕ) : Type 0 where
+pub data Stop (k : PathFault) (gs : List Segment) (b : List ℕ) : Type 0 where
   broken : b ≢ [] → segment_of b ≡ Err k → Stop k gs b
   misplaced : (g : Segment) (r : List ℕ) → segment_of b ≡ Ok (g, r) → (Begins (gs ++ g ∷ []) → ⊥) → k ≡ fault.Order → Stop k gs b
   ended : b ≡ [] → ((p : Path) → segments p ≢ gs) → k ≡ fault.Order → Stop k gs b
@@ -39,7 +39,7 @@ broken_wrong : (k : PathFault) (gs : List Segment) (b : List ℕ) → IsBytes b 
 broken_wrong k gs [] fits some e = absurd (some refl)
 broken_wrong k gs (x ∷ xs) fits some e = broken_is k gs (x ∷ xs) (segment_fault x xs k fits e)
 
-wrong_of : (k : PathFault) (gs : List Segment) (b : List ℕ) → IsBytes b → Stop k gs b → IsWrong k gs b
+pub wrong_of : (k : PathFault) (gs : List Segment) (b : List ℕ) → IsBytes b → Stop k gs b → IsWrong k gs b
 wrong_of k gs b fits (broken some e) = broken_wrong k gs b fits some e
 wrong_of k gs b fits (misplaced g r e no_ is) =
     let t = segment_taken b g r fits e in
@@ -67,14 +67,14 @@ segment_and g r = Ok (g, r)
 segment_and_same : (g h : Segment) (t r : List ℕ) → g ≡ h → t ≡ r → segment_and g t ≡ segment_and h r
 segment_and_same g h t r p q = cc
 
-class_segment : (b : List ℕ) (v : ℕ) (r : List ℕ) → class_of b ≡ Ok (v, r) → segment_of b ≡ Ok (Class v, r)
+pub class_segment : (b : List ℕ) (v : ℕ) (r : List ℕ) → class_of b ≡ Ok (v, r) → segment_of b ≡ Ok (Class v, r)
 unfolding class_of
 class_segment b v r e =
     let a = bind_ok (segment_of b) (λ g. as_class g.0 g.1) (v, r) e in
     let q = as_class_ok a.0.0 a.0.1 v r a.2 in
     a.1 ∙ segment_and_same a.0.0 (Class v) a.0.1 r q.0 q.1
 
-instance_segment : (b : List ℕ) (v : ℕ) (r : List ℕ) → instance_of b ≡ Ok (v, r) → segment_of b ≡ Ok (Instance v, r)
+pub instance_segment : (b : List ℕ) (v : ℕ) (r : List ℕ) → instance_of b ≡ Ok (v, r) → segment_of b ≡ Ok (Instance v, r)
 unfolding instance_of
 instance_segment b v r e =
     let a = bind_ok (segment_of b) (λ g. as_instance g.0 g.1) (v, r) e in
@@ -132,7 +132,7 @@ as_instance_err c (Class v) r k e = (cc, λ s. let q = s.2 in absurd cc)
 as_instance_err c (Member v) r k e = (cc, λ s. let q = s.2 in absurd cc)
 as_instance_err c (Attribute v) r k e = (cc, λ s. let q = s.2 in absurd cc)
 
-class_stop : (k : PathFault) (b : List ℕ) → class_of b ≡ Err k → Stop k [] b
+pub class_stop : (k : PathFault) (b : List ℕ) → class_of b ≡ Err k → Stop k [] b
 unfolding class_of segment_of
 class_stop k [] e = ended refl (λ p q. absurd cc) cc
 class_stop k (x ∷ xs) e =
@@ -141,7 +141,7 @@ class_stop k (x ∷ xs) e =
       | inr a ↦ let q = as_class_err a.0.0 a.0.1 k a.2 in misplaced a.0.0 a.0.1 a.1 q.1 q.0
     ]
 
-instance_stop : (c : ℕ) (k : PathFault) (b : List ℕ) → instance_of b ≡ Err k → Stop k (Class c ∷ []) b
+pub instance_stop : (c : ℕ) (k : PathFault) (b : List ℕ) → instance_of b ≡ Err k → Stop k (Class c ∷ []) b
 unfolding instance_of segment_of
 instance_stop c k [] e = ended refl (λ p q. absurd cc) cc
 instance_stop c k (x ∷ xs) e =
@@ -195,7 +195,7 @@ unfolding whole_of
 whole_at_end p = refl
 
 -- what a reader of an optional segment found at b: the end, one of its kind, or another
-data Reads (kind : ℕ → Segment) (b : List ℕ) : Option ℕ → List ℕ → Type 0 where
+pub data Reads (kind : ℕ → Segment) (b : List ℕ) : Option ℕ → List ℕ → Type 0 where
   nothing : b ≡ [] → Reads kind b None []
   one : (v : ℕ) (r : List ℕ) → segment_of b ≡ Ok (kind v, r) → Reads kind b (Some v) r
   another : (g : Segment) (t : List ℕ) → segment_of b ≡ Ok (g, t) → ((v : ℕ) → g ≢ kind v) → Reads kind b None b
@@ -218,14 +218,14 @@ member_read_at b (Class v) t o r e a = reads_same Member b None o b r a (another
 member_read_at b (Instance v) t o r e a = reads_same Member b None o b r a (another (Instance v) t e (λ w q. absurd cc))
 member_read_at b (Attribute v) t o r e a = reads_same Member b None o b r a (another (Attribute v) t e (λ w q. absurd cc))
 
-attribute_reads : (b : List ℕ) (o : Option ℕ) (r : List ℕ) → attribute_of b ≡ Ok (o, r) → Reads Attribute b o r
+pub attribute_reads : (b : List ℕ) (o : Option ℕ) (r : List ℕ) → attribute_of b ≡ Ok (o, r) → Reads Attribute b o r
 unfolding attribute_of
 attribute_reads [] o r e = reads_same Attribute [] None o [] r e (nothing refl)
 attribute_reads (x ∷ xs) o r e =
     let a = bind_ok (segment_of (x ∷ xs)) (λ g. as_attribute g.0 g.1 (x ∷ xs)) (o, r) e in
     attribute_read_at (x ∷ xs) a.0.0 a.0.1 o r a.1 a.2
 
-member_reads : (b : List ℕ) (o : Option ℕ) (r : List ℕ) → member_of b ≡ Ok (o, r) → Reads Member b o r
+pub member_reads : (b : List ℕ) (o : Option ℕ) (r : List ℕ) → member_of b ≡ Ok (o, r) → Reads Member b o r
 unfolding member_of
 member_reads [] o r e = reads_same Member [] None o [] r e (nothing refl)
 member_reads (x ∷ xs) o r e =
@@ -240,21 +240,21 @@ whole_reads p (x ∷ xs) q e =
 
 -- ---- segments joined
 
-AreSegments-one : (g : Segment) (s : List ℕ) → IsSegment g s → AreSegments (g ∷ []) s
+pub AreSegments-one : (g : Segment) (s : List ℕ) → IsSegment g s → AreSegments (g ∷ []) s
 AreSegments-one g s h = (s, [], h, refl, sym (append-nil s))
 
-AreSegments-join : (gs hs : List Segment) (a b : List ℕ) → AreSegments gs a → AreSegments hs b → AreSegments (gs ++ hs) (a ++ b)
+pub AreSegments-join : (gs hs : List Segment) (a b : List ℕ) → AreSegments gs a → AreSegments hs b → AreSegments (gs ++ hs) (a ++ b)
 AreSegments-join [] hs a b p q = subst (λ (t : List ℕ). AreSegments hs (t ++ b)) (sym p) q
 AreSegments-join (g ∷ gs) hs a b p q =
     (p.0, p.1 ++ b, p.2, AreSegments-join gs hs p.1 b p.3 q, ap (λ (t : List ℕ). t ++ b) p.4 ∙ append_assoc p.0 p.1 b)
 
 -- what a reader of an optional segment took
-record TakesOption (kind : ℕ → Segment) (b : List ℕ) (o : Option ℕ) (r : List ℕ) : Type 0 where
-  text : List ℕ
-  spelled : AreSegments (optional kind o) text
-  joined : b ≡ text ++ r
+pub record TakesOption (kind : ℕ → Segment) (b : List ℕ) (o : Option ℕ) (r : List ℕ) : Type 0 where
+  pub text : List ℕ
+  pub spelled : AreSegments (optional kind o) text
+  pub joined : b ≡ text ++ r
 
-takes : (kind : ℕ → Segment) (b : List ℕ) (o : Option ℕ) (r : List ℕ) → IsBytes b → Reads kind b o r → TakesOption kind b o r
+pub takes : (kind : ℕ → Segment) (b : List ℕ) (o : Option ℕ) (r : List ℕ) → IsBytes b → Reads kind b o r → TakesOption kind b o r
 takes kind b _ _ fits (nothing e) = record { text = []; spelled = refl; joined = e }
 takes kind b _ _ fits (one v r e) =
     let t = segment_taken b (kind v) r fits e in
@@ -263,12 +263,18 @@ takes kind b _ _ fits (another g t e no_) = record { text = []; spelled = refl; 
 
 -- ---- a whole path
 
-abbrev made : ℕ → ℕ → Option ℕ → Option ℕ → Path
+abbrev pub made : ℕ → ℕ → Option ℕ → Option ℕ → Path
 made c i a m = record { class = c; instance = i; attribute = a; member = m }
 
 -- the attribute and the member, and then nothing
-abbrev tail_of : ℕ → ℕ → List ℕ → Result Path PathFault
+abbrev pub tail_of : ℕ → ℕ → List ℕ → Result Path PathFault
 tail_of c i b = attribute_of b >>= λ a. member_of a.1 >>= λ m. whole_of (made c i a.0 m.0) m.1
+
+tail_text : (b x r y s : List ℕ) → b ≡ x ++ r → r ≡ y ++ s → s ≡ [] → b ≡ x ++ y
+tail_text b x r y s p q e = p ∙ ap (λ (t : List ℕ). x ++ t) (q ∙ ap (λ (t : List ℕ). y ++ t) e ∙ append-nil y)
+
+AreSegments-same : (gs : List Segment) (t b : List ℕ) → b ≡ t → AreSegments gs t → AreSegments gs b
+AreSegments-same gs t b e h = subst (λ (x : List ℕ). AreSegments gs x) (sym e) h
 
 tail_spelled : (c i : ℕ) (b : List ℕ) (p : Path) → IsBytes b → tail_of c i b ≡ Ok p
     → (p ≡ made c i p.attribute p.member) × AreSegments (optional Attribute p.attribute ++ optional Member p.member) b
@@ -279,9 +285,9 @@ tail_spelled c i b p fits e =
     let ta = takes Attribute b a.0.0 a.0.1 fits (attribute_reads b a.0.0 a.0.1 a.1) in
     let tm = takes Member a.0.1 m.0.0 m.0.1 (IsBytes-second ta.text a.0.1 (subst IsBytes ta.joined fits)) (member_reads a.0.1 m.0.0 m.0.1 m.1) in
     let both = AreSegments-join (optional Attribute a.0.0) (optional Member m.0.0) ta.text tm.text ta.spelled tm.spelled in
-    let text : b ≡ ta.text ++ tm.text = ta.joined ∙ ap (λ (t : List ℕ). ta.text ++ t) (tm.joined ∙ ap (λ (t : List ℕ). tm.text ++ t) w.1 ∙ append-nil tm.text) in
+    let text = tail_text b ta.text a.0.1 tm.text m.0.1 ta.joined tm.joined w.1 in
     let P : Path → Type 0 = λ q. (q ≡ made c i q.attribute q.member) × AreSegments (optional Attribute q.attribute ++ optional Member q.member) b in
-    subst P w.0 (refl, subst (λ (t : List ℕ). AreSegments (optional Attribute a.0.0 ++ optional Member m.0.0) t) (sym text) both)
+    subst P w.0 (refl, AreSegments-same (optional Attribute a.0.0 ++ optional Member m.0.0) (ta.text ++ tm.text) b text both)
 
 pub path_spelled : (b : List ℕ) (p : Path) → IsBytes b → path_of b ≡ Ok p → IsPath p b
 unfolding path_of IsPath
@@ -299,7 +305,7 @@ path_spelled b p fits e =
 -- ---- what is spelled is read
 
 -- the member, and then nothing
-abbrev after_attribute : ℕ → ℕ → Option ℕ → List ℕ → Result Path PathFault
+abbrev pub after_attribute : ℕ → ℕ → Option ℕ → List ℕ → Result Path PathFault
 after_attribute c i a b = member_of b >>= λ m. whole_of (made c i a m.0) m.1
 
 tail_from : (c i : ℕ) (b : List ℕ) (a : Option ℕ) (r : List ℕ) → attribute_of b ≡ Ok (a, r) → tail_of c i b ≡ after_attribute c i a r
@@ -360,8 +366,8 @@ unfolding IsPath
 path_again b p h =
     ap path_of (sym (append-nil b))
     ∙ whole_again p.class p.instance p.attribute p.member b [] (Ok p) h (whole_at_end p)
-      (λ e. at_end p.class p.instance p.attribute ∙ ap (λ (m : Option ℕ). Ok (made p.class p.instance p.attribute m)) (sym e))
-      (λ d e. tail_from p.class p.instance [] None [] attribute_at_end ∙ at_end p.class p.instance None ∙ rw (d, e) refl)
+    (λ e. at_end p.class p.instance p.attribute ∙ ap (λ (m : Option ℕ). Ok (made p.class p.instance p.attribute m)) (sym e))
+    (λ d e. tail_from p.class p.instance [] None [] attribute_at_end ∙ at_end p.class p.instance None ∙ rw (d, e) refl)
 
 -- ---- a fault is met where it stands
 
@@ -435,183 +441,9 @@ stopped k _ u r (class_only c) h s =
     ∙ ap (λ (y : Result (ℕ × List ℕ) PathFault). y >>= λ i. tail_of c i.0 i.1) (instance_wrong c k r s)
 stopped k _ u r (both c i a m) h s =
     whole_again c i a m u r (Err k) h (whole_stop (made c i a m) k r s)
-      (λ e. member_stop c i a k r (subst (λ (o : Option ℕ). Stop k (Class c ∷ Instance i ∷ (optional Attribute a ++ optional Member o)) r) e s))
-      (λ d e. tail_stop c i k r (subst (λ (o : Option ℕ). Stop k (Class c ∷ Instance i ∷ (optional Attribute o ++ [])) r) d (subst (λ (o : Option ℕ). Stop k (Class c ∷ Instance i ∷ (optional Attribute a ++ optional Member o)) r) e s)))
+    (λ e. member_stop c i a k r (subst (λ (o : Option ℕ). Stop k (Class c ∷ Instance i ∷ (optional Attribute a ++ optional Member o)) r) e s))
+    (λ d e. tail_stop c i k r (subst (λ (o : Option ℕ). Stop k (Class c ∷ Instance i ∷ (optional Attribute o ++ [])) r) d (subst (λ (o : Option ℕ). Stop k (Class c ∷ Instance i ∷ (optional Attribute a ++ optional Member o)) r) e s)))
 
 pub path_refused : (k : PathFault) (b : List ℕ) → path_fault k b → path_of b ≡ Err k
 path_refused k b f =
     ap path_of f.joined ∙ stopped k f.before f.front f.rest (front_of f.before f.begins.1 f.begins.0 f.begins.2) f.spelled (stop_of k f.before f.rest f.wrong)
-
--- ---- where reading stopped there is a fault
-
-not_kind : (kind : ℕ → Segment) (b r : List ℕ) (g : Segment) (t : List ℕ) (o : Option ℕ) → o ≡ None → Reads kind b o r → segment_of r ≡ Ok (g, t) → (v : ℕ) → g ≢ kind v
-not_kind kind b _ g t _ n (nothing e) f v q = absurd (let h = segment_none_at_end in cc)
-not_kind kind b _ g t _ n (one w r e) f v q = absurd cc
-not_kind kind b _ g t _ n (another h s e no_) f v q = no_ v (ap (λ (y : Segment × List ℕ). y.0) (ok_is (h, s) (g, t) (sym e ∙ f)) ∙ q)
-
-left_there : (kind : ℕ → Segment) (b r : List ℕ) (o : Option ℕ) → o ≡ None → Reads kind b o r → r ≡ b
-left_there kind b _ _ n (nothing e) = sym e
-left_there kind b _ _ n (one w r e) = absurd cc
-left_there kind b _ _ n (another h s e no_) = refl
-
-order_ends : (x y a m : Option ℕ) (g : Segment) (more : List Segment) → (a ≡ None → m ≡ None → (v : ℕ) → g ≢ Attribute v) → (m ≡ None → (v : ℕ) → g ≢ Member v)
-    → optional Attribute x ++ optional Member y ≡ ((optional Attribute a ++ optional Member m) ++ g ∷ []) ++ more → ⊥
-order_ends None None None None g more na nm e = absurd cc
-order_ends (Some x) None None None g more na nm e = na refl refl x cc
-order_ends None (Some y) None None g more na nm e = nm refl y cc
-order_ends (Some x) (Some y) None None g more na nm e = na refl refl x cc
-order_ends None None (Some a) None g more na nm e = absurd cc
-order_ends (Some x) None (Some a) None g more na nm e = absurd cc
-order_ends None (Some y) (Some a) None g more na nm e = absurd cc
-order_ends (Some x) (Some y) (Some a) None g more na nm e = nm refl y cc
-order_ends None None None (Some m) g more na nm e = absurd cc
-order_ends (Some x) None None (Some m) g more na nm e = absurd cc
-order_ends None (Some y) None (Some m) g more na nm e = absurd cc
-order_ends (Some x) (Some y) None (Some m) g more na nm e = absurd cc
-order_ends None None (Some a) (Some m) g more na nm e = absurd cc
-order_ends (Some x) None (Some a) (Some m) g more na nm e = absurd cc
-order_ends None (Some y) (Some a) (Some m) g more na nm e = absurd cc
-order_ends (Some x) (Some y) (Some a) (Some m) g more na nm e = absurd cc
-
-nothing_follows : (c i : ℕ) (a m : Option ℕ) (g : Segment) → (a ≡ None → m ≡ None → (v : ℕ) → g ≢ Attribute v) → (m ≡ None → (v : ℕ) → g ≢ Member v)
-    → Begins ((Class c ∷ Instance i ∷ (optional Attribute a ++ optional Member m)) ++ g ∷ []) → ⊥
-nothing_follows c i a m g na nm s =
-    let p = s.0 in
-    let all = s.2 in
-    let e : optional Attribute p.attribute ++ optional Member p.member ≡ ((optional Attribute a ++ optional Member m) ++ g ∷ []) ++ s.1 = cc in
-    order_ends p.attribute p.member a m g s.1 na nm e
-
-attribute_broken : (b : List ℕ) (k : PathFault) → attribute_of b ≡ Err k → (b ≢ []) × (segment_of b ≡ Err k)
-unfolding attribute_of
-attribute_broken [] k e = absurd cc
-attribute_broken (x ∷ xs) k e =
-    ((λ q. absurd cc), elim (bind_err (segment_of (x ∷ xs)) (λ g. as_attribute g.0 g.1 (x ∷ xs)) k e) [ inl f ↦ f | inr a ↦ absurd (as_attribute_ok a.0.0 a.0.1 (x ∷ xs) k a.2) ])
-  where
-    as_attribute_ok : (g : Segment) (t b : List ℕ) (k : PathFault) → as_attribute g t b ≡ Err k → ⊥
-    as_attribute_ok (Class v) t b k e = absurd cc
-    as_attribute_ok (Instance v) t b k e = absurd cc
-    as_attribute_ok (Member v) t b k e = absurd cc
-    as_attribute_ok (Attribute v) t b k e = absurd cc
-
-member_broken : (b : List ℕ) (k : PathFault) → member_of b ≡ Err k → (b ≢ []) × (segment_of b ≡ Err k)
-unfolding member_of
-member_broken [] k e = absurd cc
-member_broken (x ∷ xs) k e =
-    ((λ q. absurd cc), elim (bind_err (segment_of (x ∷ xs)) (λ g. as_member g.0 g.1 (x ∷ xs)) k e) [ inl f ↦ f | inr a ↦ absurd (as_member_ok a.0.0 a.0.1 (x ∷ xs) k a.2) ])
-  where
-    as_member_ok : (g : Segment) (t b : List ℕ) (k : PathFault) → as_member g t b ≡ Err k → ⊥
-    as_member_ok (Class v) t b k e = absurd cc
-    as_member_ok (Instance v) t b k e = absurd cc
-    as_member_ok (Member v) t b k e = absurd cc
-    as_member_ok (Attribute v) t b k e = absurd cc
-
-whole_broken : (p : Path) (b : List ℕ) (k : PathFault) → whole_of p b ≡ Err k → ((b ≢ []) × (segment_of b ≡ Err k)) ⊎ ((g : Segment) × (r : List ℕ) × (segment_of b ≡ Ok (g, r)) × (k ≡ fault.Order))
-unfolding whole_of
-whole_broken p [] k e = absurd cc
-whole_broken p (x ∷ xs) k e =
-    elim (bind_err (segment_of (x ∷ xs)) (λ g. Err fault.Order) k e) [
-      | inl f ↦ inl ((λ q. absurd cc), f)
-      | inr a ↦ inr (a.0.0, a.0.1, a.1, sym (err_is {A = Path} fault.Order k a.2))
-    ]
-
--- reading stopped at r, behind text that spells gs
-record Stopped (k : PathFault) (gs : List Segment) (b : List ℕ) : Type 0 where
-  after : List Segment
-  text : List ℕ
-  rest : List ℕ
-  fits : IsBytes rest
-  begins : Begins (gs ++ after)
-  spelled : AreSegments after text
-  joined : b ≡ text ++ rest
-  stop : Stop k (gs ++ after) rest
-
-begins_all : (c i : ℕ) (a m : Option ℕ) → Begins (Class c ∷ Instance i ∷ (optional Attribute a ++ optional Member m))
-begins_all c i a m = (made c i a m, [], sym (append-nil (segments (made c i a m))))
-
-begins_attribute : (c i : ℕ) (a : Option ℕ) → Begins (Class c ∷ Instance i ∷ optional Attribute a)
-begins_attribute c i a = (made c i a None, [], refl)
-
-tail_stopped : (c i : ℕ) (b : List ℕ) (k : PathFault) → IsBytes b → tail_of c i b ≡ Err k → Stopped k (Class c ∷ Instance i ∷ []) b
-tail_stopped c i b k fits e =
-    elim (bind_err (attribute_of b) (λ a. after_attribute c i a.0 a.1) k e) [
-      | inl f ↦ let q = attribute_broken b k f in
-        record { after = []; text = []; rest = b; fits = fits; begins = (made c i None None, [], refl); spelled = refl; joined = refl; stop = broken q.0 q.1 }
-      | inr a ↦ after_stopped a.0.0 a.0.1 a.1 a.2
-    ]
-  where
-    after_stopped : (a : Option ℕ) (r : List ℕ) → attribute_of b ≡ Ok (a, r) → after_attribute c i a r ≡ Err k → Stopped k (Class c ∷ Instance i ∷ []) b
-    after_stopped a r ea em =
-        let ra = attribute_reads b a r ea in
-        let ta = takes Attribute b a r fits ra in
-        let fits_r = IsBytes-second ta.text r (subst IsBytes ta.joined fits) in
-        elim (bind_err (member_of r) (λ m. whole_of (made c i a m.0) m.1) k em) [
-          | inl f ↦ let q = member_broken r k f in
-            record { after = optional Attribute a; text = ta.text; rest = r; fits = fits_r; begins = begins_attribute c i a; spelled = ta.spelled; joined = ta.joined; stop = broken q.0 q.1 }
-          | inr m ↦
-            let rm = member_reads r m.0.0 m.0.1 m.1 in
-            let tm = takes Member r m.0.0 m.0.1 fits_r rm in
-            record {
-              after = optional Attribute a ++ optional Member m.0.0;
-              text = ta.text ++ tm.text;
-              rest = m.0.1;
-              fits = IsBytes-second tm.text m.0.1 (subst IsBytes tm.joined fits_r);
-              begins = begins_all c i a m.0.0;
-              spelled = AreSegments-join (optional Attribute a) (optional Member m.0.0) ta.text tm.text ta.spelled tm.spelled;
-              joined = ta.joined ∙ ap (λ (t : List ℕ). ta.text ++ t) tm.joined ∙ sym (append_assoc ta.text tm.text m.0.1);
-              stop = elim (whole_broken (made c i a m.0.0) m.0.1 k m.2) [
-                | inl f ↦ broken f.0 f.1
-                | inr g ↦ misplaced g.0 g.1 g.2
-                  (nothing_follows c i a m.0.0 g.0
-                    (λ da dm. not_kind Attribute b m.0.1 g.0 g.1 a da (subst (λ (t : List ℕ). Reads Attribute b a t) (sym (left_there Member r m.0.1 m.0.0 dm rm)) ra) g.2)
-                    (λ dm. not_kind Member r m.0.1 g.0 g.1 m.0.0 dm rm g.2))
-                  g.3
-              ]
-            }
-        ]
-
-pub path_faulty : (k : PathFault) (b : List ℕ) → IsBytes b → path_of b ≡ Err k → path_fault k b
-unfolding path_of
-path_faulty k b fits e =
-    elim (bind_err (class_of b) (λ c. instance_of c.1 >>= λ i. tail_of c.0 i.0 i.1) k e) [
-      | inl f ↦ record { before = []; front = []; rest = b; begins = (made 0 0 None None, segments (made 0 0 None None), refl); spelled = refl; joined = refl; wrong = wrong_of k [] b fits (class_stop k b f) }
-      | inr c ↦ after_class c.0.0 c.0.1 c.1 c.2
-    ]
-  where
-    after_instance : (c i : ℕ) (s z r t : List ℕ) → IsSegment (Class c) s → IsSegment (Instance i) z → b ≡ s ++ r → r ≡ z ++ t → Stopped k (Class c ∷ Instance i ∷ []) t → path_fault k b
-    after_instance c i s z r t hs hz es ez st =
-        record {
-          before = Class c ∷ Instance i ∷ st.after;
-          front = s ++ (z ++ st.text);
-          rest = st.rest;
-          begins = st.begins;
-          spelled = (s, z ++ st.text, hs, (z, st.text, hz, st.spelled, refl), refl);
-          joined = es ∙ ap (λ (x : List ℕ). s ++ x) (ez ∙ ap (λ (x : List ℕ). z ++ x) st.joined) ∙ sym (append_assoc s (z ++ st.text) st.rest ∙ ap (λ (x : List ℕ). s ++ x) (append_assoc z st.text st.rest));
-          wrong = wrong_of k (Class c ∷ Instance i ∷ st.after) st.rest st.fits st.stop
-        }
-    after_class : (c : ℕ) (r : List ℕ) → class_of b ≡ Ok (c, r) → (instance_of r >>= λ i. tail_of c i.0 i.1) ≡ Err k → path_fault k b
-    after_class c r ec ei =
-        let tc = segment_taken b (Class c) r fits (class_segment b c r ec) in
-        let fits_r = IsBytes-second tc.text r (subst IsBytes tc.joined fits) in
-        elim (bind_err (instance_of r) (λ i. tail_of c i.0 i.1) k ei) [
-          | inl f ↦ record {
-              before = Class c ∷ [];
-              front = tc.text;
-              rest = r;
-              begins = (made c 0 None None, Instance 0 ∷ [], refl);
-              spelled = AreSegments-one (Class c) tc.text tc.spelled;
-              joined = tc.joined;
-              wrong = wrong_of k (Class c ∷ []) r fits_r (instance_stop c k r f)
-            }
-          | inr i ↦
-            let ti = segment_taken r (Instance i.0.0) i.0.1 fits_r (instance_segment r i.0.0 i.0.1 i.1) in
-            let fits_i = IsBytes-second ti.text i.0.1 (subst IsBytes ti.joined fits_r) in
-            after_instance c i.0.0 tc.text ti.text r i.0.1 tc.spelled ti.spelled tc.joined ti.joined (tail_stopped c i.0.0 i.0.1 k fits_i i.2)
-        ]
-
--- ---- both laws, of what a reader returned
-
-pub path_iff : (b : List ℕ) (read : Result Path PathFault) → IsBytes b → read ≡ path_of b → (p : Path) → (read ≡ Ok p) ↔ IsPath p b
-path_iff b read fits e p = ((λ q. path_spelled b p fits (sym e ∙ q)), (λ h. e ∙ path_again b p h))
-
-pub fault_iff : (b : List ℕ) (read : Result Path PathFault) → IsBytes b → read ≡ path_of b → (k : PathFault) → (read ≡ Err k) ↔ path_fault k b
-fault_iff b read fits e k = ((λ q. path_faulty k b fits (sym e ∙ q)), (λ h. e ∙ path_refused k b h))

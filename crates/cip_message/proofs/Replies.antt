@@ -1,21 +1,21 @@
 -- A reply that is read is the one spelled, and what is spelled is read, whatever its reserved byte.
-use Rattle.std.proofs.Common.{◌≡◌, ◌↔◌, ℕ, zero, suc, ◌+◌, ◌*◌, ◌/◌, ◌%◌, ◌^◌, ◌<◌, ◌≤◌, Bool, true, false, cond, ltb, List, [], ◌∷◌, ◌++◌, length, slice_index, take, drop, Result, Ok, Err, refl, sym, ap, subst, ◌∙◌, arith, inl, inr}
+use Rattle.std.proofs.Common.{◌≡◌, ◌↔◌, ℕ, zero, suc, ◌+◌, ◌*◌, ◌/◌, ◌%◌, ◌<◌, ◌≤◌, Bool, true, false, cond, ltb, List, [], ◌∷◌, ◌++◌, length, slice_index, take, drop, Result, Ok, Err, refl, sym, ap, subst, ◌∙◌, arith, inl, inr}
 use Rattle.std.proofs.lemmas.Bool.{ltb-true, ltb-false, le-ltb, lt-ltb}
 use Rattle.std.proofs.lemmas.List.{take_at, drop_at, take-append-drop, length-take}
-use Rattle.byteorder.specs.Endian.{little_from, little_number}
-use Rattle.std.proofs.Common.{Option, Some, None}
+use Rattle.byteorder.specs.Endian.{little_number}
+use Rattle.std.proofs.Common.{Some, None}
 use Rattle.std.specs.Prelude.{slice_get}
 use Rattle.std.specs.List.{flat_map}
 use Rattle.std.proofs.lemmas.List.{length-append}
 use Rattle.std.proofs.lemmas.List.Concat.{flat_map-cons}
-use Rattle.cip_message.specs.Numbers.{le, AreBytes, AreWords, words_of}
+use Rattle.cip_message.specs.Numbers.{le, AreWords, words_of}
 use Rattle.cip_message.specs.declared.reply.ReplyView.{ReplyView}
 use Rattle.cip_message.specs.declared.reply.ReplyFault.{ReplyFault}
 use Rattle.cip_message.specs.declared.reply.ReplyFault.TheVariants.{Short, NotReply, Extra}
 use Rattle.cip_message.specs.Reading.{Gives}
 use Rattle.cip_message.specs.Reply.{Reply, IsReply, SpellsReply, reply_with, reply_of_fields, view, reply_of}
-use Rattle.cip_message.proofs.Bytes.{IsBytes, IsBytes-drop, IsBytes-take, IsBytes-tail, le2_back, le2_again}
-use Rattle.cip_message.proofs.Steps.{ok_is, gives_iff, iff_then, guarded_ok, guarded_err, chosen}
+use Rattle.cip_message.proofs.Bytes.{IsBytes, IsBytes-drop, IsBytes-take, IsBytes-tail, le2_back}
+use Rattle.cip_message.proofs.Steps.{gives_iff, iff_then, guarded_ok, chosen}
 
 pub length_flat_words : (words : List ℕ) → length (flat_map (le 2) words) ≡ 2 * length words
 length_flat_words [] = refl
@@ -76,20 +76,20 @@ reply_taken (s ∷ r ∷ t ∷ n ∷ rest) a fits e =
     elim (chosen (ltb s 128) (Err NotReply) (cond (ltb (length rest) (2 * n)) (Err Extra) (Ok made)) (Ok a) e) [
       | inl h ↦ absurd (let f = h.1 in cc)
       | inr h ↦
-        let g = guarded_ok (ltb (length rest) (2 * n)) Extra made a h.1 in
-        let bit : 128 ≤ s = ltb-false _ _ h.0 in
-        let long : 2 * n ≤ length rest = ltb-false _ _ g.0 in
-        let len : length front ≡ 2 * n = omega (arith, length-take (2 * n) rest) in
-        let fits_rest : IsBytes rest = IsBytes-tail n rest (IsBytes-tail t (n ∷ rest) (IsBytes-tail r (t ∷ n ∷ rest) (IsBytes-tail s (r ∷ t ∷ n ∷ rest) fits))) in
-        let fits_front = IsBytes-take (2 * n) rest fits_rest in
-        let count : length (words_of front) ≡ n = length_words_of n front len in
-        let words = words_back n front len fits_front in
-        let is : IsReply made = record { service = fits 0; bit7 = bit; status = fits 2; counted = omega (arith, fits 3); additional = words_fit front fits_front; «data» = IsBytes-drop (2 * n) rest fits_rest } in
-        let text : s ∷ r ∷ t ∷ n ∷ rest ≡ reply_with r made =
+          let g = guarded_ok (ltb (length rest) (2 * n)) Extra made a h.1 in
+          let bit : 128 ≤ s = ltb-false _ _ h.0 in
+          let long : 2 * n ≤ length rest = ltb-false _ _ g.0 in
+          let len : length front ≡ 2 * n = omega (arith, length-take (2 * n) rest) in
+          let fits_rest : IsBytes rest = IsBytes-tail n rest (IsBytes-tail t (n ∷ rest) (IsBytes-tail r (t ∷ n ∷ rest) (IsBytes-tail s (r ∷ t ∷ n ∷ rest) fits))) in
+          let fits_front = IsBytes-take (2 * n) rest fits_rest in
+          let count : length (words_of front) ≡ n = length_words_of n front len in
+          let words = words_back n front len fits_front in
+          let is : IsReply made = record { service = fits 0; bit7 = bit; status = fits 2; counted = omega (arith, fits 3); additional = words_fit front fits_front; «data» = IsBytes-drop (2 * n) rest fits_rest } in
+          let text : s ∷ r ∷ t ∷ n ∷ rest ≡ reply_with r made =
           ap (λ (x : List ℕ). s ∷ r ∷ t ∷ n ∷ x) (sym (take-append-drop (2 * n) rest))
           ∙ ap (λ (x : List ℕ). s ∷ r ∷ t ∷ n ∷ (x ++ all)) (sym words)
           ∙ ap (λ (k : ℕ). s ∷ r ∷ t ∷ k ∷ (flat_map (le 2) (words_of front) ++ all)) (sym count) in
-        subst (λ (x : Reply). SpellsReply x (s ∷ r ∷ t ∷ n ∷ rest)) g.1 (record { reserved = r; is_reply = is; spelled = text })
+          subst (λ (x : Reply). SpellsReply x (s ∷ r ∷ t ∷ n ∷ rest)) g.1 (record { reserved = r; is_reply = is; spelled = text })
     ]
 
 reply_again : (r : ℕ) (a : Reply) → IsReply a → reply_of (reply_with r a) ≡ Ok a
@@ -139,10 +139,11 @@ extra_iff [] = ((λ e. absurd cc), (λ h. absurd (omega (arith, h.0))))
 extra_iff (s ∷ []) = ((λ e. absurd cc), (λ h. absurd (omega (arith, h.0))))
 extra_iff (s ∷ r ∷ []) = ((λ e. absurd cc), (λ h. absurd (omega (arith, h.0))))
 extra_iff (s ∷ r ∷ t ∷ []) = ((λ e. absurd cc), (λ h. absurd (omega (arith, h.0))))
-extra_iff (s ∷ r ∷ t ∷ n ∷ rest) =
-    ((λ e. let p = past (ltb s 128) (ltb (length rest) (2 * n)) _ e in
-        let lt : length rest < 2 * n = ltb-true _ _ p.1 in (omega arith, ltb-false _ _ p.0, omega arith)),
-     (λ h. let lt : length rest < 2 * n = omega (arith, h.2) in rw (le-ltb _ _ h.1, lt-ltb _ _ lt) refl))
+extra_iff (s ∷ r ∷ t ∷ n ∷ rest) = (
+  (λ e. let p = past (ltb s 128) (ltb (length rest) (2 * n)) _ e in
+      let lt : length rest < 2 * n = ltb-true _ _ p.1 in (omega arith, ltb-false _ _ p.0, omega arith)),
+  (λ h. let lt : length rest < 2 * n = omega (arith, h.2) in rw (le-ltb _ _ h.1, lt-ltb _ _ lt) refl),
+)
   where
     past : (x y : Bool) (a : Reply) → cond x (Err NotReply) (cond y (Err Extra) (Ok a)) ≡ Err Extra → (x ≡ false) × (y ≡ true)
     past true y a e = absurd cc

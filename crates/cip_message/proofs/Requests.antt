@@ -1,15 +1,14 @@
 -- A request that is read is the one spelled, and what is spelled is read.
-use Rattle.std.proofs.Common.{◌≡◌, ◌↔◌, ℕ, ◌+◌, ◌*◌, ◌/◌, ◌%◌, ◌^◌, ◌<◌, ◌≤◌, Bool, true, false, cond, ltb, List, [], ◌∷◌, ◌++◌, length, slice_index, take, drop, Result, Ok, Err, refl, sym, ap, subst, ◌∙◌, arith, inl, inr}
+use Rattle.std.proofs.Common.{◌≡◌, ◌↔◌, ℕ, ◌+◌, ◌*◌, ◌/◌, ◌<◌, ◌≤◌, false, ltb, List, [], ◌∷◌, ◌++◌, length, slice_index, take, drop, Result, Ok, Err, refl, sym, ap, subst, ◌∙◌, arith}
 use Rattle.std.proofs.lemmas.Bool.{ltb-true, ltb-false, le-ltb, lt-ltb}
 use Rattle.std.proofs.lemmas.List.{take_at, drop_at, take-append-drop, length-append, length-take}
 use Rattle.cip_message.specs.declared.request.RequestView.{RequestView}
 use Rattle.cip_message.specs.declared.request.RequestFault.{RequestFault}
 use Rattle.cip_message.specs.declared.request.RequestFault.TheVariants.{Short, PathSize}
 use Rattle.cip_message.specs.Reading.{Gives}
-use Rattle.cip_message.specs.Numbers.{AreBytes}
 use Rattle.cip_message.specs.Request.{Request, IsRequest, request, view, request_of}
 use Rattle.cip_message.proofs.Bytes.{IsBytes, IsBytes-drop, IsBytes-take, IsBytes-tail}
-use Rattle.cip_message.proofs.Steps.{ok_is, gives_iff, iff_then, guarded_ok, guarded_err}
+use Rattle.cip_message.proofs.Steps.{gives_iff, iff_then, guarded_ok, guarded_err}
 
 request_taken : (b : List ℕ) (q : Request) → IsBytes b → request_of b ≡ Ok q → IsRequest q × (b ≡ request q)
 unfolding request_of
@@ -51,10 +50,11 @@ path_size_iff : (b : List ℕ) → (request_of b ≡ Err PathSize) ↔ ((2 ≤ l
 unfolding request_of
 path_size_iff [] = ((λ e. absurd cc), (λ h. absurd (omega (arith, h.0))))
 path_size_iff (s ∷ []) = ((λ e. absurd cc), (λ h. absurd (omega (arith, h.0))))
-path_size_iff (s ∷ n ∷ rest) =
-    ((λ e. let g = guarded_err (ltb (length rest) (2 * n)) PathSize (record { service = s; path = take (2 * n) rest; «data» = drop (2 * n) rest }) PathSize e in
-        let lt : length rest < 2 * n = ltb-true _ _ g.0 in (omega arith, omega arith)),
-     (λ h. let lt : length rest < 2 * n = omega (arith, h.1) in rw (lt-ltb _ _ lt) refl))
+path_size_iff (s ∷ n ∷ rest) = (
+  (λ e. let g = guarded_err (ltb (length rest) (2 * n)) PathSize (record { service = s; path = take (2 * n) rest; «data» = drop (2 * n) rest }) PathSize e in
+      let lt : length rest < 2 * n = ltb-true _ _ g.0 in (omega arith, omega arith)),
+  (λ h. let lt : length rest < 2 * n = omega (arith, h.1) in rw (lt-ltb _ _ lt) refl),
+)
 
 -- ---- of what a reader returned
 

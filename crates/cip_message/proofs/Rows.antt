@@ -1,6 +1,5 @@
 -- Worked rows, which compute.
-use Rattle.std.proofs.Common.{◌≡◌, ℕ, List, [], ◌∷◌, Option, Some, None, Ok, Err, refl}
-use Rattle.cip_message.specs.declared.path.Path.{Path}
+use Rattle.std.proofs.Common.{◌≡◌, [], ◌∷◌, None, Ok, Err, refl}
 use Rattle.cip_message.specs.declared.path.PathFault.TheVariants as fault
 use Rattle.cip_message.specs.PathReading.{segment_of, class_of, instance_of, attribute_of, member_of, whole_of, path_of}
 use Rattle.cip_message.specs.PathWriting.{short}

@@ -1,18 +1,17 @@
 -- A segment that is read is the one spelled, and what is spelled is read again.
-use Rattle.std.proofs.Common.{◌≡◌, ◌≢◌, ◌⊎◌, ℕ, zero, suc, ◌+◌, ◌*◌, ◌^◌, ◌<◌, ◌≤◌, Bool, true, false, cond, eqb, ltb, List, [], ◌∷◌, ◌++◌, length, get_or, drop, Result, Ok, Err, refl, sym, ap, subst, ◌∙◌, arith, inl, inr}
-use Rattle.std.proofs.lemmas.Bool.{ltb-true, ltb-false, le-ltb, lt-ltb, eqb-true, eqb-false}
-use Rattle.std.proofs.lemmas.List.{length-append, append-nil}
+use Rattle.std.proofs.Common.{◌≡◌, ◌≢◌, ℕ, ◌+◌, ◌*◌, ◌<◌, Bool, true, false, cond, eqb, ltb, List, [], ◌∷◌, ◌++◌, length, Result, Ok, Err, refl, sym, ap, subst, ◌∙◌, arith, inl, inr}
+use Rattle.std.proofs.lemmas.Bool.{ltb-true, le-ltb, lt-ltb, eqb-true, eqb-false}
+use Rattle.std.proofs.lemmas.List.{length-append}
 use Rattle.byteorder.specs.Endian.{little_from}
 use Rattle.cip_message.specs.declared.path.Segment.{Segment}
 use Rattle.cip_message.specs.declared.path.Segment.TheVariants.{Class, Instance, Member, Attribute}
 use Rattle.cip_message.specs.declared.path.PathFault.{PathFault}
 use Rattle.cip_message.specs.declared.path.PathFault.TheVariants as fault
 use Rattle.cip_message.specs.Numbers.{le}
-use Rattle.cip_message.specs.Reading.{◌>>=◌}
 use Rattle.cip_message.specs.Path.{In8, In16, In32, IsSegment, IsFirstByte, BeginsNone, IsFront}
 use Rattle.cip_message.specs.PathReading.{value8_of, value16_of, value32_of, with_kind, segment_at, segment_of}
-use Rattle.cip_message.proofs.Bytes.{IsBytes, IsBytes-tail, le2_back, le4_back, le2_again, le4_again}
-use Rattle.cip_message.proofs.Steps.{bind_ok, bind_err, chosen, ok_is, err_is}
+use Rattle.cip_message.proofs.Bytes.{IsBytes, le2_back, le4_back, le2_again, le4_again}
+use Rattle.cip_message.proofs.Steps.{bind_ok, ok_is, err_is}
 
 -- ---- a value of one width
 
@@ -44,7 +43,7 @@ found8 x [] v r fits e = absurd cc
 found8 x (y ∷ ys) v r fits e =
     let g = guard_ok (ltb (length (x ∷ y ∷ ys)) 2) (y, ys) (v, r) e in
     subst (λ (p : ℕ × List ℕ). Found (In8 x) (x ∷ y ∷ ys) p.0 p.1) g.1
-      (record { text = x ∷ y ∷ []; spelled = record { fits = fits 1; spelled = refl }; joined = refl })
+    (record { text = x ∷ y ∷ []; spelled = record { fits = fits 1; spelled = refl }; joined = refl })
 
 found16 : (x : ℕ) (xs : List ℕ) (v : ℕ) (r : List ℕ) → IsBytes (x ∷ xs) → value16_of (x ∷ xs) ≡ Ok (v, r) → Found (In16 x) (x ∷ xs) v r
 found16 x [] v r fits e = absurd cc
@@ -55,11 +54,11 @@ found16 x (p ∷ a ∷ b ∷ ys) v r fits e =
     let number_is : number ≡ a + 256 * b = omega arith in
     let g = guard_ok (ltb (length (x ∷ p ∷ a ∷ b ∷ ys)) 4) (number, ys) (v, r) e in
     subst (λ (q : ℕ × List ℕ). Found (In16 x) (x ∷ p ∷ a ∷ b ∷ ys) q.0 q.1) g.1
-      (record {
-        text = x ∷ p ∷ a ∷ b ∷ [];
-        spelled = record { fits = omega (arith, fits 2, fits 3); pad = p; pad_fits = fits 1; spelled = ap (λ (t : List ℕ). x ∷ p ∷ t) (sym (ap (le 2) number_is ∙ le2_back a b (fits 2) (fits 3))) };
-        joined = refl
-      })
+    (record {
+      text = x ∷ p ∷ a ∷ b ∷ [];
+      spelled = record { fits = omega (arith, fits 2, fits 3); pad = p; pad_fits = fits 1; spelled = ap (λ (t : List ℕ). x ∷ p ∷ t) (sym (ap (le 2) number_is ∙ le2_back a b (fits 2) (fits 3))) };
+      joined = refl;
+    })
 
 found32 : (x : ℕ) (xs : List ℕ) (v : ℕ) (r : List ℕ) → IsBytes (x ∷ xs) → value32_of (x ∷ xs) ≡ Ok (v, r) → Found (In32 x) (x ∷ xs) v r
 found32 x [] v r fits e = absurd cc
@@ -72,11 +71,11 @@ found32 x (p ∷ a ∷ b ∷ c ∷ d ∷ ys) v r fits e =
     let number_is : number ≡ a + 256 * (b + 256 * (c + 256 * d)) = omega arith in
     let g = guard_ok (ltb (length (x ∷ p ∷ a ∷ b ∷ c ∷ d ∷ ys)) 6) (number, ys) (v, r) e in
     subst (λ (q : ℕ × List ℕ). Found (In32 x) (x ∷ p ∷ a ∷ b ∷ c ∷ d ∷ ys) q.0 q.1) g.1
-      (record {
-        text = x ∷ p ∷ a ∷ b ∷ c ∷ d ∷ [];
-        spelled = record { fits = omega (arith, fits 2, fits 3, fits 4, fits 5); pad = p; pad_fits = fits 1; spelled = ap (λ (t : List ℕ). x ∷ p ∷ t) (sym (ap (le 4) number_is ∙ le4_back a b c d (fits 2) (fits 3) (fits 4) (fits 5))) };
-        joined = refl
-      })
+    (record {
+      text = x ∷ p ∷ a ∷ b ∷ c ∷ d ∷ [];
+      spelled = record { fits = omega (arith, fits 2, fits 3, fits 4, fits 5); pad = p; pad_fits = fits 1; spelled = ap (λ (t : List ℕ). x ∷ p ∷ t) (sym (ap (le 4) number_is ∙ le4_back a b c d (fits 2) (fits 3) (fits 4) (fits 5))) };
+      joined = refl;
+    })
 
 -- what is spelled is read again, whatever follows it
 again8 : (x v : ℕ) (s r : List ℕ) → In8 x v s → value8_of (s ++ r) ≡ Ok (v, r)
@@ -210,7 +209,7 @@ taken b g r kind Spelled read is_segment finds e =
     let a = bind_ok read (λ x. Ok (kind x.0, x.1)) (g, r) e in
     let f = finds a.0.0 a.0.1 a.1 in
     subst (λ (q : Segment × List ℕ). TakesSegment b q.0 q.1) (ok_is (kind a.0.0, a.0.1) (g, r) a.2)
-      (record { text = f.text; spelled = is_segment a.0.0 f.text f.spelled; joined = f.joined })
+    (record { text = f.text; spelled = is_segment a.0.0 f.text f.spelled; joined = f.joined })
 
 taken_row : (x : ℕ) (xs : List ℕ) (g : Segment) (r : List ℕ) (read : Result (Segment × List ℕ) PathFault) → IsBytes (x ∷ xs)
     → Row x (x ∷ xs) read → read ≡ Ok (g, r) → TakesSegment (x ∷ xs) g r
@@ -270,7 +269,7 @@ part_fault x xs k kind Spelled (Ok y) is_segment parts e = absurd cc
 part_fault x xs k kind Spelled (Err d) is_segment parts e =
     let p = parts cc in
     subst (λ (j : PathFault). SegmentFault j (x ∷ xs)) (sym p.0)
-      (record { segment = kind p.1.value; more = p.1.more; some = λ q. absurd cc; proper = p.1.proper; spelled = is_segment p.1.value ((x ∷ xs) ++ p.1.more) p.1.spelled })
+    (record { segment = kind p.1.value; more = p.1.more; some = λ q. absurd cc; proper = p.1.proper; spelled = is_segment p.1.value ((x ∷ xs) ++ p.1.more) p.1.spelled })
 
 row_fault : (x : ℕ) (xs : List ℕ) (k : PathFault) (read : Result (Segment × List ℕ) PathFault) → IsBytes (x ∷ xs)
     → Row x (x ∷ xs) read → read ≡ Err k → SegmentFault k (x ∷ xs)

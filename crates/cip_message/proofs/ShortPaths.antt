@@ -1,14 +1,14 @@
 -- The shortest spelling of a path is one, none is shorter, and it tells paths apart.
-use Rattle.std.proofs.Common.{◌≡◌, ◌⊎◌, ◌↔◌, ℕ, ◌+◌, ◌^◌, ◌<◌, ◌≤◌, Bool, true, false, cond, ltb, List, [], ◌∷◌, ◌++◌, length, take, Option, Some, None, Result, Ok, Err, refl, sym, ap, subst, ◌∙◌, append_assoc, arith, inl, inr}
+use Rattle.std.proofs.Common.{◌≡◌, ◌⊎◌, ℕ, ◌+◌, ◌^◌, ◌<◌, ◌≤◌, List, [], ◌∷◌, ◌++◌, length, take, Option, Some, None, Ok, refl, sym, ap, subst, ◌∙◌, append_assoc, arith, inl, inr}
 use Rattle.std.specs.Prelude.{IfSome}
-use Rattle.std.proofs.lemmas.Bool.{ltb-true, ltb-false, le-ltb, lt-ltb, cases_lt}
+use Rattle.std.proofs.lemmas.Bool.{le-ltb, lt-ltb, cases_lt}
 use Rattle.std.proofs.lemmas.List.{length-append, append-nil, take_at}
 use Rattle.cip_message.specs.declared.path.Segment.{Segment}
-use Rattle.cip_message.specs.declared.path.Segment.TheVariants.{Class, Instance, Member, Attribute}
+use Rattle.cip_message.specs.declared.path.Segment.TheVariants.{Instance, Member, Attribute}
 use Rattle.cip_message.specs.declared.path.Path.{Path}
 use Rattle.cip_message.specs.declared.path.PathFault.{PathFault}
 use Rattle.cip_message.specs.Numbers.{le}
-use Rattle.cip_message.specs.Path.{In8, In16, In32, IsSegment, AreSegments, optional, segments, IsPath}
+use Rattle.cip_message.specs.Path.{In8, In16, IsSegment, AreSegments, optional, IsPath}
 use Rattle.cip_message.specs.PathReading.{segment_of, path_of}
 use Rattle.cip_message.specs.PathWriting.{short16, short32, short_optional, short, FitsPath, IsShortest, OneSegment}
 use Rattle.cip_message.proofs.Steps.{ok_is}
@@ -40,7 +40,7 @@ spells32 : (v : ℕ) → v < 2 ^ 32 → IsSegment (Instance v) (short32 0x24 v)
 spells32 v fits =
     elim (cases_lt v (2 ^ 16)) [
       | inl lt ↦ subst (λ (t : List ℕ). IsSegment (Instance v) t) (sym (short32_low 0x24 v lt))
-        (elim (spells16 0x24 v lt) as (λ _. IsSegment (Instance v) (short16 0x24 v)) [ inl h ↦ inl h | inr h ↦ inr (inl h) ])
+          (elim (spells16 0x24 v lt) as (λ _. IsSegment (Instance v) (short16 0x24 v)) [ inl h ↦ inl h | inr h ↦ inr (inl h) ])
       | inr ge ↦ inr (inr (record { fits = fits; pad = 0; pad_fits = omega arith; spelled = short32_high 0x24 v ge }))
     ]
 
@@ -89,9 +89,13 @@ short_is_path p f =
     let c = short16 0x20 p.class in
     let i = short32 0x24 p.instance in
     let a = short_optional 0x30 p.attribute in
-    let m = short_optional 0x28 p.member in
-    (c, i ++ (a ++ m), spells16 0x20 p.class f.class, (i, a ++ m, spells32 p.instance f.instance, spells_tail p.attribute p.member f.attribute f.member, refl),
-     append_assoc (c ++ i) a m ∙ append_assoc c i (a ++ m))
+    let m = short_optional 0x28 p.member in (
+      c,
+      i ++ (a ++ m),
+      spells16 0x20 p.class f.class,
+      (i, a ++ m, spells32 p.instance f.instance, spells_tail p.attribute p.member f.attribute f.member, refl),
+      append_assoc (c ++ i) a m ∙ append_assoc c i (a ++ m),
+    )
 
 short_is_least : (p : Path) (b : List ℕ) → IsPath p b → length (short p) ≤ length b
 unfolding short IsPath
@@ -113,7 +117,7 @@ pub is_shortest : (p : Path) → FitsPath p → IsShortest p
 is_shortest p f = record {
   is_path = short_is_path p f;
   least = short_is_least p;
-  only = λ q g. ((λ e. ok_is {E = PathFault} p q (sym (short_read p f) ∙ ap path_of e ∙ short_read q g)), (λ e. ap short e))
+  only = λ q g. ((λ e. ok_is {E = PathFault} p q (sym (short_read p f) ∙ ap path_of e ∙ short_read q g)), (λ e. ap short e));
 }
 
 -- ---- one segment

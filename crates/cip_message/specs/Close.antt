@@ -29,8 +29,8 @@ pub record IsClose (c : Close) : Type 0 where
 -- name the connection, path size in words, reserved, path
 abbrev pub close_with : ℕ → Close → List ℕ
 close_with reserved c =
-  c.priority ∷ c.ticks ∷ [] ++ le 2 c.connection_serial ++ le 2 c.originator_vendor ++ le 4 c.originator_serial
-  ++ (length c.path / 2) ∷ reserved ∷ [] ++ c.path
+    c.priority ∷ c.ticks ∷ [] ++ le 2 c.connection_serial ++ le 2 c.originator_vendor ++ le 4 c.originator_serial
+    ++ (length c.path / 2) ∷ reserved ∷ [] ++ c.path
 
 -- b is a spelling of the close request c
 pub record SpellsClose (c : Close) (b : List ℕ) : Type 0 where
@@ -50,7 +50,8 @@ view v = record {
   connection_serial = v.connection_serial;
   originator_vendor = v.originator_vendor;
   originator_serial = v.originator_serial;
-  path = v.path.now }
+  path = v.path.now;
+}
 
 -- how long a text says it is: 12 bytes, and the path that byte 10 counts in words (0 where it ends before)
 abbrev pub said_length : List ℕ → ℕ
@@ -64,11 +65,12 @@ close_fields b = record {
   connection_serial = number_at 2 2 b;
   originator_vendor = number_at 4 2 b;
   originator_serial = number_at 6 4 b;
-  path = drop 12 b }
+  path = drop 12 b;
+}
 
 -- reading a close request
 unfoldable pub close_of : List ℕ → Result Close LengthFault
 close_of b =
-  if nat_lt (length b) (said_length b) then Err Short
-  else if nat_lt (said_length b) (length b) then Err Long
-  else Ok (close_fields b)
+    if nat_lt (length b) (said_length b) then Err Short
+    else if nat_lt (said_length b) (length b) then Err Long
+    else Ok (close_fields b)

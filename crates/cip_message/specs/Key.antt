@@ -1,6 +1,6 @@
 -- The electronic key (Volume 1, appendix on segments: key segment, format 4) and the rule by which a
 -- device answers it (Volume 1, Connection Manager).
-use Rattle.std.specs.Prelude.{◌≡◌, ◌⊎◌, ℕ, ◌+◌, ◌-◌, ◌<◌, ◌≤◌, ◌^◌, Bool, true, false, ◌&&◌, ◌||◌, ◌==◌, IsTrue, List, [], ◌∷◌, ◌++◌, length, slice_index, drop, Option, Some, None, nat_lt, nat_le, if◌then◌else◌}
+use Rattle.std.specs.Prelude.{◌≡◌, ◌⊎◌, ℕ, ◌+◌, ◌-◌, ◌<◌, ◌≤◌, ◌^◌, Bool, ◌&&◌, ◌||◌, ◌==◌, IsTrue, List, [], ◌∷◌, ◌++◌, length, slice_index, drop, Option, Some, None, nat_lt, nat_le, if◌then◌else◌}
 use Rattle.byteorder.specs.Endian.{little_number}
 use Rattle.cip_message.specs.Numbers.{le}
 use Rattle.cip_message.specs.declared.key.Key.{Key}
@@ -18,7 +18,7 @@ pub record IsKey (k : Key) : Type 0 where
 -- compatibility bit above it, minor revision
 abbrev pub key : Key → List ℕ
 key k =
-  0x34 ∷ 0x04 ∷ (le 2 k.vendor ++ le 2 k.device_type ++ le 2 k.product_code
+    0x34 ∷ 0x04 ∷ (le 2 k.vendor ++ le 2 k.device_type ++ le 2 k.product_code
     ++ (k.major + (if k.compatible then 128 else 0)) ∷ k.minor ∷ [])
 
 -- what a key asks of a number: 0 asks nothing, another asks for itself
@@ -48,22 +48,23 @@ is_met asked has = (asked == 0) || (asked == has)
 -- the extended status that refuses the key: the first test that fails
 abbrev pub refusal : Device → Key → Option ℕ
 refusal d k =
-  if is_met k.vendor d.vendor && is_met k.product_code d.product_code then
+    if is_met k.vendor d.vendor && is_met k.product_code d.product_code then
     (if is_met k.device_type d.device_type then
-      (if is_met k.major d.major && (is_met k.minor d.minor || (k.compatible && nat_le k.minor d.minor)) then None
-      else Some 0x0116)
+    (if is_met k.major d.major && (is_met k.minor d.minor || (k.compatible && nat_le k.minor d.minor)) then None
+    else Some 0x0116)
     else Some 0x0115)
-  else Some 0x0114
+    else Some 0x0114
 
 -- reading a key that is the whole text
 unfoldable pub key_of : List ℕ → Option Key
 key_of b =
-  if (length b == 10) && (slice_index b 0 == 0x34) && (slice_index b 1 == 0x04) then
+    if (length b == 10) && (slice_index b 0 == 0x34) && (slice_index b 1 == 0x04) then
     Some (record {
       vendor = little_number 2 (drop 2 b);
       device_type = little_number 2 (drop 4 b);
       product_code = little_number 2 (drop 6 b);
       major = (if nat_lt (slice_index b 8) 128 then slice_index b 8 else slice_index b 8 - 128);
       compatible = nat_le 128 (slice_index b 8);
-      minor = slice_index b 9 })
-  else None
+      minor = slice_index b 9;
+    })
+    else None

@@ -8,3 +8,4 @@ pub mod Reply
 pub mod Key
 pub mod Open
 pub mod Close
+pub mod OpenPath

@@ -52,14 +52,14 @@ pub record IsOpen (o : Open) : Type 0 where
 -- the fields up to the three numbers that name the connection
 abbrev pub front : Open → List ℕ
 front o =
-  o.priority ∷ o.ticks ∷ [] ++ le 4 o.o_t_id ++ le 4 o.t_o_id
-  ++ le 2 o.connection_serial ++ le 2 o.originator_vendor ++ le 4 o.originator_serial
+    o.priority ∷ o.ticks ∷ [] ++ le 4 o.o_t_id ++ le 4 o.t_o_id
+    ++ le 2 o.connection_serial ++ le 2 o.originator_vendor ++ le 4 o.originator_serial
 
 -- the fields from the timeout multiplier on, with the three reserved bytes behind it
 abbrev pub back : ℕ → Open → List ℕ
 back reserved o =
-  o.multiplier ∷ [] ++ le 3 reserved ++ le 4 o.o_t_rpi ++ le 2 o.o_t_parameters ++ le 4 o.t_o_rpi ++ le 2 o.t_o_parameters
-  ++ o.transport ∷ (length o.path / 2) ∷ []
+    o.multiplier ∷ [] ++ le 3 reserved ++ le 4 o.o_t_rpi ++ le 2 o.o_t_parameters ++ le 4 o.t_o_rpi ++ le 2 o.t_o_parameters
+    ++ o.transport ∷ (length o.path / 2) ∷ []
 
 -- its spellings, one for each value of the reserved bytes: the fields, and then the path
 abbrev pub open_with : ℕ → Open → List ℕ
@@ -95,7 +95,8 @@ view v = record {
   t_o_rpi = v.t_o_rpi;
   t_o_parameters = v.t_o_parameters.bits;
   transport = v.transport.bits;
-  path = v.path.now }
+  path = v.path.now;
+}
 
 -- how long a text says it is: 36 bytes, and the path that byte 35 counts in words (0 where it ends before)
 abbrev pub said_length : List ℕ → ℕ
@@ -117,14 +118,15 @@ open_fields b = record {
   t_o_rpi = number_at 28 4 b;
   t_o_parameters = number_at 32 2 b;
   transport = slice_index b 34;
-  path = drop 36 b }
+  path = drop 36 b;
+}
 
 -- reading an open request
 unfoldable pub open_of : List ℕ → Result Open LengthFault
 open_of b =
-  if nat_lt (length b) (said_length b) then Err Short
-  else if nat_lt (said_length b) (length b) then Err Long
-  else Ok (open_fields b)
+    if nat_lt (length b) (said_length b) then Err Short
+    else if nat_lt (said_length b) (length b) then Err Long
+    else Ok (open_fields b)
 
 -- in the parameters of a direction, bits 14 and 13 are the connection's type (2 is point to point)
 abbrev pub connection_type : ℕ → ℕ

@@ -25,16 +25,16 @@ with_kind kind read = read >>= λ x. Ok (kind x.0, x.1)
 -- the segment at the front of bytes that begin with x
 abbrev pub segment_at : ℕ → List ℕ → Result (Segment × List ℕ) PathFault
 segment_at x b =
-  if x == 0x20 then with_kind Class (value8_of b) else
-  if x == 0x21 then with_kind Class (value16_of b) else
-  if x == 0x24 then with_kind Instance (value8_of b) else
-  if x == 0x25 then with_kind Instance (value16_of b) else
-  if x == 0x26 then with_kind Instance (value32_of b) else
-  if x == 0x28 then with_kind Member (value8_of b) else
-  if x == 0x29 then with_kind Member (value16_of b) else
-  if x == 0x30 then with_kind Attribute (value8_of b) else
-  if x == 0x31 then with_kind Attribute (value16_of b) else
-  Err fault.Segment
+    if x == 0x20 then with_kind Class (value8_of b) else
+    if x == 0x21 then with_kind Class (value16_of b) else
+    if x == 0x24 then with_kind Instance (value8_of b) else
+    if x == 0x25 then with_kind Instance (value16_of b) else
+    if x == 0x26 then with_kind Instance (value32_of b) else
+    if x == 0x28 then with_kind Member (value8_of b) else
+    if x == 0x29 then with_kind Member (value16_of b) else
+    if x == 0x30 then with_kind Attribute (value8_of b) else
+    if x == 0x31 then with_kind Attribute (value16_of b) else
+    Err fault.Segment
 
 -- the segment at the front, where one is wanted
 unfoldable pub segment_of : List ℕ → Result (Segment × List ℕ) PathFault

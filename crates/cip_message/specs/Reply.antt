@@ -1,5 +1,5 @@
 -- Replies of the message router (Volume 1, message router response format).
-use Rattle.std.specs.Prelude.{◌≡◌, ℕ, ◌+◌, ◌*◌, ◌<◌, ◌≤◌, ◌^◌, List, [], ◌∷◌, ◌++◌, length, take, drop, slice_index, Result, Ok, Err, nat_lt, if◌then◌else◌}
+use Rattle.std.specs.Prelude.{◌≡◌, ℕ, ◌*◌, ◌<◌, ◌≤◌, ◌^◌, List, [], ◌∷◌, ◌++◌, length, take, drop, Result, Ok, Err, nat_lt, if◌then◌else◌}
 use Rattle.std.specs.List.{flat_map}
 use Rattle.cip_message.specs.Numbers.{le, AreBytes, AreWords, words_of}
 use Rattle.cip_message.specs.declared.reply.ReplyView.{ReplyView}
@@ -26,7 +26,7 @@ pub record IsReply (a : Reply) : Type 0 where
 -- service, reserved, general status, number of additional words, these words, data
 abbrev pub reply_with : ℕ → Reply → List ℕ
 reply_with reserved a =
-  a.service ∷ reserved ∷ a.status ∷ length a.additional ∷ (flat_map (le 2) a.additional ++ a.data)
+    a.service ∷ reserved ∷ a.status ∷ length a.additional ∷ (flat_map (le 2) a.additional ++ a.data)
 
 -- b is a spelling of the reply a
 pub record SpellsReply (a : Reply) (b : List ℕ) : Type 0 where
@@ -41,7 +41,7 @@ reply a = reply_with 0 a
 -- the reply of these fields
 abbrev pub reply_of_fields : ℕ → ℕ → List ℕ → List ℕ → Reply
 reply_of_fields service status additional bytes =
-  record { service = service; status = status; additional = additional; «data» = bytes }
+    record { service = service; status = status; additional = additional; «data» = bytes }
 
 -- what a view of a reply shows
 abbrev pub view : ReplyView → Reply
@@ -54,6 +54,6 @@ reply_of (service ∷ []) = Err Short
 reply_of (service ∷ reserved ∷ []) = Err Short
 reply_of (service ∷ reserved ∷ status ∷ []) = Err Short
 reply_of (service ∷ reserved ∷ status ∷ words ∷ rest) =
-  if nat_lt service 128 then Err NotReply
-  else if nat_lt (length rest) (2 * words) then Err Extra
-  else Ok (reply_of_fields service status (words_of (take (2 * words) rest)) (drop (2 * words) rest))
+    if nat_lt service 128 then Err NotReply
+    else if nat_lt (length rest) (2 * words) then Err Extra
+    else Ok (reply_of_fields service status (words_of (take (2 * words) rest)) (drop (2 * words) rest))

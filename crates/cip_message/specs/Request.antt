@@ -32,5 +32,5 @@ unfoldable pub request_of : List ℕ → Result Request RequestFault
 request_of [] = Err Short
 request_of (service ∷ []) = Err Short
 request_of (service ∷ words ∷ rest) =
-  if nat_lt (length rest) (2 * words) then Err PathSize
-  else Ok (record { service = service; path = take (2 * words) rest; «data» = drop (2 * words) rest })
+    if nat_lt (length rest) (2 * words) then Err PathSize
+    else Ok (record { service = service; path = take (2 * words) rest; «data» = drop (2 * words) rest })

@@ -6,7 +6,7 @@ ghost use Rattle.cip_message.specs.Reading.{Gives};
 ghost use Rattle.cip_message.specs.Close.{Close, IsClose, SpellsClose, close, view, said_length, close_fields, close_of};
 
 use crate::open::LengthFault;
-use crate::writing::{append, append_u16, append_u32, append_u8, Full};
+use crate::writing::{Full, append, append_u8, append_u16, append_u32};
 use arrayvec::ArrayVec;
 use byteorder::{ByteOrder, LittleEndian};
 

@@ -58,7 +58,11 @@ fn key_at(bytes: &[u8]) -> Option<Key>
         vendor: LittleEndian::read_u16(&bytes[2..]),
         device_type: LittleEndian::read_u16(&bytes[4..]),
         product_code: LittleEndian::read_u16(&bytes[6..]),
-        major: if revision < 0x80 { revision } else { revision - 0x80 },
+        major: if revision < 0x80 {
+            revision
+        } else {
+            revision - 0x80
+        },
         compatible: revision >= 0x80,
         minor: bytes[9],
     })

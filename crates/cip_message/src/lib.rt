@@ -13,16 +13,18 @@
 pub mod close;
 pub mod key;
 pub mod open;
+pub mod open_path;
 pub mod path;
 pub mod reply;
 pub mod request;
 pub mod writing;
 
 pub use close::CloseRequest;
-pub use key::{read_key, Device, Key};
+pub use key::{Device, Key, read_key};
 pub use open::{LengthFault, OpenRequest, Parameters, Transport};
-pub use path::{read_path, write_path, Path, PathFault, Segment};
-pub use reply::{write_reply, ReplyFault, ReplyView};
+pub use open_path::{OpenPath, read_open_path};
+pub use path::{Path, PathFault, Segment, read_path, write_path};
+pub use reply::{ReplyFault, ReplyView, write_reply};
 pub use request::{RequestFault, RequestView};
 pub use writing::Full;
 

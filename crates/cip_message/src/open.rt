@@ -5,7 +5,7 @@ ghost use Rattle.arrayvec.specs.ArrayVec.{array_vec_len};
 ghost use Rattle.cip_message.specs.Reading.{Gives};
 ghost use Rattle.cip_message.specs.Open.{Open, FrontFits, BackFits, IsOpen, SpellsOpen, front, back, «open», view, said_length, open_fields, open_of, connection_type, size_of, is_server_of, class_of_transport, OneOpen};
 
-use crate::writing::{append, append_u16, append_u32, append_u8, Full};
+use crate::writing::{Full, append, append_u8, append_u16, append_u32};
 use arrayvec::ArrayVec;
 use byteorder::{ByteOrder, LittleEndian};
 use thiserror::Error;
@@ -206,5 +206,4 @@ fn fields_at(bytes: &[u8]) -> OpenRequest<'_>
 /// An open request that spells a front of a text is the only one that does.
 pub fn one_open_request()
     ensures { OneOpen }
-{
-}
+{}

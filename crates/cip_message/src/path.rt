@@ -9,7 +9,7 @@ ghost use Rattle.cip_message.specs.Path.{IsPath, path_fault};
 ghost use Rattle.cip_message.specs.PathReading.{value8_of, value16_of, value32_of, segment_of, class_of, instance_of, attribute_of, member_of, whole_of, path_of};
 ghost use Rattle.cip_message.specs.PathWriting.{short16, short32, short_optional, short, FitsPath, IsShortest, OneSegment};
 
-use crate::writing::{append, Full};
+use crate::writing::{Full, append};
 use arrayvec::ArrayVec;
 use byteorder::{ByteOrder, LittleEndian};
 use thiserror::Error;
@@ -308,5 +308,4 @@ pub fn write_path<const N: usize>(out: &mut ArrayVec<u8, N>, path: Path) -> Resu
 /// A segment that spells a front of a text is the only one that does.
 pub fn one_segment()
     ensures { OneSegment }
-{
-}
+{}

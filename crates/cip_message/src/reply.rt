@@ -7,7 +7,7 @@ ghost use Rattle.cip_message.specs.Numbers.{le};
 ghost use Rattle.cip_message.specs.Reading.{Gives};
 ghost use Rattle.cip_message.specs.Reply.{Reply, SpellsReply, reply, reply_of_fields, view, reply_of};
 
-use crate::writing::{append, Full};
+use crate::writing::{Full, append};
 use arrayvec::ArrayVec;
 use byteorder::{ByteOrder, LittleEndian};
 use thiserror::Error;
@@ -47,7 +47,7 @@ impl<'a> ReplyView<'a> {
             ↔ ((4 ≤ length bytes.now) × (slice_index bytes.now 0 < 128)) }
         ensures extra { Gives view result (Err ReplyFault.Extra)
             ↔ ((4 ≤ length bytes.now) × (128 ≤ slice_index bytes.now 0)
-                × (length bytes.now < 4 + 2 * slice_index bytes.now 3)) }
+            × (length bytes.now < 4 + 2 * slice_index bytes.now 3)) }
         ensures exact { Gives view result (reply_of bytes.now) }
     {
         reply_at(bytes)
@@ -119,7 +119,7 @@ pub fn write_reply<const N: usize>(
     // It is a reply's spelling, where bit 7 is set.
     ensures spelled { 128 ≤ service
         → SpellsReply (reply_of_fields service status additional.now «data».now)
-            (reply (reply_of_fields service status additional.now «data».now)) }
+        (reply (reply_of_fields service status additional.now «data».now)) }
 {
     let room = out.remaining_capacity();
     let before = 4 + 2 * additional.len();

@@ -5,7 +5,7 @@ ghost use Rattle.arrayvec.specs.ArrayVec.{array_vec_len};
 ghost use Rattle.cip_message.specs.Reading.{Gives};
 ghost use Rattle.cip_message.specs.Request.{Request, IsRequest, request, view, request_of};
 
-use crate::writing::{append, append_u8, Full};
+use crate::writing::{Full, append, append_u8};
 use arrayvec::ArrayVec;
 use thiserror::Error;
 

@@ -15,8 +15,14 @@ fn paths_read(rt: HostRuntime) {
     assert_eq!(rt; read_path(&[0x24, 0x01]), Err(PathFault::Order));
     assert_eq!(rt; read_path(&[0x20]), Err(PathFault::Cut));
     assert_eq!(rt; read_path(&[0x21, 0, 1, 0, 0x25, 0]), Err(PathFault::Cut));
-    assert_eq!(rt; read_path(&[0x20, 1, 0x24, 1, 0x30, 1, 0x35]), Err(PathFault::Segment));
-    assert_eq!(rt; read_path(&[0x20, 0, 0x24, 1, 0x28, 1, 0x30, 1]), Err(PathFault::Order));
+    assert_eq!(rt;
+        read_path(&[0x20, 1, 0x24, 1, 0x30, 1, 0x35]),
+        Err(PathFault::Segment)
+    );
+    assert_eq!(rt;
+        read_path(&[0x20, 0, 0x24, 1, 0x28, 1, 0x30, 1]),
+        Err(PathFault::Order)
+    );
     let wide = Path {
         class: 255,
         instance: 1,
@@ -36,7 +42,10 @@ fn paths_written(rt: HostRuntime) {
         member: None,
     };
     assert_eq!(rt; write_path(&mut out, wide), Ok(()));
-    assert_eq!(rt; out.as_slice(), [0x21, 0, 0, 1, 0x26, 0, 0, 0, 1, 0].as_slice());
+    assert_eq!(rt;
+        out.as_slice(),
+        [0x21, 0, 0, 1, 0x26, 0, 0, 0, 1, 0].as_slice()
+    );
 
     let mut out: ArrayVec<u8, 4> = ArrayVec::new();
     let narrow = Path {
@@ -58,10 +67,17 @@ fn paths_written(rt: HostRuntime) {
 #[test]
 fn requests(rt: HostRuntime) -> Result<(), Fail> {
     assert!(rt; matches!(RequestView::read(&[0x0e]), Err(RequestFault::Short)));
-    assert!(rt; matches!(RequestView::read(&[0x0e, 4, 0x20, 1, 0x24, 1, 0x30, 1]), Err(RequestFault::PathSize)));
+    assert!(rt;
+        matches!(
+            RequestView::read(&[0x0e, 4, 0x20, 1, 0x24, 1, 0x30, 1]),
+            Err(RequestFault::PathSize)
+        )
+    );
 
     let text = [0x0e, 2, 0x20, 1, 0x24, 2, 5, 6, 7];
-    let request = RequestView::read(&text).ok().ok_or("the bytes are a request")?;
+    let request = RequestView::read(&text)
+        .ok()
+        .ok_or("the bytes are a request")?;
     assert_eq!(rt; request.service, 0x0e);
     assert_eq!(rt; request.path, [0x20, 1, 0x24, 2].as_slice());
     assert_eq!(rt; request.data, [5, 6, 7].as_slice());
@@ -82,14 +98,24 @@ fn requests(rt: HostRuntime) -> Result<(), Fail> {
 fn replies(rt: HostRuntime) -> Result<(), Fail> {
     assert!(rt; matches!(ReplyView::read(&[0x8e, 0, 0]), Err(ReplyFault::Short)));
     assert!(rt; matches!(ReplyView::read(&[0x0e, 0, 0, 0]), Err(ReplyFault::NotReply)));
-    assert!(rt; matches!(ReplyView::read(&[0x8e, 0, 1, 1, 0x34]), Err(ReplyFault::Extra)));
+    assert!(rt;
+        matches!(
+            ReplyView::read(&[0x8e, 0, 1, 1, 0x34]),
+            Err(ReplyFault::Extra)
+        )
+    );
 
     let mut out: ArrayVec<u8, 9> = ArrayVec::new();
-    assert_eq!(rt; write_reply(&mut out, 0xd4, 1, &[0x0109, 0x0203], &[7]), Ok(()));
+    assert_eq!(rt;
+        write_reply(&mut out, 0xd4, 1, &[0x0109, 0x0203], &[7]),
+        Ok(())
+    );
     assert_eq!(rt; out.as_slice(), [0xd4, 0, 1, 2, 9, 1, 3, 2, 7].as_slice());
     assert_eq!(rt; write_reply(&mut out, 0xd4, 1, &[], &[]), Err(Full));
 
-    let reply = ReplyView::read(out.as_slice()).ok().ok_or("the bytes are a reply")?;
+    let reply = ReplyView::read(out.as_slice())
+        .ok()
+        .ok_or("the bytes are a reply")?;
     assert_eq!(rt; reply.service, 0xd4);
     assert_eq!(rt; reply.status, 1);
     assert_eq!(rt; reply.additional_word(0), Some(0x0109));
@@ -127,6 +153,24 @@ fn keys(rt: HostRuntime) -> Result<(), Fail> {
     Ok(())
 }
 
+#[test]
+fn open_paths(rt: HostRuntime) -> Result<(), Fail> {
+    let text = [0x34, 4, 0x99, 0x99, 0, 0, 0, 0, 0, 0, 0x20, 2, 0x24, 1];
+    let both = read_open_path(&text).ok_or("a key and a path")?;
+    assert_eq!(rt; both.key.map(|key| key.vendor), Some(0x9999));
+    assert_eq!(rt; both.path.class, 2);
+    assert_eq!(rt;
+        read_open_path(&text[10..]),
+        Some(OpenPath {
+            key: None,
+            path: both.path
+        })
+    );
+    assert_eq!(rt; read_open_path(&text[..10]), None);
+    assert_eq!(rt; read_open_path(&[1, 0, 0x20, 2, 0x24, 1]), None);
+    Ok(())
+}
+
 const OPEN: [u8; 40] = [
     0x0a, 0x0e, 1, 0, 0, 0, 0x44, 0x33, 0x22, 0x11, 3, 0, 0x42, 0, 0x78, 0x56, 0x34, 0x12, 2, 0, 0,
     0, 0x80, 0x84, 0x1e, 0, 0xf4, 0x43, 0x81, 0x84, 0x1e, 0, 0xf5, 0x43, 0xa3, 2, 0x20, 2, 0x24, 1,
@@ -140,7 +184,9 @@ fn open_requests(rt: HostRuntime) -> Result<(), Fail> {
     longer[..40].copy_from_slice(&OPEN);
     assert!(rt; matches!(OpenRequest::read(&longer), Err(LengthFault::Long)));
 
-    let open = OpenRequest::read(&OPEN).ok().ok_or("the bytes are an open request")?;
+    let open = OpenRequest::read(&OPEN)
+        .ok()
+        .ok_or("the bytes are an open request")?;
     assert_eq!(rt; open.priority, 0x0a);
     assert_eq!(rt; open.ticks, 0x0e);
     assert_eq!(rt; open.o_t_id, 1);
@@ -193,7 +239,9 @@ const CLOSE: [u8; 16] = [
 #[test]
 fn close_requests(rt: HostRuntime) -> Result<(), Fail> {
     assert!(rt; matches!(CloseRequest::read(&CLOSE[..15]), Err(LengthFault::Short)));
-    let close = CloseRequest::read(&CLOSE).ok().ok_or("the bytes are a close request")?;
+    let close = CloseRequest::read(&CLOSE)
+        .ok()
+        .ok_or("the bytes are a close request")?;
     assert_eq!(rt; close.priority, 0x0a);
     assert_eq!(rt; close.ticks, 0x0e);
     assert_eq!(rt; close.connection_serial, 1);

@@ -1,11 +1,12 @@
 -- Numbers and their bytes.
-use Rattle.std.proofs.Common.{◌≡◌, ℕ, ◌+◌, ◌*◌, ◌/◌, ◌%◌, ◌^◌, ◌<◌, List, [], ◌∷◌, refl, sym, ap, ◌∙◌, arith, unwrap_or, cond, Some}
+use Rattle.std.proofs.Common.{◌≡◌, ℕ, ◌+◌, ◌*◌, ◌/◌, ◌%◌, ◌^◌, ◌<◌, ◌≤◌, List, [], ◌∷◌, refl, sym, ap, ◌∙◌, arith, unwrap_or, cond, Some}
 use Rattle.std.proofs.Math.Nat.{div-one, mod-eq_of_lt}
 use Rattle.byteorder.specs.Endian.{little_bytes, little_number}
 use Rattle.byteorder.specs.Numbers.{little_from-bytes}
 use Rattle.cip_objects.specs.Tables.{COUNTER}
 use Rattle.cip_objects.specs.Contents.{Contents, value_at, bytes_at, number_at}
 use Rattle.cip_objects.specs.Entries.{IdentityValues, Block, CounterValues, contents_of, NoneIsClass, attribute_in, counter_attributes}
+use Rattle.cip_objects.specs.Run.{IsCounter}
 use Rattle.cip_objects.proofs.Lookup.{value_at-contents_of}
 
 -- a number is read again from its four bytes
@@ -19,3 +20,13 @@ counter_read d bs c m a v is h small e =
     sym (number-bytes v small)
     ∙ ap (little_number 4) (sym (ap (λ o. unwrap_or o []) (value_at-contents_of d bs c h COUNTER 1 a ∙ e)))
     ∙ ap (λ x. (little_number 4) (bytes_at x COUNTER 1 a)) is
+
+-- a counter to which nothing was added is one
+pub new_counts : (d : IdentityValues) (bs : List Block) → NoneIsClass bs → (value limit : ℕ) → value ≤ limit → limit < 2 ^ 32 → IsCounter (contents_of d bs (record { value = value; limit = limit; additions = 0 }))
+new_counts d bs h value limit within small =
+    let c : CounterValues = record { value = value; limit = limit; additions = 0 } in
+    let m = contents_of d bs c in
+    let v = counter_read d bs c m 1 value refl h (omega arith) refl in
+    let l = counter_read d bs c m 2 limit refl h small refl in
+    let a = counter_read d bs c m 3 0 refl h (omega arith) refl in
+    record { within = rw (← v, ← l) within; limit = rw (← l) small; additions = rw (← a) (omega arith) }

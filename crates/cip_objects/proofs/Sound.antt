@@ -15,6 +15,7 @@ pub record IsSound (c : Config) : Type 0 where
   pub small : All (λ a. sum a.members.items ≤ 480) c.assemblies.items
   pub split : All (λ a. length a.members.items ≤ 64) c.assemblies.items
   pub numbered : NoneIsClass (map block_of c.assemblies.items)
+  pub counter : c.counter.value ≤ c.counter.limit
 
 none_cond : (b : Bool) (x : ConfigFault) (r : Option ConfigFault) → cond b (Some x) r ≡ None → (b ≡ false) × (r ≡ None)
 none_cond true x r e = absurd (cc)
@@ -49,6 +50,7 @@ sound c e =
     let size = none_cond (nat_lt 16 (length c.assemblies.items) || list_any is_missized c.assemblies.items) _ _ name.1 in
     let split = none_cond (list_any is_wrongly_split c.assemblies.items) _ _ size.1 in
     let number = none_cond (is_misnumbered (instances c.assemblies.items)) _ _ split.1 in
+    let limit = none_cond (nat_lt c.counter.limit c.counter.value) _ _ number.1 in
     let named = or_false (nat_lt 32 (length (string_bytes c.name))) _ name.0 in
     let sized = or_false (nat_lt 16 (length c.assemblies.items)) (list_any is_missized c.assemblies.items) size.0 in
     record {
@@ -57,4 +59,5 @@ sound c e =
       small = λ k d h. at_most 480 (sum (get_or c.assemblies.items k d).members.items) (or_false _ _ (none_any is_missized c.assemblies.items sized.1 k d h)).1;
       split = λ k d h. at_most 64 (length (get_or c.assemblies.items k d).members.items) (or_false _ _ (none_any is_wrongly_split c.assemblies.items split.0 k d h)).0;
       numbered = numbers c.assemblies.items number.0;
+      counter = at_most c.counter.limit c.counter.value limit.0;
     }

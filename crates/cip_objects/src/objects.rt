@@ -6,6 +6,7 @@ ghost use Rattle.byteorder.specs.Endian.{little_bytes};
 ghost use Rattle.cip_objects.specs.Contents.{value_at, bytes_at, number_at, with_value};
 ghost use Rattle.cip_objects.specs.Changing.{spliced};
 ghost use Rattle.cip_objects.specs.Reading.{chosen};
+ghost use Rattle.cip_objects.specs.Run.{IsCounter};
 ghost use Rattle.cip_objects.specs.Service.{service_in};
 ghost use Rattle.cip_objects.specs.Entries.{shape_of};
 ghost use Rattle.cip_objects.specs.Tables.{services_of, class_or_first, shape_at, settable_size, member_at};
@@ -101,6 +102,7 @@ impl Objects {
         ensures refused { IfSome (fault_of config.now) (λ fault. result ≡ Err fault) }
         ensures allowed { fault_of config.now ≡ None → IfErr result (λ fault. fault ≡ ConfigFault.Memory) }
         ensures made { IfOk result (λ objects. objects ≡ configured config.now) }
+        ensures counter { IfOk result IsCounter }
     {
         if let Some(fault) = config.fault() {
             return Err(fault);

@@ -43,176 +43,131 @@ fn row<R: Router, A: Abort>(rt: &A, router: &mut R, room: usize, request: &[u8],
     assert_eq!(rt; reply.as_slice(), wanted, "{request:?}");
 }
 
+/// Asserts what a router answers to each request.
+fn answers<R: Router, A: Abort>(rt: &A, router: &mut R, rows: &[(&[u8], &[u8])]) {
+    for (request, wanted) in rows {
+        row(rt, router, 504, request, wanted);
+    }
+}
+
 #[test]
 fn worked_reads(rt: HostRuntime) -> Result<(), Fail> {
     let mut objects = Objects::new(rt.alloc(), &demo(rt.alloc())?)?;
-    row(
-        &rt,
-        &mut objects,
-        504,
-        b"\x0e\x03\x20\x01\x24\x01\x30\x01",
-        b"\x8e\x00\x00\x00\x34\x12",
-    ); // the vendor
-    row(
-        &rt,
-        &mut objects,
-        504,
-        b"\x0e\x06\x21\x00\x01\x00\x25\x00\x01\x00\x31\x00\x01\x00",
-        b"\x8e\x00\x00\x00\x34\x12",
-    ); // the same in 16 bits
-    row(
-        &rt,
-        &mut objects,
-        504,
-        b"\x0e\x04\x20\x01\x24\x01\x30\x01",
-        b"\x8e\x00\x26\x00",
-    ); // a path past the end
-    row(
-        &rt,
-        &mut objects,
-        504,
-        b"\x0e\x03\x35\x00\x24\x01\x30\x01",
-        b"\x8e\x00\x04\x00",
-    ); // no segment
-    row(
-        &rt,
-        &mut objects,
-        504,
-        b"\x03\x02\x20\x01\x24\x01\x03\x00\x01\x00\x63\x00\x02\x00",
-        b"\x83\x00\x0a\x00\x03\x00\x01\x00\x00\x00\x34\x12\x63\x00\x14\x00\x02\x00\x00\x00\x2b\x00",
-    ); // a list with an attribute that isn't there
-    row(
-        &rt,
-        &mut objects,
-        504,
-        b"\x01\x02\x20\x01\x24\x01",
-        b"\x81\x00\x00\x00\x34\x12\x2b\x00\x07\x00\x02\x05\x00\x00\x04\x03\x02\x01\x04\x44\x65\x6d\x6f",
-    ); // all attributes
-    row(
-        &rt,
-        &mut objects,
-        504,
-        b"\x0e\x03\x20\x04\x24\x00\x30\x02",
-        b"\x8e\x00\x00\x00\x64\x00",
-    ); // the greatest instance
-    row(
-        &rt,
-        &mut objects,
-        504,
-        b"\x0e\x03\x20\x04\x24\x64\x30\x04",
-        b"\x8e\x00\x00\x00\x04\x00",
-    ); // the size
-    row(
-        &rt,
-        &mut objects,
-        504,
-        b"\x5b\x02\x20\x06\x24\x01",
-        b"\xdb\x00\x08\x00",
-    ); // not a service of the objects
-    row(
-        &rt,
-        &mut objects,
-        504,
-        b"\x54\x02\x20\x06\x24\x01",
-        b"\xd4\x00\x08\x00",
-    ); // nor is this
+    let rows: [(&[u8], &[u8]); 10] = [
+        // the vendor
+        (
+            b"\x0e\x03\x20\x01\x24\x01\x30\x01",
+            b"\x8e\x00\x00\x00\x34\x12",
+        ),
+        // the same in 16 bits
+        (
+            b"\x0e\x06\x21\x00\x01\x00\x25\x00\x01\x00\x31\x00\x01\x00",
+            b"\x8e\x00\x00\x00\x34\x12",
+        ),
+        // a path past the end
+        (b"\x0e\x04\x20\x01\x24\x01\x30\x01", b"\x8e\x00\x26\x00"),
+        // no segment
+        (b"\x0e\x03\x35\x00\x24\x01\x30\x01", b"\x8e\x00\x04\x00"),
+        // a list with an attribute that isn't there
+        (
+            b"\x03\x02\x20\x01\x24\x01\x03\x00\x01\x00\x63\x00\x02\x00",
+            b"\x83\x00\x0a\x00\x03\x00\x01\x00\x00\x00\x34\x12\x63\x00\x14\x00\x02\x00\x00\x00\x2b\x00",
+        ),
+        // all attributes
+        (
+            b"\x01\x02\x20\x01\x24\x01",
+            b"\x81\x00\x00\x00\x34\x12\x2b\x00\x07\x00\x02\x05\x00\x00\x04\x03\x02\x01\x04\x44\x65\x6d\x6f",
+        ),
+        // the greatest instance
+        (
+            b"\x0e\x03\x20\x04\x24\x00\x30\x02",
+            b"\x8e\x00\x00\x00\x64\x00",
+        ),
+        // the size
+        (
+            b"\x0e\x03\x20\x04\x24\x64\x30\x04",
+            b"\x8e\x00\x00\x00\x04\x00",
+        ),
+        // not a service of the objects
+        (b"\x5b\x02\x20\x06\x24\x01", b"\xdb\x00\x08\x00"),
+        // nor is this
+        (b"\x54\x02\x20\x06\x24\x01", b"\xd4\x00\x08\x00"),
+    ];
+    answers(&rt, &mut objects, &rows);
     Ok(())
 }
 
 #[test]
 fn worked_changes(rt: HostRuntime) -> Result<(), Fail> {
     let mut objects = Objects::new(rt.alloc(), &demo(rt.alloc())?)?;
-    row(
-        &rt,
-        &mut objects,
-        504,
-        b"\x19\x04\x20\x04\x24\x64\x30\x03\x28\x02\xaa\xbb",
-        b"\x99\x00\x00\x00",
-    ); // a member is set
-    row(
-        &rt,
-        &mut objects,
-        504,
-        b"\x0e\x03\x20\x04\x24\x64\x30\x03",
-        b"\x8e\x00\x00\x00\x00\xaa\xbb\x00",
-    ); // and read with all data
-    row(
-        &rt,
-        &mut objects,
-        504,
-        b"\x19\x04\x20\x04\x24\x64\x30\x03\x28\x04\xaa",
-        b"\x99\x00\x28\x00",
-    ); // no such member
-    row(
-        &rt,
-        &mut objects,
-        504,
-        b"\x0e\x03\x20\x04\x24\x64\x30\x03",
-        b"\x8e\x00\x00\x00\x00\xaa\xbb\x00",
-    ); // the data are unchanged
-    row(
-        &rt,
-        &mut objects,
-        504,
-        b"\x18\x04\x20\x04\x24\x64\x30\x03\x28\x02",
-        b"\x98\x00\x00\x00\xaa\xbb",
-    ); // the member alone
-    row(
-        &rt,
-        &mut objects,
-        504,
-        b"\x10\x03\x20\x04\x24\x64\x30\x03\x01\x02\x03\x04",
-        b"\x90\x00\x00\x00",
-    ); // all data are set
-    row(
-        &rt,
-        &mut objects,
-        504,
-        b"\x0e\x03\x20\x04\x24\x64\x30\x03",
-        b"\x8e\x00\x00\x00\x01\x02\x03\x04",
-    ); // and read
-    row(
-        &rt,
-        &mut objects,
-        504,
-        b"\x10\x03\x20\x04\x24\x64\x30\x04\x05\x00",
-        b"\x90\x00\x0e\x00",
-    ); // the size can't be set
-    row(
-        &rt,
-        &mut objects,
-        504,
-        b"\x32\x02\x20\x64\x24\x01\x65\x00\x00\x00",
-        b"\xb2\x00\x20\x00",
-    ); // over the limit
-    row(
-        &rt,
-        &mut objects,
-        504,
-        b"\x32\x02\x20\x64\x24\x01\x64\x00\x00\x00",
-        b"\xb2\x00\x00\x00\x64\x00\x00\x00",
-    ); // up to the limit
-    row(
-        &rt,
-        &mut objects,
-        504,
-        b"\x10\x03\x20\x64\x24\x01\x30\x02\x63\x00\x00\x00",
-        b"\x90\x00\x09\x00",
-    ); // a limit below the value
-    row(
-        &rt,
-        &mut objects,
-        504,
-        b"\x33\x02\x20\x64\x24\x01",
-        b"\xb3\x00\x00\x00\x64\x00\x00\x00",
-    ); // cleared
-    row(
-        &rt,
-        &mut objects,
-        504,
-        b"\x03\x02\x20\x64\x24\x01\x02\x00\x01\x00\x03\x00",
-        b"\x83\x00\x00\x00\x02\x00\x01\x00\x00\x00\x00\x00\x00\x00\x03\x00\x00\x00\x01\x00\x00\x00",
-    ); // value 0, one addition
+    let rows: [(&[u8], &[u8]); 13] = [
+        // a member is set
+        (
+            b"\x19\x04\x20\x04\x24\x64\x30\x03\x28\x02\xaa\xbb",
+            b"\x99\x00\x00\x00",
+        ),
+        // and read with all data
+        (
+            b"\x0e\x03\x20\x04\x24\x64\x30\x03",
+            b"\x8e\x00\x00\x00\x00\xaa\xbb\x00",
+        ),
+        // no such member
+        (
+            b"\x19\x04\x20\x04\x24\x64\x30\x03\x28\x04\xaa",
+            b"\x99\x00\x28\x00",
+        ),
+        // the data are unchanged
+        (
+            b"\x0e\x03\x20\x04\x24\x64\x30\x03",
+            b"\x8e\x00\x00\x00\x00\xaa\xbb\x00",
+        ),
+        // the member alone
+        (
+            b"\x18\x04\x20\x04\x24\x64\x30\x03\x28\x02",
+            b"\x98\x00\x00\x00\xaa\xbb",
+        ),
+        // all data are set
+        (
+            b"\x10\x03\x20\x04\x24\x64\x30\x03\x01\x02\x03\x04",
+            b"\x90\x00\x00\x00",
+        ),
+        // and read
+        (
+            b"\x0e\x03\x20\x04\x24\x64\x30\x03",
+            b"\x8e\x00\x00\x00\x01\x02\x03\x04",
+        ),
+        // the size can't be set
+        (
+            b"\x10\x03\x20\x04\x24\x64\x30\x04\x05\x00",
+            b"\x90\x00\x0e\x00",
+        ),
+        // over the limit
+        (
+            b"\x32\x02\x20\x64\x24\x01\x65\x00\x00\x00",
+            b"\xb2\x00\x20\x00",
+        ),
+        // up to the limit
+        (
+            b"\x32\x02\x20\x64\x24\x01\x64\x00\x00\x00",
+            b"\xb2\x00\x00\x00\x64\x00\x00\x00",
+        ),
+        // a limit below the value
+        (
+            b"\x10\x03\x20\x64\x24\x01\x30\x02\x63\x00\x00\x00",
+            b"\x90\x00\x09\x00",
+        ),
+        // cleared
+        (
+            b"\x33\x02\x20\x64\x24\x01",
+            b"\xb3\x00\x00\x00\x64\x00\x00\x00",
+        ),
+        // value 0, one addition
+        (
+            b"\x03\x02\x20\x64\x24\x01\x02\x00\x01\x00\x03\x00",
+            b"\x83\x00\x00\x00\x02\x00\x01\x00\x00\x00\x00\x00\x00\x00\x03\x00\x00\x00\x01\x00\x00\x00",
+        ),
+    ];
+    answers(&rt, &mut objects, &rows);
     Ok(())
 }
 

@@ -1,5 +1,5 @@
 use Rattle.std.proofs.Common.{arith}
-use Rattle.cip_message.proofs.Paths.{path_iff, fault_iff}
+use Rattle.cip_message.proofs.PathFaults.{path_iff, fault_iff}
 use Rattle.cip_message.proofs.path.read_path.Goals as goal
 
 pub returns-clause-path : goal.returns-clause-path

@@ -7,4 +7,4 @@ pub returns-clause-text : goal.returns-clause-text
 returns-clause-text g c =
     let s = c.args.self.now in
     seven_grow c.args.out.now.items (s.priority ∷ []) (s.ticks ∷ []) (le 4 s.o_t_id) (le 4 s.t_o_id) (le 2 s.connection_serial) (le 2 s.originator_vendor) (le 4 s.originator_serial) _ _ _ _ _ _ _
-      c.append_u8.ensures.text c.append_u8-2.ensures.text c.append_u32.ensures.text c.append_u32-2.ensures.text c.append_u16.ensures.text c.append_u16-2.ensures.text c.append_u32-3.ensures.text
+    c.append_u8.ensures.text c.append_u8-2.ensures.text c.append_u32.ensures.text c.append_u32-2.ensures.text c.append_u16.ensures.text c.append_u16-2.ensures.text c.append_u32-3.ensures.text

@@ -4,6 +4,7 @@ use Rattle.cip_objects.specs.Configuration.{fault_of, configured, block_of, iden
 use Rattle.cip_objects.specs.Counter.{counter_values}
 use Rattle.cip_objects.specs.Entries.{contents_of, NoneIsClass, Block}
 use Rattle.std.specs.String.{string_bytes}
+use Rattle.cip_objects.proofs.Numbers.{new_counts}
 use Rattle.cip_objects.proofs.Sound.{sound}
 use Rattle.cip_objects.proofs.objects.Objects.new.Goals as goal
 
@@ -43,3 +44,9 @@ returns-clause-made c =
     ap (λ k. contents_of (record (identity_of config) { name = c.name_of.result.items }) c.in_ok-assemblies_of.field-0.items (counter_values k)) c.new.ensures.new
     ∙ ap (λ n. contents_of (record (identity_of config) { name = n }) c.in_ok-assemblies_of.field-0.items (counter_of config)) name
     ∙ ap (λ bs. contents_of (identity_of config) bs (counter_of config)) items
+
+pub returns-clause-counter : goal.returns-clause-counter
+returns-clause-counter c =
+    let s = sound c.args.config.now (sym c.in_default.ensures) in
+    let items : c.in_ok-assemblies_of.field-0.items ≡ map block_of c.args.config.now.assemblies.items = c.in_ok-assemblies_of.ensures ∙ ap (map block_of) c.deref.ensures.value in
+    rw c.new.ensures.new (new_counts _ c.in_ok-assemblies_of.field-0.items (rw items s.numbered) c.args.config.now.counter.value c.args.config.now.counter.limit s.counter c.new.ensures.limit)

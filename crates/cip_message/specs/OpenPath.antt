@@ -1,0 +1,38 @@
+-- The path of a Forward_Open request (Volume 1, Connection Manager): an electronic key, if there is
+-- one, and then the path of what is connected to.
+use Rattle.std.specs.Prelude.{◌≡◌, ℕ, ◌==◌, List, [], ◌++◌, length, slice_index, take, drop, Option, Some, None, Result, Ok, Err, IfSome, nat_lt, if◌then◌else◌}
+use Rattle.cip_message.specs.declared.path.Path.{Path}
+use Rattle.cip_message.specs.declared.path.PathFault.{PathFault}
+use Rattle.cip_message.specs.declared.key.Key.{Key}
+use Rattle.cip_message.specs.declared.open_path.OpenPath.{OpenPath}
+use Rattle.cip_message.specs.Path.{IsPath}
+use Rattle.cip_message.specs.PathReading.{path_of}
+use Rattle.cip_message.specs.Key.{IsKey, key, key_of}
+
+abbrev pub key_text : Option Key → List ℕ
+key_text None = []
+key_text (Some k) = key k
+
+-- b spells the key, if there is one, and then the path
+pub record IsOpenPath (o : OpenPath) (b : List ℕ) : Type 0 where
+  pub key : IfSome o.key IsKey
+  pub rest : List ℕ
+  pub path : IsPath o.path rest
+  pub spelled : b ≡ key_text o.key ++ rest
+
+-- what was read, with that key
+abbrev pub with_key : Option Key → Result Path PathFault → Option OpenPath
+with_key k (Ok p) = Some (record { key = k; path = p })
+with_key k (Err e) = None
+
+-- the path behind a key
+abbrev pub behind_key : Option Key → List ℕ → Option OpenPath
+behind_key None rest = None
+behind_key (Some k) rest = with_key (Some k) (path_of rest)
+
+-- reading them: the first byte of a key begins no path
+unfoldable pub open_path_of : List ℕ → Option OpenPath
+open_path_of b =
+    if slice_index b 0 == 0x34 then
+    (if nat_lt (length b) 10 then None else behind_key (key_of (take 10 b)) (drop 10 b))
+    else with_key None (path_of b)

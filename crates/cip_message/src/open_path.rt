@@ -1,0 +1,49 @@
+//! The path of a Forward_Open request (Volume 1, Connection Manager).
+
+ghost use Rattle.std.specs.Prelude.{◌≡◌, ◌↔◌, Some};
+ghost use Rattle.cip_message.specs.declared.open_path.OpenPath.{OpenPath};
+ghost use Rattle.cip_message.specs.OpenPath.{IsOpenPath, open_path_of, with_key as with_key_by};
+ghost use Rattle.cip_message.specs.PathReading.{path_of};
+
+use crate::key::{Key, read_key};
+use crate::path::{Path, read_path};
+
+/// What a request to open a connection means: the device, if a key says which, and what of it.
+#[derive(Clone, Copy, Debug, PartialEq, Eq)]
+pub struct OpenPath {
+    pub key: Option<Key>,
+    pub path: Path,
+}
+
+/// The key, if there is one, and the path that are the whole text, or `None` where it isn't exactly
+/// these.
+pub fn read_open_path(bytes: &[u8]) -> Option<OpenPath>
+    // What is read is spelled so, and what is spelled so is read.
+    ensures open_path { (o : OpenPath) → (result ≡ Some o) ↔ IsOpenPath o bytes.now }
+    ensures exact { result ≡ open_path_of bytes.now }
+{
+    open_path_at(bytes)
+}
+
+#[tactic(auto, unfolding(crate::specs::OpenPath::open_path_of))]
+fn open_path_at(bytes: &[u8]) -> Option<OpenPath>
+    ensures { result ≡ open_path_of bytes.now }
+{
+    if bytes.is_empty() || bytes[0] != 0x34 {
+        return with_key(None, bytes);
+    }
+    if bytes.len() < 10 {
+        return None;
+    }
+    let key = read_key(&bytes[..10])?;
+    with_key(Some(key), &bytes[10..])
+}
+
+fn with_key(key: Option<Key>, bytes: &[u8]) -> Option<OpenPath>
+    ensures { result ≡ with_key_by key (path_of bytes.now) }
+{
+    match read_path(bytes) {
+        Ok(path) => Some(OpenPath { key, path }),
+        Err(_) => None,
+    }
+}
