@@ -1,17 +1,19 @@
 -- Where a peer's stream is cut changes nothing.
-use Rattle.std.proofs.Common.{◌≡◌, ℕ, zero, suc, ◌+◌, ◌-◌, ◌≤◌, ◌<◌, ◌⊎◌, inl, inr, max, List, [], ◌∷◌, ◌++◌, Bool, true, false, cond, eqb, not, ltb, Option, Some, None, length, take, drop, map, refl, sym, ap, subst, ◌∙◌, arith, append_assoc, append-nil}
+use Rattle.std.proofs.Common.{◌≡◌, ℕ, zero, suc, ◌+◌, ◌-◌, ◌≤◌, ◌<◌, ◌⊎◌, inl, inr, max, List, [], ◌∷◌, ◌++◌, Bool, true, false, cond, eqb, not, ltb, Option, Some, None, Result, Ok, Err, length, take, drop, map, refl, sym, ap, subst, ◌∙◌, arith, append_assoc, append-nil}
 use Rattle.std.specs.List.{concat, AllByRecursion}
 use Rattle.std.proofs.lemmas.Bool.{cases_lt, false≢true, ne_eqb, eq-eqb, eqb-true}
 use Rattle.std.proofs.lemmas.List.{take-append-drop}
 use Rattle.cip_objects.specs.Contents.{Contents}
 use Rattle.enip_wire.specs.Frames.{Frame}
+use Rattle.enip_wire.specs.declared.packet.CpfFault.{CpfFault}
+use Rattle.enip_wire.specs.Bodies.{rr_body_of}
 use Rattle.enip_wire.specs.Numbers.{number_at}
 use Rattle.enip_wire.specs.Stream.{taken_of, sight_of, Sight}
 use Rattle.enip_wire.specs.Stream.Sight.{Nothing_yet, A_frame, A_long_header}
 use Rattle.enip_cmd.specs.declared.commands.Session.{Session}
 use Rattle.enip_cmd.specs.declared.place.Place.{Place}
 use Rattle.enip_cmd.specs.Lookup.{first_with, with_first, without_first}
-use Rattle.enip_cmd.specs.Turn.{State, Turned, Said, Replied, Served, begun, served, registered, sends}
+use Rattle.enip_cmd.specs.Turn.{State, Turned, Said, Replied, Served, begun, served, asked_for, requested, registered, sends}
 use Rattle.enip_cmd.specs.Turn.Event.{At}
 use Rattle.enip_cmd.specs.Turn.Said.{Silent, Sends, Begins, Refuses}
 use Rattle.enip_cmd.specs.Desk.{Desk, Call, Done, Fed_places, Fed_place, done, new_desk, state_of, handle_of, opened, unserved, fed, fed_place, fed_places, shown_to}
@@ -19,7 +21,7 @@ use Rattle.enip_cmd.specs.Desk.Call.{Begins_one, Feeds, Ends_one}
 use Rattle.enip_cmd.specs.Runs.{all_done, desk_after, spoken, one_by_one, Pours}
 use Rattle.enip_cmd.specs.Runs.Pours.{Ended, Taken, Went_on, Closed}
 use Rattle.enip_cmd.proofs.EventLemmas.{fed_by, spoken-append}
-use Rattle.enip_cmd.proofs.PeerLemmas.{both, handle-fed_place, first_with-number}
+use Rattle.enip_cmd.proofs.PeerLemmas.{close_served, both, handle-fed_place, first_with-number}
 use Rattle.enip_cmd.proofs.RunningLemmas.{IsRunning, running-empty, taken_of-some, taken_of-within, taken_of-one, taken_of-next, running-next, sight_of-running, running-taken}
 
 -- what a call of feed does, by what the piece does to the peers
@@ -261,39 +263,10 @@ steps-done d now peer p b bs live running =
     (sym (fed-taken d.objects p (b ∷ bs))) (steps bs b d now peer p live running)
     )
 
--- no frame closes a peer
-abbrev RepliesOpen : Replied → Type 0
-RepliesOpen r = r.close ≡ false
-
-abbrev KeepsOpen : Served → Type 0
-KeepsOpen r = r.close ≡ false
-
-close-registered : (s : Session) (f : Frame) → RepliesOpen (registered s f)
-close-registered s f =
-    both RepliesOpen (not (eqb (length f.body) 4)) _ _ refl
-    (
-    both RepliesOpen s.registered _ _ refl
-    (
-    both RepliesOpen (not (eqb (number_at 0 2 f.body) 1)) _ _ refl
-    (both RepliesOpen (not (eqb (number_at 2 2 f.body) 0)) _ _ refl refl)
-    )
-    )
-
-close-served : (o : Contents) (s : Session) (f : Frame) → KeepsOpen (served o s f)
-close-served o s f =
-    both KeepsOpen (not (eqb f.header.options 0)) _ _ refl
-    (
-    both KeepsOpen (not (eqb f.header.status 0)) _ _ refl
-    (
-    both KeepsOpen (eqb f.header.command 0) _ _ refl
-    (both KeepsOpen (eqb f.header.command 0x65) _ _ (close-registered s f) refl)
-    )
-    )
-
 close-shown : (o : Contents) (s : Session) (held : List ℕ) (n : ℕ) (x : Sight) → (shown_to o s held n x).close ≡ true
     → (shown_to o s held n x).place.session.closed ≡ true
 close-shown o s held n Nothing_yet e = absurd (false≢true e)
-close-shown o s held n (A_frame f) e = absurd (false≢true (sym (close-served o s f) ∙ e))
+close-shown o s held n (A_frame f) e = absurd (false≢true (sym (close_served o s f) ∙ e))
 close-shown o s held n (A_long_header h) e = refl
 
 some-same : {X : Type 0} → (x y : X) (o : Option X) → o ≡ Some x → o ≡ Some y → x ≡ y

@@ -1,17 +1,19 @@
 -- Calls leave the peers that they are not for, and handles rise.
-use Rattle.std.proofs.Common.{not, ◌≡◌, ◌≢◌, ℕ, suc, ◌+◌, ◌≤◌, ◌<◌, List, [], ◌∷◌, ◌++◌, Bool, true, false, cond, eqb, ltb, Option, Some, None, length, max, map, take, refl, sym, ap, subst, ◌∙◌, arith, add-one}
+use Rattle.std.proofs.Common.{not, ◌≡◌, ◌≢◌, ℕ, suc, ◌+◌, ◌≤◌, ◌<◌, List, [], ◌∷◌, ◌++◌, Bool, true, false, cond, eqb, ltb, Option, Some, None, Result, Ok, Err, length, max, map, take, refl, sym, ap, subst, ◌∙◌, arith, add-one}
 use Rattle.std.specs.List.{AllByRecursion}
 use Rattle.std.proofs.lemmas.Bool.{eqb-true, eqb-false, ne_eqb}
 use Rattle.cip_objects.specs.Contents.{Contents}
 use Rattle.enip_wire.specs.declared.header.Header.{Header}
 use Rattle.enip_wire.specs.Frames.{Frame}
+use Rattle.enip_wire.specs.declared.packet.CpfFault.{CpfFault}
+use Rattle.enip_wire.specs.Bodies.{rr_body_of}
 use Rattle.enip_wire.specs.Numbers.{number_at}
 use Rattle.enip_wire.specs.Stream.{Sight, sight_of, taken_of}
 use Rattle.enip_wire.specs.Stream.Sight.{Nothing_yet, A_frame, A_long_header}
 use Rattle.enip_cmd.specs.declared.commands.Session.{Session}
 use Rattle.enip_cmd.specs.declared.place.Place.{Place}
 use Rattle.enip_cmd.specs.Lookup.{first_with, with_first, without_first}
-use Rattle.enip_cmd.specs.Turn.{State, Turned, Said, Replied, Served, begun, served, registered, refused_long, sends}
+use Rattle.enip_cmd.specs.Turn.{State, Turned, Said, Replied, Served, begun, served, asked_for, requested, registered, refused_long, sends}
 use Rattle.enip_cmd.specs.Turn.Said.{Silent, Sends, Begins, Refuses}
 use Rattle.enip_cmd.specs.Desk.{Desk, Call, Done, Fed_places, Fed_place, done, state_of, handle_of, opened, fed, fed_place, fed_places, shown_to}
 use Rattle.enip_cmd.specs.Desk.Call.{Begins_one, Feeds, Ends_one}
@@ -39,6 +41,15 @@ handle-registered s f =
     )
     )
 
+handle-asked_for : (m : Contents) (s : Session) (f : Frame) (r : Result (List ℕ) CpfFault) → SameHandle s (asked_for m s f r)
+handle-asked_for m s f (Err fault) = refl
+handle-asked_for m s f (Ok request) = both (SameHandle s) (ltb (length request) 2) _ _ refl refl
+
+handle-requested : (m : Contents) (s : Session) (f : Frame) → SameHandle s (requested m s f)
+handle-requested m s f =
+    both (SameHandle s) (not s.registered) _ _ refl
+    (both (SameHandle s) (not (eqb f.header.session s.handle)) _ _ refl (handle-asked_for m s f (rr_body_of f.body)))
+
 pub handle-served : (m : Contents) (s : Session) (f : Frame) → SameHandle s (served m s f)
 handle-served m s f =
     both (SameHandle s) (not (eqb f.header.options 0)) _ _ refl
@@ -46,7 +57,45 @@ handle-served m s f =
     both (SameHandle s) (not (eqb f.header.status 0)) _ _ refl
     (
     both (SameHandle s) (eqb f.header.command 0) _ _ refl
-    (both (SameHandle s) (eqb f.header.command 0x65) _ _ (handle-registered s f) refl)
+    (both (SameHandle s) (eqb f.header.command 0x65) _ _ (handle-registered s f) (both (SameHandle s) (eqb f.header.command 0x6f) _ _ (handle-requested m s f) refl))
+    )
+    )
+
+-- no frame closes a peer
+abbrev pub RepliesOpen : Replied → Type 0
+RepliesOpen r = r.close ≡ false
+
+abbrev pub KeepsOpen : Served → Type 0
+KeepsOpen r = r.close ≡ false
+
+close-registered : (s : Session) (f : Frame) → RepliesOpen (registered s f)
+close-registered s f =
+    both RepliesOpen (not (eqb (length f.body) 4)) _ _ refl
+    (
+    both RepliesOpen s.registered _ _ refl
+    (
+    both RepliesOpen (not (eqb (number_at 0 2 f.body) 1)) _ _ refl
+    (both RepliesOpen (not (eqb (number_at 2 2 f.body) 0)) _ _ refl refl)
+    )
+    )
+
+close-asked_for : (o : Contents) (s : Session) (f : Frame) (r : Result (List ℕ) CpfFault) → KeepsOpen (asked_for o s f r)
+close-asked_for o s f (Err fault) = refl
+close-asked_for o s f (Ok request) = both KeepsOpen (ltb (length request) 2) _ _ refl refl
+
+close-requested : (o : Contents) (s : Session) (f : Frame) → KeepsOpen (requested o s f)
+close-requested o s f =
+    both KeepsOpen (not s.registered) _ _ refl
+    (both KeepsOpen (not (eqb f.header.session s.handle)) _ _ refl (close-asked_for o s f (rr_body_of f.body)))
+
+pub close_served : (o : Contents) (s : Session) (f : Frame) → KeepsOpen (served o s f)
+close_served o s f =
+    both KeepsOpen (not (eqb f.header.options 0)) _ _ refl
+    (
+    both KeepsOpen (not (eqb f.header.status 0)) _ _ refl
+    (
+    both KeepsOpen (eqb f.header.command 0) _ _ refl
+    (both KeepsOpen (eqb f.header.command 0x65) _ _ (close-registered s f) (both KeepsOpen (eqb f.header.command 0x6f) _ _ (close-requested o s f) refl))
     )
     )
 

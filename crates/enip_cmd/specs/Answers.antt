@@ -9,7 +9,7 @@ use Rattle.enip_cmd.specs.Desk.{Fed_places}
 use Rattle.enip_cmd.specs.Turn.{Said}
 use Rattle.enip_cmd.specs.Turn.Said.{Silent, Sends, Begins, Refuses}
 use Rattle.enip_cmd.specs.declared.commands.Status.{Status}
-use Rattle.enip_cmd.specs.declared.commands.Status.TheVariants.{Success, UnsupportedCommand, PoorlyFormedData, InvalidLength, UnsupportedRevision}
+use Rattle.enip_cmd.specs.declared.commands.Status.TheVariants.{Success, UnsupportedCommand, PoorlyFormedData, InvalidSession, InvalidLength, UnsupportedRevision}
 
 -- What a buffer and the word whether it was written say.
 abbrev pub said : Bool → List ℕ → Option (List ℕ)
@@ -21,6 +21,7 @@ abbrev pub status_code : Status → ℕ
 status_code Success = 0x00
 status_code UnsupportedCommand = 0x01
 status_code PoorlyFormedData = 0x03
+status_code InvalidSession = 0x64
 status_code InvalidLength = 0x65
 status_code UnsupportedRevision = 0x69
 

@@ -1,30 +1,32 @@
-use Rattle.std.specs.Prelude.{ℕ, ◌+◌, max, List, [], ◌∷◌, ◌++◌, length, ◌==◌, nat_lt, not, if◌then◌else◌, Bool, true, false, Option, Some, None}
+use Rattle.std.specs.Prelude.{ℕ, ◌+◌, max, List, [], ◌∷◌, ◌++◌, length, ◌==◌, nat_lt, not, if◌then◌else◌, Bool, true, false, Option, Some, None, Result, Ok, Err}
 use Rattle.cip_objects.specs.Contents.{Contents}
+use Rattle.cip_objects.specs.Execution.{exec}
 use Rattle.enip_wire.specs.declared.header.Header.{Header}
 use Rattle.enip_wire.specs.Numbers.{le, number_at}
 use Rattle.enip_wire.specs.Frames.{Frame, frame}
+use Rattle.enip_wire.specs.declared.packet.CpfFault.{CpfFault}
+use Rattle.enip_wire.specs.Bodies.{rr_text, rr_body_of}
 use Rattle.enip_cmd.specs.declared.commands.Session.{Session}
 use Rattle.enip_cmd.specs.declared.adapter.Full.{Full}
 use Rattle.enip_cmd.specs.declared.adapter.Full.TheVariants.{Places, Handles}
 use Rattle.enip_cmd.specs.Lookup.{first_with, with_first, without_first}
 
--- A reply: command, session field and context as given, no options.
+-- The header of a reply with so many bytes of data: command and context of what asked, no options.
 -- (Volume 2, encapsulation header.)
-abbrev pub reply : Header → ℕ → ℕ → List ℕ → List ℕ
-reply asked session status bytes =
-    frame (
+abbrev pub reply_header : Header → ℕ → ℕ → ℕ → Header
+reply_header asked session status count =
     record {
-      header = record {
-        command = asked.command;
-        length = length bytes;
-        session = session;
-        status = status;
-        context = asked.context;
-        options = 0;
-      };
-      body = bytes;
+      command = asked.command;
+      length = count;
+      session = session;
+      status = status;
+      context = asked.context;
+      options = 0;
     }
-    )
+
+-- A reply with these data.
+abbrev pub reply : Header → ℕ → ℕ → List ℕ → List ℕ
+reply asked session status bytes = frame (record { header = reply_header asked session status (length bytes); body = bytes })
 
 -- What becomes of a peer's session, and what the peer is sent.
 pub record Replied : Type 0 where
@@ -73,8 +75,34 @@ registered s f =
       close = false;
     }
 
+-- The reply of the objects to a request, with room for 504 bytes. (Volume 1, message router.)
+abbrev pub executed : Contents → Session → Frame → List ℕ → Served
+executed m s f request =
+    record {
+      session = s;
+      objects = (exec m 504 request).after;
+      answer = Some (reply f.header f.header.session 0 (rr_text (exec m 504 request).answer));
+      close = false;
+    }
+
+-- A request, or why there is none: poorly formed data 0x03, also where it is too short for a request.
+abbrev pub asked_for : Contents → Session → Frame → Result (List ℕ) CpfFault → Served
+asked_for m s f (Err fault) = leaving m (refusal s f.header 0x03)
+asked_for m s f (Ok request) =
+    if nat_lt (length request) 2 then leaving m (refusal s f.header 0x03) else executed m s f request
+
+-- SendRRData: another session than this peer's registered one is invalid, 0x64. (Volume 2, SendRRData.)
+abbrev pub requested : Contents → Session → Frame → Served
+requested m s f =
+    if not s.registered
+    then leaving m (refusal s f.header 0x64)
+    else if not (f.header.session == s.handle)
+    then leaving m (refusal s f.header 0x64)
+    else asked_for m s f (rr_body_of f.body)
+
 -- A whole frame, by its options, its status and its command: NOP 0x0000 has no answer, RegisterSession is
--- 0x0065, and each other command is unsupported, 0x01. (Volume 2, encapsulation commands.)
+-- 0x0065, SendRRData 0x006f, and each other command is unsupported, 0x01.
+-- (Volume 2, encapsulation commands.)
 abbrev pub served : Contents → Session → Frame → Served
 served m s f =
     if not (f.header.options == 0)
@@ -83,7 +111,9 @@ served m s f =
     then leaving m (silent s)
     else if f.header.command == 0x0000
     then leaving m (silent s)
-    else if f.header.command == 0x0065 then leaving m (registered s f) else leaving m (refusal s f.header 0x01)
+    else if f.header.command == 0x0065
+    then leaving m (registered s f)
+    else if f.header.command == 0x006f then requested m s f else leaving m (refusal s f.header 0x01)
 
 -- A header whose length is too long: invalid length 0x65, and the connection is closed.
 abbrev pub refused_long : Session → Header → Replied

@@ -1,14 +1,13 @@
 -- Whole frames and too long headers by their numbers.
-use Rattle.std.proofs.Common.{lit<, if◌then◌else◌, ltb, ◌≡◌, ℕ, zero, suc, ◌+◌, ◌-◌, ◌*◌, ◌^◌, ◌<◌, ◌≤◌, ◌⊎◌, inl, inr, List, [], ◌∷◌, ◌++◌, length, take, drop, get_or, refl, sym, ap, subst, ◌∙◌, arith, append_assoc, length-append, length-take, length-drop}
-use Rattle.std.proofs.lemmas.List.{take-append-drop, drop_at, take_at, get_or-take, get_or-drop, get_or_past}
+use Rattle.std.proofs.Common.{lit<, ◌≡◌, ℕ, zero, suc, ◌+◌, ◌^◌, ◌<◌, ◌≤◌, inl, inr, List, [], ◌∷◌, ◌++◌, length, take, drop, get_or, refl, sym, ap, ◌∙◌, arith, append_assoc, length-append, length-take, length-drop}
+use Rattle.std.proofs.lemmas.List.{get_or-take, get_or-drop, get_or_past}
 use Rattle.std.proofs.Math.Seq.{take-append_seam}
 use Rattle.std.proofs.lemmas.Bool.{cases_lt}
 use Rattle.std.proofs.lemmas.Bool.Decides.{nat_tests}
 use Rattle.byteorder.specs.Numbers.{little_from-take}
-use Rattle.enip_wire.specs.declared.header.Header.{Header}
 use Rattle.enip_wire.specs.Numbers.{number_at, IsBytes}
 use Rattle.enip_wire.specs.Headers.{header_spelling, header_at, IsHeader}
-use Rattle.enip_wire.specs.Frames.{Frame, frame, IsFrame, IsWhole, IsTooLong, Stops, end_after}
+use Rattle.enip_wire.specs.Frames.{Frame, frame, IsFrame, IsWhole, Stops, end_after}
 use Rattle.enip_wire.proofs.HeaderLemmas.{header_spelling-header_at, header_at-header_spelling, length-header_spelling}
 
 pub number-two : (place : ℕ) (bytes : List ℕ) → IsBytes bytes → number_at place 2 bytes < 2 ^ 16

@@ -1,8 +1,8 @@
 -- The header that stands in bytes, and the bytes that spell a header.
-use Rattle.std.proofs.Common.{◌≡◌, ℕ, ◌+◌, ◌^◌, ◌<◌, ◌≤◌, List, [], ◌∷◌, ◌++◌, length, take, drop, get_or, refl, sym, ap, ◌∙◌, arith, append-nil, append_assoc, length-append, length-take, length-drop}
+use Rattle.std.proofs.Common.{◌≡◌, ℕ, ◌≤◌, List, [], ◌∷◌, ◌++◌, length, take, drop, refl, sym, ap, ◌∙◌, arith, append-nil, append_assoc, length-append}
 use Rattle.std.proofs.lemmas.List.{take-append-drop, drop-drop, drop_all}
 use Rattle.enip_wire.specs.declared.header.Header.{Header}
-use Rattle.enip_wire.specs.Numbers.{le, number_at, IsBytes}
+use Rattle.enip_wire.specs.Numbers.{IsBytes}
 use Rattle.enip_wire.specs.Headers.{header_spelling, header_at, IsHeader}
 use Rattle.enip_wire.proofs.Cells.{cells, drop-cells, le-number_at_2, le-number_at_4, of_two, of_four}
 

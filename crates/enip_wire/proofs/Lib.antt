@@ -4,3 +4,6 @@ pub mod FrameLemmas
 pub mod TakeLemmas
 pub mod SeeLemmas
 pub mod StreamLemmas
+pub mod ItemLemmas
+pub mod BodyLemmas
+pub mod WriteLemmas

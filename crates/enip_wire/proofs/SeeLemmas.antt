@@ -1,16 +1,16 @@
 -- What a reader holds after a piece, and what is seen of it.
-use Rattle.std.proofs.Common.{◌≡◌, ℕ, ◌+◌, ◌-◌, ◌<◌, ◌≤◌, ◌⊎◌, inl, inr, List, [], ◌++◌, length, take, drop, refl, sym, ap, subst, ◌∙◌, arith, length-append, length-take, length-drop}
+use Rattle.std.proofs.Common.{◌≡◌, ℕ, ◌+◌, ◌-◌, ◌<◌, ◌≤◌, inl, inr, List, ◌++◌, length, take, drop, sym, ap, subst, ◌∙◌, arith, length-take, length-drop}
 use Rattle.std.proofs.lemmas.List.{take-append-drop, take_at, take-take, drop-take}
 use Rattle.std.proofs.lemmas.Bool.Decides.{nat_tests}
 use Rattle.byteorder.specs.Numbers.{little_from-take}
 use Rattle.enip_wire.specs.declared.header.Header.{Header}
 use Rattle.enip_wire.specs.Numbers.{number_at, IsBytes}
 use Rattle.enip_wire.specs.Headers.{header_spelling, header_at, IsHeader}
-use Rattle.enip_wire.specs.Frames.{Frame, frame, IsFrame, IsWhole, IsTooLong, Stops}
-use Rattle.enip_wire.specs.Stream.{sight_of, Sight}
+use Rattle.enip_wire.specs.Frames.{Frame, frame, IsFrame, IsTooLong, Stops}
+use Rattle.enip_wire.specs.Stream.{sight_of}
 use Rattle.enip_wire.specs.Stream.Sight.{Nothing_yet, A_frame, A_long_header}
 use Rattle.enip_wire.proofs.HeaderLemmas.{same_header}
-use Rattle.enip_wire.proofs.FrameLemmas.{Sized, Sized-whole, number_at-take, IsHeader-header_at, IsBytes-take}
+use Rattle.enip_wire.proofs.FrameLemmas.{Sized, Sized-whole, IsHeader-header_at}
 
 pub same_frame : {h k : Header} {b c : List ℕ} → h ≡ k → b ≡ c
     → ◌≡◌ {A = Frame} (record { header = h; body = b }) (record { header = k; body = c })

@@ -1,17 +1,15 @@
 -- One spelling, one cut, and the frames that are shown of a stream in any pieces.
-use Rattle.std.proofs.Common.{◌≡◌, ℕ, ◌+◌, ◌-◌, ◌<◌, ◌≤◌, ◌⊎◌, inl, inr, List, [], ◌∷◌, ◌++◌, length, take, drop, refl, sym, ap, subst, ◌∙◌, arith, append_assoc, append-nil, length-append, length-take, length-drop}
-use Rattle.std.proofs.lemmas.Bool.{cases_lt}
-use Rattle.std.proofs.lemmas.List.{take-append-drop, take_at, drop_at, take_all, take-append-le}
-use Rattle.std.specs.List.{flat_map, concat, AllByRecursion}
-use Rattle.enip_wire.specs.declared.header.Header.{Header}
+use Rattle.std.proofs.Common.{◌≡◌, ℕ, ◌≤◌, inl, List, [], ◌∷◌, ◌++◌, length, take, drop, refl, sym, ap, subst, ◌∙◌, arith, append_assoc, append-nil, length-append}
+use Rattle.std.proofs.lemmas.List.{take-append-drop, take_at, drop_at, take_all}
+use Rattle.std.specs.List.{flat_map, concat}
 use Rattle.enip_wire.specs.Numbers.{number_at}
-use Rattle.enip_wire.specs.Headers.{header_spelling, header_at, IsHeader}
-use Rattle.enip_wire.specs.Frames.{Frame, frame, IsFrame, IsWhole, IsTooLong, Stops}
-use Rattle.enip_wire.specs.Stream.{Cut, IsFresh, Takes}
+use Rattle.enip_wire.specs.Headers.{header_spelling, header_at}
+use Rattle.enip_wire.specs.Frames.{Frame, frame, IsFrame, IsTooLong, Stops}
+use Rattle.enip_wire.specs.Stream.{Cut, IsFresh}
 use Rattle.enip_wire.specs.Reading.{Reads}
 use Rattle.enip_wire.specs.Reading.Reads.{Ended, Waited, Showed, Stayed}
 use Rattle.enip_wire.proofs.HeaderLemmas.{header_at-header_spelling}
-use Rattle.enip_wire.proofs.FrameLemmas.{length-frame, number_at-frame, number_at-append}
+use Rattle.enip_wire.proofs.FrameLemmas.{number_at-frame, number_at-append}
 use Rattle.enip_wire.proofs.SeeLemmas.{same_frame}
 use Rattle.enip_wire.proofs.TakeLemmas.{IsFresh-after, stops-header}
 

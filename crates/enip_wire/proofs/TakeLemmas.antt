@@ -1,12 +1,12 @@
 -- How many bytes of a piece a reader takes.
-use Rattle.std.proofs.Common.{◌≡◌, ℕ, ◌+◌, ◌-◌, ◌<◌, ◌≤◌, ◌⊎◌, inl, inr, min, List, [], ◌++◌, length, take, drop, get_or, refl, sym, ap, subst, ◌∙◌, arith, length-append, length-take, add-zero}
+use Rattle.std.proofs.Common.{◌≡◌, ℕ, ◌+◌, ◌-◌, ◌<◌, ◌≤◌, inl, inr, min, List, ◌++◌, length, take, refl, sym, ap, subst, ◌∙◌, arith, length-append, length-take}
 use Rattle.std.proofs.Math.Seq.{take-append-add}
 use Rattle.std.proofs.lemmas.Bool.{cases_lt}
 use Rattle.std.proofs.lemmas.List.{take-append-le, take-take}
 use Rattle.enip_wire.specs.Numbers.{number_at, IsBytes}
-use Rattle.enip_wire.specs.Frames.{IsWhole, IsTooLong, Stops, end_after}
+use Rattle.enip_wire.specs.Frames.{Stops, end_after}
 use Rattle.enip_wire.specs.Stream.{IsFresh, Takes}
-use Rattle.enip_wire.proofs.FrameLemmas.{end_after-most, number_at-append, end_after-least, number_at-take, not_before, stops_at, Sized, Sized-whole, IsBytes-append}
+use Rattle.enip_wire.proofs.FrameLemmas.{end_after-most, number_at-append, end_after-least, not_before, stops_at, Sized, Sized-whole, IsBytes-append}
 
 pub stops-header : (bytes : List ℕ) → Stops bytes → 24 ≤ length bytes
 stops-header bytes (inl whole) = let s : Sized bytes = Sized-whole bytes whole in s.header

@@ -3,3 +3,5 @@ pub mod Headers
 pub mod Frames
 pub mod Stream
 pub mod Reading
+pub mod Items
+pub mod Bodies

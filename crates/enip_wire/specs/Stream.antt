@@ -1,4 +1,4 @@
-use Rattle.std.specs.Prelude.{if◌then◌else◌, nat_lt, ◌==◌, ◌+◌, ◌-◌, min, ℕ, List, [], ◌∷◌, ◌≡◌, ◌<◌, ◌≤◌, ◌++◌, ◌⊎◌, length, take, drop}
+use Rattle.std.specs.Prelude.{if◌then◌else◌, nat_lt, ◌==◌, ◌+◌, ◌-◌, min, ℕ, List, ◌≡◌, ◌<◌, ◌≤◌, ◌++◌, ◌⊎◌, length, take, drop}
 use Rattle.std.specs.List.{flat_map, AllByRecursion}
 use Rattle.enip_wire.specs.declared.reader.FrameView.{FrameView}
 use Rattle.enip_wire.specs.declared.reader.Held.{Held}
@@ -6,7 +6,7 @@ use Rattle.enip_wire.specs.declared.reader.Held.TheVariants.{More, Frame as Whol
 use Rattle.enip_wire.specs.declared.header.Header.{Header}
 use Rattle.enip_wire.specs.Numbers.{number_at}
 use Rattle.enip_wire.specs.Headers.{header_at}
-use Rattle.enip_wire.specs.Frames.{Frame, frame, IsFrame, IsWhole, IsTooLong, Stops, end_after}
+use Rattle.enip_wire.specs.Frames.{Frame, frame, IsFrame, IsTooLong, Stops, end_after}
 
 -- The frames of a stream, and the rest at whose front no frame is spelled. It speaks of the whole
 -- stream, and of no buffer and no piece. (Volume 2, encapsulation over TCP.)

@@ -1,6 +1,8 @@
-//! EtherNet/IP's encapsulation: the header, and frames from a stream in any pieces.
+//! EtherNet/IP's encapsulation: the header, frames from a stream in any pieces, and the items of a packet.
 #![tactic(auto)]
 
 pub mod header;
 pub mod laws;
+pub mod packet;
+pub mod packet_laws;
 pub mod reader;

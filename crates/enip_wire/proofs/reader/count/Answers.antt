@@ -1,4 +1,4 @@
-use Rattle.std.proofs.Common.{◌≡◌, ℕ, ◌+◌, ◌-◌, ◌<◌, ◌≤◌, ◌++◌, min, length, ap, ◌∙◌, arith}
+use Rattle.std.proofs.Common.{◌≡◌, ◌+◌, ◌-◌, ◌≤◌, ◌++◌, min, length, ap, ◌∙◌, arith}
 use Rattle.enip_wire.specs.Numbers.{number_at}
 use Rattle.enip_wire.specs.Frames.{end_after}
 use Rattle.enip_wire.proofs.FrameLemmas.{end_after-most}

@@ -1,4 +1,4 @@
-use Rattle.std.proofs.Common.{◌≡◌, ℕ, ◌+◌, ◌≤◌, ◌++◌, List, length, take, drop, refl, sym, ap, subst, ◌∙◌, arith, length-take}
+use Rattle.std.proofs.Common.{◌≡◌, ◌+◌, ◌≤◌, ◌++◌, length, take, drop, sym, ap, subst, ◌∙◌, arith, length-take}
 use Rattle.enip_wire.specs.Stream.{IsFresh, Takes}
 use Rattle.enip_wire.proofs.SeeLemmas.{placed}
 use Rattle.enip_wire.proofs.TakeLemmas.{IsFresh-after}

@@ -1,0 +1,116 @@
+use Rattle.std.specs.Prelude.{if◌then◌else◌, nat_lt, ◌==◌, ◌&&◌, ℕ, List, [], ◌∷◌, ◌≡◌, ◌≢◌, ◌<◌, ◌≤◌, ◌^◌, ◌++◌, ◌⊎◌, length, drop, Result, Ok, Err}
+use Rattle.enip_wire.specs.declared.packet.CpfFault.{CpfFault}
+use Rattle.enip_wire.specs.declared.packet.CpfFault.TheVariants.{Short, Trailing, Interface, Address, Data}
+use Rattle.enip_wire.specs.Numbers.{le, number_at}
+use Rattle.enip_wire.specs.Items.{Item, items, AreItems, IsShort, IsTrailing, items_of}
+
+-- The null address item, and the connected address item with its connection ID.
+-- (Volume 2, common packet format, address items.)
+abbrev pub null_address : Item
+null_address = record { kind = 0; bytes = [] }
+
+abbrev pub connected_address : ℕ → Item
+connected_address id = record { kind = 0xa1; bytes = le 4 id }
+
+-- The unconnected and the connected data item. (Volume 2, common packet format, data items.)
+abbrev pub unconnected_data : List ℕ → Item
+unconnected_data bytes = record { kind = 0xb2; bytes = bytes }
+
+abbrev pub connected_data : List ℕ → Item
+connected_data bytes = record { kind = 0xb1; bytes = bytes }
+
+-- A text that begins as a body does, with interface 0 and any timeout, and the rest of it.
+-- (Volume 2, SendRRData and SendUnitData.)
+pub record Opens (text rest : List ℕ) : Type 0 where
+  pub timeout : ℕ
+  pub two_bytes : timeout < 2 ^ 16
+  pub spelled : text ≡ le 4 0 ++ le 2 timeout ++ rest
+
+-- A body with these items.
+pub record IsBody (text : List ℕ) (l : List Item) : Type 0 where
+  pub are_items : AreItems l
+  pub opens : Opens text (items l)
+
+-- A SendRRData with this data: the first two items are the null address and the unconnected data, and
+-- further ones say nothing.
+pub record IsRrBody (text bytes : List ℕ) : Type 0 where
+  pub further : List Item
+  pub body : IsBody text (null_address ∷ unconnected_data bytes ∷ further)
+
+-- A SendUnitData with this connection ID and data: the first two items are the connected address and the
+-- connected data, and further ones say nothing.
+pub record IsUnitBody (text : List ℕ) (id : ℕ) (bytes : List ℕ) : Type 0 where
+  pub four_bytes : id < 2 ^ 32
+  pub further : List Item
+  pub body : IsBody text (connected_address id ∷ connected_data bytes ∷ further)
+
+-- Where each fault of a body comes: `IsAddress` says which first item is the right one, and `kind` which
+-- type the second item has.
+abbrev pub Faulty : (Item → Type 0) → ℕ → List ℕ → CpfFault → Type 0
+Faulty IsAddress kind text Short = (length text < 6) ⊎ ((rest : List ℕ) × Opens text rest × IsShort rest)
+Faulty IsAddress kind text Interface = (6 ≤ length text) × (number_at 0 4 text ≢ 0)
+Faulty IsAddress kind text Trailing = (rest : List ℕ) × Opens text rest × IsTrailing rest
+Faulty IsAddress kind text Address =
+    (l : List Item) × IsBody text l × ((a : Item) (others : List Item) → l ≡ a ∷ others → IsAddress a → ⊥)
+Faulty IsAddress kind text Data =
+    (a : Item) × (others : List Item) × IsAddress a × IsBody text (a ∷ others)
+    × ((d : Item) (further : List Item) → others ≡ d ∷ further → d.kind ≡ kind → ⊥)
+
+-- A first item that is the null address; one that is a connected address.
+abbrev pub IsNull : Item → Type 0
+IsNull a = a ≡ null_address
+
+abbrev pub IsConnected : Item → Type 0
+IsConnected a = (a.kind ≡ 0xa1) × (length a.bytes ≡ 4)
+
+-- A text of a SendRRData, with timeout 0, and of a SendUnitData.
+abbrev pub rr_text : List ℕ → List ℕ
+rr_text bytes = le 4 0 ++ le 2 0 ++ items (null_address ∷ unconnected_data bytes ∷ [])
+
+abbrev pub unit_text : ℕ → List ℕ → List ℕ
+unit_text id bytes = le 4 0 ++ le 2 0 ++ items (connected_address id ∷ connected_data bytes ∷ [])
+
+-- The rest says the same by numbers alone, for who computes with it.
+
+-- What was returned, with what it lends as a list.
+abbrev pub seen_by : {A B E : Type 0} → (A → B) → Result A E → Result B E
+seen_by view (Ok x) = Ok (view x)
+seen_by view (Err fault) = Err fault
+
+-- What was read is handed on, and a fault ends all.
+abbrev pub then_of : {A B : Type 0} → Result A CpfFault → (A → Result B CpfFault) → Result B CpfFault
+then_of (Ok x) f = f x
+then_of (Err fault) f = Err fault
+
+-- The items of a body.
+abbrev pub body_items_of : List ℕ → Result (List Item) CpfFault
+body_items_of text =
+    if nat_lt (length text) 6
+    then Err Short
+    else if number_at 0 4 text == 0 then items_of (drop 6 text) else Err Interface
+
+-- The data of the item behind the address.
+abbrev pub data_of : ℕ → List Item → Result (List ℕ) CpfFault
+data_of kind [] = Err Data
+data_of kind (d ∷ further) = if d.kind == kind then Ok d.bytes else Err Data
+
+abbrev pub rr_items_of : List Item → Result (List ℕ) CpfFault
+rr_items_of [] = Err Address
+rr_items_of (a ∷ others) = if (a.kind == 0) && (length a.bytes == 0) then data_of 0xb2 others else Err Address
+
+abbrev pub with_id : ℕ → List ℕ → ℕ × List ℕ
+with_id id bytes = (id, bytes)
+
+abbrev pub unit_items_of : List Item → Result (ℕ × List ℕ) CpfFault
+unit_items_of [] = Err Address
+unit_items_of (a ∷ others) =
+    if (a.kind == 0xa1) && (length a.bytes == 4)
+    then seen_by (with_id (number_at 0 4 a.bytes)) (data_of 0xb1 others)
+    else Err Address
+
+-- The data of a SendRRData, or its fault; the connection ID and the data of a SendUnitData, or its fault.
+unfoldable pub rr_body_of : List ℕ → Result (List ℕ) CpfFault
+rr_body_of text = then_of (body_items_of text) rr_items_of
+
+unfoldable pub unit_body_of : List ℕ → Result (ℕ × List ℕ) CpfFault
+unit_body_of text = then_of (body_items_of text) unit_items_of

@@ -1,0 +1,90 @@
+use Rattle.std.specs.Prelude.{if◌then◌else◌, nat_lt, ◌+◌, ℕ, zero, suc, List, [], ◌∷◌, ◌≡◌, ◌<◌, ◌^◌, ◌++◌, length, take, drop, Result, Ok, Err, refl}
+use Rattle.std.specs.List.{flat_map, AllByRecursion}
+use Rattle.std.specs.Coded.{Coded, code_by, coded×, coded_ℕ, coded_list}
+use Rattle.enip_wire.specs.declared.packet.ItemView.{ItemView}
+use Rattle.enip_wire.specs.declared.packet.CpfFault.{CpfFault}
+use Rattle.enip_wire.specs.declared.packet.CpfFault.TheVariants.{Short, Trailing}
+use Rattle.enip_wire.specs.Numbers.{le, number_at}
+
+-- An item of the common packet format: its type, and its data. (Volume 2, common packet format.)
+pub record Item : Type 0 where
+  pub kind : ℕ
+  pub bytes : List ℕ
+
+-- The bytes of an item: the type, how many bytes of data there are, and these.
+abbrev pub item : Item → List ℕ
+item i = le 2 i.kind ++ le 2 (length i.bytes) ++ i.bytes
+
+-- The bytes of a list of items: how many there are, and each. (Volume 2, common packet format.)
+abbrev pub items : List Item → List ℕ
+items l = le 2 (length l) ++ flat_map item l
+
+-- The type and the number of bytes have two bytes each on the wire.
+pub record IsItem (i : Item) : Type 0 where
+  pub kind : i.kind < 2 ^ 16
+  pub counted : length i.bytes < 2 ^ 16
+
+-- So has the number of items.
+pub record AreItems (l : List Item) : Type 0 where
+  pub count : length l < 2 ^ 16
+  pub each : AllByRecursion IsItem l
+
+-- The text is cut short: with at least one byte more it would spell a list of items.
+pub record IsShort (text : List ℕ) : Type 0 where
+  pub of : List Item
+  pub more : List ℕ
+  pub are_items : AreItems of
+  pub some : 0 < length more
+  pub spelled : text ++ more ≡ items of
+
+-- The text goes on: behind a list of items there is at least one byte.
+pub record IsTrailing (text : List ℕ) : Type 0 where
+  pub of : List Item
+  pub more : List ℕ
+  pub are_items : AreItems of
+  pub some : 0 < length more
+  pub spelled : text ≡ items of ++ more
+
+-- The item that a view lends.
+abbrev pub item_of : ItemView → Item
+item_of view = record { kind = view.kind; bytes = view.bytes.now }
+
+-- an item is stored as the pair of its fields
+abbrev pub item_code : Coded Item
+item_code =
+    code_by (ℕ × List ℕ) (coded× coded_ℕ (coded_list coded_ℕ)) (λ i. (i.kind, i.bytes))
+    (λ p. record { kind = p.0; bytes = p.1 }) (λ _. refl)
+
+-- The rest says the same by numbers alone, for who computes with it.
+
+-- The item at the front of a text, and how many bytes it has.
+abbrev pub item_at : List ℕ → Item
+item_at text = record { kind = number_at 0 2 text; bytes = take (number_at 2 2 text) (drop 4 text) }
+
+abbrev pub size_at : List ℕ → ℕ
+size_at text = 4 + number_at 2 2 text
+
+-- The first n items of a text, as far as they are whole.
+abbrev pub listed : ℕ → List ℕ → List Item
+listed zero text = []
+listed (suc n) text =
+    if nat_lt (length text) (size_at text) then [] else item_at text ∷ listed n (drop (size_at text) text)
+
+-- What follows the first n items of a text.
+abbrev pub after : ℕ → List ℕ → Result (List ℕ) CpfFault
+after zero text = Ok text
+after (suc n) text =
+    if nat_lt (length text) (size_at text) then Err Short else after n (drop (size_at text) text)
+
+-- The items, where nothing follows them.
+abbrev pub whole : List Item → Result (List ℕ) CpfFault → Result (List Item) CpfFault
+whole l (Ok []) = Ok l
+whole l (Ok (b ∷ rest)) = Err Trailing
+whole l (Err fault) = Err fault
+
+-- The list that a text spells, or why it spells none.
+abbrev pub items_of : List ℕ → Result (List Item) CpfFault
+items_of text =
+    if nat_lt (length text) 2
+    then Err Short
+    else whole (listed (number_at 0 2 text) (drop 2 text)) (after (number_at 0 2 text) (drop 2 text))
