@@ -3,6 +3,8 @@ ghost use Rattle.std.specs.Prelude.{◌≡◌, ℕ, ◌+◌, ◌%◌, ◌^◌, [
 ghost use Rattle.std.specs.Int.{to_le_bytes, w32};
 ghost use Rattle.cip_objects.specs.Router.{reply_service};
 
+mod demo;
+
 use super::*;
 use cip_objects::{ReplyBuf, Router};
 use std::process::Abort;

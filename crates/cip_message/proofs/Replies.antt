@@ -181,3 +181,7 @@ no_word [] i le_ = refl
 no_word (x ∷ []) i le_ = refl
 no_word (x ∷ y ∷ rest) zero le_ = absurd (omega arith)
 no_word (x ∷ y ∷ rest) (suc i) le_ = no_word rest i (omega arith)
+
+-- a front of whole words
+pub even_front : (n : ℕ) (rest : List ℕ) → 2 * n ≤ length rest → length (take (2 * n) rest) % 2 ≡ 0
+even_front n rest h = omega (arith, length-take (2 * n) rest)

@@ -1,6 +1,6 @@
 //! Replies of the message router (Volume 1, message router response format).
 
-ghost use Rattle.std.specs.Prelude.{◌≡◌, ◌↔◌, ◌+◌, ◌*◌, ◌<◌, ◌≤◌, ◌++◌, length, slice_get, slice_index, IsOk, OnOk, OnErr};
+ghost use Rattle.std.specs.Prelude.{◌≡◌, ◌↔◌, ◌+◌, ◌*◌, ◌%◌, ◌<◌, ◌≤◌, ◌++◌, length, slice_get, slice_index, IsOk, OnOk, OnErr, IfOk};
 ghost use Rattle.std.specs.List.{flat_map};
 ghost use Rattle.arrayvec.specs.ArrayVec.{array_vec_len};
 ghost use Rattle.cip_message.specs.Numbers.{le};
@@ -49,6 +49,8 @@ impl<'a> ReplyView<'a> {
             ↔ ((4 ≤ length bytes.now) × (128 ≤ slice_index bytes.now 0)
             × (length bytes.now < 4 + 2 * slice_index bytes.now 3)) }
         ensures exact { Gives view result (reply_of bytes.now) }
+        // The bytes of the additional words are no more than those.
+        ensures whole_words { IfOk result (λ v. length v.additional.now % 2 ≡ 0) }
     {
         reply_at(bytes)
     }
@@ -65,9 +67,10 @@ impl<'a> ReplyView<'a> {
     }
 }
 
-#[tactic(auto, unfolding(crate::specs::Reply::reply_of))]
+#[tactic(auto, using(crate::proofs::Replies::even_front), unfolding(crate::specs::Reply::reply_of))]
 fn reply_at(bytes: &[u8]) -> Result<ReplyView<'_>, ReplyFault>
-    ensures { Gives view result (reply_of bytes.now) }
+    ensures exact { Gives view result (reply_of bytes.now) }
+    ensures whole_words { IfOk result (λ v. length v.additional.now % 2 ≡ 0) }
 {
     let [service, _reserved, status, words, rest @ ..] = bytes else {
         return Err(ReplyFault::Short);

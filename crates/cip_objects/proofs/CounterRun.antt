@@ -1,13 +1,12 @@
 -- The counter over a run of requests.
-use Rattle.std.proofs.Common.{◌≡◌, ℕ, ◌+◌, ◌%◌, ◌^◌, ◌<◌, ◌≤◌, ◌⊎◌, inl, inr, eqb, Bool, true, false, cond, ◌&&◌, ◌||◌, not, nat_le, nat_lt, List, [], ◌∷◌, length, Option, Some, None, is_some, option_map, unwrap_or, Result, Ok, Err, refl, sym, ap, ◌∙◌, arith, subst, suc, take, drop, ◌*◌}
+use Rattle.std.proofs.Common.{◌≡◌, ℕ, ◌+◌, ◌%◌, ◌^◌, ◌<◌, ◌≤◌, ◌⊎◌, inl, inr, eqb, Bool, true, false, cond, ◌&&◌, nat_lt, List, [], ◌∷◌, length, Option, Some, None, is_some, option_map, unwrap_or, Result, Ok, Err, refl, sym, ap, ◌∙◌, arith, subst, suc, take, drop, ◌*◌}
 use Rattle.std.proofs.Math.Nat.{mod-eq_of_lt}
 use Rattle.std.proofs.lemmas.Bool.Decides.{nat_tests}
 use Rattle.std.proofs.lemmas.Bool.Decides.{eqb_tells}
 use Rattle.std.proofs.lemmas.List.{get_or-drop}
 use Rattle.std.specs.Option.{ok_or}
-use Rattle.byteorder.specs.Endian.{little_bytes, little_number}
+use Rattle.byteorder.specs.Endian.{little_number}
 use Rattle.cip_message.specs.declared.path.Path.{Path}
-use Rattle.cip_message.specs.declared.path.PathFault.{PathFault}
 use Rattle.cip_message.specs.declared.request.RequestFault.{RequestFault}
 use Rattle.cip_message.specs.declared.request.RequestFault.TheVariants.{PathSize}
 use Rattle.cip_message.specs.Numbers.{le, AreBytes}
@@ -17,20 +16,20 @@ use Rattle.cip_objects.specs.declared.service.Service.{Service}
 use Rattle.cip_objects.specs.declared.service.Service.TheVariants.{GetAttributesAll, GetAttributeList, GetAttributeSingle, SetAttributeSingle, GetMember, SetMember, Add, Clear}
 use Rattle.cip_objects.specs.declared.status.Status.{Status}
 use Rattle.cip_objects.specs.declared.status.Status.TheVariants.{Success, ReplyDataTooLarge, PathDestinationUnknown, ServiceNotSupported}
-use Rattle.cip_objects.specs.Check.{◌>>=◌, ◌>>◌, demand, exactly}
-use Rattle.cip_objects.specs.Contents.{Contents, value_at, bytes_at, number_at, with_value}
+use Rattle.cip_objects.specs.Check.{◌>>=◌}
+use Rattle.cip_objects.specs.Contents.{Contents, with_value}
 use Rattle.cip_objects.specs.Reading.{chosen, get_attribute_single, get_attributes_all, get_attribute_list, get_member}
 use Rattle.cip_objects.specs.Changing.{Change, added, is_allowed, set_attribute_single, set_member, add, clear}
 use Rattle.cip_objects.specs.Execution.{Outcome, perform, outcome, Executed, fitted, exec, reply_to, run}
-use Rattle.cip_objects.specs.Run.{value_of, limit_of, additions_of, IsCounter, is_counter, to_counter, addition, is_clearing, sum_after, sum_since_cleared, number_of_additions, AllBytes, Counts, counter_law}
+use Rattle.cip_objects.specs.Run.{value_of, limit_of, additions_of, IsCounter, is_counter, to_counter, addition, sum_after, sum_since_cleared, number_of_additions, counter_law}
 use Rattle.cip_objects.specs.Router.{general_status}
 use Rattle.cip_objects.specs.Status.{status_code}
 use Rattle.cip_objects.proofs.Refuses.{Refuses, outcome_refuses}
 use Rattle.cip_objects.specs.Service.{service_code, service_in}
-use Rattle.cip_objects.specs.Tables.{Shape, shape_at, services_of, settable_size, class_or_first, assembly_services}
-use Rattle.cip_objects.proofs.Effects.{goes, Goes, set_effect, Sets, member_effect, SetsMember, add_effect, clear_effect, read_effect, change_effect, chosen_code}
+use Rattle.cip_objects.specs.Tables.{Shape, shape_at, services_of, assembly_services}
+use Rattle.cip_objects.proofs.Effects.{goes, set_effect, Sets, member_effect, SetsMember, add_effect, clear_effect, read_effect, change_effect, chosen_code}
 use Rattle.cip_objects.proofs.Keys.{number_at-same, number_at-other, number_at-set}
-use Rattle.cip_objects.proofs.Settable.{settable_data, settable_limit, IsLimit}
+use Rattle.cip_objects.proofs.Settable.{settable_limit}
 
 table_add : (b1 b4 b6 b100 z o : Bool) (x : Option Shape) (s : Service) → (ok_or (cond b1 (cond z (Some (GetAttributeSingle ∷ [])) (cond o (Some (GetAttributesAll ∷ GetAttributeList ∷ GetAttributeSingle ∷ [])) None)) (cond b4 (cond z (Some (GetAttributeSingle ∷ [])) (option_map (λ _. assembly_services) x)) (cond b6 (cond o (Some []) None) (cond b100 (cond z (Some (GetAttributeSingle ∷ [])) (cond o (Some (GetAttributeList ∷ GetAttributeSingle ∷ SetAttributeSingle ∷ Add ∷ Clear ∷ [])) None)) None)))) PathDestinationUnknown >>= λ offered. ok_or (service_in 0x32 offered) ServiceNotSupported) ≡ Ok s → (b100 ≡ true) × (o ≡ true)
 table_add true b4 b6 b100 true o x s e = absurd (cc)

@@ -1,25 +1,24 @@
 -- What each service that went well has left.
-use Rattle.std.proofs.Common.{◌≡◌, ℕ, ◌+◌, ◌%◌, ◌^◌, ◌<◌, ◌≤◌, eqb, Bool, true, false, cond, ◌&&◌, ◌||◌, not, nat_le, nat_lt, List, [], ◌∷◌, length, Option, Some, None, option_map, Result, Ok, Err, refl, sym, ap, ◌∙◌, arith}
+use Rattle.std.proofs.Common.{◌≡◌, ℕ, ◌+◌, ◌≤◌, eqb, Bool, true, false, cond, nat_le, List, [], ◌∷◌, Option, Some, None, Result, Ok, Err, refl, sym, ap, ◌∙◌, arith}
 use Rattle.std.proofs.lemmas.Bool.Decides.{nat_tests}
 use Rattle.std.specs.Option.{ok_or}
-use Rattle.byteorder.specs.Endian.{little_bytes, little_number}
+use Rattle.byteorder.specs.Endian.{little_number}
 use Rattle.cip_message.specs.declared.path.Path.{Path}
 use Rattle.cip_message.specs.declared.path.PathFault.{PathFault}
 use Rattle.cip_message.specs.declared.request.RequestFault.{RequestFault}
-use Rattle.cip_message.specs.Numbers.{le, AreBytes}
+use Rattle.cip_message.specs.Numbers.{le}
 use Rattle.cip_message.specs.PathReading.{path_of}
 use Rattle.cip_message.specs.Request.{Request, request_of}
 use Rattle.cip_objects.specs.declared.service.Service.{Service}
-use Rattle.cip_objects.specs.declared.service.Service.TheVariants.{GetAttributesAll, GetAttributeList, GetAttributeSingle, SetAttributeSingle, GetMember, SetMember, Add, Clear}
 use Rattle.cip_objects.specs.declared.status.Status.{Status}
-use Rattle.cip_objects.specs.declared.status.Status.TheVariants.{Success, PathDestinationUnknown, ServiceNotSupported}
+use Rattle.cip_objects.specs.declared.status.Status.TheVariants.{Success}
 use Rattle.cip_objects.specs.Check.{◌>>=◌, ◌>>◌, demand, exactly}
 use Rattle.cip_objects.specs.Contents.{Contents, value_at, bytes_at, number_at, with_value}
 use Rattle.cip_objects.specs.Reading.{Answer, chosen, named_member}
-use Rattle.cip_objects.specs.Changing.{Change, change, added, spliced, is_allowed, set_attribute_single, set_member, add, clear}
+use Rattle.cip_objects.specs.Changing.{Change, added, spliced, is_allowed, set_attribute_single, set_member, add, clear}
 use Rattle.cip_objects.specs.Execution.{Outcome, reads, changes, perform, sized, formed, outcome}
 use Rattle.cip_objects.specs.Service.{service_code, service_in}
-use Rattle.cip_objects.specs.Tables.{Shape, shape_at, services_of, settable_size, class_or_first, assembly_services}
+use Rattle.cip_objects.specs.Tables.{Shape, services_of, settable_size}
 
 -- what a check that held found
 pub record Found {A B : Type 0} (r : Result A Status) (f : A → Result B Status) (y : B) : Type 0 where

@@ -1,9 +1,9 @@
 -- A reply that was written in place is the reply of the execution.
-use Rattle.std.proofs.Common.{◌≡◌, ℕ, ◌<◌, Bool, true, false, cond, nat_lt, List, [], ◌∷◌, ◌++◌, length, set, Result, Ok, Err, OnErr, refl, sym, ap, ◌∙◌, arith}
+use Rattle.std.proofs.Common.{◌≡◌, ℕ, Bool, true, false, cond, nat_lt, List, [], ◌++◌, length, set, Result, Ok, Err, OnErr, refl, sym, ap, ◌∙◌}
 use Rattle.cip_objects.specs.declared.status.Status.{Status}
 use Rattle.cip_objects.specs.declared.status.Status.TheVariants.{Success, ReplyDataTooLarge}
 use Rattle.cip_objects.specs.Contents.{Contents}
-use Rattle.cip_objects.specs.Execution.{Outcome, outcome, performed, limited, reply_to, Executed, fitted, exec}
+use Rattle.cip_objects.specs.Execution.{Outcome, outcome, performed, limited, reply_to, fitted, exec}
 use Rattle.cip_objects.specs.Status.{status_code}
 
 -- the reply once its status was put in

@@ -1,10 +1,10 @@
 -- What is read at one key after a value was set at another, or at the same.
-use Rattle.std.proofs.Common.{◌≡◌, ℕ, ◌<◌, ◌^◌, eqb, Bool, true, false, cond, ◌&&◌, List, [], Option, Some, None, unwrap_or, refl, sym, ap, ◌∙◌, arith}
+use Rattle.std.proofs.Common.{◌≡◌, ℕ, ◌<◌, ◌^◌, eqb, true, false, cond, ◌&&◌, List, [], Some, unwrap_or, ap, ◌∙◌, arith}
 use Rattle.std.proofs.lemmas.Bool.Decides.{nat_tests}
 use Rattle.std.specs.FinMap.{get-insert}
 use Rattle.byteorder.specs.Endian.{little_bytes, little_number}
 use Rattle.cip_objects.specs.ObjectMap.{key}
-use Rattle.cip_objects.specs.Contents.{Contents, value_at, bytes_at, number_at, with_value}
+use Rattle.cip_objects.specs.Contents.{Contents, value_at, number_at, with_value}
 use Rattle.cip_objects.proofs.Map.{key_total, tied}
 use Rattle.cip_objects.proofs.Numbers.{number-bytes}
 

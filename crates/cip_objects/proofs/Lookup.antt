@@ -1,15 +1,15 @@
 -- The object map read by class, instance and attribute.
-use Rattle.std.proofs.Common.{◌≡◌, ◌≢◌, ℕ, zero, suc, ◌+◌, ◌<◌, eqb, Bool, true, false, cond, ◌&&◌, List, [], ◌∷◌, ◌++◌, length, get_or, Option, Some, None, refl, sym, ap, ◌∙◌, arith, flat_map, set, sum}
+use Rattle.std.proofs.Common.{◌≡◌, ℕ, ◌<◌, eqb, Bool, true, false, cond, ◌&&◌, List, [], ◌∷◌, length, Option, Some, None, refl, sym, ap, ◌∙◌, arith, flat_map, sum}
 use Rattle.byteorder.specs.Endian.{little_bytes}
-use Rattle.std.specs.Option.{option_or, option_and_then}
+use Rattle.std.specs.Option.{option_or}
 use Rattle.std.proofs.lemmas.Bool.Decides.{nat_tests}
 use Rattle.std.proofs.lemmas.Bool.{eqb-true}
-use Rattle.std.specs.FinMap.{find, get, from_entries, get-from_entries}
+use Rattle.std.specs.FinMap.{find, get-from_entries}
 use Rattle.cip_objects.specs.ObjectMap.{Key, key, key_cmp}
-use Rattle.cip_objects.specs.Tables.{IDENTITY, ASSEMBLY, COUNTER}
+use Rattle.cip_objects.specs.Tables.{ASSEMBLY}
 use Rattle.cip_objects.specs.Contents.{value_at}
-use Rattle.cip_objects.specs.Entries.{IdentityValues, Block, CounterValues, Entries, Attributes, entries_at, attribute_in, class_attributes, identity_attributes, block_attributes, counter_attributes, block_at, greatest_of, entries_of, contents_of, NoneIsClass}
-use Rattle.cip_objects.specs.Lookup.{class_or_instance, block_value, lookup}
+use Rattle.cip_objects.specs.Entries.{IdentityValues, Block, CounterValues, Entries, entries_at, attribute_in, class_attributes, identity_attributes, block_attributes, counter_attributes, block_at, greatest_of, entries_of, contents_of, NoneIsClass}
+use Rattle.cip_objects.specs.Lookup.{block_value, lookup}
 use Rattle.cip_objects.proofs.Blocks.{first_at}
 use Rattle.cip_objects.proofs.Map.{find_append, find_at, key_total}
 

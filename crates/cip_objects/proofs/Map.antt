@@ -1,14 +1,13 @@
 -- Reading and writing the object map, entry by entry.
-use Rattle.std.proofs.Common.{◌≡◌, ◌≢◌, ℕ, zero, suc, ◌+◌, ◌<◌, eqb, Bool, true, false, cond, ◌&&◌, List, [], ◌∷◌, ◌++◌, length, get_or, Option, Some, None, refl, sym, ap, ◌∙◌, arith, flat_map, set}
+use Rattle.std.proofs.Common.{◌≡◌, ℕ, eqb, Bool, true, false, cond, ◌&&◌, List, [], ◌∷◌, ◌++◌, Option, Some, None, refl, sym, ap, ◌∙◌}
 use Rattle.std.specs.Option.{option_or}
-use Rattle.std.proofs.lemmas.Bool.Decides.{nat_tests}
 use Rattle.std.specs.declared.cmp.Ordering.{Ordering}
 use Rattle.std.specs.declared.cmp.Ordering.TheVariants.{Less, Equal, Greater}
 use Rattle.std.specs.Ordering.{nat_cmp, ordering_then, is_eq, eq_by_cmp}
 use Rattle.std.specs.Cmp.{IsTotalOrder, nat_cmp_total, then_total, on_total, unsigned_tied}
 use Rattle.std.proofs.lemmas.Bool.{eqb-true}
-use Rattle.std.specs.FinMap.{FinMap, find, get, insert, from_entries, get-insert, get-from_entries, same_map, IsAntisymmetric, nat_cmp-IsAntisymmetric}
-use Rattle.cip_objects.specs.ObjectMap.{Key, key, key_cmp, ObjectMap}
+use Rattle.std.specs.FinMap.{find, insert, from_entries, get-insert, get-from_entries, same_map, IsAntisymmetric}
+use Rattle.cip_objects.specs.ObjectMap.{Key, key, key_cmp}
 use Rattle.cip_objects.specs.Entries.{Entries, Attributes, entries_at, attribute_in}
 
 pub key_total : IsTotalOrder key_cmp

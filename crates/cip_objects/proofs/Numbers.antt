@@ -1,10 +1,10 @@
 -- Numbers and their bytes.
-use Rattle.std.proofs.Common.{◌≡◌, ℕ, ◌+◌, ◌*◌, ◌/◌, ◌%◌, ◌^◌, ◌<◌, ◌≤◌, List, [], ◌∷◌, refl, sym, ap, ◌∙◌, arith, unwrap_or, cond, Some}
+use Rattle.std.proofs.Common.{◌≡◌, ℕ, ◌%◌, ◌^◌, ◌<◌, ◌≤◌, List, [], refl, sym, ap, ◌∙◌, arith, unwrap_or, Some}
 use Rattle.std.proofs.Math.Nat.{div-one, mod-eq_of_lt}
 use Rattle.byteorder.specs.Endian.{little_bytes, little_number}
 use Rattle.byteorder.specs.Numbers.{little_from-bytes}
 use Rattle.cip_objects.specs.Tables.{COUNTER}
-use Rattle.cip_objects.specs.Contents.{Contents, value_at, bytes_at, number_at}
+use Rattle.cip_objects.specs.Contents.{Contents, bytes_at, number_at}
 use Rattle.cip_objects.specs.Entries.{IdentityValues, Block, CounterValues, contents_of, NoneIsClass, attribute_in, counter_attributes}
 use Rattle.cip_objects.specs.Run.{IsCounter}
 use Rattle.cip_objects.proofs.Lookup.{value_at-contents_of}

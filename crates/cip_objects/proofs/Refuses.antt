@@ -16,7 +16,7 @@ use Rattle.cip_objects.specs.Check.{◌>>=◌, ◌>>◌, demand, exactly}
 use Rattle.cip_objects.specs.Contents.{Contents, value_at, number_at, with_value}
 use Rattle.cip_objects.specs.Reading.{Answer, is_data, chosen, named_member, get_attribute_single, get_attributes_all, get_attribute_list, get_member}
 use Rattle.cip_objects.specs.Changing.{Change, change, added, is_allowed, set_attribute_single, set_member, add, clear}
-use Rattle.cip_objects.specs.Execution.{Outcome, reads, changes, perform, sized, formed, outcome}
+use Rattle.cip_objects.specs.Execution.{reads, changes, perform, sized, formed, outcome}
 use Rattle.cip_objects.specs.Service.{service_in}
 use Rattle.cip_objects.specs.Status.{status_code}
 use Rattle.cip_objects.specs.Tables.{Shape, services_of, settable_size, member_at}

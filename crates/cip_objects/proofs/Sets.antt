@@ -1,29 +1,27 @@
 -- Sets and gets.
-use Rattle.std.proofs.Common.{◌≡◌, ℕ, ◌+◌, ◌*◌, ◌<◌, ◌≤◌, ◌⊎◌, inl, inr, eqb, Bool, true, false, cond, ◌&&◌, nat_lt, List, [], ◌∷◌, length, Option, Some, None, option_map, Result, Ok, Err, refl, sym, ap, ◌∙◌, arith, subst, suc}
-use Rattle.std.proofs.lemmas.Bool.Decides.{nat_tests, eqb_tells}
+use Rattle.std.proofs.Common.{◌≡◌, ℕ, ◌+◌, ◌≤◌, ◌⊎◌, inl, inr, eqb, Bool, true, false, cond, ◌&&◌, nat_lt, List, [], ◌∷◌, length, Option, Some, None, option_map, Result, Ok, Err, refl, sym, ap, ◌∙◌, arith, suc}
+use Rattle.std.proofs.lemmas.Bool.Decides.{nat_tests}
 use Rattle.std.specs.Option.{ok_or}
 use Rattle.cip_message.specs.declared.path.Path.{Path}
 use Rattle.cip_message.specs.declared.path.PathFault.{PathFault}
 use Rattle.cip_message.specs.declared.request.RequestFault.{RequestFault}
-use Rattle.cip_message.specs.Numbers.{le}
 use Rattle.cip_message.specs.PathReading.{path_of}
-use Rattle.cip_message.specs.Request.{Request, request_of}
+use Rattle.cip_message.specs.Request.{Request}
 use Rattle.cip_objects.specs.declared.service.Service.{Service}
 use Rattle.cip_objects.specs.declared.service.Service.TheVariants.{GetAttributesAll, GetAttributeList, GetAttributeSingle, SetAttributeSingle, GetMember, SetMember, Add, Clear}
 use Rattle.cip_objects.specs.declared.status.Status.{Status}
-use Rattle.cip_objects.specs.declared.status.Status.TheVariants.{Success, ReplyDataTooLarge, PathDestinationUnknown, ServiceNotSupported, AttributeNotSupported}
-use Rattle.cip_objects.specs.Check.{◌>>=◌, ◌>>◌, demand, exactly}
+use Rattle.cip_objects.specs.declared.status.Status.TheVariants.{Success, ReplyDataTooLarge, PathDestinationUnknown, ServiceNotSupported}
+use Rattle.cip_objects.specs.Check.{◌>>=◌}
 use Rattle.cip_objects.specs.Contents.{Contents, value_at, with_value}
-use Rattle.cip_objects.specs.Reading.{Answer, chosen, get_attribute_single}
+use Rattle.cip_objects.specs.Reading.{chosen, get_attribute_single}
 use Rattle.cip_objects.specs.Changing.{set_attribute_single, set_member, add, clear}
-use Rattle.cip_objects.specs.Execution.{Outcome, perform, outcome, Executed, fitted, exec, reply_to, run, reads}
+use Rattle.cip_objects.specs.Execution.{Outcome, perform, outcome, Executed, fitted, exec, reply_to}
 use Rattle.cip_objects.specs.ExecutionLaws.{exec_too_large}
-use Rattle.cip_objects.specs.Laws.{Reads, IsChanging, too_large_law, changes_fit_law, get_after_set_law, set_leaves_others_law}
+use Rattle.cip_objects.specs.Laws.{Reads, too_large_law, changes_fit_law, get_after_set_law, set_leaves_others_law}
 use Rattle.cip_objects.specs.Router.{general_status}
 use Rattle.cip_objects.specs.Service.{service_code, service_in}
-use Rattle.cip_objects.specs.Status.{status_code}
-use Rattle.cip_objects.specs.Tables.{Shape, shape_at, services_of, class_or_first, assembly_services}
-use Rattle.cip_objects.proofs.Effects.{goes, Goes, set_effect, Sets, member_effect, add_effect, clear_effect, change_effect, Changes, chosen_code}
+use Rattle.cip_objects.specs.Tables.{Shape, shape_at, services_of, assembly_services}
+use Rattle.cip_objects.proofs.Effects.{goes, set_effect, member_effect, add_effect, clear_effect, change_effect, chosen_code}
 use Rattle.cip_objects.proofs.Keys.{value_at-same, value_at-other}
 use Rattle.cip_objects.proofs.Refuses.{Refuses, outcome_refuses}
 

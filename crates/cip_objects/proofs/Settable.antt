@@ -1,13 +1,13 @@
 -- What Set_Attribute_Single does once all its checks but the last hold.
-use Rattle.std.proofs.Common.{◌≡◌, ℕ, ◌+◌, eqb, true, false, cond, ◌&&◌, ◌||◌, not, List, [], length, take, drop, ◌++◌, Option, Some, None, Result, Ok, Err, refl, sym, ap, ◌∙◌, arith}
+use Rattle.std.proofs.Common.{◌≡◌, ℕ, ◌+◌, List, [], length, ◌++◌, Some, Ok, refl, ap, ◌∙◌, arith}
 use Rattle.std.proofs.lemmas.Bool.Decides.{nat_tests}
 use Rattle.std.proofs.lemmas.List.{append-nil, drop_all}
 use Rattle.cip_message.specs.declared.path.Path.{Path}
 use Rattle.cip_objects.specs.declared.status.Status.TheVariants.{InvalidAttributeValue}
 use Rattle.cip_objects.specs.Check.{◌>>◌, demand, exactly}
 use Rattle.cip_objects.specs.Contents.{Contents, value_at, with_value}
-use Rattle.cip_objects.specs.Changing.{Change, change, spliced, is_allowed, set_attribute_single, limited_by}
-use Rattle.cip_objects.specs.Tables.{Shape, settable_size, shape_at, size_if_settable}
+use Rattle.cip_objects.specs.Changing.{change, spliced, is_allowed, set_attribute_single}
+use Rattle.cip_objects.specs.Tables.{Shape, settable_size}
 
 -- what can be set in an assembly is its data
 pub settable_data : (shapes : List Shape) (class instance attribute n : ℕ) → settable_size shapes class instance attribute ≡ Some n → class ≡ 4 → attribute ≡ 3

@@ -1,6 +1,6 @@
 -- The tables made from the assemblies.
-use Rattle.std.proofs.Common.{◌≡◌, ℕ, eqb, Bool, true, false, cond, List, [], ◌∷◌, map, Option, Some, None, option_map, refl, sym, ap, ◌∙◌}
-use Rattle.cip_objects.specs.Tables.{Shape, shape_at}
+use Rattle.std.proofs.Common.{◌≡◌, ℕ, eqb, true, false, cond, List, [], ◌∷◌, map, Some, option_map, refl, sym, ap, ◌∙◌}
+use Rattle.cip_objects.specs.Tables.{shape_at}
 use Rattle.cip_objects.specs.Contents.{Contents}
 use Rattle.cip_objects.specs.Entries.{IdentityValues, CounterValues, Block, block_at, shape_of, contents_of}
 

@@ -1,20 +1,19 @@
 -- Writing at one key of the object map.
-use Rattle.std.proofs.Common.{◌≡◌, ◌≢◌, ℕ, zero, suc, ◌+◌, ◌<◌, eqb, Bool, true, false, cond, ◌&&◌, List, [], ◌∷◌, ◌++◌, length, get_or, map, max, Option, Some, None, refl, sym, ap, ◌∙◌, arith, flat_map, set, sum, subst, unwrap_or}
+use Rattle.std.proofs.Common.{◌≡◌, ℕ, zero, suc, ◌<◌, eqb, Bool, true, false, cond, ◌&&◌, List, [], ◌∷◌, ◌++◌, length, get_or, map, max, Some, None, refl, sym, ap, ◌∙◌, arith, set, sum, subst, unwrap_or}
 use Rattle.std.proofs.lemmas.Bool.Decides.{nat_tests}
 use Rattle.std.specs.Option.{option_or}
-use Rattle.std.specs.FinMap.{find, get, insert, from_entries}
-use Rattle.std.specs.Ordering.{eq_by_cmp}
+use Rattle.std.specs.FinMap.{find, insert, from_entries}
 use Rattle.byteorder.specs.Endian.{little_bytes}
 use Rattle.cip_objects.specs.ObjectMap.{Key, key, key_cmp}
 use Rattle.cip_objects.specs.Tables.{Shape, IDENTITY, ASSEMBLY, COUNTER}
 use Rattle.cip_objects.specs.Contents.{Contents, with_value, bytes_at}
 use Rattle.cip_objects.specs.Places.{IsFirst}
-use Rattle.cip_objects.specs.Entries.{IdentityValues, Block, CounterValues, Entries, Attributes, entries_at, attribute_in, class_attributes, identity_attributes, block_attributes, counter_attributes, block_at, greatest_of, entries_of, contents_of, shape_of, device_of, NoneIsClass}
-use Rattle.cip_objects.proofs.Blocks.{eqb-other, eqb-same, first_at}
+use Rattle.cip_objects.specs.Entries.{IdentityValues, Block, CounterValues, Entries, entries_at, attribute_in, class_attributes, identity_attributes, block_attributes, counter_attributes, block_at, greatest_of, entries_of, contents_of, shape_of, device_of, NoneIsClass}
+use Rattle.cip_objects.proofs.Blocks.{eqb-other, first_at}
 use Rattle.cip_objects.specs.Lookup.{block_value}
 use Rattle.cip_objects.specs.Changing.{spliced}
 use Rattle.cip_objects.proofs.Lookup.{blocks_of, value_at-contents_of}
-use Rattle.cip_objects.proofs.Map.{find_append, find_at, key_total, Updates, Absent, insert_updates, updates_front, updates_back, absent_at, updates_at, tied_parts}
+use Rattle.cip_objects.proofs.Map.{find_append, Updates, Absent, insert_updates, updates_front, updates_back, absent_at, updates_at}
 
 -- the assemblies with these data at one place
 abbrev pub with_content : List Block → ℕ → List ℕ → List Block

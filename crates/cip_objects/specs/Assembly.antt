@@ -1,5 +1,5 @@
 -- What each assembly keeps: the data have the size that the members have together.
-use Rattle.std.specs.Prelude.{◌≡◌, ◌≤◌, vec_len, sum, length}
+use Rattle.std.specs.Prelude.{◌≡◌, ◌≤◌, vec_len, sum}
 use Rattle.cip_objects.specs.declared.assembly.Assembly.TheInside.{Inside}
 
 pub record IsWhole (a : Inside) : Type 0 where

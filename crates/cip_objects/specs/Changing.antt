@@ -1,6 +1,6 @@
 -- The services that change, each by its first check that fails (Volume 1, common services; Add and Clear are the
 -- counter's own).
-use Rattle.std.specs.Prelude.{ℕ, ◌+◌, ◌%◌, ◌^◌, Bool, ◌==◌, not, ◌||◌, nat_le, List, [], ◌++◌, take, drop, length, Option, Result, Ok, Err}
+use Rattle.std.specs.Prelude.{ℕ, ◌+◌, ◌%◌, ◌^◌, Bool, ◌==◌, not, ◌||◌, nat_le, List, [], ◌++◌, take, drop, length, Result, Ok, Err}
 use Rattle.std.specs.Option.{ok_or}
 use Rattle.byteorder.specs.Endian.{little_number}
 use Rattle.cip_message.specs.declared.path.Path.{Path}

@@ -1,10 +1,10 @@
 -- What the objects are to a caller: the object map, and the constant tables beside it.
-use Rattle.std.specs.Prelude.{◌≡◌, ℕ, Bool, List, [], Option, unwrap_or, refl}
-use Rattle.std.specs.FinMap.{FinMap, get, insert, code}
+use Rattle.std.specs.Prelude.{ℕ, Bool, List, [], Option, unwrap_or, refl}
+use Rattle.std.specs.FinMap.{get, insert, code}
 use Rattle.std.specs.Coded.{Coded, code_by, coded×, coded_ℕ, coded_bool, coded_list}
 use Rattle.byteorder.specs.Endian.{little_number}
 use Rattle.cip_message.specs.declared.key.Device.{Device}
-use Rattle.cip_objects.specs.ObjectMap.{Key, key, key_cmp, ObjectMap}
+use Rattle.cip_objects.specs.ObjectMap.{Key, key, ObjectMap}
 use Rattle.cip_objects.specs.Tables.{Shape}
 
 -- the map, and of the tables what differs from one configuration to another: the assemblies' shapes, and the five

@@ -5,7 +5,7 @@ use Rattle.std.specs.List.{flat_map}
 use Rattle.std.specs.FinMap.{from_entries}
 use Rattle.byteorder.specs.Endian.{little_bytes}
 use Rattle.cip_message.specs.declared.key.Device.{Device}
-use Rattle.cip_objects.specs.ObjectMap.{Key, key, ObjectMap}
+use Rattle.cip_objects.specs.ObjectMap.{Key, key}
 use Rattle.cip_objects.specs.Tables.{Shape, IDENTITY, ASSEMBLY, COUNTER}
 use Rattle.cip_objects.specs.Contents.{Contents}
 

@@ -10,7 +10,7 @@ use Rattle.cip_objects.specs.declared.service.Service.{Service}
 use Rattle.cip_objects.specs.declared.service.Service.TheVariants.{GetAttributesAll, GetAttributeList, GetAttributeSingle, SetAttributeSingle, GetMember, SetMember, Add, Clear}
 use Rattle.cip_objects.specs.declared.status.Status.{Status}
 use Rattle.cip_objects.specs.declared.status.Status.TheVariants.{Success, PathSizeInvalid, PathSegmentError, ReplyDataTooLarge}
-use Rattle.cip_objects.specs.Check.{◌>>=◌, ◌>>◌}
+use Rattle.cip_objects.specs.Check.{◌>>=◌}
 use Rattle.cip_objects.specs.Contents.{Contents}
 use Rattle.cip_objects.specs.Reading.{Answer, chosen, get_attribute_single, get_attributes_all, get_attribute_list, get_member}
 use Rattle.cip_objects.specs.Changing.{Change, set_attribute_single, set_member, add, clear}

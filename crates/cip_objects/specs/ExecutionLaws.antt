@@ -1,22 +1,21 @@
 -- What holds of every execution.
-use Rattle.std.specs.Prelude.{◌≡◌, ℕ, ◌≤◌, ◌<◌, Bool, true, false, cond, nat_lt, List, [], ◌∷◌, ◌++◌, length, slice_index, Option, Some, None, Result, Ok, Err, refl, ◌⊎◌}
+use Rattle.std.specs.Prelude.{◌≡◌, ℕ, ◌≤◌, Bool, true, false, cond, nat_lt, List, [], length, Result, Ok, Err, refl, ◌⊎◌}
 use Rattle.std.proofs.Common.{inl, inr, arith}
 use Rattle.std.proofs.lemmas.Bool.Decides.{nat_tests}
 use Rattle.std.specs.Option.{ok_or}
 use Rattle.cip_message.specs.declared.path.Path.{Path}
 use Rattle.cip_message.specs.PathReading.{path_of}
-use Rattle.cip_message.specs.Request.{Request, request_of}
-use Rattle.cip_message.specs.Numbers.{words_of}
+use Rattle.cip_message.specs.Request.{request_of}
 use Rattle.cip_objects.specs.declared.service.Service.{Service}
 use Rattle.cip_objects.specs.declared.service.Service.TheVariants.{GetAttributesAll, GetAttributeList, GetAttributeSingle, SetAttributeSingle, GetMember, SetMember, Add, Clear}
 use Rattle.cip_objects.specs.declared.status.Status.{Status}
 use Rattle.cip_objects.specs.declared.status.Status.TheVariants.{Success, AttributeListError, ReplyDataTooLarge}
 use Rattle.cip_objects.specs.Check.{◌>>=◌, ◌>>◌, demand, exactly}
 use Rattle.cip_objects.specs.Contents.{Contents, value_at}
-use Rattle.cip_objects.specs.Reading.{Answer, chosen, named_member, get_attribute_single, get_attributes_all, get_attribute_list, get_member, list_status, all_there}
+use Rattle.cip_objects.specs.Reading.{Answer, chosen, named_member, get_attribute_single, get_attributes_all, get_attribute_list, get_member, list_status}
 use Rattle.cip_objects.specs.Changing.{Change, set_attribute_single, set_member, add, clear}
 use Rattle.cip_objects.specs.Execution.{Outcome, reads, changes, perform, sized, formed, outcome, reply_to, Executed, fitted, exec}
-use Rattle.cip_objects.specs.Router.{reply_service, general_status, IsReplyTo, REPLY_TOO_LARGE}
+use Rattle.cip_objects.specs.Router.{general_status, IsReplyTo, REPLY_TOO_LARGE}
 use Rattle.cip_objects.specs.Status.{status_code}
 
 -- an answer is a success, or has an attribute that wasn't there

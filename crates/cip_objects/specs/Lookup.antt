@@ -1,5 +1,5 @@
 -- The same contents as a reader of the objects meets them: by class, then instance, then attribute.
-use Rattle.std.specs.Prelude.{ℕ, List, Option, Some, None, ◌==◌, if◌then◌else◌, length}
+use Rattle.std.specs.Prelude.{ℕ, List, Option, None, ◌==◌, if◌then◌else◌, length}
 use Rattle.std.specs.Option.{option_and_then}
 use Rattle.cip_objects.specs.Tables.{IDENTITY, ASSEMBLY, COUNTER}
 use Rattle.cip_objects.specs.Entries.{IdentityValues, Block, CounterValues, attribute_in, class_attributes, identity_attributes, block_attributes, counter_attributes, block_at, greatest_of}

@@ -1,9 +1,9 @@
 -- The object map: what each attribute of each instance of each class holds, as bytes (Volume 1, object model:
 -- a class, an instance and an attribute ID name one value).
-use Rattle.std.specs.Prelude.{ℕ, List, unwrap_or, []}
+use Rattle.std.specs.Prelude.{ℕ, List}
 use Rattle.std.specs.declared.cmp.Ordering.{Ordering}
 use Rattle.std.specs.Ordering.{nat_cmp, ordering_then}
-use Rattle.std.specs.FinMap.{FinMap, get}
+use Rattle.std.specs.FinMap.{FinMap}
 
 pub record Key : Type 0 where
   pub class : ℕ

@@ -1,6 +1,6 @@
 -- Where an assembly stands among the assemblies.
-use Rattle.std.specs.Prelude.{◌≡◌, ◌≢◌, ℕ, ◌<◌, List, Some, length, slice_index_or}
-use Rattle.cip_objects.specs.Entries.{Block, block_at}
+use Rattle.std.specs.Prelude.{◌≡◌, ◌≢◌, ℕ, ◌<◌, List, length, slice_index_or}
+use Rattle.cip_objects.specs.Entries.{Block}
 
 -- the first assembly of this instance number stands at this place
 pub record IsFirst (blocks : List Block) (instance place : ℕ) : Type 0 where

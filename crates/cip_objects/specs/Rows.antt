@@ -1,6 +1,6 @@
 -- Worked rows: members of 1, 2 and 1 bytes, instance numbers, services and statuses.
-use Rattle.std.specs.Prelude.{◌≡◌, List, [], ◌∷◌, Option, Some, None, true, false, refl}
-use Rattle.cip_objects.specs.declared.service.Service.TheVariants.{GetAttributeSingle, SetMember, Add, Clear}
+use Rattle.std.specs.Prelude.{◌≡◌, [], ◌∷◌, Some, None, true, false, refl}
+use Rattle.cip_objects.specs.declared.service.Service.TheVariants.{SetMember}
 use Rattle.cip_objects.specs.Changing.{spliced}
 use Rattle.cip_objects.specs.Configuration.{is_misnumbered}
 use Rattle.cip_objects.specs.Service.{service_in}

@@ -1,6 +1,6 @@
 -- The constant tables beside the object map: what the configuration fixes for good. Which services an instance
 -- of a class has, which attributes can be set, and where the members of an assembly lie.
-use Rattle.std.specs.Prelude.{ℕ, ◌+◌, ◌-◌, Bool, true, false, List, [], ◌∷◌, Option, Some, None, option_map, ◌==◌, ◌&&◌, ◌||◌, if◌then◌else◌, nat_lt, length, slice_index, sum, take}
+use Rattle.std.specs.Prelude.{ℕ, ◌-◌, Bool, List, [], ◌∷◌, Option, Some, None, option_map, ◌==◌, ◌&&◌, ◌||◌, if◌then◌else◌, nat_lt, length, slice_index, sum, take}
 use Rattle.cip_objects.specs.declared.service.Service.{Service}
 use Rattle.cip_objects.specs.declared.service.Service.TheVariants.{GetAttributesAll, GetAttributeList, GetAttributeSingle, SetAttributeSingle, GetMember, SetMember, Add, Clear}
 use Rattle.cip_objects.specs.declared.assembly.Span.{Span}

@@ -1,5 +1,5 @@
 -- The bytes of an attribute's value (Volume 1, elementary data types).
-use Rattle.std.specs.Prelude.{ℕ, List, [], ◌∷◌, length}
+use Rattle.std.specs.Prelude.{ℕ, List, [], ◌∷◌}
 use Rattle.byteorder.specs.Endian.{little_bytes}
 use Rattle.cip_objects.specs.declared.value.Value.{Value}
 use Rattle.cip_objects.specs.declared.value.Value.TheVariants.{Byte, Pair, Word, Double, Text, Bytes}

@@ -5,10 +5,11 @@ ghost use Rattle.cip_objects.specs.Execution.{performed, limited, perform, outco
 ghost use Rattle.cip_objects.specs.Router.{reply_service};
 ghost use Rattle.cip_objects.specs.Status.{status_code};
 
+use crate::Status;
 use crate::objects::Objects;
 use crate::router::{ReplyBuf, Router};
+use crate::service::Service;
 use crate::text::append;
-use crate::{Service, Status};
 use cip_message::{Path, RequestView, read_path};
 
 impl Objects {

@@ -12,14 +12,15 @@ ghost use Rattle.cip_objects.specs.Entries.{shape_of};
 ghost use Rattle.cip_objects.specs.Tables.{services_of, class_or_first, shape_at, settable_size, member_at};
 ghost use Rattle.cip_objects.specs.Value.{value_bytes};
 
+use crate::Status;
 use crate::assembly::{Assembly, Span, greatest, place};
 use crate::class::class_attribute;
 use crate::config::{AssemblyConfig, Config, ConfigFault};
 use crate::counter::Counter;
 use crate::identity::Identity;
 use crate::router::ReplyBuf;
+use crate::service::Service;
 use crate::value::Value;
-use crate::{Service, Status};
 use arrayvec::ArrayVec;
 use cip_message::Device;
 use std::alloc::{AllocError, Global};
@@ -68,7 +69,7 @@ pub(crate) const COUNTER: u16 = 0x64;
 /// The objects of a device: Identity, the assemblies and the counter.
 ///
 /// A caller sees them as the object map, from class, instance and attribute to bytes, beside the constant tables.
-#[derive(Drop)]
+#[derive(Debug, Drop)]
 pub struct Objects {
     identity: Identity,
     assemblies: Vec<Assembly>,

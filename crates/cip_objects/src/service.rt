@@ -3,7 +3,7 @@ ghost use Rattle.std.specs.Prelude.{◌≡◌};
 
 /// A service that some instance of the objects has (Volume 1, common services; Add and Clear are the counter's own).
 #[derive(Clone, Copy, PartialEq, Eq, Debug)]
-pub enum Service {
+pub(crate) enum Service {
     GetAttributesAll,
     GetAttributeList,
     GetAttributeSingle,
@@ -18,7 +18,7 @@ impl Service {
     ghost use Rattle.cip_objects.specs.Service.{service_code};
 
     /// The service as the byte of a request.
-    pub fn code(self) -> u8
+    pub(crate) fn code(self) -> u8
         ensures { result ≡ service_code self }
     {
         match self {

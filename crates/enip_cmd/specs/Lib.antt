@@ -5,3 +5,4 @@ pub mod Answers
 pub mod Room
 pub mod Statuses
 pub mod Runs
+pub mod Refusals

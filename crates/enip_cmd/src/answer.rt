@@ -5,15 +5,13 @@ ghost use Rattle.std.specs.Prelude.{◌≤◌, length};
 use crate::adapter::{Adapter, Full, Peer};
 use crate::commands::LONGEST_ANSWER;
 use crate::configuration::Configuration;
+use crate::digits::decode;
 use crate::fault::Fault;
+use crate::input_lines::{TakeLines, read_lines};
 use crate::lines::{Line, Number};
 use cip_objects::Objects;
-use memchr::memchr;
 use std::alloc::Global;
 use std::io::{BufWriter, Read, Write};
-
-/// How many bytes of the input are read at a time.
-const CHUNK: usize = 65_536;
 
 /// Runs an adapter over the lines of an input, and answers the exit status of the program: 0, or 3 where the
 /// configuration is refused, 4 where a line is, 5 where a device or memory failed, with a line on `errors`.
@@ -47,7 +45,7 @@ fn run<R: Read + Drop, W: Write + Drop>(
     let configuration = Configuration::read(alloc, config)?;
     let objects = Objects::new(alloc, &configuration.objects)?;
     let mut desk = Desk::new(alloc, objects, output)?;
-    let read = desk.read_all(alloc, input);
+    let read = read_lines(alloc, input, &mut desk);
     let flushed = desk.output.flush();
     read?;
     flushed?;
@@ -86,73 +84,6 @@ impl<W: Write + Drop> Desk<W> {
             digits: Vec::new(alloc),
             piece: Vec::new(alloc),
         })
-    }
-
-    /// Serves each line of an input. What is answered goes out before more is read.
-    fn read_all<R: Read + Drop>(&mut self, alloc: Global, input: R) -> Result<(), Fault> {
-        let mut input = input;
-        let mut chunk = vec![in alloc; 0u8; CHUNK]?;
-        let mut line = Vec::new(alloc);
-        let mut number = 1;
-        for _ in 0..u64::MAX {
-            let count = input.read(&mut chunk)?;
-            if count == 0 {
-                break;
-            }
-            number = self.serve_chunk(&chunk[..count], &mut line, number)?;
-            self.output.flush()?;
-        }
-        if !line.is_empty() {
-            self.serve_line(line.as_slice(), number)?;
-        }
-        Ok(())
-    }
-
-    /// Serves the lines that end in a chunk. `line` has the front of the first, and then that of the next,
-    /// whose number is answered.
-    fn serve_chunk(&mut self, chunk: &[u8], line: &mut Vec<u8>, number: u64) -> Result<u64, Fault> {
-        let mut number = number;
-        let mut rest = chunk;
-        while let Some(end) = memchr(b'\n', rest) {
-            let (head, tail) = rest.split_at(end);
-            rest = &tail[1..];
-            if line.is_empty() {
-                self.serve_line(head, number)?;
-            } else {
-                line.extend_from_slice(head)?;
-                self.serve_line(line.as_slice(), number)?;
-                line.clear();
-            }
-            number = number.saturating_add(1);
-        }
-        line.extend_from_slice(rest)?;
-        Ok(number)
-    }
-
-    /// Serves one line, without its end.
-    fn serve_line(&mut self, text: &[u8], number: u64) -> Result<(), Fault> {
-        let text = match text {
-            [front @ .., b'\r'] => front,
-            _ => text,
-        };
-        match Line::read(text) {
-            None => Err(Fault::Line(number)),
-            Some(Line::Nothing) => Ok(()),
-            Some(Line::Now(moment)) => {
-                self.now = moment;
-                Ok(())
-            }
-            Some(Line::End(seat)) => {
-                self.end(seat);
-                Ok(())
-            }
-            Some(Line::Piece(seat, text)) => {
-                if !decode(text, &mut self.digits, &mut self.piece)? {
-                    return Err(Fault::Line(number));
-                }
-                self.feed(seat)
-            }
-        }
     }
 
     /// Ends the peer of a number, if there is one.
@@ -197,25 +128,32 @@ impl<W: Write + Drop> Desk<W> {
     }
 }
 
-/// Reads the digits of a piece, with spaces or without, and says whether they are one byte or more.
-fn decode(text: &[u8], digits: &mut Vec<u8>, piece: &mut Vec<u8>) -> Result<bool, Fault> {
-    if !text.contains(&b' ') {
-        return decode_digits(text, piece);
+impl<W: Write + Drop> TakeLines for Desk<W> {
+    fn take_line(&mut self, text: &[u8], number: u64) -> Result<(), Fault> {
+        match Line::read(text) {
+            None => Err(Fault::Line(number)),
+            Some(Line::Nothing) => Ok(()),
+            Some(Line::Now(moment)) => {
+                self.now = moment;
+                Ok(())
+            }
+            Some(Line::End(seat)) => {
+                self.end(seat);
+                Ok(())
+            }
+            Some(Line::Piece(seat, text)) => {
+                if !decode(text, &mut self.digits, &mut self.piece)? || self.piece.is_empty() {
+                    return Err(Fault::Line(number));
+                }
+                self.feed(seat)
+            }
+        }
     }
-    digits.clear();
-    for part in text.split(|byte| *byte == b' ') {
-        digits.extend_from_slice(part)?;
-    }
-    decode_digits(digits.as_slice(), piece)
-}
 
-/// Reads the digits of a piece, and says whether they are one byte or more.
-fn decode_digits(digits: &[u8], piece: &mut Vec<u8>) -> Result<bool, Fault> {
-    if digits.is_empty() || digits.len() % 2 != 0 {
-        return Ok(false);
+    fn send(&mut self) -> Result<(), Fault> {
+        self.output.flush()?;
+        Ok(())
     }
-    piece.resize(digits.len() / 2, 0)?;
-    Ok(hex::decode_to_slice(digits, piece.as_mut_slice()).is_ok())
 }
 
 /// Prints an answer: `P hex`.

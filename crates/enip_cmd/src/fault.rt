@@ -39,12 +39,20 @@ impl Fault {
 }
 
 impl From<AllocError> for Fault {
+    ghost use Rattle.enip_cmd.specs.declared.fault.Fault.TheVariants.{Memory};
+
+    ghost from_gives = { λ _ fault. fault ≡ Memory };
+
     fn from(_error: AllocError) -> Fault {
         Fault::Memory
     }
 }
 
 impl<T: Drop> From<AllocFailed<T>> for Fault {
+    ghost use Rattle.enip_cmd.specs.declared.fault.Fault.TheVariants.{Memory};
+
+    ghost from_gives = { λ _ fault. fault ≡ Memory };
+
     fn from(_error: AllocFailed<T>) -> Fault {
         Fault::Memory
     }
@@ -59,9 +67,14 @@ impl From<io::Error> for Fault {
     }
 }
 
+/// The number of the check of the objects that failed.
 impl From<ConfigFault> for Fault {
-    fn from(fault: ConfigFault) -> Fault {
-        match fault {
+    ghost use Rattle.enip_cmd.specs.Refusals.{refusal};
+
+    ghost from_gives = { λ refused fault. fault ≡ refusal refused };
+
+    fn from(refused: ConfigFault) -> Fault {
+        match refused {
             ConfigFault::Name => Fault::Configuration(1),
             ConfigFault::Size => Fault::Configuration(2),
             ConfigFault::Members => Fault::Configuration(3),

@@ -5,10 +5,13 @@ pub mod adapter;
 pub mod answer;
 pub mod commands;
 pub mod configuration;
+pub mod digits;
 pub mod fault;
+pub mod input_lines;
 pub mod laws;
 pub mod lines;
 pub mod place;
+pub mod show;
 #[cfg(test)]
 mod tests;
 
@@ -55,6 +58,7 @@ adapter closed the connection.";
 fn run(rt: &HostRuntime, matches: &ArgMatches<'_>) -> u8 {
     match matches.subcommand() {
         Some(("answer", matches)) => run_answer(rt, matches.get_str("CONFIG").unwrap_or("")),
+        Some(("show", _)) => show::show(rt.alloc(), rt.stdin(), rt.stdout(), rt.stderr()),
         _ => WORDS_REFUSED,
     }
 }

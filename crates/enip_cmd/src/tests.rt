@@ -1,11 +1,29 @@
 //! Worked rows of the adapter through `answer`, and devices that fail.
 
+mod rows;
+
 use super::answer::answer;
+use rows::ROWS;
 use std::alloc::Global;
 use std::io::{self, Read, Write};
 use std::test::Fail;
 
-const DEMO: &str = "vendor = 4660\nname = \"Demo\"\n";
+const DEMO: &str = "vendor = 4660
+device_type = 43
+product_code = 7
+major = 2
+minor = 5
+serial = 16909060
+name = \"Demo\"
+
+[counter]
+limit = 100
+
+[[assembly]]
+instance = 100
+settable = true
+members = [1, 2, 1]
+";
 
 /// RegisterSession, and its answer.
 const REGISTER: &str = "1 6500 0400 00000000 00000000 0102030405060708 00000000 01000000\n";
@@ -69,6 +87,18 @@ fn worked_rows(rt: HostRuntime) -> Result<(), Fail> {
         assert_eq!(rt; got.0, status, "{name}");
         assert_eq!(rt; got.1.as_slice(), output.as_bytes(), "{name}");
         assert_eq!(rt; got.2.as_slice(), errors.as_bytes(), "{name}");
+    }
+    Ok(())
+}
+
+#[test]
+fn conversations(rt: HostRuntime) -> Result<(), Fail> {
+    for row in &ROWS {
+        let got = run(rt.alloc(), row.config.unwrap_or(DEMO), row.input)?;
+        let name = row.name;
+        assert_eq!(rt; got.0, row.status, "{name}");
+        assert_eq!(rt; got.1.as_slice(), row.output.as_bytes(), "{name}");
+        assert_eq!(rt; got.2.as_slice(), row.errors.as_bytes(), "{name}");
     }
     Ok(())
 }

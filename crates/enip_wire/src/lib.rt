@@ -5,4 +5,6 @@ pub mod header;
 pub mod laws;
 pub mod packet;
 pub mod packet_laws;
+#[cfg(test)]
+mod packet_tests;
 pub mod reader;

@@ -1,4 +1,4 @@
-use Rattle.std.proofs.Common.{◌∙◌, ap, sym, Ok, Err}
+use Rattle.std.proofs.Common.{◌∙◌, ap, Ok, Err}
 use Rattle.cip_objects.specs.Execution.{limited, outcome}
 use Rattle.cip_objects.proofs.Executed.{executed}
 use Rattle.cip_objects.proofs.execute.ObjectsRouter.execute.Goals as goal

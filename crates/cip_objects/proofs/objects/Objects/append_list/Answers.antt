@@ -1,4 +1,4 @@
-use Rattle.std.proofs.Common.{◌≡◌, ◌≤◌, ◌+◌, ◌*◌, ◌++◌, ◌∷◌, ◌&&◌, ◌∙◌, ℕ, Bool, List, length, drop, sym, ap, arith, append_assoc, true, false, refl, take}
+use Rattle.std.proofs.Common.{◌≡◌, ◌+◌, ◌*◌, ◌++◌, ◌∷◌, ◌&&◌, ◌∙◌, Bool, drop, sym, ap, arith, append_assoc, true, false, refl}
 use Rattle.byteorder.specs.Endian.{little_number}
 use Rattle.std.proofs.lemmas.List.{take_rest, length-drop, append-nil}
 use Rattle.std.specs.List.{flat_map}

@@ -1,8 +1,8 @@
-use Rattle.std.proofs.Common.{◌≡◌, ◌≤◌, None, sym, ap, ◌∙◌, arith, length, map}
+use Rattle.std.proofs.Common.{◌≡◌, sym, ap, ◌∙◌, arith, length, map}
 use Rattle.std.proofs.lemmas.List.{length-map}
-use Rattle.cip_objects.specs.Configuration.{fault_of, configured, block_of, identity_of, counter_of}
+use Rattle.cip_objects.specs.Configuration.{configured, block_of, identity_of, counter_of}
 use Rattle.cip_objects.specs.Counter.{counter_values}
-use Rattle.cip_objects.specs.Entries.{contents_of, NoneIsClass, Block}
+use Rattle.cip_objects.specs.Entries.{contents_of}
 use Rattle.std.specs.String.{string_bytes}
 use Rattle.cip_objects.proofs.Numbers.{new_counts}
 use Rattle.cip_objects.proofs.Sound.{sound}

@@ -1,9 +1,9 @@
-use Rattle.std.proofs.Common.{ℕ, ◌≡◌, ◌+◌, ◌∙◌, [], length, Ok, refl, sym, ap, arith, Some, option_map, subst, IfSome}
+use Rattle.std.proofs.Common.{ℕ, ◌≡◌, ◌∙◌, [], length, Ok, sym, ap, Some, option_map, subst, IfSome}
 use Rattle.cip_objects.specs.declared.status.Status.TheVariants.{InvalidAttributeValue}
-use Rattle.cip_objects.specs.Changing.{changed, change, spliced, set_attribute_single, is_allowed, limited_by}
+use Rattle.cip_objects.specs.Changing.{change, is_allowed}
 use Rattle.cip_objects.specs.Check.{◌>>◌, demand, exactly}
 use Rattle.cip_objects.specs.Contents.{with_value, bytes_at, value_at}
-use Rattle.cip_objects.specs.Tables.{ASSEMBLY, COUNTER, settable_size}
+use Rattle.cip_objects.specs.Tables.{ASSEMBLY, settable_size}
 use Rattle.cip_objects.specs.Value.{value_bytes}
 use Rattle.cip_objects.proofs.Settable.{settable_data, settable_limit, spliced-whole, steps, sized}
 use Rattle.cip_objects.proofs.objects.Objects.set_attribute_single.Goals as goal

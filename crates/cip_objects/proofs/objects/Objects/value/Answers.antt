@@ -1,8 +1,7 @@
-use Rattle.std.proofs.Common.{◌≡◌, rules, sym, ap, ◌∙◌, arith}
+use Rattle.std.proofs.Common.{ap, arith}
 use Rattle.std.proofs.lemmas.Bool.Decides.{nat_tests}
 use Rattle.cip_objects.specs.Contents.{value_at}
 use Rattle.cip_objects.specs.Counter.{counter_values}
-use Rattle.cip_objects.specs.Entries.{contents_of}
 use Rattle.cip_objects.proofs.Lookup.{value_at-contents_of}
 use Rattle.cip_objects.proofs.objects.Objects.value.Goals as goal
 

@@ -1,5 +1,4 @@
-use Rattle.std.proofs.Common.{is_some, option_map, None, false, ◌≡◌, ◌+◌, ◌≤◌, length, subst, sym, ap, ◌∙◌, arith}
-use Rattle.std.proofs.lemmas.Grind.{common_steps}
+use Rattle.std.proofs.Common.{is_some, option_map, None, false, ◌≡◌, ap, ◌∙◌}
 use Rattle.cip_objects.specs.Counter.{counter_values}
 use Rattle.cip_objects.specs.Entries.{block_at, shape_of}
 use Rattle.cip_objects.specs.Tables.{shape_at}

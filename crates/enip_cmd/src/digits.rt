@@ -1,0 +1,43 @@
+//! Bytes as hexadecimal digits, read and printed.
+
+use crate::fault::Fault;
+use std::io::{self, Write};
+
+/// How many bytes are spelled at a time.
+const BLOCK: usize = 128;
+
+/// Reads hexadecimal digits, with spaces or without, and says whether they spell bytes, perhaps none.
+/// `digits` is room for the digits without their spaces.
+pub fn decode(text: &[u8], digits: &mut Vec<u8>, bytes: &mut Vec<u8>) -> Result<bool, Fault> {
+    if !text.contains(&b' ') {
+        return decode_digits(text, bytes);
+    }
+    digits.clear();
+    for part in text.split(|byte| *byte == b' ') {
+        digits.extend_from_slice(part)?;
+    }
+    decode_digits(digits.as_slice(), bytes)
+}
+
+/// Reads hexadecimal digits, and says whether they spell bytes, perhaps none.
+fn decode_digits(digits: &[u8], bytes: &mut Vec<u8>) -> Result<bool, Fault> {
+    if digits.len() % 2 != 0 {
+        return Ok(false);
+    }
+    bytes.resize(digits.len() / 2, 0)?;
+    Ok(hex::decode_to_slice(digits, bytes.as_mut_slice()).is_ok())
+}
+
+/// Prints the digits of bytes, two each.
+pub fn print_digits<W: Write>(output: &mut W, bytes: &[u8]) -> io::Result<()> {
+    let mut text = [0u8; 2 * BLOCK];
+    let mut rest = bytes;
+    while !rest.is_empty() {
+        let (block, others) = rest.split_at(rest.len().min(BLOCK));
+        let digits = &mut text[..2 * block.len()];
+        let _ = hex::encode_to_slice(block, digits);
+        output.write_all(digits)?;
+        rest = others;
+    }
+    Ok(())
+}

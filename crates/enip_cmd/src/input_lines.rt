@@ -1,0 +1,76 @@
+//! The lines of an input, one at a time, in whatever chunks it is read. Memory is taken for one line.
+
+use crate::fault::Fault;
+use memchr::memchr;
+use std::alloc::Global;
+use std::io::Read;
+
+/// How many bytes of the input are read at a time.
+const CHUNK: usize = 65_536;
+
+/// Who takes the lines of an input.
+pub trait TakeLines {
+    /// Takes a line, without its end, and its number from 1.
+    fn take_line(&mut self, text: &[u8], number: u64) -> Result<(), Fault>;
+
+    /// Makes what was answered go out. More of the input is read only then.
+    fn send(&mut self) -> Result<(), Fault>;
+}
+
+/// Hands each line of an input to who takes them, up to the first fault.
+pub fn read_lines<R: Read + Drop, T: TakeLines>(
+    alloc: Global,
+    input: R,
+    taker: &mut T,
+) -> Result<(), Fault> {
+    let mut input = input;
+    let mut chunk = vec![in alloc; 0u8; CHUNK]?;
+    let mut line = Vec::new(alloc);
+    let mut number = 1;
+    for _ in 0..u64::MAX {
+        let count = input.read(&mut chunk)?;
+        if count == 0 {
+            break;
+        }
+        number = take_chunk(taker, &chunk[..count], &mut line, number)?;
+        taker.send()?;
+    }
+    if !line.is_empty() {
+        taker.take_line(without_return(line.as_slice()), number)?;
+    }
+    Ok(())
+}
+
+/// Hands on the lines that end in a chunk. `line` has the front of the first, and then that of the next,
+/// whose number is answered.
+fn take_chunk<T: TakeLines>(
+    taker: &mut T,
+    chunk: &[u8],
+    line: &mut Vec<u8>,
+    number: u64,
+) -> Result<u64, Fault> {
+    let mut number = number;
+    let mut rest = chunk;
+    while let Some(end) = memchr(b'\n', rest) {
+        let (head, tail) = rest.split_at(end);
+        rest = &tail[1..];
+        if line.is_empty() {
+            taker.take_line(without_return(head), number)?;
+        } else {
+            line.extend_from_slice(head)?;
+            taker.take_line(without_return(line.as_slice()), number)?;
+            line.clear();
+        }
+        number = number.saturating_add(1);
+    }
+    line.extend_from_slice(rest)?;
+    Ok(number)
+}
+
+/// A line without the carriage return that other systems end it with.
+fn without_return(text: &[u8]) -> &[u8] {
+    match text {
+        [front @ .., b'\r'] => front,
+        _ => text,
+    }
+}
