@@ -8,7 +8,11 @@ const BLOCK: usize = 128;
 
 /// Reads hexadecimal digits, with spaces or without, and says whether they spell bytes, perhaps none.
 /// `digits` is room for the digits without their spaces.
-pub fn decode(text: &[u8], digits: &mut Vec<u8>, bytes: &mut Vec<u8>) -> Result<bool, Fault> {
+pub(crate) fn decode(
+    text: &[u8],
+    digits: &mut Vec<u8>,
+    bytes: &mut Vec<u8>,
+) -> Result<bool, Fault> {
     if !text.contains(&b' ') {
         return decode_digits(text, bytes);
     }
@@ -29,7 +33,7 @@ fn decode_digits(digits: &[u8], bytes: &mut Vec<u8>) -> Result<bool, Fault> {
 }
 
 /// Prints the digits of bytes, two each.
-pub fn print_digits<W: Write>(output: &mut W, bytes: &[u8]) -> io::Result<()> {
+pub(crate) fn print_digits<W: Write>(output: &mut W, bytes: &[u8]) -> io::Result<()> {
     let mut text = [0u8; 2 * BLOCK];
     let mut rest = bytes;
     while !rest.is_empty() {

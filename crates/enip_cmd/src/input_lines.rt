@@ -9,7 +9,7 @@ use std::io::Read;
 const CHUNK: usize = 65_536;
 
 /// Who takes the lines of an input.
-pub trait TakeLines {
+pub(crate) trait TakeLines {
     /// Takes a line, without its end, and its number from 1.
     fn take_line(&mut self, text: &[u8], number: u64) -> Result<(), Fault>;
 
@@ -18,7 +18,7 @@ pub trait TakeLines {
 }
 
 /// Hands each line of an input to who takes them, up to the first fault.
-pub fn read_lines<R: Read + Drop, T: TakeLines>(
+pub(crate) fn read_lines<R: Read + Drop, T: TakeLines>(
     alloc: Global,
     input: R,
     taker: &mut T,

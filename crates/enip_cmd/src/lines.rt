@@ -51,7 +51,7 @@ pub enum Line<'a> {
 
 impl<'a> Line<'a> {
     /// Reads a line: blank, `# ..`, `P HEX`, `end P` or `now N`.
-    pub fn read(text: &'a [u8]) -> Option<Line<'a>> {
+    pub(crate) fn read(text: &'a [u8]) -> Option<Line<'a>> {
         match text {
             [] | [b'#', ..] => Some(Line::Nothing),
             [b'e', b'n', b'd', b' ', digit] => Some(Line::End(Number::of(*digit)?)),

@@ -34,14 +34,23 @@ fn words_of<'a>(alloc: Global) -> Result<Command<'a>, Fault> {
         .about("Answers frames that are given as lines of hexadecimal digits")
         .long_about(ABOUT_ANSWER)
         .arg(config)?;
+    let show = Command::new(alloc, "show")
+        .about("Prints the fields of frames that are given as lines of hexadecimal digits")
+        .long_about(ABOUT_SHOW);
     Ok(
         Command::new(alloc, "enip")
             .about("An EtherNet/IP adapter that is proved to answer as the standard says")
             .subcommand_required(true)
             .arg_required_else_help(true)
-            .subcommand(answer)?,
+            .subcommand(answer)?
+            .subcommand(show)?,
     )
 }
+
+const ABOUT_SHOW: &str = "Prints the fields of frames that are given as lines of hexadecimal digits
+
+Reads a frame a line from standard input, and prints its header, its items and its request or reply, up to the
+first fault.";
 
 const ABOUT_ANSWER: &str = "Answers frames that are given as lines of hexadecimal digits
 
