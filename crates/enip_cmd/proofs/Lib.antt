@@ -4,3 +4,4 @@ pub mod EventLemmas
 pub mod PeerLemmas
 pub mod RunningLemmas
 pub mod CutLemmas
+pub mod Rows

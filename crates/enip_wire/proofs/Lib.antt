@@ -7,3 +7,4 @@ pub mod StreamLemmas
 pub mod ItemLemmas
 pub mod BodyLemmas
 pub mod WriteLemmas
+pub mod Rows
