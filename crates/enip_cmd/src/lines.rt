@@ -1,6 +1,6 @@
 //! The lines that `enip answer` reads.
 
-ghost use Rattle.std.specs.Prelude.{◌≤◌, ◌<◌};
+ghost use Rattle.std.specs.Prelude.{◌≡◌, ◌+◌, ◌≤◌, ◌<◌};
 
 /// One of the nine peers of an input, known by a digit from 1 to 9.
 #[derive(Clone, Copy, Debug, PartialEq, Eq)]
@@ -22,13 +22,15 @@ impl Number {
 
     /// Its place among the nine, from 0.
     pub fn place(self) -> usize
-        ensures { result < 9 }
+        ensures value { result ≡ self.place }
+        ensures to { result < 9 }
     {
         self.place
     }
 
     /// Its digit.
     pub fn digit(self) -> u8
+        ensures value { result ≡ 49 + self.place }
         ensures from { 49 ≤ result }
         ensures to { result ≤ 57 }
     {
