@@ -5,3 +5,5 @@ pub mod PeerLemmas
 pub mod RunningLemmas
 pub mod CutLemmas
 pub mod Rows
+pub mod KeyLemmas
+pub mod SettingLemmas

@@ -6,3 +6,6 @@ pub mod Room
 pub mod Statuses
 pub mod Runs
 pub mod Refusals
+pub mod Settings
+pub mod Told
+pub mod Keys

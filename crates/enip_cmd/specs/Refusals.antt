@@ -1,22 +1,18 @@
 -- Why a configuration is refused, and what one that is read says.
-use Rattle.std.specs.Prelude.{◌≡◌, ◌⊎◌, ◌≤◌}
+use Rattle.std.specs.Prelude.{◌≡◌, ◌⊎◌, ◌≤◌, Option, None}
 use Rattle.enip_cmd.specs.declared.fault.Fault.{Fault}
 use Rattle.enip_cmd.specs.declared.fault.Fault.TheVariants.{Configuration, Memory}
 use Rattle.enip_cmd.specs.declared.configuration.Configuration.{Configuration as Told}
 use Rattle.cip_objects.specs.declared.config.ConfigFault.{ConfigFault}
 use Rattle.cip_objects.specs.declared.config.ConfigFault.TheVariants.{Name, Size, Members, DoubleInstance, Limit, Memory as NoMemory}
 
--- A value is missing, of another type or out of its range.
-abbrev pub IsBadValue : Fault → Type 0
-IsBadValue fault = fault ≡ Configuration 8
+-- What is told is missing, of another type or out of its range.
+abbrev pub IsBad : {A : Type 0} → Option A → Fault → Type 0
+IsBad told fault = (fault ≡ Configuration 8) × (told ≡ None)
 
 -- The same, or there was no memory.
-abbrev pub IsRefusedValue : Fault → Type 0
-IsRefusedValue fault = (fault ≡ Configuration 8) ⊎ (fault ≡ Memory)
-
--- The text is no TOML (7), or has an unknown key (9), or a bad value, or there was no memory.
-abbrev pub IsRefusedText : Fault → Type 0
-IsRefusedText fault = (fault ≡ Configuration 7) ⊎ ((fault ≡ Configuration 9) ⊎ IsRefusedValue fault)
+abbrev pub IsUnread : {A : Type 0} → Option A → Fault → Type 0
+IsUnread told fault = (fault ≡ Memory) ⊎ IsBad told fault
 
 -- The number of the check of the objects that failed.
 abbrev pub refusal : ConfigFault → Fault
