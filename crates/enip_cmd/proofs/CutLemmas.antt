@@ -1,19 +1,15 @@
 -- Where a peer's stream is cut changes nothing.
-use Rattle.std.proofs.Common.{◌≡◌, ℕ, zero, suc, ◌+◌, ◌-◌, ◌≤◌, ◌<◌, ◌⊎◌, inl, inr, max, List, [], ◌∷◌, ◌++◌, Bool, true, false, cond, eqb, not, ltb, Option, Some, None, Result, Ok, Err, length, take, drop, map, refl, sym, ap, subst, ◌∙◌, arith, append_assoc, append-nil}
+use Rattle.std.proofs.Common.{◌≡◌, ℕ, suc, ◌≤◌, ◌<◌, ◌⊎◌, inl, inr, max, List, [], ◌∷◌, ◌++◌, Bool, true, false, cond, eqb, Option, Some, None, take, drop, map, refl, sym, ap, subst, ◌∙◌, arith, append_assoc}
 use Rattle.std.specs.List.{concat, AllByRecursion}
-use Rattle.std.proofs.lemmas.Bool.{cases_lt, false≢true, ne_eqb, eq-eqb, eqb-true}
+use Rattle.std.proofs.lemmas.Bool.{cases_lt, false≢true, eq-eqb}
 use Rattle.std.proofs.lemmas.List.{take-append-drop}
 use Rattle.cip_objects.specs.Contents.{Contents}
-use Rattle.enip_wire.specs.Frames.{Frame}
-use Rattle.enip_wire.specs.declared.packet.CpfFault.{CpfFault}
-use Rattle.enip_wire.specs.Bodies.{rr_body_of}
-use Rattle.enip_wire.specs.Numbers.{number_at}
 use Rattle.enip_wire.specs.Stream.{taken_of, sight_of, Sight}
 use Rattle.enip_wire.specs.Stream.Sight.{Nothing_yet, A_frame, A_long_header}
 use Rattle.enip_cmd.specs.declared.commands.Session.{Session}
 use Rattle.enip_cmd.specs.declared.place.Place.{Place}
 use Rattle.enip_cmd.specs.Lookup.{first_with, with_first, without_first}
-use Rattle.enip_cmd.specs.Turn.{State, Turned, Said, Replied, Served, begun, served, asked_for, requested, registered, sends}
+use Rattle.enip_cmd.specs.Turn.{Said, begun, sends}
 use Rattle.enip_cmd.specs.Turn.Event.{At}
 use Rattle.enip_cmd.specs.Turn.Said.{Silent, Sends, Begins, Refuses}
 use Rattle.enip_cmd.specs.Desk.{Desk, Call, Done, Fed_places, Fed_place, done, new_desk, state_of, handle_of, opened, unserved, fed, fed_place, fed_places, shown_to}
@@ -22,7 +18,7 @@ use Rattle.enip_cmd.specs.Runs.{all_done, desk_after, spoken, one_by_one, Pours}
 use Rattle.enip_cmd.specs.Runs.Pours.{Ended, Taken, Went_on, Closed}
 use Rattle.enip_cmd.proofs.EventLemmas.{fed_by, spoken-append}
 use Rattle.enip_cmd.proofs.PeerLemmas.{close_served, both, handle-fed_place, first_with-number}
-use Rattle.enip_cmd.proofs.RunningLemmas.{IsRunning, running-empty, taken_of-some, taken_of-within, taken_of-one, taken_of-next, running-next, sight_of-running, running-taken}
+use Rattle.enip_cmd.proofs.RunningLemmas.{IsRunning, running-empty, taken_of-some, taken_of-one, taken_of-next, running-next, sight_of-running, running-taken}
 
 -- what a call of feed does, by what the piece does to the peers
 abbrev done_by : Desk → ℕ → Fed_places → Done

@@ -1,5 +1,5 @@
 -- Each call is the turns of the events that it stands for.
-use Rattle.std.proofs.Common.{not, ltb, take, ◌+◌, ◌≡◌, ℕ, List, [], ◌∷◌, ◌++◌, Bool, true, false, cond, eqb, Option, Some, None, length, max, map, refl, sym, ap, subst, ◌∙◌, append_assoc}
+use Rattle.std.proofs.Common.{not, ltb, take, ◌+◌, ◌≡◌, ℕ, List, [], ◌∷◌, ◌++◌, Bool, true, false, cond, eqb, Option, Some, None, length, max, map, refl, sym, ap, ◌∙◌}
 use Rattle.std.specs.List.{flat_map}
 use Rattle.std.specs.Option.{option_map}
 use Rattle.cip_objects.specs.Contents.{Contents}
@@ -9,8 +9,8 @@ use Rattle.enip_cmd.specs.declared.adapter.Full.TheVariants.{Places, Handles}
 use Rattle.enip_cmd.specs.declared.commands.Session.{Session}
 use Rattle.enip_cmd.specs.declared.place.Place.{Place}
 use Rattle.enip_cmd.specs.Lookup.{first_with, with_first, without_first}
-use Rattle.enip_cmd.specs.Turn.{State, Event, Said, Turned, Served, turn, begun, to_peer, served, leaving, refused_long, sends, answers, after}
-use Rattle.enip_cmd.specs.Turn.Event.{Begin, End, At, Framed, Long}
+use Rattle.enip_cmd.specs.Turn.{State, Event, Said, Turned, Served, turn, to_peer, served, leaving, refused_long, sends, answers, after}
+use Rattle.enip_cmd.specs.Turn.Event.{Framed, Long}
 use Rattle.enip_cmd.specs.Turn.Said.{Silent, Sends, Begins, Refuses}
 use Rattle.enip_cmd.specs.Desk.{Desk, Call, Done, Fed_places, Fed_place, done, state_of, handle_of, opened, unserved, fed, fed_place, fed_places, shown_to, events_of}
 use Rattle.enip_cmd.specs.Desk.Call.{Begins_one, Feeds, Ends_one}

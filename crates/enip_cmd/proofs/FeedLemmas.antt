@@ -1,15 +1,14 @@
 -- What a piece does to the peers, by where its peer is.
-use Rattle.std.proofs.Common.{◌≡◌, ℕ, ◌<◌, List, [], Bool, true, false, cond, eqb, Option, Some, None, length, get_or, refl, sym, ap, subst, ◌∙◌}
-use Rattle.std.specs.Prelude.{slice_get, slice_set, remove}
+use Rattle.std.proofs.Common.{◌≡◌, ℕ, ◌<◌, List, Bool, true, false, cond, eqb, Option, Some, None, length, get_or, refl, sym, ap, subst, ◌∙◌}
+use Rattle.std.specs.Prelude.{slice_set, remove}
 use Rattle.std.specs.List.{position}
 use Rattle.cip_objects.specs.Contents.{Contents}
 use Rattle.enip_cmd.specs.declared.place.Place.{Place}
 use Rattle.enip_cmd.specs.declared.place.Outcome.{Outcome}
 use Rattle.enip_cmd.specs.Lookup.{first_with, with_first, without_first, IsFirstWith}
 use Rattle.enip_cmd.specs.Turn.{sends}
-use Rattle.enip_cmd.specs.Turn.Said.{Silent}
-use Rattle.enip_cmd.specs.Desk.{Desk, Call, Fed_places, handle_of, unserved, fed, fed_place, fed_places, done, events_of}
-use Rattle.enip_cmd.specs.Desk.Call.{Ends_one, Feeds}
+use Rattle.enip_cmd.specs.Desk.{Desk, handle_of, unserved, fed, fed_place, fed_places, done, events_of}
+use Rattle.enip_cmd.specs.Desk.Call.{Ends_one}
 use Rattle.enip_cmd.specs.Answers.{IsFed, said, written_said}
 use Rattle.enip_cmd.proofs.LookupLemmas.{first-Some, first-None, slice_get-past, remove-past, slice_get-within}
 

@@ -7,3 +7,5 @@ pub mod CutLemmas
 pub mod Rows
 pub mod KeyLemmas
 pub mod SettingLemmas
+pub mod SettingRows
+pub mod StatusLemmas

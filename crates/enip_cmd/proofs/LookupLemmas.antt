@@ -1,7 +1,7 @@
 -- Where the first item with a number is.
-use Rattle.std.proofs.Common.{◌≡◌, ℕ, suc, ◌+◌, ◌<◌, ◌≤◌, List, [], ◌∷◌, ◌++◌, Bool, true, false, cond, not, eqb, ltb, ltb-true, ltb-false, zero, get_or, Option, Some, None, length, take, drop, refl, sym, ap, subst, ◌∙◌, arith}
-use Rattle.std.specs.Prelude.{slice_get, slice_set, remove, MatchOption}
-use Rattle.std.specs.List.{prefix_len, position_or_len, position}
+use Rattle.std.proofs.Common.{◌≡◌, ℕ, suc, ◌+◌, ◌<◌, ◌≤◌, List, [], ◌∷◌, Bool, true, false, cond, not, eqb, ltb, ltb-true, ltb-false, zero, get_or, Some, None, length, refl, ap, subst, arith}
+use Rattle.std.specs.Prelude.{slice_get, remove, MatchOption}
+use Rattle.std.specs.List.{position_or_len, position}
 use Rattle.enip_cmd.specs.Lookup.{first_with, with_first, without_first, IsFoundAt, IsFirstWith}
 
 pub IsFirstWith-position_or_len : {X : Type 0} → (number : X → ℕ) (n : ℕ) (xs : List X)

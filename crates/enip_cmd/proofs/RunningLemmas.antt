@@ -1,14 +1,14 @@
 -- Bytes on the way to the end of a frame, by numbers alone.
-use Rattle.std.proofs.Common.{◌≡◌, ℕ, zero, suc, ◌+◌, ◌-◌, ◌≤◌, ◌<◌, ◌⊎◌, inl, inr, min, List, [], ◌∷◌, ◌++◌, Bool, true, false, cond, ltb, length, take, drop, refl, sym, ap, subst, ◌∙◌, arith, append_assoc, length-append, length-take}
+use Rattle.std.proofs.Common.{◌≡◌, ℕ, ◌+◌, ◌-◌, ◌≤◌, ◌<◌, inl, inr, min, List, [], ◌∷◌, ◌++◌, length, take, sym, ap, subst, ◌∙◌, arith, append_assoc, length-append, length-take}
 use Rattle.std.proofs.Math.Seq.{take-append-add}
 use Rattle.std.proofs.lemmas.Bool.{cases_lt, cases_eq}
 use Rattle.std.proofs.lemmas.Bool.Decides.{nat_tests}
 use Rattle.enip_wire.specs.Numbers.{number_at}
 use Rattle.enip_wire.specs.Frames.{end_after}
 use Rattle.enip_wire.specs.Headers.{header_at}
-use Rattle.enip_wire.specs.Stream.{taken_of, sight_of, Sight}
+use Rattle.enip_wire.specs.Stream.{taken_of, sight_of}
 use Rattle.enip_wire.specs.Stream.Sight.{Nothing_yet, A_frame, A_long_header}
-use Rattle.enip_wire.proofs.FrameLemmas.{number_at-append, number_at-take, end_after-least, end_after-over, end_after-within}
+use Rattle.enip_wire.proofs.FrameLemmas.{number_at-append, number_at-take, end_after-least, end_after-within}
 use Rattle.enip_wire.proofs.SeeLemmas.{sight_of-short, sight_of-long, sight_of-frame}
 
 -- more bytes must come

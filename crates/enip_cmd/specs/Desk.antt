@@ -1,14 +1,12 @@
 use Rattle.std.specs.Prelude.{refl, ℕ, ◌+◌, max, List, [], ◌∷◌, ◌++◌, take, map, if◌then◌else◌, Bool, true, false, Option, Some, None}
 use Rattle.std.specs.Coded.{Coded, code_by, coded×, coded_ℕ, coded_bool, coded_list}
 use Rattle.cip_objects.specs.Contents.{Contents, contents_code}
-use Rattle.enip_wire.specs.declared.header.Header.{Header}
-use Rattle.enip_wire.specs.Frames.{Frame}
 use Rattle.enip_wire.specs.Stream.{taken_of, sight_of, Sight}
 use Rattle.enip_wire.specs.Stream.Sight.{Nothing_yet, A_frame, A_long_header}
 use Rattle.enip_cmd.specs.declared.commands.Session.{Session}
 use Rattle.enip_cmd.specs.declared.place.Place.{Place}
 use Rattle.enip_cmd.specs.Lookup.{first_with, with_first, without_first}
-use Rattle.enip_cmd.specs.Turn.{State, Event, Said, Served, Turned, sends, served, leaving, refused_long, begun, turn}
+use Rattle.enip_cmd.specs.Turn.{State, Event, Said, sends, served, leaving, refused_long, begun}
 use Rattle.enip_cmd.specs.Turn.Event.{Begin, End, At, Framed, Long}
 use Rattle.enip_cmd.specs.Turn.Said.{Silent, Begins}
 

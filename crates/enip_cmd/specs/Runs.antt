@@ -1,6 +1,5 @@
-use Rattle.std.specs.Prelude.{ℕ, suc, ◌≡◌, ◌≢◌, ◌≤◌, ◌<◌, List, [], ◌∷◌, ◌++◌, length, take, drop, map, Option, Some, None, true, false, ⊤}
-use Rattle.std.specs.List.{concat}
-use Rattle.enip_cmd.specs.Turn.{Said, Event}
+use Rattle.std.specs.Prelude.{ℕ, suc, ◌≡◌, ◌≢◌, ◌≤◌, List, [], ◌∷◌, drop, map, true, false, ⊤}
+use Rattle.enip_cmd.specs.Turn.{Said}
 use Rattle.enip_cmd.specs.Turn.Said.{Silent, Sends, Begins, Refuses}
 use Rattle.enip_cmd.specs.Desk.{Desk, Call, Done, done}
 use Rattle.enip_cmd.specs.Desk.Call.{Begins_one, Feeds, Ends_one}

@@ -1,6 +1,6 @@
 -- What a configuration says: the value of each key of its TOML table.
 use Rattle.std.specs.Prelude.{ℕ, pos, List, [], ◌∷◌, Bool, false, ◌&&◌, if◌then◌else◌, nat_le, codes, Option, Some, None, option_map, option_and_then}
-use Rattle.toml.specs.Data.{Data, integer, boolean, array, table, Items, no_items, item, Members, get_member, as_str, as_bool}
+use Rattle.toml.specs.Data.{Data, integer, array, table, Items, no_items, item, Members, get_member, as_str, as_bool}
 
 -- The number that a value is, from the least to the greatest that is allowed.
 abbrev pub number_in : ℕ → ℕ → Data → Option ℕ

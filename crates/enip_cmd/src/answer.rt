@@ -1,6 +1,8 @@
 //! `enip answer`: lines of pieces in, the adapter's answers out.
 
-ghost use Rattle.std.specs.Prelude.{◌≤◌, length};
+ghost use Rattle.std.specs.Prelude.{◌≡◌, ◌≤◌, IfOk, IfErr, length};
+ghost use Rattle.enip_cmd.specs.declared.fault.Fault.{Fault};
+ghost use Rattle.enip_cmd.specs.Statuses.{IsOfRun, IsAccepted, IsRefusedText, IsFaultOf};
 
 use crate::adapter::{Adapter, Full, Peer};
 use crate::commands::LONGEST_ANSWER;
@@ -24,7 +26,9 @@ pub fn answer<R: Read + Drop, W: Write + Drop, E: Write + Drop>(
     output: W,
     errors: E,
 ) -> u8
-    ensures { result ≤ 5 }
+    ensures status { result ≤ 5 }
+    ensures accepted { result ≡ 0 → IsAccepted config.now }
+    ensures refused { result ≡ 3 → (fault : Fault) × IsRefusedText config.now fault }
 {
     let mut errors = errors;
     match run(alloc, config, input, output) {
@@ -41,7 +45,10 @@ fn run<R: Read + Drop, W: Write + Drop>(
     config: &str,
     input: R,
     output: W,
-) -> Result<(), Fault> {
+) -> Result<(), Fault>
+    ensures accepted { IfOk result (λ _. IsAccepted config.now) }
+    ensures refused { IfErr result (IsFaultOf config.now) }
+{
     let configuration = Configuration::read(alloc, config)?;
     let objects = Objects::new(alloc, &configuration.objects)?;
     let mut desk = Desk::new(alloc, objects, output)?;
@@ -75,7 +82,9 @@ struct Desk<W: Write + Drop> {
 }
 
 impl<W: Write + Drop> Desk<W> {
-    fn new(alloc: Global, objects: Objects, output: W) -> Result<Desk<W>, Fault> {
+    fn new(alloc: Global, objects: Objects, output: W) -> Result<Desk<W>, Fault>
+        ensures { IfErr result IsOfRun }
+    {
         Ok(Desk {
             adapter: Adapter::new(alloc, objects)?,
             now: 0,
@@ -97,7 +106,9 @@ impl<W: Write + Drop> Desk<W> {
     }
 
     /// Feeds the piece to the peer of a number, who begins where there is none.
-    fn feed(&mut self, number: Number) -> Result<(), Fault> {
+    fn feed(&mut self, number: Number) -> Result<(), Fault>
+        ensures { IfErr result IsOfRun }
+    {
         let seat = self.seats[number.place()];
         let peer = match seat {
             Seat::Closed(_) => return Ok(()),
@@ -159,6 +170,7 @@ impl<W: Write + Drop> TakeLines for Desk<W> {
 /// Prints an answer: `P hex`.
 fn print_answer<W: Write>(output: &mut W, number: Number, frame: &[u8]) -> Result<(), Fault>
     requires { length frame.now ≤ LONGEST_ANSWER }
+    ensures { IfErr result IsOfRun }
 {
     let mut text = [0u8; 2 * LONGEST_ANSWER];
     let digits = &mut text[..2 * frame.len()];
@@ -170,14 +182,18 @@ fn print_answer<W: Write>(output: &mut W, number: Number, frame: &[u8]) -> Resul
 }
 
 /// Prints that a peer is closed: `P closed`.
-fn print_closed<W: Write>(output: &mut W, number: Number) -> Result<(), Fault> {
+fn print_closed<W: Write>(output: &mut W, number: Number) -> Result<(), Fault>
+    ensures { IfErr result IsOfRun }
+{
     output.write_all(&[number.digit()])?;
     output.write_all(b" closed\n")?;
     Ok(())
 }
 
 /// Prints that a peer could not begin: `P full N`.
-fn print_full<W: Write>(output: &mut W, number: Number, full: Full) -> Result<(), Fault> {
+fn print_full<W: Write>(output: &mut W, number: Number, full: Full) -> Result<(), Fault>
+    ensures { IfErr result IsOfRun }
+{
     let why = match full {
         Full::Places => b'1',
         Full::Handles => b'2',

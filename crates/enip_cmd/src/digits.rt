@@ -1,5 +1,8 @@
 //! Bytes as hexadecimal digits, read and printed.
 
+ghost use Rattle.std.specs.Prelude.{IfErr};
+ghost use Rattle.enip_cmd.specs.Statuses.{IsOfRun};
+
 use crate::fault::Fault;
 use std::io::{self, Write};
 
@@ -8,11 +11,9 @@ const BLOCK: usize = 128;
 
 /// Reads hexadecimal digits, with spaces or without, and says whether they spell bytes, perhaps none.
 /// `digits` is room for the digits without their spaces.
-pub(crate) fn decode(
-    text: &[u8],
-    digits: &mut Vec<u8>,
-    bytes: &mut Vec<u8>,
-) -> Result<bool, Fault> {
+pub(crate) fn decode(text: &[u8], digits: &mut Vec<u8>, bytes: &mut Vec<u8>) -> Result<bool, Fault>
+    ensures { IfErr result IsOfRun }
+{
     if !text.contains(&b' ') {
         return decode_digits(text, bytes);
     }
@@ -24,7 +25,9 @@ pub(crate) fn decode(
 }
 
 /// Reads hexadecimal digits, and says whether they spell bytes, perhaps none.
-fn decode_digits(digits: &[u8], bytes: &mut Vec<u8>) -> Result<bool, Fault> {
+fn decode_digits(digits: &[u8], bytes: &mut Vec<u8>) -> Result<bool, Fault>
+    ensures { IfErr result IsOfRun }
+{
     if digits.len() % 2 != 0 {
         return Ok(false);
     }

@@ -59,6 +59,10 @@ impl<T: Drop> From<AllocFailed<T>> for Fault {
 }
 
 impl From<io::Error> for Fault {
+    ghost use Rattle.enip_cmd.specs.Statuses.{IsOfRun};
+
+    ghost from_gives = { λ _ fault. IsOfRun fault };
+
     fn from(error: io::Error) -> Fault {
         match error.kind() {
             io::ErrorKind::OutOfMemory => Fault::Memory,

@@ -1,5 +1,8 @@
 //! The lines of an input, one at a time, in whatever chunks it is read. Memory is taken for one line.
 
+ghost use Rattle.std.specs.Prelude.{IfErr};
+ghost use Rattle.enip_cmd.specs.Statuses.{IsOfRun};
+
 use crate::fault::Fault;
 use memchr::memchr;
 use std::alloc::Global;
@@ -11,10 +14,12 @@ const CHUNK: usize = 65_536;
 /// Who takes the lines of an input.
 pub(crate) trait TakeLines {
     /// Takes a line, without its end, and its number from 1.
-    fn take_line(&mut self, text: &[u8], number: u64) -> Result<(), Fault>;
+    fn take_line(&mut self, text: &[u8], number: u64) -> Result<(), Fault>
+        ensures { IfErr result IsOfRun };
 
     /// Makes what was answered go out. More of the input is read only then.
-    fn send(&mut self) -> Result<(), Fault>;
+    fn send(&mut self) -> Result<(), Fault>
+        ensures { IfErr result IsOfRun };
 }
 
 /// Hands each line of an input to who takes them, up to the first fault.
@@ -22,7 +27,9 @@ pub(crate) fn read_lines<R: Read + Drop, T: TakeLines>(
     alloc: Global,
     input: R,
     taker: &mut T,
-) -> Result<(), Fault> {
+) -> Result<(), Fault>
+    ensures { IfErr result IsOfRun }
+{
     let mut input = input;
     let mut chunk = vec![in alloc; 0u8; CHUNK]?;
     let mut line = Vec::new(alloc);
@@ -48,7 +55,9 @@ fn take_chunk<T: TakeLines>(
     chunk: &[u8],
     line: &mut Vec<u8>,
     number: u64,
-) -> Result<u64, Fault> {
+) -> Result<u64, Fault>
+    ensures { IfErr result IsOfRun }
+{
     let mut number = number;
     let mut rest = chunk;
     while let Some(end) = memchr(b'\n', rest) {

@@ -2,7 +2,8 @@
 //!
 //! Each line is shown part by part, up to the first fault in it, which is not a fault of the program.
 
-ghost use Rattle.std.specs.Prelude.{◌≡◌, ◌⊎◌};
+ghost use Rattle.std.specs.Prelude.{◌≡◌, ◌⊎◌, IfErr};
+ghost use Rattle.enip_cmd.specs.Statuses.{IsOfRun, IsStopOfRun};
 
 use crate::digits::{decode, print_digits};
 use crate::fault::Fault;
@@ -90,24 +91,34 @@ enum Stop {
 }
 
 impl From<Fault> for Stop {
+    ghost use Rattle.enip_cmd.specs.declared.show.Stop.TheVariants.{Program};
+
+    ghost from_gives = { λ fault stop. stop ≡ Program fault };
+
     fn from(fault: Fault) -> Stop {
         Stop::Program(fault)
     }
 }
 
 impl From<io::Error> for Stop {
+    ghost from_gives = { λ _ stop. IsStopOfRun stop };
+
     fn from(error: io::Error) -> Stop {
         Stop::Program(Fault::from(error))
     }
 }
 
 impl From<CpfFault> for Stop {
+    ghost from_gives = { λ _ stop. IsStopOfRun stop };
+
     fn from(fault: CpfFault) -> Stop {
         Stop::Cpf(fault as u8)
     }
 }
 
 impl From<RequestFault> for Stop {
+    ghost from_gives = { λ _ stop. IsStopOfRun stop };
+
     fn from(fault: RequestFault) -> Stop {
         Stop::Request(match fault {
             RequestFault::Short => 1,
@@ -117,6 +128,8 @@ impl From<RequestFault> for Stop {
 }
 
 impl From<PathFault> for Stop {
+    ghost from_gives = { λ _ stop. IsStopOfRun stop };
+
     fn from(fault: PathFault) -> Stop {
         Stop::Path(match fault {
             PathFault::Segment => 1,
@@ -127,6 +140,8 @@ impl From<PathFault> for Stop {
 }
 
 impl From<ReplyFault> for Stop {
+    ghost from_gives = { λ _ stop. IsStopOfRun stop };
+
     fn from(fault: ReplyFault) -> Stop {
         Stop::Reply(match fault {
             ReplyFault::Short => 1,
@@ -147,7 +162,9 @@ struct Printer<W: Write + Drop> {
 
 impl<W: Write + Drop> Printer<W> {
     /// Shows a line up to its first fault.
-    fn show_line(&mut self, text: &[u8]) -> Result<(), Stop> {
+    fn show_line(&mut self, text: &[u8]) -> Result<(), Stop>
+        ensures { IfErr result IsStopOfRun }
+    {
         if !decode(text, &mut self.digits, &mut self.bytes)? {
             return Err(Stop::Hex);
         }
@@ -179,7 +196,9 @@ impl<W: Write + Drop> TakeLines for Printer<W> {
 }
 
 /// Shows a frame: its header, and what it carries of the router's messages.
-fn show_frame<W: Write>(output: &mut W, frame: FrameView<'_>) -> Result<(), Stop> {
+fn show_frame<W: Write>(output: &mut W, frame: FrameView<'_>) -> Result<(), Stop>
+    ensures { IfErr result IsStopOfRun }
+{
     print_header(output, &frame.header)?;
     match frame.header.command {
         SEND_RR_DATA => {
@@ -208,7 +227,9 @@ fn print_header<W: Write>(output: &mut W, header: &Header) -> io::Result<()> {
 }
 
 /// Prints the type and the length of each item of a body, which is known to have its items.
-fn print_items<W: Write>(output: &mut W, body: &[u8]) -> Result<(), Stop> {
+fn print_items<W: Write>(output: &mut W, body: &[u8]) -> Result<(), Stop>
+    ensures { IfErr result IsStopOfRun }
+{
     let Some(items) = body.get(BEFORE_ITEMS..) else {
         return Ok(());
     };
@@ -225,7 +246,9 @@ fn print_items<W: Write>(output: &mut W, body: &[u8]) -> Result<(), Stop> {
 
 /// Shows the data of a connected item: the sequence count, and the message behind it. (Volume 1, transport
 /// class 3.)
-fn show_counted<W: Write>(output: &mut W, item: &[u8]) -> Result<(), Stop> {
+fn show_counted<W: Write>(output: &mut W, item: &[u8]) -> Result<(), Stop>
+    ensures { IfErr result IsStopOfRun }
+{
     let [low, high, message @ ..] = item else {
         return Err(Stop::from(RequestFault::Short));
     };
@@ -234,7 +257,9 @@ fn show_counted<W: Write>(output: &mut W, item: &[u8]) -> Result<(), Stop> {
 }
 
 /// Shows a message of the router: a reply where bit 7 of its first byte is set, else a request.
-fn show_message<W: Write>(output: &mut W, message: &[u8]) -> Result<(), Stop> {
+fn show_message<W: Write>(output: &mut W, message: &[u8]) -> Result<(), Stop>
+    ensures { IfErr result IsStopOfRun }
+{
     match message {
         [service, ..] if *service >= 0x80 => show_reply(output, message),
         _ => show_request(output, message),
@@ -242,7 +267,9 @@ fn show_message<W: Write>(output: &mut W, message: &[u8]) -> Result<(), Stop> {
 }
 
 /// Shows a request and where it goes.
-fn show_request<W: Write>(output: &mut W, message: &[u8]) -> Result<(), Stop> {
+fn show_request<W: Write>(output: &mut W, message: &[u8]) -> Result<(), Stop>
+    ensures { IfErr result IsStopOfRun }
+{
     let request = RequestView::read(message)?;
     let path = read_path(request.path)?;
     write!(
@@ -260,7 +287,9 @@ fn show_request<W: Write>(output: &mut W, message: &[u8]) -> Result<(), Stop> {
 }
 
 /// Shows a reply, whose additional status words are printed as numbers of four digits.
-fn show_reply<W: Write>(output: &mut W, message: &[u8]) -> Result<(), Stop> {
+fn show_reply<W: Write>(output: &mut W, message: &[u8]) -> Result<(), Stop>
+    ensures { IfErr result IsStopOfRun }
+{
     let reply = ReplyView::read(message)?;
     write!(
         output,

@@ -1,5 +1,4 @@
-use Rattle.std.proofs.Common.{◌≡◌, ℕ, sym, subst, ◌∙◌, get_or, false, length, ◌<◌}
-use Rattle.enip_cmd.specs.declared.place.Place.{Place}
+use Rattle.std.proofs.Common.{◌≡◌, sym, subst, ◌∙◌, false, length, ◌<◌}
 use Rattle.enip_cmd.specs.Desk.{handle_of}
 use Rattle.enip_cmd.proofs.LookupLemmas.{first-Some}
 use Rattle.enip_cmd.proofs.FeedLemmas.{IsFed-none, IsFed-closed, IsFed-open, get_or-any}

@@ -1,4 +1,4 @@
-use Rattle.std.proofs.Common.{◌≡◌, sym, ap, ◌∙◌}
+use Rattle.std.proofs.Common.{sym, ◌∙◌}
 use Rattle.enip_cmd.proofs.FeedLemmas.{ended, removed-found, removed-none, finds-same}
 use Rattle.enip_cmd.proofs.adapter.Adapter.end.Goals as goal
 
