@@ -1,11 +1,12 @@
 //! Worked rows of the adapter through `answer`, and devices that fail.
 
+pub(crate) mod devices;
 mod rows;
 
 use super::answer::answer;
+use devices::{BrokenReader, BrokenWriter};
 use rows::ROWS;
 use std::alloc::Global;
-use std::io::{self, Read, Write};
 use std::test::Fail;
 
 const DEMO: &str = "vendor = 4660
@@ -170,27 +171,6 @@ fn configurations_refused(rt: HostRuntime) -> Result<(), Fail> {
     Ok(())
 }
 
-/// A reader that gives a text once, and then fails.
-struct BrokenReader<'a> {
-    text: Option<&'a [u8]>,
-}
-
-impl Drop for BrokenReader<'_> {
-    fn drop(self) {
-        let BrokenReader { text: _ } = self;
-    }
-}
-
-impl Read for BrokenReader<'_> {
-    fn read(&mut self, into: &mut [u8]) -> io::Result<usize> {
-        let mut text = self
-            .text
-            .take()
-            .ok_or(io::Error::from(io::ErrorKind::ConnectionReset))?;
-        text.read(into)
-    }
-}
-
 #[test]
 fn a_reader_that_fails(rt: HostRuntime) -> Result<(), Fail> {
     let mut output = Vec::new(rt.alloc());
@@ -203,34 +183,6 @@ fn a_reader_that_fails(rt: HostRuntime) -> Result<(), Fail> {
     assert_eq!(rt; output.as_slice(), REGISTERED.as_bytes());
     assert_eq!(rt; errors.as_slice(), b"device\n".as_slice());
     Ok(())
-}
-
-/// A writer that takes a number of bytes, and then fails.
-struct BrokenWriter<'a> {
-    text: &'a mut Vec<u8>,
-    room: usize,
-}
-
-impl Drop for BrokenWriter<'_> {
-    fn drop(self) {
-        let BrokenWriter { text: _, room: _ } = self;
-    }
-}
-
-impl Write for BrokenWriter<'_> {
-    fn write(&mut self, from: &[u8]) -> io::Result<usize> {
-        if self.room == 0 {
-            return Err(io::Error::from(io::ErrorKind::BrokenPipe));
-        }
-        let count = from.len().min(self.room);
-        self.text.extend_from_slice(&from[..count])?;
-        self.room -= count;
-        Ok(count)
-    }
-
-    fn flush(&mut self) -> io::Result<()> {
-        Ok(())
-    }
 }
 
 #[test]

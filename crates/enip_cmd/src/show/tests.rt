@@ -1,6 +1,7 @@
 //! Worked rows of `show`, and each fault that a line can have.
 
 use super::show;
+use crate::tests::devices::{BrokenReader, BrokenWriter};
 use std::alloc::Global;
 use std::test::Fail;
 
@@ -246,5 +247,34 @@ fn bodies_with_a_fault(rt: HostRuntime) -> Result<(), Fail> {
         assert_eq!(rt; got.0, 0, "{body}");
         assert_eq!(rt; got.1.as_slice(), want.as_bytes(), "{body}");
     }
+    Ok(())
+}
+
+#[test]
+fn a_reader_that_fails(rt: HostRuntime) -> Result<(), Fail> {
+    let mut output = Vec::new(rt.alloc());
+    let mut errors = Vec::new(rt.alloc());
+    let input = BrokenReader {
+        text: Some(REQUEST.as_bytes()),
+    };
+    let status = show(rt.alloc(), input, &mut output, &mut errors);
+    assert_eq!(rt; status, 5);
+    assert_eq!(rt; output.as_slice(), REQUEST_SHOWN.as_bytes());
+    assert_eq!(rt; errors.as_slice(), b"device\n".as_slice());
+    Ok(())
+}
+
+#[test]
+fn a_writer_that_fails(rt: HostRuntime) -> Result<(), Fail> {
+    let mut written = Vec::new(rt.alloc());
+    let mut errors = Vec::new(rt.alloc());
+    let output = BrokenWriter {
+        text: &mut written,
+        room: 12,
+    };
+    let status = show(rt.alloc(), REQUEST.as_bytes(), output, &mut errors);
+    assert_eq!(rt; status, 5);
+    assert_eq!(rt; written.as_slice(), b"frame 0x006f".as_slice());
+    assert_eq!(rt; errors.as_slice(), b"device\n".as_slice());
     Ok(())
 }
