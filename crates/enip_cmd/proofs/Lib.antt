@@ -9,3 +9,4 @@ pub mod KeyLemmas
 pub mod SettingLemmas
 pub mod SettingRows
 pub mod StatusLemmas
+pub mod DigitLemmas

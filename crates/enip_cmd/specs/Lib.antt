@@ -9,3 +9,4 @@ pub mod Refusals
 pub mod Settings
 pub mod Told
 pub mod Keys
+pub mod Digits

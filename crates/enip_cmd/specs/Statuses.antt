@@ -18,6 +18,10 @@ exit_status (Line number) = 4
 exit_status Device = 5
 exit_status Memory = 5
 
+-- The exit statuses of `enip answer`, once its words are read.
+abbrev pub IsStatus : ℕ → Type 0
+IsStatus status = (status ≡ 0) ⊎ ((status ≡ 3) ⊎ ((status ≡ 4) ⊎ (status ≡ 5)))
+
 -- It is not the configuration that is refused.
 abbrev pub IsOfRun : Fault → Type 0
 IsOfRun (Refused check) = ⊥

@@ -2,7 +2,7 @@
 
 ghost use Rattle.std.specs.Prelude.{◌≡◌, ◌≤◌, IfOk, IfErr, length};
 ghost use Rattle.enip_cmd.specs.declared.fault.Fault.{Fault};
-ghost use Rattle.enip_cmd.specs.Statuses.{IsOfRun, IsAccepted, IsRefusedText, IsFaultOf};
+ghost use Rattle.enip_cmd.specs.Statuses.{IsOfRun, IsStatus, IsAccepted, IsRefusedText, IsFaultOf};
 
 use crate::adapter::{Adapter, Full, Peer};
 use crate::commands::LONGEST_ANSWER;
@@ -26,7 +26,7 @@ pub fn answer<R: Read + Drop, W: Write + Drop, E: Write + Drop>(
     output: W,
     errors: E,
 ) -> u8
-    ensures status { result ≤ 5 }
+    ensures status { IsStatus result }
     ensures accepted { result ≡ 0 → IsAccepted config.now }
     ensures refused { result ≡ 3 → (fault : Fault) × IsRefusedText config.now fault }
 {

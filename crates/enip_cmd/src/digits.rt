@@ -1,6 +1,9 @@
 //! Bytes as hexadecimal digits, read and printed.
 
-ghost use Rattle.std.specs.Prelude.{IfErr};
+ghost use Rattle.std.specs.Prelude.{◌≡◌, true, is_some, IfOk, IfErr, OnOk, Some};
+ghost use Rattle.std.specs.Result.{result_ok};
+ghost use Rattle.hex.specs.Hex.{decode_of};
+ghost use Rattle.enip_cmd.specs.Digits.{without_spaces, bytes_spelled};
 ghost use Rattle.enip_cmd.specs.Statuses.{IsOfRun};
 
 use crate::fault::Fault;
@@ -12,21 +15,36 @@ const BLOCK: usize = 128;
 /// Reads hexadecimal digits, with spaces or without, and says whether they spell bytes, perhaps none.
 /// `digits` is room for the digits without their spaces.
 pub(crate) fn decode(text: &[u8], digits: &mut Vec<u8>, bytes: &mut Vec<u8>) -> Result<bool, Fault>
-    ensures { IfErr result IsOfRun }
+    ensures read { IfOk result (λ spelled. spelled ≡ is_some (bytes_spelled text.now)) }
+    ensures bytes { IfOk result (λ spelled. spelled ≡ true → bytes_spelled text.now ≡ Some bytes.new.items) }
+    ensures refused { IfErr result IsOfRun }
 {
     if !text.contains(&b' ') {
         return decode_digits(text, bytes);
     }
-    digits.clear();
-    for part in text.split(|byte| *byte == b' ') {
-        digits.extend_from_slice(part)?;
-    }
+    copy_digits(text, digits)?;
     decode_digits(digits.as_slice(), bytes)
+}
+
+/// Copies a text without its spaces.
+fn copy_digits(text: &[u8], digits: &mut Vec<u8>) -> Result<(), Fault>
+    ensures copied { OnOk result (digits.new.items ≡ without_spaces text.now) }
+    ensures refused { IfErr result IsOfRun }
+{
+    digits.clear();
+    for byte in text {
+        if *byte != b' ' {
+            digits.push(*byte)?;
+        }
+    }
+    Ok(())
 }
 
 /// Reads hexadecimal digits, and says whether they spell bytes, perhaps none.
 fn decode_digits(digits: &[u8], bytes: &mut Vec<u8>) -> Result<bool, Fault>
-    ensures { IfErr result IsOfRun }
+    ensures read { IfOk result (λ spelled. spelled ≡ is_some (result_ok (decode_of digits.now))) }
+    ensures bytes { IfOk result (λ spelled. spelled ≡ true → result_ok (decode_of digits.now) ≡ Some bytes.new.items) }
+    ensures refused { IfErr result IsOfRun }
 {
     if digits.len() % 2 != 0 {
         return Ok(false);
