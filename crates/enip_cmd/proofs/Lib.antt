@@ -10,3 +10,4 @@ pub mod SettingLemmas
 pub mod SettingRows
 pub mod StatusLemmas
 pub mod DigitLemmas
+pub mod LineLemmas

@@ -10,3 +10,4 @@ pub mod Settings
 pub mod Told
 pub mod Keys
 pub mod Digits
+pub mod Lines

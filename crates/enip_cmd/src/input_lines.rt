@@ -1,6 +1,7 @@
 //! The lines of an input, one at a time, in whatever chunks it is read. Memory is taken for one line.
 
-ghost use Rattle.std.specs.Prelude.{IfErr};
+ghost use Rattle.std.specs.Prelude.{◌≡◌, IfErr};
+ghost use Rattle.enip_cmd.specs.Lines.{without_return};
 ghost use Rattle.enip_cmd.specs.Statuses.{IsOfRun};
 
 use crate::fault::Fault;
@@ -77,7 +78,9 @@ fn take_chunk<T: TakeLines>(
 }
 
 /// A line without the carriage return that other systems end it with.
-fn without_return(text: &[u8]) -> &[u8] {
+fn without_return(text: &[u8]) -> &[u8]
+    ensures { result.now ≡ without_return text.now }
+{
     match text {
         [front @ .., b'\r'] => front,
         _ => text,

@@ -1,42 +1,12 @@
 //! The lines that `enip answer` reads.
 
-ghost use Rattle.std.specs.Prelude.{◌≡◌, ◌+◌, ◌≤◌, ◌<◌};
+ghost use Rattle.std.specs.Prelude.{◌≡◌, ◌<◌, ◌^◌, None, IfSome};
+ghost use Rattle.std.specs.Option.{SomeIff};
+ghost use Rattle.std.specs.Str.Parse.{IsNumeral, digits_value};
+ghost use Rattle.enip_cmd.specs.Lines.{Says};
+ghost use Rattle.enip_cmd.specs.declared.lines.Line.{Line};
 
-/// One of the nine peers of an input, known by a digit from 1 to 9.
-#[derive(Clone, Copy, Debug, PartialEq, Eq)]
-pub struct Number {
-    place: usize,
-    ghost in_range: { place < 9 },
-}
-
-impl Number {
-    /// The peer of a digit.
-    fn of(digit: u8) -> Option<Number> {
-        match digit {
-            b'1'..=b'9' => Some(Number {
-                place: (digit - b'1') as usize,
-            }),
-            _ => None,
-        }
-    }
-
-    /// Its place among the nine, from 0.
-    pub fn place(self) -> usize
-        ensures value { result ≡ self.place }
-        ensures to { result < 9 }
-    {
-        self.place
-    }
-
-    /// Its digit.
-    pub fn digit(self) -> u8
-        ensures value { result ≡ 49 + self.place }
-        ensures from { 49 ≤ result }
-        ensures to { result ≤ 57 }
-    {
-        b'1' + self.place as u8
-    }
-}
+use crate::number::Number;
 
 /// A line of the input.
 #[derive(Clone, Copy, Debug, PartialEq, Eq)]
@@ -53,7 +23,10 @@ pub enum Line<'a> {
 
 impl<'a> Line<'a> {
     /// Reads a line: blank, `# ..`, `P HEX`, `end P` or `now N`.
-    pub(crate) fn read(text: &'a [u8]) -> Option<Line<'a>> {
+    pub(crate) fn read(text: &'a [u8]) -> Option<Line<'a>>
+        ensures read { IfSome result (Says text.now) }
+        ensures refused { result ≡ None → (line : Line) → Says text.now line → ⊥ }
+    {
         match text {
             [] | [b'#', ..] => Some(Line::Nothing),
             [b'e', b'n', b'd', b' ', digit] => Some(Line::End(Number::of(*digit)?)),
@@ -68,7 +41,9 @@ impl<'a> Line<'a> {
 }
 
 /// The number that decimal digits spell, one digit or more.
-fn decimal(digits: &[u8]) -> Option<u64> {
+fn decimal(digits: &[u8]) -> Option<u64>
+    ensures { SomeIff result (IsNumeral 10 digits.now × (digits_value 10 digits.now < 2 ^ 64)) (digits_value 10 digits.now) }
+{
     if digits.is_empty() {
         return None;
     }

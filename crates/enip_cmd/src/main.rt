@@ -10,6 +10,7 @@ pub mod fault;
 pub mod input_lines;
 pub mod laws;
 pub mod lines;
+pub mod number;
 pub mod place;
 pub mod show;
 #[cfg(test)]
