@@ -1,9 +1,8 @@
 -- Worked rows of the definitions.
-use Rattle.std.proofs.Common.{◌≡◌, List, [], ◌∷◌, ◌++◌, take, refl}
-use Rattle.enip_wire.specs.declared.header.Header.{Header}
+use Rattle.std.proofs.Common.{◌≡◌, [], ◌∷◌, ◌++◌, take, refl}
 use Rattle.enip_wire.specs.Headers.{header_at}
 use Rattle.enip_wire.specs.Frames.{Frame, frame}
-use Rattle.enip_wire.specs.Stream.{taken_of, sight_of, Sight}
+use Rattle.enip_wire.specs.Stream.{taken_of, sight_of}
 use Rattle.enip_wire.specs.Stream.Sight.{Nothing_yet, A_frame, A_long_header}
 
 -- RegisterSession
