@@ -1,8 +1,8 @@
 -- Which keys a configuration knows.
 use Rattle.std.specs.Prelude.{ℕ, List, [], ◌∷◌, Bool, true, false, ◌||◌, not, codes, bytes_eq, if◌then◌else◌}
 use Rattle.std.specs.List.{list_any}
-use Rattle.enip_cmd.specs.declared.configuration.keys.Place.{Place}
-use Rattle.enip_cmd.specs.declared.configuration.keys.Place.TheVariants.{Text, Counter, Assembly}
+use Rattle.enip_cmd.specs.declared.configuration.keys.TableKind.{TableKind}
+use Rattle.enip_cmd.specs.declared.configuration.keys.TableKind.TheVariants.{Text, Counter, Assembly}
 use Rattle.toml.specs.Data.{Data, array, table, Items, no_items, item, Members, no_members, member}
 
 -- Whether there is a key within a value, at any depth.
@@ -54,8 +54,8 @@ counter_keys = codes "value" ∷ codes "limit" ∷ []
 abbrev pub assembly_keys : List (List ℕ)
 assembly_keys = codes "instance" ∷ codes "settable" ∷ codes "members" ∷ []
 
--- The keys of a table, by its place.
-abbrev pub keys_of : Place → List (List ℕ)
+-- The keys of a table, by its kind.
+abbrev pub keys_of : TableKind → List (List ℕ)
 keys_of Text = keys
 keys_of Counter = counter_keys
 keys_of Assembly = assembly_keys

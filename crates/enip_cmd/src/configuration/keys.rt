@@ -7,9 +7,9 @@ ghost use Rattle.enip_cmd.specs.Keys.{has_unknown_key, is_unknown, is_among, key
 
 use toml::{Table, Value};
 
-/// A kind of table, by its place.
+/// A kind of table, by where it stands.
 #[derive(Clone, Copy, Debug)]
-enum Place {
+enum TableKind {
     /// The text itself, but for its tables.
     Text,
     /// The table `counter`.
@@ -18,15 +18,15 @@ enum Place {
     Assembly,
 }
 
-impl Place {
+impl TableKind {
     /// Whether a key is known here.
     fn knows(self, key: &str) -> bool
         ensures { result ≡ is_among (keys_of self) key.now }
     {
         match self {
-            Place::Text => is_key(key),
-            Place::Counter => matches!(key, "value" | "limit"),
-            Place::Assembly => matches!(key, "instance" | "settable" | "members"),
+            TableKind::Text => is_key(key),
+            TableKind::Counter => matches!(key, "value" | "limit"),
+            TableKind::Assembly => matches!(key, "instance" | "settable" | "members"),
         }
     }
 }
@@ -70,29 +70,29 @@ fn is_unknown(key: &str, value: &Value) -> bool
     ensures { result ≡ is_unknown key.now (view value.now) }
 {
     match key {
-        "counter" => has_other_keys_within(value, Place::Counter),
-        "assembly" => has_other_keys_within(value, Place::Assembly),
-        name => !Place::Text.knows(name) || has_key(value),
+        "counter" => has_other_keys_within(value, TableKind::Counter),
+        "assembly" => has_other_keys_within(value, TableKind::Assembly),
+        name => !TableKind::Text.knows(name) || has_key(value),
     }
 }
 
 /// Whether a value has other keys than these: itself where it is a table, or the tables in it where it is an
 /// array.
-fn has_other_keys_within(value: &Value, place: Place) -> bool
-    ensures { result ≡ has_other_keys_within (keys_of place) (view value.now) }
+fn has_other_keys_within(value: &Value, kind: TableKind) -> bool
+    ensures { result ≡ has_other_keys_within (keys_of kind) (view value.now) }
 {
     match value {
-        Value::Array(values) => any_has_other_keys(values.as_slice(), place),
-        _ => has_other_keys(value, place),
+        Value::Array(values) => any_has_other_keys(values.as_slice(), kind),
+        _ => has_other_keys(value, kind),
     }
 }
 
 /// Whether one of these values has other keys.
-fn any_has_other_keys(values: &[Value], place: Place) -> bool
-    ensures { result ≡ list_any (λ value. has_other_keys (keys_of place) (view value)) values.now }
+fn any_has_other_keys(values: &[Value], kind: TableKind) -> bool
+    ensures { result ≡ list_any (λ value. has_other_keys (keys_of kind) (view value)) values.now }
 {
     for value in values {
-        if has_other_keys(value, place) {
+        if has_other_keys(value, kind) {
             return true;
         }
     }
@@ -100,21 +100,21 @@ fn any_has_other_keys(values: &[Value], place: Place) -> bool
 }
 
 /// Whether a value has other keys.
-fn has_other_keys(value: &Value, place: Place) -> bool
-    ensures { result ≡ has_other_keys (keys_of place) (view value.now) }
+fn has_other_keys(value: &Value, kind: TableKind) -> bool
+    ensures { result ≡ has_other_keys (keys_of kind) (view value.now) }
 {
     match value {
-        Value::Table(table) => are_other_keys(table, place),
+        Value::Table(table) => are_other_keys(table, kind),
         _ => has_key(value),
     }
 }
 
 /// Whether a table has other keys, or keys within their values.
-fn are_other_keys(table: &Table, place: Place) -> bool
-    ensures { result ≡ are_other_keys (keys_of place) (table_view table.now) }
+fn are_other_keys(table: &Table, kind: TableKind) -> bool
+    ensures { result ≡ are_other_keys (keys_of kind) (table_view table.now) }
 {
     for (key, value) in table.iter() {
-        if !place.knows(key.as_str()) || has_key(value) {
+        if !kind.knows(key.as_str()) || has_key(value) {
             return true;
         }
     }

@@ -6,4 +6,4 @@ use Rattle.enip_cmd.proofs.configuration.keys.any_has_other_keys.Given as goal
 
 abbrev pub invariant-loop-value : goal.invariant-loop-value
 invariant-loop-value l =
-    list_any (λ v. has_other_keys (keys_of l.place) (view v)) (drop l.value-index l.values) ≡ list_any (λ v. has_other_keys (keys_of l.place) (view v)) l.values
+    list_any (λ v. has_other_keys (keys_of l.kind) (view v)) (drop l.value-index l.values) ≡ list_any (λ v. has_other_keys (keys_of l.kind) (view v)) l.values

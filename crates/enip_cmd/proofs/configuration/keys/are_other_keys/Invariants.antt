@@ -7,4 +7,4 @@ abbrev pub invariant-loop-key : goal.invariant-loop-key
 invariant-loop-key l =
     (goal.iterator-loop-key).can_next l.key-iterator
     × (goal.iterator-loop-key).is_finite l.key-iterator
-    × (are_other_keys (keys_of l.place) (members_view l.key-iterator) ≡ are_other_keys (keys_of l.place) (members_view l.table.entries))
+    × (are_other_keys (keys_of l.kind) (members_view l.key-iterator) ≡ are_other_keys (keys_of l.kind) (members_view l.table.entries))

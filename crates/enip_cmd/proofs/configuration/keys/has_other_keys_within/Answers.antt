@@ -7,5 +7,5 @@ use Rattle.enip_cmd.proofs.configuration.keys.has_other_keys_within.Goals as goa
 
 pub returns-in-Array : goal.returns-in-Array
 returns-in-Array c =
-    let known = keys_of c.args.place in
+    let known = keys_of c.args.kind in
     c.any_has_other_keys.ensures ∙ ap (list_any (λ v. has_other_keys known (view v))) c.as_slice.ensures.value ∙ array_other_keys known c.args.value.now c.in-Array.values c.in-Array.is

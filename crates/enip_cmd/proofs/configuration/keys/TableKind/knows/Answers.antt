@@ -1,6 +1,6 @@
 use Rattle.std.proofs.Common.{refl}
 use Rattle.enip_cmd.proofs.KeyLemmas.{not_same}
-use Rattle.enip_cmd.proofs.configuration.keys.Place.knows.Goals as goal
+use Rattle.enip_cmd.proofs.configuration.keys.TableKind.knows.Goals as goal
 
 pub returns-in_default : goal.returns-in_default
 returns-in_default c = rw (c.in-Counter.is, not_same _ _ c.in_default.not-value, not_same _ _ c.in_default.not-limit) refl
