@@ -1,6 +1,8 @@
 -- How a program ends.
 use Rattle.std.specs.Prelude.{◌≡◌, ◌⊎◌, ℕ, List, ⊤, None}
 use Rattle.std.specs.Option.{IsSomeAnd}
+use Rattle.std.specs.declared.io.ErrorKind.{ErrorKind}
+use Rattle.std.specs.declared.io.ErrorKind.TheVariants.{OutOfMemory}
 use Rattle.toml.specs.Parse.{parse_document}
 use Rattle.cip_objects.specs.Configuration.{fault_of}
 use Rattle.enip_cmd.specs.declared.fault.Fault.{Fault}
@@ -27,6 +29,11 @@ abbrev pub IsOfRun : Fault → Type 0
 IsOfRun (Refused check) = ⊥
 IsOfRun _ = ⊤
 
+-- What a stream that fails is to the program: want of memory, or a device that failed.
+abbrev pub fault_of_kind : ErrorKind → Fault
+fault_of_kind OutOfMemory = Memory
+fault_of_kind kind = Device
+
 -- A line is shown no further, or else it is not the configuration that is refused.
 abbrev pub IsStopOfRun : Stop → Type 0
 IsStopOfRun (Program fault) = IsOfRun fault
@@ -42,7 +49,8 @@ IsRefusedText text fault =
     IsRefused (parse_document text) fault
     ⊎ ((told : Configuration) × (IsTold (parse_document text) told × IsSomeAnd (fault_of told.objects) (λ check. fault ≡ refusal check)))
 
--- Why a run ends: what is said of the configuration is so.
+-- Why a run ends: what is said of the configuration is so, and a line is looked at only once that is taken.
 abbrev pub IsFaultOf : List ℕ → Fault → Type 0
 IsFaultOf text (Refused check) = IsRefusedText text (Refused check)
+IsFaultOf text (Line number) = IsAccepted text
 IsFaultOf text _ = ⊤

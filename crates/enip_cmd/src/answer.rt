@@ -29,6 +29,7 @@ pub fn answer<R: Read + Drop, W: Write + Drop, E: Write + Drop>(
 ) -> u8
     ensures status { IsStatus result }
     ensures accepted { result ≡ 0 → IsAccepted config.now }
+    ensures line { result ≡ 4 → IsAccepted config.now }
     ensures refused { result ≡ 3 → (fault : Fault) × IsRefusedText config.now fault }
 {
     let mut errors = errors;
