@@ -1,4 +1,4 @@
--- What a configuration that is read is, beside what its text says.
+-- Whether a configuration is what its text says, and why a text is refused.
 use Rattle.std.specs.Prelude.{◌≡◌, ◌⊎◌, ℕ, List, Bool, true, false, codes, Option, Some, None, map, string_bytes}
 use Rattle.toml.specs.Data.{Members}
 use Rattle.cip_objects.specs.declared.config.AssemblyConfig.{AssemblyConfig}
