@@ -103,6 +103,10 @@ reply_again r a h =
     let words = words_again a.additional h.additional in
     rw (bit, long, front, rest, words) refl
 
+-- what is written is read as the reply that it is
+pub read_back : (a : Reply) → SpellsReply a (reply_with 0 a) → reply_of (reply_with 0 a) ≡ Ok a
+read_back a h = reply_again 0 a h.is_reply
+
 reply_iff : (b : List ℕ) (a : Reply) → IsBytes b → (reply_of b ≡ Ok a) ↔ SpellsReply a b
 reply_iff b a fits = (reply_taken b a fits, (λ h. ap reply_of h.spelled ∙ reply_again h.reserved a h.is_reply))
 

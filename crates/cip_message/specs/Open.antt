@@ -121,6 +121,11 @@ open_fields b = record {
   path = drop 36 b;
 }
 
+-- the number by which a fault is printed
+abbrev pub length_fault_number : LengthFault → ℕ
+length_fault_number Short = 1
+length_fault_number Long = 2
+
 -- reading an open request
 unfoldable pub open_of : List ℕ → Result Open LengthFault
 open_of b =

@@ -95,6 +95,12 @@ IsWrong fault.Segment gs b = BeginsNone b
 IsWrong fault.Cut gs b = IsFront b
 IsWrong fault.Order gs b = IsOutOfOrder gs b ⊎ EndsEarly gs b
 
+-- the number by which a fault is printed
+abbrev pub path_fault_number : PathFault → ℕ
+path_fault_number fault.Segment = 1
+path_fault_number fault.Order = 2
+path_fault_number fault.Cut = 3
+
 -- the bytes b are segments that begin a path's, and then what is wrong
 pub record path_fault (k : PathFault) (b : List ℕ) : Type 0 where
   pub before : List Segment

@@ -1,10 +1,14 @@
 -- Replies of the message router (Volume 1, message router response format).
-use Rattle.std.specs.Prelude.{◌≡◌, ℕ, ◌*◌, ◌<◌, ◌≤◌, ◌^◌, List, [], ◌∷◌, ◌++◌, length, take, drop, Result, Ok, Err, nat_lt, if◌then◌else◌}
+use Rattle.std.specs.Prelude.{◌≡◌, ℕ, ◌+◌, ◌*◌, ◌<◌, ◌≤◌, ◌^◌, List, [], ◌∷◌, ◌++◌, length, take, drop, Result, Ok, Err, nat_lt, if◌then◌else◌}
 use Rattle.std.specs.List.{flat_map}
 use Rattle.cip_message.specs.Numbers.{le, AreBytes, AreWords, words_of}
 use Rattle.cip_message.specs.declared.reply.ReplyView.{ReplyView}
 use Rattle.cip_message.specs.declared.reply.ReplyFault.{ReplyFault}
 use Rattle.cip_message.specs.declared.reply.ReplyFault.TheVariants.{Short, NotReply, Extra}
+
+-- the service of the reply to a request of this service: bit 7 is set
+abbrev pub reply_service : ℕ → ℕ
+reply_service service = if nat_lt service 128 then service + 128 else service
 
 -- a reply, apart from where it lies in memory
 pub record Reply : Type 0 where
@@ -43,9 +47,19 @@ abbrev pub reply_of_fields : ℕ → ℕ → List ℕ → List ℕ → Reply
 reply_of_fields service status additional bytes =
     record { service = service; status = status; additional = additional; «data» = bytes }
 
+-- the reply to a request of this service
+abbrev pub reply_to : ℕ → ℕ → List ℕ → List ℕ → Reply
+reply_to service status additional bytes = reply_of_fields (reply_service service) status additional bytes
+
 -- what a view of a reply shows
 abbrev pub view : ReplyView → Reply
 view v = reply_of_fields v.service v.status (words_of v.additional.now) v.data.now
+
+-- the number by which a fault is printed
+abbrev pub reply_fault_number : ReplyFault → ℕ
+reply_fault_number Short = 1
+reply_fault_number NotReply = 2
+reply_fault_number Extra = 3
 
 -- reading a reply
 unfoldable pub reply_of : List ℕ → Result Reply ReplyFault

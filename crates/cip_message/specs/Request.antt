@@ -27,6 +27,11 @@ request q = q.service ∷ (length q.path / 2) ∷ (q.path ++ q.data)
 abbrev pub view : RequestView → Request
 view v = record { service = v.service; path = v.path.now; «data» = v.data.now }
 
+-- the number by which a fault is printed
+abbrev pub request_fault_number : RequestFault → ℕ
+request_fault_number Short = 1
+request_fault_number PathSize = 2
+
 -- reading a request
 unfoldable pub request_of : List ℕ → Result Request RequestFault
 request_of [] = Err Short

@@ -1,10 +1,13 @@
 //! The electronic key, by which who opens a connection says which device it means (Volume 1, appendix
 //! on segments, and Connection Manager).
 
-ghost use Rattle.std.specs.Prelude.{◌≡◌, ◌↔◌, IsNone};
+ghost use Rattle.std.specs.Prelude.{◌≡◌, ◌↔◌, ◌+◌, ◌^◌, ◌<◌, ◌≤◌, ◌++◌, length, IsNone, Some, IsOk, OnOk, OnErr, if◌then◌else◌};
+ghost use Rattle.arrayvec.specs.ArrayVec.{array_vec_len};
 ghost use Rattle.cip_message.specs.declared.key.Key.{Key};
 ghost use Rattle.cip_message.specs.Key.{IsKey, MeetsVendor, MeetsType, MeetsRevision, key as key_text, refusal, key_of, is_met as is_met_by};
 
+use crate::writing::{Full, append, append_u8, append_u16};
+use arrayvec::ArrayVec;
 use byteorder::{ByteOrder, LittleEndian};
 
 /// What an electronic key asks of a device. A number 0 asks nothing.
@@ -18,6 +21,52 @@ pub struct Key {
     /// A minor revision up to the device's will do.
     pub compatible: bool,
     pub minor: u8,
+}
+
+/// The segment type of a key, and its format. (Volume 1, key segment, format 4.)
+const KEY_SEGMENT: [u8; 2] = [0x34, 0x04];
+
+/// The bit above the major revision: a minor revision up to the device's will do.
+const COMPATIBILITY: u8 = 0x80;
+
+impl Key {
+    /// Appends the key's spelling.
+    ///
+    /// # Errors
+    ///
+    /// `Full` where the key doesn't fit, and then nothing is written.
+    pub fn write<const N: usize>(&self, out: &mut ArrayVec<u8, N>) -> Result<(), Full>
+        requires { self.now.major < 2 ^ 7 }
+        ensures fits { IsOk result ↔ (array_vec_len out.old + length (key_text self.now) ≤ N) }
+        ensures ok { OnOk result (out.new.items ≡ out.old.items ++ key_text self.now) }
+        ensures err { OnErr result (out.new ≡ out.old) }
+        // What is written is a key's spelling, and is read as this key.
+        ensures spelled { OnOk result (IsKey self.now) }
+        ensures again { OnOk result (key_of (key_text self.now) ≡ Some self.now) }
+    {
+        if out.remaining_capacity() < 10 {
+            return Err(Full);
+        }
+        append(out, &KEY_SEGMENT);
+        append_u16(out, self.vendor);
+        append_u16(out, self.device_type);
+        append_u16(out, self.product_code);
+        append_u8(out, self.major_byte());
+        append_u8(out, self.minor);
+        Ok(())
+    }
+
+    /// The major revision with the compatibility bit above it.
+    fn major_byte(&self) -> u8
+        requires { self.now.major < 2 ^ 7 }
+        ensures { result ≡ self.now.major + (if self.now.compatible then 128 else 0) }
+    {
+        if self.compatible {
+            self.major + COMPATIBILITY
+        } else {
+            self.major
+        }
+    }
 }
 
 /// What a device is, as a key asks for it.

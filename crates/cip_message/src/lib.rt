@@ -24,7 +24,7 @@ pub use key::{Device, Key, read_key};
 pub use open::{LengthFault, OpenRequest, Parameters, Transport};
 pub use open_path::{OpenPath, read_open_path};
 pub use path::{Path, PathFault, Segment, read_path, write_path};
-pub use reply::{ReplyFault, ReplyView, write_reply};
+pub use reply::{ReplyFault, ReplyView, reply_service, write_reply};
 pub use request::{RequestFault, RequestView};
 pub use writing::Full;
 

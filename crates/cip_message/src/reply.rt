@@ -5,7 +5,7 @@ ghost use Rattle.std.specs.List.{flat_map};
 ghost use Rattle.arrayvec.specs.ArrayVec.{array_vec_len};
 ghost use Rattle.cip_message.specs.Numbers.{le};
 ghost use Rattle.cip_message.specs.Reading.{Gives};
-ghost use Rattle.cip_message.specs.Reply.{Reply, SpellsReply, reply, reply_of_fields, view, reply_of};
+ghost use Rattle.cip_message.specs.Reply.{Reply, SpellsReply, reply, reply_to, reply_service, view, reply_of, reply_fault_number};
 
 use crate::writing::{Full, append};
 use arrayvec::ArrayVec;
@@ -27,13 +27,22 @@ pub struct ReplyView<'a> {
 pub enum ReplyFault {
     /// Fewer than the four bytes before the additional words.
     #[error("shorter than a reply's first four bytes")]
-    Short,
+    Short = 1,
     /// Bit 7 of the service is clear.
     #[error("not a reply")]
-    NotReply,
+    NotReply = 2,
     /// The additional words go past the end.
     #[error("the additional words go past the end")]
-    Extra,
+    Extra = 3,
+}
+
+impl ReplyFault {
+    /// The number of the fault, by which it is printed.
+    pub fn number(self) -> u8
+        ensures { result ≡ reply_fault_number self }
+    {
+        self as u8
+    }
 }
 
 impl<'a> ReplyView<'a> {
@@ -101,8 +110,20 @@ fn append_words<const N: usize>(out: &mut ArrayVec<u8, N>, words: &[u16])
     }
 }
 
-/// Appends a whole reply: `service` with bit 7 set, the reserved byte 0, the general status, the
-/// additional status words, and the data.
+/// The service of the reply to a request of this service: bit 7 is set.
+/// (Volume 1, message router response format.)
+pub fn reply_service(service: u8) -> u8
+    ensures { result ≡ reply_service service }
+{
+    if service < 0x80 {
+        service + 0x80
+    } else {
+        service
+    }
+}
+
+/// Appends the whole reply to a request of this service: the service with bit 7 set, the reserved byte 0,
+/// the general status, the additional status words, and the data.
 ///
 /// # Errors
 ///
@@ -116,20 +137,24 @@ pub fn write_reply<const N: usize>(
     data: &[u8],
 ) -> Result<(), Full>
     requires { length additional.now < 256 }
-    ensures fits { IsOk result ↔ (array_vec_len out.old + length (reply (reply_of_fields service status additional.now «data».now)) ≤ N) }
-    ensures ok { OnOk result (out.new.items ≡ out.old.items ++ reply (reply_of_fields service status additional.now «data».now)) }
+    ensures fits { IsOk result ↔ (array_vec_len out.old + length (reply (reply_to service status additional.now «data».now)) ≤ N) }
+    ensures ok { OnOk result (out.new.items ≡ out.old.items ++ reply (reply_to service status additional.now «data».now)) }
     ensures err { OnErr result (out.new ≡ out.old) }
-    // It is a reply's spelling, where bit 7 is set.
-    ensures spelled { 128 ≤ service
-        → SpellsReply (reply_of_fields service status additional.now «data».now)
-        (reply (reply_of_fields service status additional.now «data».now)) }
+    // It is a reply's spelling, and is read as that reply.
+    ensures spelled { SpellsReply (reply_to service status additional.now «data».now)
+        (reply (reply_to service status additional.now «data».now)) }
+    ensures again { reply_of (reply (reply_to service status additional.now «data».now))
+        ≡ Ok (reply_to service status additional.now «data».now) }
 {
     let room = out.remaining_capacity();
     let before = 4 + 2 * additional.len();
     if room < before || room - before < data.len() {
         return Err(Full);
     }
-    append(out, &[service, 0, status, additional.len() as u8]);
+    append(
+        out,
+        &[reply_service(service), 0, status, additional.len() as u8],
+    );
     append_words(out, additional);
     append(out, data);
     Ok(())

@@ -107,11 +107,11 @@ fn replies(rt: HostRuntime) -> Result<(), Fail> {
 
     let mut out: ArrayVec<u8, 9> = ArrayVec::new();
     assert_eq!(rt;
-        write_reply(&mut out, 0xd4, 1, &[0x0109, 0x0203], &[7]),
+        write_reply(&mut out, 0x54, 1, &[0x0109, 0x0203], &[7]),
         Ok(())
     );
     assert_eq!(rt; out.as_slice(), [0xd4, 0, 1, 2, 9, 1, 3, 2, 7].as_slice());
-    assert_eq!(rt; write_reply(&mut out, 0xd4, 1, &[], &[]), Err(Full));
+    assert_eq!(rt; write_reply(&mut out, 0x54, 1, &[], &[]), Err(Full));
 
     let reply = ReplyView::read(out.as_slice())
         .ok()
@@ -151,6 +151,113 @@ fn keys(rt: HostRuntime) -> Result<(), Fail> {
     assert_eq!(rt; read_key(&[0x34, 4, 0, 0, 0, 0, 0, 0, 0]), None);
     assert_eq!(rt; read_key(&[0x34, 5, 0, 0, 0, 0, 0, 0, 0, 0]), None);
     Ok(())
+}
+
+#[test]
+fn keys_written(rt: HostRuntime) {
+    let mut key = Key {
+        vendor: 0x0102,
+        device_type: 0x0304,
+        product_code: 0x0506,
+        major: 0x7f,
+        compatible: true,
+        minor: 8,
+    };
+    let mut out: ArrayVec<u8, 20> = ArrayVec::new();
+    assert_eq!(rt; key.write(&mut out), Ok(()));
+    assert_eq!(rt;
+        out.as_slice(),
+        [0x34, 4, 2, 1, 4, 3, 6, 5, 0xff, 8].as_slice()
+    );
+    assert_eq!(rt; read_key(out.as_slice()), Some(key));
+    key.compatible = false;
+    assert_eq!(rt; key.write(&mut out), Ok(()));
+    assert_eq!(rt;
+        &out.as_slice()[10..],
+        [0x34, 4, 2, 1, 4, 3, 6, 5, 0x7f, 8].as_slice()
+    );
+    assert_eq!(rt; key.write(&mut out), Err(Full));
+    assert_eq!(rt; out.len(), 20);
+}
+
+/// The numbers by which faults are printed, and the extended statuses of a key.
+#[test]
+fn numbers(rt: HostRuntime) {
+    assert_eq!(rt; PathFault::Segment.number(), 1);
+    assert_eq!(rt; PathFault::Order.number(), 2);
+    assert_eq!(rt; PathFault::Cut.number(), 3);
+    assert_eq!(rt; RequestFault::Short.number(), 1);
+    assert_eq!(rt; RequestFault::PathSize.number(), 2);
+    assert_eq!(rt; ReplyFault::Short.number(), 1);
+    assert_eq!(rt; ReplyFault::NotReply.number(), 2);
+    assert_eq!(rt; ReplyFault::Extra.number(), 3);
+    assert_eq!(rt; LengthFault::Short.number(), 1);
+    assert_eq!(rt; LengthFault::Long.number(), 2);
+    assert_eq!(rt; reply_service(0x54), 0xd4);
+    assert_eq!(rt; reply_service(0x8e), 0x8e);
+}
+
+/// Each segment in each width, with its own value.
+#[test]
+fn segments(rt: HostRuntime) {
+    let rows: [(&[u8], u16, u32, Option<u16>, Option<u16>); 8] = [
+        // 8 bits each: class 20, instance 24, attribute 30, member 28
+        (&[0x20, 2, 0x24, 3], 2, 3, None, None),
+        (
+            &[0x20, 0xff, 0x24, 0xfe, 0x30, 0xfd, 0x28, 0xfc],
+            255,
+            254,
+            Some(253),
+            Some(252),
+        ),
+        // a member without an attribute
+        (&[0x20, 2, 0x24, 3, 0x28, 4], 2, 3, None, Some(4)),
+        // 16 bits, the byte behind the first is a pad: any value
+        (
+            &[0x21, 0x55, 1, 2, 0x25, 0xaa, 3, 4],
+            0x0201,
+            0x0403,
+            None,
+            None,
+        ),
+        (
+            &[0x20, 2, 0x24, 3, 0x31, 9, 5, 6, 0x29, 8, 7, 1],
+            2,
+            3,
+            Some(0x0605),
+            Some(0x0107),
+        ),
+        // 32 bits, which an instance alone has
+        (&[0x20, 2, 0x26, 0, 1, 2, 3, 4], 2, 0x0403_0201, None, None),
+        (
+            &[0x20, 2, 0x26, 0, 0xff, 0xff, 0xff, 0xff],
+            2,
+            0xffff_ffff,
+            None,
+            None,
+        ),
+        (&[0x21, 0, 0xff, 0xff, 0x24, 0], 0xffff, 0, None, None),
+    ];
+    for (text, class, instance, attribute, member) in rows {
+        let path = Path {
+            class,
+            instance,
+            attribute,
+            member,
+        };
+        assert_eq!(rt; read_path(text), Ok(path));
+    }
+    // no segment of this profile: a port, a class in 32 bits, a key, an extended logical one
+    for first in [0x00, 0x01, 0x22, 0x2a, 0x32, 0x34, 0x35, 0x91] {
+        assert_eq!(rt;
+            read_path(&[0x20, 1, 0x24, 1, first, 1]),
+            Err(PathFault::Segment)
+        );
+    }
+    // out of order before cut: a second class that is whole, and one that is not
+    assert_eq!(rt; read_path(&[0x20, 1, 0x20, 1]), Err(PathFault::Order));
+    assert_eq!(rt; read_path(&[0x20, 1, 0x20]), Err(PathFault::Cut));
+    assert_eq!(rt; read_path(&[0x20, 1]), Err(PathFault::Order));
 }
 
 #[test]
