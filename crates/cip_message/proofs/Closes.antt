@@ -2,26 +2,26 @@
 use Rattle.std.proofs.Common.{◌≡◌, ◌↔◌, ℕ, ◌+◌, ◌*◌, ◌/◌, ◌%◌, ◌<◌, ◌≤◌, Bool, true, false, cond, ltb, List, [], ◌∷◌, ◌++◌, length, slice_index, drop, Result, Ok, Err, refl, sym, ap, subst, ◌∙◌, arith}
 use Rattle.std.proofs.lemmas.Bool.{ltb-true, ltb-false, le-ltb, lt-ltb}
 use Rattle.std.proofs.lemmas.List.{length-drop}
-use Rattle.cip_message.specs.Numbers.{le}
-use Rattle.cip_message.specs.Reading.{Gives}
+use Rattle.cip_bytes.specs.Numbers.{le, AreBytes}
+use Rattle.cip_bytes.specs.Reading.{Gives}
 use Rattle.cip_message.specs.declared.close.CloseRequest.{CloseRequest}
 use Rattle.cip_message.specs.declared.open.LengthFault.{LengthFault}
 use Rattle.cip_message.specs.declared.open.LengthFault.TheVariants.{Short, Long}
 use Rattle.cip_message.specs.Close.{Close, IsClose, SpellsClose, close_with, close_fields, close_of, said_length, view}
-use Rattle.cip_message.proofs.Bytes.{IsBytes, IsBytes-drop, le2_again, le4_again, at1, at2, at4, parts_then}
-use Rattle.cip_message.proofs.Steps.{gives_iff, iff_then}
+use Rattle.cip_bytes.proofs.Bytes.{AreBytes-drop, le2_again, le4_again, at1, at2, at4, parts_then}
+use Rattle.cip_bytes.proofs.Steps.{gives_iff, iff_then}
 
 abbrev made : ℕ → ℕ → ℕ → ℕ → ℕ → List ℕ → Close
-made priority ticks serial vendor originator path = record {
-  priority = priority;
-  ticks = ticks;
+made priority_and_tick_time timeout_ticks serial vendor originator path = record {
+  priority_and_tick_time = priority_and_tick_time;
+  timeout_ticks = timeout_ticks;
   connection_serial = serial;
   originator_vendor = vendor;
   originator_serial = originator;
   path = path;
 }
 
-same_close : (c : Close) (p t a b d : ℕ) (q : List ℕ) → p ≡ c.priority → t ≡ c.ticks → a ≡ c.connection_serial → b ≡ c.originator_vendor → d ≡ c.originator_serial → q ≡ c.path → made p t a b d q ≡ c
+same_close : (c : Close) (p t a b d : ℕ) (q : List ℕ) → p ≡ c.priority_and_tick_time → t ≡ c.timeout_ticks → a ≡ c.connection_serial → b ≡ c.originator_vendor → d ≡ c.originator_serial → q ≡ c.path → made p t a b d q ≡ c
 same_close c p t a b d q ep et ea eb ed eq = rw (ep, et, ea, eb, ed, eq) refl
 
 -- ---- what is read is spelled so
@@ -32,9 +32,9 @@ half_of n k e = (omega arith, omega arith)
 -- the spelling with any number in place of the path's
 abbrev close_by : ℕ → ℕ → Close → List ℕ
 close_by words reserved c =
-    c.priority ∷ c.ticks ∷ [] ++ le 2 c.connection_serial ++ le 2 c.originator_vendor ++ le 4 c.originator_serial ++ words ∷ reserved ∷ [] ++ c.path
+    c.priority_and_tick_time ∷ c.timeout_ticks ∷ [] ++ le 2 c.connection_serial ++ le 2 c.originator_vendor ++ le 4 c.originator_serial ++ words ∷ reserved ∷ [] ++ c.path
 
-text_by : (b : List ℕ) → IsBytes b → 12 ≤ length b → b ≡ close_by (slice_index b 10) (slice_index b 11) (close_fields b)
+text_by : (b : List ℕ) → AreBytes b → 12 ≤ length b → b ≡ close_by (slice_index b 10) (slice_index b 11) (close_fields b)
 unfolding close_fields
 text_by b fits h =
     let p0 = at1 0 b (omega arith) in
@@ -45,24 +45,24 @@ text_by b fits h =
     let last = parts_then (at1 10 b (omega arith)) (at1 11 b (omega arith)) in
     (parts_then p4 last).is
 
-fields_fit : (b : List ℕ) (n : ℕ) → IsBytes b → n ≡ slice_index b 10 → length b ≡ 12 + 2 * n → IsClose (close_fields b)
+fields_fit : (b : List ℕ) (n : ℕ) → AreBytes b → n ≡ slice_index b 10 → length b ≡ 12 + 2 * n → IsClose (close_fields b)
 unfolding close_fields
 fields_fit b n fits e len =
-    let f6 = IsBytes-drop 6 b fits in
-    let f4 = IsBytes-drop 4 b fits in
-    let f2 = IsBytes-drop 2 b fits in
+    let f6 = AreBytes-drop 6 b fits in
+    let f4 = AreBytes-drop 4 b fits in
+    let f2 = AreBytes-drop 2 b fits in
     record {
-      priority = fits 0;
-      ticks = fits 1;
+      priority_and_tick_time = fits 0;
+      timeout_ticks = fits 1;
       connection_serial = omega (arith, f2 0, f2 1);
       originator_vendor = omega (arith, f4 0, f4 1);
       originator_serial = omega (arith, f6 0, f6 1, f6 2, f6 3);
       whole_words = (half_of n (length (drop 12 b)) (omega (arith, length-drop 12 b))).1;
       counted = omega (arith, length-drop 12 b, fits 10);
-      path = IsBytes-drop 12 b fits;
+      path = AreBytes-drop 12 b fits;
     }
 
-close_text : (b : List ℕ) → IsBytes b → length b ≡ said_length b → SpellsClose (close_fields b) b
+close_text : (b : List ℕ) → AreBytes b → length b ≡ said_length b → SpellsClose (close_fields b) b
 unfolding close_fields
 close_text b fits len =
     let n = slice_index b 10 in
@@ -107,7 +107,7 @@ tests_long true y c e = absurd cc
 tests_long false true c e = refl
 tests_long false false c e = absurd cc
 
-close_taken : (b : List ℕ) (c : Close) → IsBytes b → close_of b ≡ Ok c → SpellsClose c b
+close_taken : (b : List ℕ) (c : Close) → AreBytes b → close_of b ≡ Ok c → SpellsClose c b
 unfolding close_of
 close_taken b c fits e =
     let t = tests_ok (ltb (length b) (said_length b)) (ltb (said_length b) (length b)) (close_fields b) c e in
@@ -141,7 +141,7 @@ long_iff b = (
 
 -- ---- of what a reader returned
 
-pub reads_close : (b : List ℕ) (r : Result CloseRequest LengthFault) → IsBytes b → Gives view r (close_of b) → (c : Close) → Gives view r (Ok c) ↔ SpellsClose c b
+pub reads_close : (b : List ℕ) (r : Result CloseRequest LengthFault) → AreBytes b → Gives view r (close_of b) → (c : Close) → Gives view r (Ok c) ↔ SpellsClose c b
 reads_close b r fits e c = iff_then (gives_iff view r (close_of b) (Ok c) e) (close_taken b c fits, close_again b c)
 
 pub reads_short : (b : List ℕ) (r : Result CloseRequest LengthFault) → Gives view r (close_of b) → Gives view r (Err Short) ↔ (length b < said_length b)

@@ -4,12 +4,11 @@ use Rattle.std.specs.Prelude.{◌&&◌, ◌||◌, IsTrue, IsNone}
 use Rattle.std.proofs.lemmas.Bool.{le-ltb, lt-ltb, eqb-true, cases_lt}
 use Rattle.std.proofs.lemmas.Bool.Decides.{nat_tests}
 use Rattle.std.proofs.Common.{eq-eqb, leb-true, le-leb}
-use Rattle.byteorder.specs.Endian.{little_number}
 use Rattle.cip_message.specs.declared.key.Key.{Key}
 use Rattle.cip_message.specs.declared.key.Device.{Device}
-use Rattle.cip_message.specs.Numbers.{le}
+use Rattle.cip_bytes.specs.Numbers.{le, AreBytes, number_at}
 use Rattle.cip_message.specs.Key.{IsKey, key, IsMet, MeetsVendor, MeetsType, MeetsRevision, is_met, refusal, key_of}
-use Rattle.cip_message.proofs.Bytes.{IsBytes, le2_back, le2_again}
+use Rattle.cip_bytes.proofs.Bytes.{le2_back, le2_again}
 
 -- ---- reading
 
@@ -19,7 +18,7 @@ made v d p m c i = record { vendor = v; device_type = d; product_code = p; major
 -- the numbers in the ten bytes of a key
 abbrev fields : List ℕ → Key
 fields b =
-    made (little_number 2 (drop 2 b)) (little_number 2 (drop 4 b)) (little_number 2 (drop 6 b))
+    made (number_at 2 2 b) (number_at 4 2 b) (number_at 6 2 b)
     (cond (ltb (slice_index b 8) 128) (slice_index b 8) (slice_index b 8 - 128)) (leb 128 (slice_index b 8)) (slice_index b 9)
 
 some_if : (b : Bool) (x k : Key) → cond b (Some x) None ≡ Some k → (b ≡ true) × (x ≡ k)
@@ -56,7 +55,7 @@ join_key a c d e f g h i r x y z ex ey ez er = rw (ex, ey, ez, er) refl
 number_back : (a b : ℕ) → a < 256 → b < 256 → le 2 (a + 256 * (b + 0)) ≡ a ∷ b ∷ []
 number_back a b ha hb = ap (le 2) (let e : a + 256 * (b + 0) ≡ a + 256 * b = omega arith in e) ∙ le2_back a b ha hb
 
-pub key_taken : (b : List ℕ) (k : Key) → IsBytes b → key_of b ≡ Some k → IsKey k × (b ≡ key k)
+pub key_taken : (b : List ℕ) (k : Key) → AreBytes b → key_of b ≡ Some k → IsKey k × (b ≡ key k)
 unfolding key_of
 key_taken (x ∷ y ∷ a ∷ c ∷ d ∷ e ∷ f ∷ g ∷ h ∷ i ∷ []) k fits q =
     let b = x ∷ y ∷ a ∷ c ∷ d ∷ e ∷ f ∷ g ∷ h ∷ i ∷ [] in
@@ -90,7 +89,7 @@ key_again k h =
     (key_same k _ _ _ _ _ _ (le2_again k.vendor h.vendor []) (le2_again k.device_type h.device_type []) (le2_again k.product_code h.product_code [])
     (major_again k.major k.compatible h.major) (compatible_again k.major k.compatible h.major) refl)
 
-pub key_iff : (b : List ℕ) (r : Option Key) → IsBytes b → r ≡ key_of b → (k : Key) → (r ≡ Some k) ↔ (IsKey k × (b ≡ key k))
+pub key_iff : (b : List ℕ) (r : Option Key) → AreBytes b → r ≡ key_of b → (k : Key) → (r ≡ Some k) ↔ (IsKey k × (b ≡ key k))
 key_iff b r fits e k = ((λ q. key_taken b k fits (sym e ∙ q)), (λ h. e ∙ ap key_of h.1 ∙ key_again k h.0))
 
 -- ---- a device's answer

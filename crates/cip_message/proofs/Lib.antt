@@ -1,5 +1,3 @@
-pub mod Bytes
-pub mod Steps
 pub mod Segments
 pub mod Paths
 pub mod PathFaults
@@ -7,7 +5,6 @@ pub mod ShortPaths
 pub mod Requests
 pub mod Replies
 pub mod Keys
-pub mod Joined
 pub mod Opens
 pub mod Closes
 pub mod Rows

@@ -11,8 +11,9 @@ use Rattle.cip_message.specs.Path.{IsPath}
 use Rattle.cip_message.specs.PathReading.{segment_of, class_of, path_of}
 use Rattle.cip_message.specs.Key.{IsKey, key, key_of}
 use Rattle.cip_message.specs.OpenPath.{key_text, IsOpenPath, with_key, behind_key, open_path_of}
-use Rattle.cip_message.proofs.Bytes.{IsBytes, IsBytes-take, IsBytes-drop}
-use Rattle.cip_message.proofs.Steps.{chosen}
+use Rattle.cip_bytes.specs.Numbers.{AreBytes}
+use Rattle.cip_bytes.proofs.Bytes.{AreBytes-take, AreBytes-drop}
+use Rattle.cip_bytes.proofs.Steps.{chosen}
 use Rattle.cip_message.proofs.Paths.{path_spelled, path_again}
 use Rattle.cip_message.proofs.Keys.{key_taken, key_again}
 
@@ -31,19 +32,19 @@ long : (t : Bool) (r : Option OpenPath) (o : OpenPath) → cond t None r ≡ Som
 long true r o e = absurd cc
 long false r o e = e
 
-taken : (b : List ℕ) (o : OpenPath) → IsBytes b → open_path_of b ≡ Some o → IsOpenPath o b
+taken : (b : List ℕ) (o : OpenPath) → AreBytes b → open_path_of b ≡ Some o → IsOpenPath o b
 unfolding open_path_of
 taken b o fits e =
     elim (chosen (eqb (slice_index b 0) 0x34) (cond (ltb (length b) 10) None (behind_key (key_of (take 10 b)) (drop 10 b))) (with_key None (path_of b)) (Some o) e) [
       | inl h ↦
           let k = behind_key_some (key_of (take 10 b)) (drop 10 b) o (long (ltb (length b) 10) (behind_key (key_of (take 10 b)) (drop 10 b)) o h.1) in
           let p = with_key_some (Some k.0) (path_of (drop 10 b)) o k.2 in
-          let key_is = key_taken (take 10 b) k.0 (IsBytes-take 10 b fits) k.1 in
+          let key_is = key_taken (take 10 b) k.0 (AreBytes-take 10 b fits) k.1 in
           subst (λ (x : OpenPath). IsOpenPath x b) p.2
           (record {
             key = key_is.0;
             rest = drop 10 b;
-            path = path_spelled (drop 10 b) p.0 (IsBytes-drop 10 b fits) p.1;
+            path = path_spelled (drop 10 b) p.0 (AreBytes-drop 10 b fits) p.1;
             spelled = sym (take-append-drop 10 b) ∙ ap (λ (t : List ℕ). t ++ drop 10 b) key_is.1;
           })
       | inr h ↦
@@ -73,5 +74,5 @@ read_again (Some k) p rest is h =
     let ten : ltb (length (key k ++ rest)) 10 ≡ false = le-ltb _ _ (omega arith) in
     rw (ten, key_again k is, path_again rest p h) refl
 
-pub open_path_iff : (b : List ℕ) (r : Option OpenPath) → IsBytes b → r ≡ open_path_of b → (o : OpenPath) → (r ≡ Some o) ↔ IsOpenPath o b
+pub open_path_iff : (b : List ℕ) (r : Option OpenPath) → AreBytes b → r ≡ open_path_of b → (o : OpenPath) → (r ≡ Some o) ↔ IsOpenPath o b
 open_path_iff b r fits e o = ((λ q. taken b o fits (sym e ∙ q)), (λ h. e ∙ ap open_path_of h.spelled ∙ read_again o.key o.path h.rest h.key h.path))

@@ -3,37 +3,37 @@ use Rattle.std.proofs.Common.{◌≡◌, ◌↔◌, ℕ, ◌+◌, ◌*◌, ◌/�
 use Rattle.std.proofs.Common.{append_assoc}
 use Rattle.std.proofs.lemmas.Bool.{ltb-true, ltb-false, le-ltb, lt-ltb}
 use Rattle.std.proofs.lemmas.List.{length-drop, get_or_append_left}
-use Rattle.cip_message.specs.Numbers.{le, number_at}
-use Rattle.cip_message.specs.Reading.{Gives}
+use Rattle.cip_bytes.specs.Numbers.{le, number_at, AreBytes}
+use Rattle.cip_bytes.specs.Reading.{Gives}
 use Rattle.cip_message.specs.declared.open.OpenRequest.{OpenRequest}
 use Rattle.cip_message.specs.declared.open.LengthFault.{LengthFault}
 use Rattle.cip_message.specs.declared.open.LengthFault.TheVariants.{Short, Long}
-use Rattle.cip_message.proofs.Bytes.{IsBytes, IsBytes-drop, le2_again, le4_again, at1, at2, at3, at4, parts_then}
-use Rattle.cip_message.proofs.Steps.{ok_is, gives_iff, iff_then}
+use Rattle.cip_bytes.proofs.Bytes.{AreBytes-drop, le2_again, le4_again, at1, at2, at3, at4, parts_then}
+use Rattle.cip_bytes.proofs.Steps.{ok_is, gives_iff, iff_then}
 use Rattle.cip_message.specs.Open.{Open, IsOpen, SpellsOpen, front, back, open_with, open_fields, open_of, said_length, view, OneOpen}
-use Rattle.cip_message.proofs.Joined.{same_front}
+use Rattle.cip_bytes.proofs.Joined.{same_front}
 
 abbrev pub made : ℕ → ℕ → ℕ → ℕ → ℕ → ℕ → ℕ → ℕ → ℕ → ℕ → ℕ → ℕ → ℕ → List ℕ → Open
-made priority ticks o_t_id t_o_id serial vendor originator multiplier o_t_rpi o_t t_o_rpi t_o transport path = record {
-  priority = priority;
-  ticks = ticks;
-  o_t_id = o_t_id;
-  t_o_id = t_o_id;
+made priority_and_tick_time timeout_ticks o_to_t_id t_to_o_id serial vendor originator timeout_multiplier o_to_t_rpi o_t t_to_o_rpi t_o transport path = record {
+  priority_and_tick_time = priority_and_tick_time;
+  timeout_ticks = timeout_ticks;
+  o_to_t_id = o_to_t_id;
+  t_to_o_id = t_to_o_id;
   connection_serial = serial;
   originator_vendor = vendor;
   originator_serial = originator;
-  multiplier = multiplier;
-  o_t_rpi = o_t_rpi;
-  o_t_parameters = o_t;
-  t_o_rpi = t_o_rpi;
-  t_o_parameters = t_o;
+  timeout_multiplier = timeout_multiplier;
+  o_to_t_rpi = o_to_t_rpi;
+  o_to_t_parameters = o_t;
+  t_to_o_rpi = t_to_o_rpi;
+  t_to_o_parameters = t_o;
   transport = transport;
   path = path;
 }
 
 -- the fields, one by one
-pub same_open : (o : Open) (p t a b c d e m f g h i j : ℕ) (q : List ℕ) → p ≡ o.priority → t ≡ o.ticks → a ≡ o.o_t_id → b ≡ o.t_o_id → c ≡ o.connection_serial → d ≡ o.originator_vendor → e ≡ o.originator_serial
-    → m ≡ o.multiplier → f ≡ o.o_t_rpi → g ≡ o.o_t_parameters → h ≡ o.t_o_rpi → i ≡ o.t_o_parameters → j ≡ o.transport → q ≡ o.path → made p t a b c d e m f g h i j q ≡ o
+pub same_open : (o : Open) (p t a b c d e m f g h i j : ℕ) (q : List ℕ) → p ≡ o.priority_and_tick_time → t ≡ o.timeout_ticks → a ≡ o.o_to_t_id → b ≡ o.t_to_o_id → c ≡ o.connection_serial → d ≡ o.originator_vendor → e ≡ o.originator_serial
+    → m ≡ o.timeout_multiplier → f ≡ o.o_to_t_rpi → g ≡ o.o_to_t_parameters → h ≡ o.t_to_o_rpi → i ≡ o.t_to_o_parameters → j ≡ o.transport → q ≡ o.path → made p t a b c d e m f g h i j q ≡ o
 same_open o p t a b c d e m f g h i j q ep et ea eb ec ed ee em ef eg eh ei ej eq =
     rw (ep, et, ea, eb, ec, ed, ee, em, ef, eg, eh, ei, ej, eq) refl
 
@@ -42,7 +42,7 @@ same_open o p t a b c d e m f g h i j q ep et ea eb ec ed ee em ef eg eh ei ej e
 half_of : (n k : ℕ) → k ≡ 2 * n → (k / 2 ≡ n) × (k % 2 ≡ 0)
 half_of n k e = (omega arith, omega arith)
 
-front_text : (b : List ℕ) → IsBytes b → 36 ≤ length b → b ≡ front (open_fields b) ++ drop 18 b
+front_text : (b : List ℕ) → AreBytes b → 36 ≤ length b → b ≡ front (open_fields b) ++ drop 18 b
 unfolding open_fields
 front_text b fits h =
     let p0 = at1 0 b (omega arith) in
@@ -56,9 +56,9 @@ front_text b fits h =
 -- the fields behind, with any number in place of the path's
 abbrev back_by : ℕ → ℕ → Open → List ℕ
 back_by words reserved o =
-    o.multiplier ∷ [] ++ le 3 reserved ++ le 4 o.o_t_rpi ++ le 2 o.o_t_parameters ++ le 4 o.t_o_rpi ++ le 2 o.t_o_parameters ++ o.transport ∷ words ∷ []
+    o.timeout_multiplier ∷ [] ++ le 3 reserved ++ le 4 o.o_to_t_rpi ++ le 2 o.o_to_t_parameters ++ le 4 o.t_to_o_rpi ++ le 2 o.t_to_o_parameters ++ o.transport ∷ words ∷ []
 
-back_text : (b : List ℕ) → IsBytes b → 36 ≤ length b → drop 18 b ≡ back_by (slice_index b 35) (number_at 19 3 b) (open_fields b) ++ drop 36 b
+back_text : (b : List ℕ) → AreBytes b → 36 ≤ length b → drop 18 b ≡ back_by (slice_index b 35) (number_at 19 3 b) (open_fields b) ++ drop 36 b
 unfolding open_fields
 back_text b fits h =
     let p0 = at1 18 b (omega arith) in
@@ -70,38 +70,38 @@ back_text b fits h =
     let last = parts_then (at1 34 b (omega arith)) (at1 35 b (omega arith)) in
     (parts_then p5 last).is
 
-fields_fit : (b : List ℕ) (n : ℕ) → IsBytes b → n ≡ slice_index b 35 → length b ≡ 36 + 2 * n → IsOpen (open_fields b)
+fields_fit : (b : List ℕ) (n : ℕ) → AreBytes b → n ≡ slice_index b 35 → length b ≡ 36 + 2 * n → IsOpen (open_fields b)
 unfolding open_fields
 fields_fit b n fits e len = record {
   front = record {
-    priority = fits 0;
-    ticks = fits 1;
-    o_t_id = number4 2;
-    t_o_id = number4 6;
+    priority_and_tick_time = fits 0;
+    timeout_ticks = fits 1;
+    o_to_t_id = number4 2;
+    t_to_o_id = number4 6;
     connection_serial = number2 10;
     originator_vendor = number2 12;
     originator_serial = number4 14;
   };
   back = record {
-    multiplier = fits 18;
-    o_t_rpi = number4 22;
-    o_t_parameters = number2 26;
-    t_o_rpi = number4 28;
-    t_o_parameters = number2 32;
+    timeout_multiplier = fits 18;
+    o_to_t_rpi = number4 22;
+    o_to_t_parameters = number2 26;
+    t_to_o_rpi = number4 28;
+    t_to_o_parameters = number2 32;
     transport = fits 34;
   };
   whole_words = (half_of n (length (drop 36 b)) (omega (arith, length-drop 36 b))).1;
   counted = omega (arith, length-drop 36 b, fits 35);
-  path = IsBytes-drop 36 b fits;
+  path = AreBytes-drop 36 b fits;
 }
   where
     number2 : (k : ℕ) → number_at k 2 b < 2 ^ 16
-    number2 k = let f = IsBytes-drop k b fits in omega (arith, f 0, f 1)
+    number2 k = let f = AreBytes-drop k b fits in omega (arith, f 0, f 1)
 
     number4 : (k : ℕ) → number_at k 4 b < 2 ^ 32
-    number4 k = let f = IsBytes-drop k b fits in omega (arith, f 0, f 1, f 2, f 3)
+    number4 k = let f = AreBytes-drop k b fits in omega (arith, f 0, f 1, f 2, f 3)
 
-open_text : (b : List ℕ) → IsBytes b → length b ≡ said_length b → SpellsOpen (open_fields b) b
+open_text : (b : List ℕ) → AreBytes b → length b ≡ said_length b → SpellsOpen (open_fields b) b
 unfolding open_fields
 open_text b fits len =
     let n = slice_index b 35 in
@@ -125,9 +125,9 @@ spelled_said r o h = let whole = h.whole_words in omega arith
 spelled_fields : (r : ℕ) (o : Open) → IsOpen o → open_fields (open_with r o) ≡ o
 unfolding open_fields
 spelled_fields r o h =
-    same_open o _ _ _ _ _ _ _ _ _ _ _ _ _ _ refl refl (le4_again o.o_t_id h.front.o_t_id []) (le4_again o.t_o_id h.front.t_o_id []) (le2_again o.connection_serial h.front.connection_serial [])
-    (le2_again o.originator_vendor h.front.originator_vendor []) (le4_again o.originator_serial h.front.originator_serial []) refl (le4_again o.o_t_rpi h.back.o_t_rpi [])
-    (le2_again o.o_t_parameters h.back.o_t_parameters []) (le4_again o.t_o_rpi h.back.t_o_rpi []) (le2_again o.t_o_parameters h.back.t_o_parameters []) refl refl
+    same_open o _ _ _ _ _ _ _ _ _ _ _ _ _ _ refl refl (le4_again o.o_to_t_id h.front.o_to_t_id []) (le4_again o.t_to_o_id h.front.t_to_o_id []) (le2_again o.connection_serial h.front.connection_serial [])
+    (le2_again o.originator_vendor h.front.originator_vendor []) (le4_again o.originator_serial h.front.originator_serial []) refl (le4_again o.o_to_t_rpi h.back.o_to_t_rpi [])
+    (le2_again o.o_to_t_parameters h.back.o_to_t_parameters []) (le4_again o.t_to_o_rpi h.back.t_to_o_rpi []) (le2_again o.t_to_o_parameters h.back.t_to_o_parameters []) refl refl
 
 -- ---- both
 
@@ -150,7 +150,7 @@ tests_long true y o e = absurd cc
 tests_long false true o e = refl
 tests_long false false o e = absurd cc
 
-open_taken : (b : List ℕ) (o : Open) → IsBytes b → open_of b ≡ Ok o → SpellsOpen o b
+open_taken : (b : List ℕ) (o : Open) → AreBytes b → open_of b ≡ Ok o → SpellsOpen o b
 unfolding open_of
 open_taken b o fits e =
     let t = tests_ok (ltb (length b) (said_length b)) (ltb (said_length b) (length b)) (open_fields b) o e in
@@ -187,7 +187,7 @@ long_iff b = (
 
 -- ---- of what a reader returned
 
-pub reads_open : (b : List ℕ) (r : Result OpenRequest LengthFault) → IsBytes b → Gives view r (open_of b) → (o : Open) → Gives view r (Ok o) ↔ SpellsOpen o b
+pub reads_open : (b : List ℕ) (r : Result OpenRequest LengthFault) → AreBytes b → Gives view r (open_of b) → (o : Open) → Gives view r (Ok o) ↔ SpellsOpen o b
 reads_open b r fits e o = iff_then (gives_iff view r (open_of b) (Ok o) e) (open_taken b o fits, open_again b o)
 
 pub reads_short : (b : List ℕ) (r : Result OpenRequest LengthFault) → Gives view r (open_of b) → Gives view r (Err Short) ↔ (length b < said_length b)

@@ -6,11 +6,12 @@ use Rattle.cip_message.specs.declared.path.Segment.TheVariants.{Class, Instance,
 use Rattle.cip_message.specs.declared.path.Path.{Path}
 use Rattle.cip_message.specs.declared.path.PathFault.{PathFault}
 use Rattle.cip_message.specs.declared.path.PathFault.TheVariants as fault
-use Rattle.cip_message.specs.Reading.{◌>>=◌}
+use Rattle.cip_bytes.specs.Reading.{◌>>=◌}
 use Rattle.cip_message.specs.Path.{IsSegment, AreSegments, optional, segments, IsPath, Begins, path_fault}
 use Rattle.cip_message.specs.PathReading.{segment_of, as_attribute, as_member, class_of, instance_of, attribute_of, member_of, whole_of, path_of}
-use Rattle.cip_message.proofs.Bytes.{IsBytes, IsBytes-second}
-use Rattle.cip_message.proofs.Steps.{bind_err, ok_is, err_is}
+use Rattle.cip_bytes.specs.Numbers.{AreBytes}
+use Rattle.cip_bytes.proofs.Bytes.{AreBytes-second}
+use Rattle.cip_bytes.proofs.Steps.{bind_err, ok_is, err_is}
 use Rattle.cip_message.proofs.Segments.{segment_taken, segment_none_at_end}
 use Rattle.cip_message.proofs.Paths.{wrong_of, class_segment, instance_segment, class_stop, instance_stop, attribute_reads, member_reads, AreSegments-one, AreSegments-join, takes, made, tail_of, path_spelled, after_attribute, path_again, path_refused, Stop, Reads}
 use Rattle.cip_message.proofs.Paths.{broken, misplaced, nothing, one, another}
@@ -92,7 +93,7 @@ record Stopped (k : PathFault) (gs : List Segment) (b : List ℕ) : Type 0 where
   after : List Segment
   text : List ℕ
   rest : List ℕ
-  fits : IsBytes rest
+  fits : AreBytes rest
   begins : Begins (gs ++ after)
   spelled : AreSegments after text
   joined : b ≡ text ++ rest
@@ -104,7 +105,7 @@ begins_all c i a m = (made c i a m, [], sym (append-nil (segments (made c i a m)
 begins_attribute : (c i : ℕ) (a : Option ℕ) → Begins (Class c ∷ Instance i ∷ optional Attribute a)
 begins_attribute c i a = (made c i a None, [], refl)
 
-tail_stopped : (c i : ℕ) (b : List ℕ) (k : PathFault) → IsBytes b → tail_of c i b ≡ Err k → Stopped k (Class c ∷ Instance i ∷ []) b
+tail_stopped : (c i : ℕ) (b : List ℕ) (k : PathFault) → AreBytes b → tail_of c i b ≡ Err k → Stopped k (Class c ∷ Instance i ∷ []) b
 tail_stopped c i b k fits e =
     elim (bind_err (attribute_of b) (λ a. after_attribute c i a.0 a.1) k e) [
       | inl f ↦ let q = attribute_broken b k f in
@@ -116,7 +117,7 @@ tail_stopped c i b k fits e =
     after_stopped a r ea em =
         let ra = attribute_reads b a r ea in
         let ta = takes Attribute b a r fits ra in
-        let fits_r = IsBytes-second ta.text r (subst IsBytes ta.joined fits) in
+        let fits_r = AreBytes-second ta.text r (subst AreBytes ta.joined fits) in
         elim (bind_err (member_of r) (λ m. whole_of (made c i a m.0) m.1) k em) [
           | inl f ↦ let q = member_broken r k f in
               record { after = optional Attribute a; text = ta.text; rest = r; fits = fits_r; begins = begins_attribute c i a; spelled = ta.spelled; joined = ta.joined; stop = broken q.0 q.1 }
@@ -127,7 +128,7 @@ tail_stopped c i b k fits e =
                 after = optional Attribute a ++ optional Member m.0.0;
                 text = ta.text ++ tm.text;
                 rest = m.0.1;
-                fits = IsBytes-second tm.text m.0.1 (subst IsBytes tm.joined fits_r);
+                fits = AreBytes-second tm.text m.0.1 (subst AreBytes tm.joined fits_r);
                 begins = begins_all c i a m.0.0;
                 spelled = AreSegments-join (optional Attribute a) (optional Member m.0.0) ta.text tm.text ta.spelled tm.spelled;
                 joined = ta.joined ∙ ap (λ (t : List ℕ). ta.text ++ t) tm.joined ∙ sym (append_assoc ta.text tm.text m.0.1);
@@ -142,7 +143,7 @@ tail_stopped c i b k fits e =
               }
         ]
 
-pub path_faulty : (k : PathFault) (b : List ℕ) → IsBytes b → path_of b ≡ Err k → path_fault k b
+pub path_faulty : (k : PathFault) (b : List ℕ) → AreBytes b → path_of b ≡ Err k → path_fault k b
 unfolding path_of
 path_faulty k b fits e =
     elim (bind_err (class_of b) (λ c. instance_of c.1 >>= λ i. tail_of c.0 i.0 i.1) k e) [
@@ -165,7 +166,7 @@ path_faulty k b fits e =
     after_class : (c : ℕ) (r : List ℕ) → class_of b ≡ Ok (c, r) → (instance_of r >>= λ i. tail_of c i.0 i.1) ≡ Err k → path_fault k b
     after_class c r ec ei =
         let tc = segment_taken b (Class c) r fits (class_segment b c r ec) in
-        let fits_r = IsBytes-second tc.text r (subst IsBytes tc.joined fits) in
+        let fits_r = AreBytes-second tc.text r (subst AreBytes tc.joined fits) in
         elim (bind_err (instance_of r) (λ i. tail_of c i.0 i.1) k ei) [
           | inl f ↦ record {
             before = Class c ∷ [];
@@ -178,14 +179,14 @@ path_faulty k b fits e =
           }
           | inr i ↦
               let ti = segment_taken r (Instance i.0.0) i.0.1 fits_r (instance_segment r i.0.0 i.0.1 i.1) in
-              let fits_i = IsBytes-second ti.text i.0.1 (subst IsBytes ti.joined fits_r) in
+              let fits_i = AreBytes-second ti.text i.0.1 (subst AreBytes ti.joined fits_r) in
               after_instance c i.0.0 tc.text ti.text r i.0.1 tc.spelled ti.spelled tc.joined ti.joined (tail_stopped c i.0.0 i.0.1 k fits_i i.2)
         ]
 
 -- ---- both laws, of what a reader returned
 
-pub path_iff : (b : List ℕ) (read : Result Path PathFault) → IsBytes b → read ≡ path_of b → (p : Path) → (read ≡ Ok p) ↔ IsPath p b
+pub path_iff : (b : List ℕ) (read : Result Path PathFault) → AreBytes b → read ≡ path_of b → (p : Path) → (read ≡ Ok p) ↔ IsPath p b
 path_iff b read fits e p = ((λ q. path_spelled b p fits (sym e ∙ q)), (λ h. e ∙ path_again b p h))
 
-pub fault_iff : (b : List ℕ) (read : Result Path PathFault) → IsBytes b → read ≡ path_of b → (k : PathFault) → (read ≡ Err k) ↔ path_fault k b
+pub fault_iff : (b : List ℕ) (read : Result Path PathFault) → AreBytes b → read ≡ path_of b → (k : PathFault) → (read ≡ Err k) ↔ path_fault k b
 fault_iff b read fits e k = ((λ q. path_faulty k b fits (sym e ∙ q)), (λ h. e ∙ path_refused k b h))

@@ -6,11 +6,12 @@ use Rattle.cip_message.specs.declared.path.Segment.TheVariants.{Class, Instance,
 use Rattle.cip_message.specs.declared.path.Path.{Path}
 use Rattle.cip_message.specs.declared.path.PathFault.{PathFault}
 use Rattle.cip_message.specs.declared.path.PathFault.TheVariants as fault
-use Rattle.cip_message.specs.Reading.{◌>>=◌}
+use Rattle.cip_bytes.specs.Reading.{◌>>=◌}
 use Rattle.cip_message.specs.Path.{IsSegment, AreSegments, optional, segments, IsPath, Begins, IsWrong, path_fault}
 use Rattle.cip_message.specs.PathReading.{segment_of, as_class, as_instance, as_attribute, as_member, class_of, instance_of, attribute_of, member_of, whole_of, path_of}
-use Rattle.cip_message.proofs.Bytes.{IsBytes, IsBytes-second}
-use Rattle.cip_message.proofs.Steps.{bind_ok, bind_err, ok_is}
+use Rattle.cip_bytes.specs.Numbers.{AreBytes}
+use Rattle.cip_bytes.proofs.Bytes.{AreBytes-second}
+use Rattle.cip_bytes.proofs.Steps.{bind_ok, bind_err, ok_is}
 use Rattle.cip_message.proofs.Segments.{SegmentFault, segment_taken, segment_again, segment_fault, segment_none, segment_cut, segment_none_at_end}
 
 -- ---- where reading stops
@@ -35,11 +36,11 @@ broken_is fault.Segment gs b w = w
 broken_is fault.Cut gs b w = w
 broken_is fault.Order gs b w = absurd w
 
-broken_wrong : (k : PathFault) (gs : List Segment) (b : List ℕ) → IsBytes b → b ≢ [] → segment_of b ≡ Err k → IsWrong k gs b
+broken_wrong : (k : PathFault) (gs : List Segment) (b : List ℕ) → AreBytes b → b ≢ [] → segment_of b ≡ Err k → IsWrong k gs b
 broken_wrong k gs [] fits some e = absurd (some refl)
 broken_wrong k gs (x ∷ xs) fits some e = broken_is k gs (x ∷ xs) (segment_fault x xs k fits e)
 
-pub wrong_of : (k : PathFault) (gs : List Segment) (b : List ℕ) → IsBytes b → Stop k gs b → IsWrong k gs b
+pub wrong_of : (k : PathFault) (gs : List Segment) (b : List ℕ) → AreBytes b → Stop k gs b → IsWrong k gs b
 wrong_of k gs b fits (broken some e) = broken_wrong k gs b fits some e
 wrong_of k gs b fits (misplaced g r e no_ is) =
     let t = segment_taken b g r fits e in
@@ -254,7 +255,7 @@ pub record TakesOption (kind : ℕ → Segment) (b : List ℕ) (o : Option ℕ) 
   pub spelled : AreSegments (optional kind o) text
   pub joined : b ≡ text ++ r
 
-pub takes : (kind : ℕ → Segment) (b : List ℕ) (o : Option ℕ) (r : List ℕ) → IsBytes b → Reads kind b o r → TakesOption kind b o r
+pub takes : (kind : ℕ → Segment) (b : List ℕ) (o : Option ℕ) (r : List ℕ) → AreBytes b → Reads kind b o r → TakesOption kind b o r
 takes kind b _ _ fits (nothing e) = record { text = []; spelled = refl; joined = e }
 takes kind b _ _ fits (one v r e) =
     let t = segment_taken b (kind v) r fits e in
@@ -276,28 +277,28 @@ tail_text b x r y s p q e = p ∙ ap (λ (t : List ℕ). x ++ t) (q ∙ ap (λ (
 AreSegments-same : (gs : List Segment) (t b : List ℕ) → b ≡ t → AreSegments gs t → AreSegments gs b
 AreSegments-same gs t b e h = subst (λ (x : List ℕ). AreSegments gs x) (sym e) h
 
-tail_spelled : (c i : ℕ) (b : List ℕ) (p : Path) → IsBytes b → tail_of c i b ≡ Ok p
+tail_spelled : (c i : ℕ) (b : List ℕ) (p : Path) → AreBytes b → tail_of c i b ≡ Ok p
     → (p ≡ made c i p.attribute p.member) × AreSegments (optional Attribute p.attribute ++ optional Member p.member) b
 tail_spelled c i b p fits e =
     let a = bind_ok (attribute_of b) (λ a. member_of a.1 >>= λ m. whole_of (made c i a.0 m.0) m.1) p e in
     let m = bind_ok (member_of a.0.1) (λ m. whole_of (made c i a.0.0 m.0) m.1) p a.2 in
     let w = whole_reads (made c i a.0.0 m.0.0) m.0.1 p m.2 in
     let ta = takes Attribute b a.0.0 a.0.1 fits (attribute_reads b a.0.0 a.0.1 a.1) in
-    let tm = takes Member a.0.1 m.0.0 m.0.1 (IsBytes-second ta.text a.0.1 (subst IsBytes ta.joined fits)) (member_reads a.0.1 m.0.0 m.0.1 m.1) in
+    let tm = takes Member a.0.1 m.0.0 m.0.1 (AreBytes-second ta.text a.0.1 (subst AreBytes ta.joined fits)) (member_reads a.0.1 m.0.0 m.0.1 m.1) in
     let both = AreSegments-join (optional Attribute a.0.0) (optional Member m.0.0) ta.text tm.text ta.spelled tm.spelled in
     let text = tail_text b ta.text a.0.1 tm.text m.0.1 ta.joined tm.joined w.1 in
     let P : Path → Type 0 = λ q. (q ≡ made c i q.attribute q.member) × AreSegments (optional Attribute q.attribute ++ optional Member q.member) b in
     subst P w.0 (refl, AreSegments-same (optional Attribute a.0.0 ++ optional Member m.0.0) (ta.text ++ tm.text) b text both)
 
-pub path_spelled : (b : List ℕ) (p : Path) → IsBytes b → path_of b ≡ Ok p → IsPath p b
+pub path_spelled : (b : List ℕ) (p : Path) → AreBytes b → path_of b ≡ Ok p → IsPath p b
 unfolding path_of IsPath
 path_spelled b p fits e =
     let c = bind_ok (class_of b) (λ c. instance_of c.1 >>= λ i. tail_of c.0 i.0 i.1) p e in
     let i = bind_ok (instance_of c.0.1) (λ i. tail_of c.0.0 i.0 i.1) p c.2 in
     let tc = segment_taken b (Class c.0.0) c.0.1 fits (class_segment b c.0.0 c.0.1 c.1) in
-    let fits_c = IsBytes-second tc.text c.0.1 (subst IsBytes tc.joined fits) in
+    let fits_c = AreBytes-second tc.text c.0.1 (subst AreBytes tc.joined fits) in
     let ti = segment_taken c.0.1 (Instance i.0.0) i.0.1 fits_c (instance_segment c.0.1 i.0.0 i.0.1 i.1) in
-    let fits_i = IsBytes-second ti.text i.0.1 (subst IsBytes ti.joined fits_c) in
+    let fits_i = AreBytes-second ti.text i.0.1 (subst AreBytes ti.joined fits_c) in
     let t = tail_spelled c.0.0 i.0.0 i.0.1 p fits_i i.2 in
     let is : IsPath (made c.0.0 i.0.0 p.attribute p.member) b = (tc.text, c.0.1, tc.spelled, (ti.text, i.0.1, ti.spelled, t.1, ti.joined), tc.joined) in
     subst (λ (q : Path). IsPath q b) (sym t.0) is

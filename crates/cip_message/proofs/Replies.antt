@@ -8,14 +8,14 @@ use Rattle.std.specs.Prelude.{slice_get}
 use Rattle.std.specs.List.{flat_map}
 use Rattle.std.proofs.lemmas.List.{length-append}
 use Rattle.std.proofs.lemmas.List.Concat.{flat_map-cons}
-use Rattle.cip_message.specs.Numbers.{le, AreWords, words_of}
+use Rattle.cip_bytes.specs.Numbers.{le, AreWords, words_of, AreBytes}
 use Rattle.cip_message.specs.declared.reply.ReplyView.{ReplyView}
 use Rattle.cip_message.specs.declared.reply.ReplyFault.{ReplyFault}
 use Rattle.cip_message.specs.declared.reply.ReplyFault.TheVariants.{Short, NotReply, Extra}
-use Rattle.cip_message.specs.Reading.{Gives}
+use Rattle.cip_bytes.specs.Reading.{Gives}
 use Rattle.cip_message.specs.Reply.{Reply, IsReply, SpellsReply, reply_with, reply_of_fields, view, reply_of}
-use Rattle.cip_message.proofs.Bytes.{IsBytes, IsBytes-drop, IsBytes-take, IsBytes-tail, le2_back}
-use Rattle.cip_message.proofs.Steps.{gives_iff, iff_then, guarded_ok, chosen}
+use Rattle.cip_bytes.proofs.Bytes.{AreBytes-drop, AreBytes-take, AreBytes-tail, le2_back}
+use Rattle.cip_bytes.proofs.Steps.{gives_iff, iff_then, guarded_ok, chosen}
 
 pub length_flat_words : (words : List ℕ) → length (flat_map (le 2) words) ≡ 2 * length words
 length_flat_words [] = refl
@@ -29,11 +29,11 @@ length_words words bytes =
 
 -- ---- words and their bytes
 
-words_fit : (b : List ℕ) → IsBytes b → AreWords (words_of b)
+words_fit : (b : List ℕ) → AreBytes b → AreWords (words_of b)
 words_fit [] fits i = omega arith
 words_fit (a ∷ []) fits i = omega arith
 words_fit (a ∷ b ∷ rest) fits zero = omega (arith, fits 0, fits 1)
-words_fit (a ∷ b ∷ rest) fits (suc i) = words_fit rest (IsBytes-tail b rest (IsBytes-tail a (b ∷ rest) fits)) i
+words_fit (a ∷ b ∷ rest) fits (suc i) = words_fit rest (AreBytes-tail b rest (AreBytes-tail a (b ∷ rest) fits)) i
 
 length_words_of : (n : ℕ) (b : List ℕ) → length b ≡ 2 * n → length (words_of b) ≡ n
 length_words_of n [] e = omega arith
@@ -41,12 +41,12 @@ length_words_of n (a ∷ []) e = absurd (omega arith)
 length_words_of zero (a ∷ b ∷ rest) e = absurd (omega arith)
 length_words_of (suc n) (a ∷ b ∷ rest) e = ap suc (length_words_of n rest (omega arith))
 
-words_back : (n : ℕ) (b : List ℕ) → length b ≡ 2 * n → IsBytes b → flat_map (le 2) (words_of b) ≡ b
+words_back : (n : ℕ) (b : List ℕ) → length b ≡ 2 * n → AreBytes b → flat_map (le 2) (words_of b) ≡ b
 words_back n [] e fits = refl
 words_back n (a ∷ []) e fits = absurd (omega arith)
 words_back zero (a ∷ b ∷ rest) e fits = absurd (omega arith)
 words_back (suc n) (a ∷ b ∷ rest) e fits =
-    let more = words_back n rest (omega arith) (IsBytes-tail b rest (IsBytes-tail a (b ∷ rest) fits)) in
+    let more = words_back n rest (omega arith) (AreBytes-tail b rest (AreBytes-tail a (b ∷ rest) fits)) in
     flat_map-cons (le 2) (a + 256 * b) (words_of rest)
     ∙ ap (λ (t : List ℕ). t ++ flat_map (le 2) (words_of rest)) (le2_back a b (fits 0) (fits 1)) ∙ ap (λ (t : List ℕ). a ∷ b ∷ t) more
 
@@ -63,7 +63,7 @@ words_again (w ∷ ws) fits =
 abbrev tested : ℕ → ℕ → List ℕ → Reply → Result Reply ReplyFault
 tested service words rest a = cond (ltb service 128) (Err NotReply) (cond (ltb (length rest) (2 * words)) (Err Extra) (Ok a))
 
-reply_taken : (b : List ℕ) (a : Reply) → IsBytes b → reply_of b ≡ Ok a → SpellsReply a b
+reply_taken : (b : List ℕ) (a : Reply) → AreBytes b → reply_of b ≡ Ok a → SpellsReply a b
 unfolding reply_of
 reply_taken [] a fits e = absurd cc
 reply_taken (s ∷ []) a fits e = absurd cc
@@ -80,11 +80,11 @@ reply_taken (s ∷ r ∷ t ∷ n ∷ rest) a fits e =
           let bit : 128 ≤ s = ltb-false _ _ h.0 in
           let long : 2 * n ≤ length rest = ltb-false _ _ g.0 in
           let len : length front ≡ 2 * n = omega (arith, length-take (2 * n) rest) in
-          let fits_rest : IsBytes rest = IsBytes-tail n rest (IsBytes-tail t (n ∷ rest) (IsBytes-tail r (t ∷ n ∷ rest) (IsBytes-tail s (r ∷ t ∷ n ∷ rest) fits))) in
-          let fits_front = IsBytes-take (2 * n) rest fits_rest in
+          let fits_rest : AreBytes rest = AreBytes-tail n rest (AreBytes-tail t (n ∷ rest) (AreBytes-tail r (t ∷ n ∷ rest) (AreBytes-tail s (r ∷ t ∷ n ∷ rest) fits))) in
+          let fits_front = AreBytes-take (2 * n) rest fits_rest in
           let count : length (words_of front) ≡ n = length_words_of n front len in
           let words = words_back n front len fits_front in
-          let is : IsReply made = record { service = fits 0; bit7 = bit; status = fits 2; counted = omega (arith, fits 3); additional = words_fit front fits_front; «data» = IsBytes-drop (2 * n) rest fits_rest } in
+          let is : IsReply made = record { service = fits 0; bit7 = bit; status = fits 2; counted = omega (arith, fits 3); additional = words_fit front fits_front; «data» = AreBytes-drop (2 * n) rest fits_rest } in
           let text : s ∷ r ∷ t ∷ n ∷ rest ≡ reply_with r made =
           ap (λ (x : List ℕ). s ∷ r ∷ t ∷ n ∷ x) (sym (take-append-drop (2 * n) rest))
           ∙ ap (λ (x : List ℕ). s ∷ r ∷ t ∷ n ∷ (x ++ all)) (sym words)
@@ -107,7 +107,7 @@ reply_again r a h =
 pub read_back : (a : Reply) → SpellsReply a (reply_with 0 a) → reply_of (reply_with 0 a) ≡ Ok a
 read_back a h = reply_again 0 a h.is_reply
 
-reply_iff : (b : List ℕ) (a : Reply) → IsBytes b → (reply_of b ≡ Ok a) ↔ SpellsReply a b
+reply_iff : (b : List ℕ) (a : Reply) → AreBytes b → (reply_of b ≡ Ok a) ↔ SpellsReply a b
 reply_iff b a fits = (reply_taken b a fits, (λ h. ap reply_of h.spelled ∙ reply_again h.reserved a h.is_reply))
 
 short_iff : (b : List ℕ) → (reply_of b ≡ Err Short) ↔ (length b < 4)
@@ -156,7 +156,7 @@ extra_iff (s ∷ r ∷ t ∷ n ∷ rest) = (
 
 -- ---- of what a reader returned
 
-pub reads_reply : (b : List ℕ) (r : Result ReplyView ReplyFault) → IsBytes b → Gives view r (reply_of b) → (a : Reply) → Gives view r (Ok a) ↔ SpellsReply a b
+pub reads_reply : (b : List ℕ) (r : Result ReplyView ReplyFault) → AreBytes b → Gives view r (reply_of b) → (a : Reply) → Gives view r (Ok a) ↔ SpellsReply a b
 reads_reply b r fits e a = iff_then (gives_iff view r (reply_of b) (Ok a) e) (reply_iff b a fits)
 
 pub reads_short : (b : List ℕ) (r : Result ReplyView ReplyFault) → Gives view r (reply_of b) → Gives view r (Err Short) ↔ (length b < 4)

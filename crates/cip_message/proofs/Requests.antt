@@ -5,12 +5,13 @@ use Rattle.std.proofs.lemmas.List.{take_at, drop_at, take-append-drop, length-ap
 use Rattle.cip_message.specs.declared.request.RequestView.{RequestView}
 use Rattle.cip_message.specs.declared.request.RequestFault.{RequestFault}
 use Rattle.cip_message.specs.declared.request.RequestFault.TheVariants.{Short, PathSize}
-use Rattle.cip_message.specs.Reading.{Gives}
+use Rattle.cip_bytes.specs.Reading.{Gives}
 use Rattle.cip_message.specs.Request.{Request, IsRequest, request, view, request_of}
-use Rattle.cip_message.proofs.Bytes.{IsBytes, IsBytes-drop, IsBytes-take, IsBytes-tail}
-use Rattle.cip_message.proofs.Steps.{gives_iff, iff_then, guarded_ok, guarded_err}
+use Rattle.cip_bytes.specs.Numbers.{AreBytes}
+use Rattle.cip_bytes.proofs.Bytes.{AreBytes-drop, AreBytes-take, AreBytes-tail}
+use Rattle.cip_bytes.proofs.Steps.{gives_iff, iff_then, guarded_ok, guarded_err}
 
-request_taken : (b : List ℕ) (q : Request) → IsBytes b → request_of b ≡ Ok q → IsRequest q × (b ≡ request q)
+request_taken : (b : List ℕ) (q : Request) → AreBytes b → request_of b ≡ Ok q → IsRequest q × (b ≡ request q)
 unfolding request_of
 request_taken [] q fits e = absurd cc
 request_taken (s ∷ []) q fits e = absurd cc
@@ -20,11 +21,11 @@ request_taken (s ∷ n ∷ rest) q fits e =
     let g = guarded_ok (ltb (length rest) (2 * n)) PathSize (record { service = s; path = path; «data» = all }) q e in
     let long : 2 * n ≤ length rest = ltb-false _ _ g.0 in
     let len : length path ≡ 2 * n = omega (arith, length-take (2 * n) rest) in
-    let fits_rest : IsBytes rest = IsBytes-tail n rest (IsBytes-tail s (n ∷ rest) fits) in
+    let fits_rest : AreBytes rest = AreBytes-tail n rest (AreBytes-tail s (n ∷ rest) fits) in
     let below : n < 256 = fits 1 in
     let half : length path / 2 ≡ n = omega arith in
     let made : Request = record { service = s; path = path; «data» = all } in
-    let is : IsRequest made = record { service = fits 0; whole_words = omega arith; counted = omega arith; path = IsBytes-take (2 * n) rest fits_rest; «data» = IsBytes-drop (2 * n) rest fits_rest } in
+    let is : IsRequest made = record { service = fits 0; whole_words = omega arith; counted = omega arith; path = AreBytes-take (2 * n) rest fits_rest; «data» = AreBytes-drop (2 * n) rest fits_rest } in
     let text : s ∷ n ∷ rest ≡ request made = ap (λ (t : List ℕ). s ∷ n ∷ t) (sym (take-append-drop (2 * n) rest)) ∙ ap (λ (k : ℕ). s ∷ k ∷ (path ++ all)) (sym half) in
     subst (λ (v : Request). IsRequest v × (s ∷ n ∷ rest ≡ request v)) g.1 (is, text)
 
@@ -36,7 +37,7 @@ request_again q h =
     let long : ltb (length (q.path ++ q.data)) (2 * (length q.path / 2)) ≡ false = le-ltb _ _ (omega (arith, length-append q.path q.data)) in
     rw (long, take_at q.path q.data (2 * (length q.path / 2)) (sym size), drop_at q.path q.data (2 * (length q.path / 2)) (sym size)) refl
 
-request_iff : (b : List ℕ) (q : Request) → IsBytes b → (request_of b ≡ Ok q) ↔ (IsRequest q × (b ≡ request q))
+request_iff : (b : List ℕ) (q : Request) → AreBytes b → (request_of b ≡ Ok q) ↔ (IsRequest q × (b ≡ request q))
 request_iff b q fits = (request_taken b q fits, (λ h. ap request_of h.1 ∙ request_again q h.0))
 
 short_iff : (b : List ℕ) → (request_of b ≡ Err Short) ↔ (length b < 2)
@@ -58,7 +59,7 @@ path_size_iff (s ∷ n ∷ rest) = (
 
 -- ---- of what a reader returned
 
-pub reads_request : (b : List ℕ) (r : Result RequestView RequestFault) → IsBytes b → Gives view r (request_of b) → (q : Request) → Gives view r (Ok q) ↔ (IsRequest q × (b ≡ request q))
+pub reads_request : (b : List ℕ) (r : Result RequestView RequestFault) → AreBytes b → Gives view r (request_of b) → (q : Request) → Gives view r (Ok q) ↔ (IsRequest q × (b ≡ request q))
 reads_request b r fits e q = iff_then (gives_iff view r (request_of b) (Ok q) e) (request_iff b q fits)
 
 pub reads_short : (b : List ℕ) (r : Result RequestView RequestFault) → Gives view r (request_of b) → Gives view r (Err Short) ↔ (length b < 2)

@@ -7,11 +7,11 @@ use Rattle.cip_message.specs.declared.path.Segment.{Segment}
 use Rattle.cip_message.specs.declared.path.Segment.TheVariants.{Class, Instance, Member, Attribute}
 use Rattle.cip_message.specs.declared.path.PathFault.{PathFault}
 use Rattle.cip_message.specs.declared.path.PathFault.TheVariants as fault
-use Rattle.cip_message.specs.Numbers.{le}
+use Rattle.cip_bytes.specs.Numbers.{le, AreBytes}
 use Rattle.cip_message.specs.Path.{In8, In16, In32, IsSegment, IsFirstByte, BeginsNone, IsFront}
 use Rattle.cip_message.specs.PathReading.{value8_of, value16_of, value32_of, with_kind, segment_at, segment_of}
-use Rattle.cip_message.proofs.Bytes.{IsBytes, le2_back, le4_back, le2_again, le4_again}
-use Rattle.cip_message.proofs.Steps.{bind_ok, ok_is, err_is}
+use Rattle.cip_bytes.proofs.Bytes.{le2_back, le4_back, le2_again, le4_again}
+use Rattle.cip_bytes.proofs.Steps.{bind_ok, ok_is, err_is}
 
 -- ---- a value of one width
 
@@ -38,14 +38,14 @@ pub record Found (Spelled : ℕ → List ℕ → Type 0) (b : List ℕ) (v : ℕ
   pub spelled : Spelled v text
   pub joined : b ≡ text ++ r
 
-found8 : (x : ℕ) (xs : List ℕ) (v : ℕ) (r : List ℕ) → IsBytes (x ∷ xs) → value8_of (x ∷ xs) ≡ Ok (v, r) → Found (In8 x) (x ∷ xs) v r
+found8 : (x : ℕ) (xs : List ℕ) (v : ℕ) (r : List ℕ) → AreBytes (x ∷ xs) → value8_of (x ∷ xs) ≡ Ok (v, r) → Found (In8 x) (x ∷ xs) v r
 found8 x [] v r fits e = absurd cc
 found8 x (y ∷ ys) v r fits e =
     let g = guard_ok (ltb (length (x ∷ y ∷ ys)) 2) (y, ys) (v, r) e in
     subst (λ (p : ℕ × List ℕ). Found (In8 x) (x ∷ y ∷ ys) p.0 p.1) g.1
     (record { text = x ∷ y ∷ []; spelled = record { fits = fits 1; spelled = refl }; joined = refl })
 
-found16 : (x : ℕ) (xs : List ℕ) (v : ℕ) (r : List ℕ) → IsBytes (x ∷ xs) → value16_of (x ∷ xs) ≡ Ok (v, r) → Found (In16 x) (x ∷ xs) v r
+found16 : (x : ℕ) (xs : List ℕ) (v : ℕ) (r : List ℕ) → AreBytes (x ∷ xs) → value16_of (x ∷ xs) ≡ Ok (v, r) → Found (In16 x) (x ∷ xs) v r
 found16 x [] v r fits e = absurd cc
 found16 x (p ∷ []) v r fits e = absurd cc
 found16 x (p ∷ a ∷ []) v r fits e = absurd cc
@@ -60,7 +60,7 @@ found16 x (p ∷ a ∷ b ∷ ys) v r fits e =
       joined = refl;
     })
 
-found32 : (x : ℕ) (xs : List ℕ) (v : ℕ) (r : List ℕ) → IsBytes (x ∷ xs) → value32_of (x ∷ xs) ≡ Ok (v, r) → Found (In32 x) (x ∷ xs) v r
+found32 : (x : ℕ) (xs : List ℕ) (v : ℕ) (r : List ℕ) → AreBytes (x ∷ xs) → value32_of (x ∷ xs) ≡ Ok (v, r) → Found (In32 x) (x ∷ xs) v r
 found32 x [] v r fits e = absurd cc
 found32 x (p ∷ []) v r fits e = absurd cc
 found32 x (p ∷ a ∷ []) v r fits e = absurd cc
@@ -102,18 +102,18 @@ pub record Part (Spelled : ℕ → List ℕ → Type 0) (b : List ℕ) : Type 0 
   pub proper : more ≢ []
   pub spelled : Spelled value (b ++ more)
 
-part8 : (x : ℕ) (xs : List ℕ) → IsBytes (x ∷ xs) → length (x ∷ xs) < 2 → Part (In8 x) (x ∷ xs)
+part8 : (x : ℕ) (xs : List ℕ) → AreBytes (x ∷ xs) → length (x ∷ xs) < 2 → Part (In8 x) (x ∷ xs)
 part8 x [] fits lt = record { value = 0; more = 0 ∷ []; proper = λ e. absurd cc; spelled = record { fits = omega arith; spelled = refl } }
 part8 x (y ∷ ys) fits lt = absurd (omega arith)
 
-part16 : (x : ℕ) (xs : List ℕ) → IsBytes (x ∷ xs) → length (x ∷ xs) < 4 → Part (In16 x) (x ∷ xs)
+part16 : (x : ℕ) (xs : List ℕ) → AreBytes (x ∷ xs) → length (x ∷ xs) < 4 → Part (In16 x) (x ∷ xs)
 part16 x [] fits lt = record { value = 0; more = 0 ∷ 0 ∷ 0 ∷ []; proper = λ e. absurd cc; spelled = record { fits = omega arith; pad = 0; pad_fits = omega arith; spelled = refl } }
 part16 x (p ∷ []) fits lt = record { value = 0; more = 0 ∷ 0 ∷ []; proper = λ e. absurd cc; spelled = record { fits = omega arith; pad = p; pad_fits = fits 1; spelled = refl } }
 part16 x (p ∷ a ∷ []) fits lt =
     record { value = a + 256 * 0; more = 0 ∷ []; proper = λ e. absurd cc; spelled = record { fits = omega (arith, fits 2); pad = p; pad_fits = fits 1; spelled = ap (λ (t : List ℕ). x ∷ p ∷ t) (sym (le2_back a 0 (fits 2) (omega arith))) } }
 part16 x (p ∷ a ∷ b ∷ ys) fits lt = absurd (omega arith)
 
-part32 : (x : ℕ) (xs : List ℕ) → IsBytes (x ∷ xs) → length (x ∷ xs) < 6 → Part (In32 x) (x ∷ xs)
+part32 : (x : ℕ) (xs : List ℕ) → AreBytes (x ∷ xs) → length (x ∷ xs) < 6 → Part (In32 x) (x ∷ xs)
 part32 x [] fits lt = record { value = 0; more = 0 ∷ 0 ∷ 0 ∷ 0 ∷ 0 ∷ []; proper = λ e. absurd cc; spelled = record { fits = omega arith; pad = 0; pad_fits = omega arith; spelled = refl } }
 part32 x (p ∷ []) fits lt = record { value = 0; more = 0 ∷ 0 ∷ 0 ∷ 0 ∷ []; proper = λ e. absurd cc; spelled = record { fits = omega arith; pad = p; pad_fits = fits 1; spelled = refl } }
 part32 x (p ∷ a ∷ []) fits lt =
@@ -211,14 +211,14 @@ taken b g r kind Spelled read is_segment finds e =
     subst (λ (q : Segment × List ℕ). TakesSegment b q.0 q.1) (ok_is (kind a.0.0, a.0.1) (g, r) a.2)
     (record { text = f.text; spelled = is_segment a.0.0 f.text f.spelled; joined = f.joined })
 
-taken_row : (x : ℕ) (xs : List ℕ) (g : Segment) (r : List ℕ) (read : Result (Segment × List ℕ) PathFault) → IsBytes (x ∷ xs)
+taken_row : (x : ℕ) (xs : List ℕ) (g : Segment) (r : List ℕ) (read : Result (Segment × List ℕ) PathFault) → AreBytes (x ∷ xs)
     → Row x (x ∷ xs) read → read ≡ Ok (g, r) → TakesSegment (x ∷ xs) g r
 taken_row x xs g r read fits (row8 kind is first e) h = taken (x ∷ xs) g r kind (In8 x) (value8_of (x ∷ xs)) is (λ v t f. found8 x xs v t fits f) (sym e ∙ h)
 taken_row x xs g r read fits (row16 kind is first e) h = taken (x ∷ xs) g r kind (In16 x) (value16_of (x ∷ xs)) is (λ v t f. found16 x xs v t fits f) (sym e ∙ h)
 taken_row x xs g r read fits (row32 kind is first e) h = taken (x ∷ xs) g r kind (In32 x) (value32_of (x ∷ xs)) is (λ v t f. found32 x xs v t fits f) (sym e ∙ h)
 taken_row x xs g r read fits (none not_ e) h = absurd cc
 
-pub segment_taken : (b : List ℕ) (g : Segment) (r : List ℕ) → IsBytes b → segment_of b ≡ Ok (g, r) → TakesSegment b g r
+pub segment_taken : (b : List ℕ) (g : Segment) (r : List ℕ) → AreBytes b → segment_of b ≡ Ok (g, r) → TakesSegment b g r
 unfolding segment_of
 segment_taken [] g r fits e = absurd cc
 segment_taken (x ∷ xs) g r fits e = taken_row x xs g r (segment_at x (x ∷ xs)) fits (row_of x (x ∷ xs)) e
@@ -271,7 +271,7 @@ part_fault x xs k kind Spelled (Err d) is_segment parts e =
     subst (λ (j : PathFault). SegmentFault j (x ∷ xs)) (sym p.0)
     (record { segment = kind p.1.value; more = p.1.more; some = λ q. absurd cc; proper = p.1.proper; spelled = is_segment p.1.value ((x ∷ xs) ++ p.1.more) p.1.spelled })
 
-row_fault : (x : ℕ) (xs : List ℕ) (k : PathFault) (read : Result (Segment × List ℕ) PathFault) → IsBytes (x ∷ xs)
+row_fault : (x : ℕ) (xs : List ℕ) (k : PathFault) (read : Result (Segment × List ℕ) PathFault) → AreBytes (x ∷ xs)
     → Row x (x ∷ xs) read → read ≡ Err k → SegmentFault k (x ∷ xs)
 row_fault x xs k read fits (row8 kind is first e) h =
     part_fault x xs k kind (In8 x) (value8_of (x ∷ xs)) is (λ f. let g = short_of 2 x xs k _ f in (g.1, part8 x xs fits g.0)) (sym e ∙ h)
@@ -283,7 +283,7 @@ row_fault x xs k read fits (none not_ e) h =
     let same : fault.Segment ≡ k = err_is fault.Segment k (sym e ∙ h) in
     subst (λ (j : PathFault). SegmentFault j (x ∷ xs)) same (record { first = x; more = xs; begins = refl; not_first = not_ })
 
-pub segment_fault : (x : ℕ) (xs : List ℕ) (k : PathFault) → IsBytes (x ∷ xs) → segment_of (x ∷ xs) ≡ Err k → SegmentFault k (x ∷ xs)
+pub segment_fault : (x : ℕ) (xs : List ℕ) (k : PathFault) → AreBytes (x ∷ xs) → segment_of (x ∷ xs) ≡ Err k → SegmentFault k (x ∷ xs)
 unfolding segment_of
 segment_fault x xs k fits e = row_fault x xs k (segment_at x (x ∷ xs)) fits (row_of x (x ∷ xs)) e
 

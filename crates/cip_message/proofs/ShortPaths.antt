@@ -7,11 +7,11 @@ use Rattle.cip_message.specs.declared.path.Segment.{Segment}
 use Rattle.cip_message.specs.declared.path.Segment.TheVariants.{Instance, Member, Attribute}
 use Rattle.cip_message.specs.declared.path.Path.{Path}
 use Rattle.cip_message.specs.declared.path.PathFault.{PathFault}
-use Rattle.cip_message.specs.Numbers.{le}
+use Rattle.cip_bytes.specs.Numbers.{le}
 use Rattle.cip_message.specs.Path.{In8, In16, IsSegment, AreSegments, optional, IsPath}
 use Rattle.cip_message.specs.PathReading.{segment_of, path_of}
 use Rattle.cip_message.specs.PathWriting.{short16, short32, short_optional, short, FitsPath, IsShortest, OneSegment}
-use Rattle.cip_message.proofs.Steps.{ok_is}
+use Rattle.cip_bytes.proofs.Steps.{ok_is}
 use Rattle.cip_message.proofs.Segments.{segment_again}
 use Rattle.cip_message.proofs.Paths.{path_again}
 

@@ -1,14 +1,14 @@
 -- The data of a Forward_Close request (Volume 1, Connection Manager).
 use Rattle.std.specs.Prelude.{◌≡◌, ℕ, ◌+◌, ◌*◌, ◌/◌, ◌%◌, ◌<◌, ◌≤◌, ◌^◌, List, [], ◌∷◌, ◌++◌, length, slice_index, drop, Result, Ok, Err, nat_lt, if◌then◌else◌}
-use Rattle.cip_message.specs.Numbers.{le, AreBytes, number_at}
+use Rattle.cip_bytes.specs.Numbers.{le, AreBytes, number_at}
 use Rattle.cip_message.specs.declared.close.CloseRequest.{CloseRequest}
 use Rattle.cip_message.specs.declared.open.LengthFault.{LengthFault}
 use Rattle.cip_message.specs.declared.open.LengthFault.TheVariants.{Short, Long}
 
 -- a close request, apart from where its path lies in memory
 pub record Close : Type 0 where
-  pub priority : ℕ
-  pub ticks : ℕ
+  pub priority_and_tick_time : ℕ
+  pub timeout_ticks : ℕ
   pub connection_serial : ℕ
   pub originator_vendor : ℕ
   pub originator_serial : ℕ
@@ -16,8 +16,8 @@ pub record Close : Type 0 where
 
 -- what has a spelling: each number is within its field, and the path is of whole words, at most 255
 pub record IsClose (c : Close) : Type 0 where
-  pub priority : c.priority < 2 ^ 8
-  pub ticks : c.ticks < 2 ^ 8
+  pub priority_and_tick_time : c.priority_and_tick_time < 2 ^ 8
+  pub timeout_ticks : c.timeout_ticks < 2 ^ 8
   pub connection_serial : c.connection_serial < 2 ^ 16
   pub originator_vendor : c.originator_vendor < 2 ^ 16
   pub originator_serial : c.originator_serial < 2 ^ 32
@@ -25,11 +25,11 @@ pub record IsClose (c : Close) : Type 0 where
   pub counted : length c.path ≤ 510
   pub path : AreBytes c.path
 
--- its spellings, one for each value of the reserved byte: priority and ticks, the three numbers that
+-- its spellings, one for each value of the reserved byte: priority and tick time, timeout ticks, the three numbers that
 -- name the connection, path size in words, reserved, path
 abbrev pub close_with : ℕ → Close → List ℕ
 close_with reserved c =
-    c.priority ∷ c.ticks ∷ [] ++ le 2 c.connection_serial ++ le 2 c.originator_vendor ++ le 4 c.originator_serial
+    c.priority_and_tick_time ∷ c.timeout_ticks ∷ [] ++ le 2 c.connection_serial ++ le 2 c.originator_vendor ++ le 4 c.originator_serial
     ++ (length c.path / 2) ∷ reserved ∷ [] ++ c.path
 
 -- b is a spelling of the close request c
@@ -45,8 +45,8 @@ close c = close_with 0 c
 -- what a close request of the code shows
 abbrev pub view : CloseRequest → Close
 view v = record {
-  priority = v.priority;
-  ticks = v.ticks;
+  priority_and_tick_time = v.priority_and_tick_time;
+  timeout_ticks = v.timeout_ticks;
   connection_serial = v.connection_serial;
   originator_vendor = v.originator_vendor;
   originator_serial = v.originator_serial;
@@ -60,8 +60,8 @@ said_length b = 12 + 2 * slice_index b 10
 -- the fields at their places
 unfoldable pub close_fields : List ℕ → Close
 close_fields b = record {
-  priority = slice_index b 0;
-  ticks = slice_index b 1;
+  priority_and_tick_time = slice_index b 0;
+  timeout_ticks = slice_index b 1;
   connection_serial = number_at 2 2 b;
   originator_vendor = number_at 4 2 b;
   originator_serial = number_at 6 4 b;

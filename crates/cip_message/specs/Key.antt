@@ -1,8 +1,7 @@
 -- The electronic key (Volume 1, appendix on segments: key segment, format 4) and the rule by which a
 -- device answers it (Volume 1, Connection Manager).
-use Rattle.std.specs.Prelude.{◌≡◌, ◌⊎◌, ℕ, ◌+◌, ◌-◌, ◌<◌, ◌≤◌, ◌^◌, Bool, ◌&&◌, ◌||◌, ◌==◌, IsTrue, List, [], ◌∷◌, ◌++◌, length, slice_index, drop, Option, Some, None, nat_lt, nat_le, if◌then◌else◌}
-use Rattle.byteorder.specs.Endian.{little_number}
-use Rattle.cip_message.specs.Numbers.{le}
+use Rattle.std.specs.Prelude.{◌≡◌, ◌⊎◌, ℕ, ◌+◌, ◌-◌, ◌<◌, ◌≤◌, ◌^◌, Bool, ◌&&◌, ◌||◌, ◌==◌, IsTrue, List, [], ◌∷◌, ◌++◌, length, slice_index, Option, Some, None, nat_lt, nat_le, if◌then◌else◌}
+use Rattle.cip_bytes.specs.Numbers.{le, number_at}
 use Rattle.cip_message.specs.declared.key.Key.{Key}
 use Rattle.cip_message.specs.declared.key.Device.{Device}
 
@@ -60,9 +59,9 @@ unfoldable pub key_of : List ℕ → Option Key
 key_of b =
     if (length b == 10) && (slice_index b 0 == 0x34) && (slice_index b 1 == 0x04) then
     Some (record {
-      vendor = little_number 2 (drop 2 b);
-      device_type = little_number 2 (drop 4 b);
-      product_code = little_number 2 (drop 6 b);
+      vendor = number_at 2 2 b;
+      device_type = number_at 4 2 b;
+      product_code = number_at 6 2 b;
       major = (if nat_lt (slice_index b 8) 128 then slice_index b 8 else slice_index b 8 - 128);
       compatible = nat_le 128 (slice_index b 8);
       minor = slice_index b 9;

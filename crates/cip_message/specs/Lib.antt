@@ -1,5 +1,3 @@
-pub mod Numbers
-pub mod Reading
 pub mod Path
 pub mod PathReading
 pub mod PathWriting

@@ -1,44 +1,44 @@
 -- The data of a Forward_Open request (Volume 1, Connection Manager).
 use Rattle.std.specs.Prelude.{◌≡◌, ℕ, ◌+◌, ◌*◌, ◌/◌, ◌%◌, ◌<◌, ◌≤◌, ◌^◌, Bool, List, [], ◌∷◌, ◌++◌, length, slice_index, drop, Result, Ok, Err, nat_lt, nat_le, if◌then◌else◌}
-use Rattle.cip_message.specs.Numbers.{le, AreBytes, number_at}
+use Rattle.cip_bytes.specs.Numbers.{le, AreBytes, number_at}
 use Rattle.cip_message.specs.declared.open.OpenRequest.{OpenRequest}
 use Rattle.cip_message.specs.declared.open.LengthFault.{LengthFault}
 use Rattle.cip_message.specs.declared.open.LengthFault.TheVariants.{Short, Long}
 
 -- an open request, apart from where its path lies in memory
 pub record Open : Type 0 where
-  pub priority : ℕ
-  pub ticks : ℕ
-  pub o_t_id : ℕ
-  pub t_o_id : ℕ
+  pub priority_and_tick_time : ℕ
+  pub timeout_ticks : ℕ
+  pub o_to_t_id : ℕ
+  pub t_to_o_id : ℕ
   pub connection_serial : ℕ
   pub originator_vendor : ℕ
   pub originator_serial : ℕ
-  pub multiplier : ℕ
-  pub o_t_rpi : ℕ
-  pub o_t_parameters : ℕ
-  pub t_o_rpi : ℕ
-  pub t_o_parameters : ℕ
+  pub timeout_multiplier : ℕ
+  pub o_to_t_rpi : ℕ
+  pub o_to_t_parameters : ℕ
+  pub t_to_o_rpi : ℕ
+  pub t_to_o_parameters : ℕ
   pub transport : ℕ
   pub path : List ℕ
 
 -- each number is within its field, in the first half
 pub record FrontFits (o : Open) : Type 0 where
-  pub priority : o.priority < 2 ^ 8
-  pub ticks : o.ticks < 2 ^ 8
-  pub o_t_id : o.o_t_id < 2 ^ 32
-  pub t_o_id : o.t_o_id < 2 ^ 32
+  pub priority_and_tick_time : o.priority_and_tick_time < 2 ^ 8
+  pub timeout_ticks : o.timeout_ticks < 2 ^ 8
+  pub o_to_t_id : o.o_to_t_id < 2 ^ 32
+  pub t_to_o_id : o.t_to_o_id < 2 ^ 32
   pub connection_serial : o.connection_serial < 2 ^ 16
   pub originator_vendor : o.originator_vendor < 2 ^ 16
   pub originator_serial : o.originator_serial < 2 ^ 32
 
 -- and in the second
 pub record BackFits (o : Open) : Type 0 where
-  pub multiplier : o.multiplier < 2 ^ 8
-  pub o_t_rpi : o.o_t_rpi < 2 ^ 32
-  pub o_t_parameters : o.o_t_parameters < 2 ^ 16
-  pub t_o_rpi : o.t_o_rpi < 2 ^ 32
-  pub t_o_parameters : o.t_o_parameters < 2 ^ 16
+  pub timeout_multiplier : o.timeout_multiplier < 2 ^ 8
+  pub o_to_t_rpi : o.o_to_t_rpi < 2 ^ 32
+  pub o_to_t_parameters : o.o_to_t_parameters < 2 ^ 16
+  pub t_to_o_rpi : o.t_to_o_rpi < 2 ^ 32
+  pub t_to_o_parameters : o.t_to_o_parameters < 2 ^ 16
   pub transport : o.transport < 2 ^ 8
 
 -- what has a spelling: the numbers fit, and the path is of whole words, at most 255
@@ -52,13 +52,13 @@ pub record IsOpen (o : Open) : Type 0 where
 -- the fields up to the three numbers that name the connection
 abbrev pub front : Open → List ℕ
 front o =
-    o.priority ∷ o.ticks ∷ [] ++ le 4 o.o_t_id ++ le 4 o.t_o_id
+    o.priority_and_tick_time ∷ o.timeout_ticks ∷ [] ++ le 4 o.o_to_t_id ++ le 4 o.t_to_o_id
     ++ le 2 o.connection_serial ++ le 2 o.originator_vendor ++ le 4 o.originator_serial
 
 -- the fields from the timeout multiplier on, with the three reserved bytes behind it
 abbrev pub back : ℕ → Open → List ℕ
 back reserved o =
-    o.multiplier ∷ [] ++ le 3 reserved ++ le 4 o.o_t_rpi ++ le 2 o.o_t_parameters ++ le 4 o.t_o_rpi ++ le 2 o.t_o_parameters
+    o.timeout_multiplier ∷ [] ++ le 3 reserved ++ le 4 o.o_to_t_rpi ++ le 2 o.o_to_t_parameters ++ le 4 o.t_to_o_rpi ++ le 2 o.t_to_o_parameters
     ++ o.transport ∷ (length o.path / 2) ∷ []
 
 -- its spellings, one for each value of the reserved bytes: the fields, and then the path
@@ -82,18 +82,18 @@ abbrev pub «open» : Open → List ℕ
 -- what an open request of the code shows
 abbrev pub view : OpenRequest → Open
 view v = record {
-  priority = v.priority;
-  ticks = v.ticks;
-  o_t_id = v.o_t_id;
-  t_o_id = v.t_o_id;
+  priority_and_tick_time = v.priority_and_tick_time;
+  timeout_ticks = v.timeout_ticks;
+  o_to_t_id = v.o_to_t_id;
+  t_to_o_id = v.t_to_o_id;
   connection_serial = v.connection_serial;
   originator_vendor = v.originator_vendor;
   originator_serial = v.originator_serial;
-  multiplier = v.multiplier;
-  o_t_rpi = v.o_t_rpi;
-  o_t_parameters = v.o_t_parameters.bits;
-  t_o_rpi = v.t_o_rpi;
-  t_o_parameters = v.t_o_parameters.bits;
+  timeout_multiplier = v.timeout_multiplier;
+  o_to_t_rpi = v.o_to_t_rpi;
+  o_to_t_parameters = v.o_to_t_parameters.bits;
+  t_to_o_rpi = v.t_to_o_rpi;
+  t_to_o_parameters = v.t_to_o_parameters.bits;
   transport = v.transport.bits;
   path = v.path.now;
 }
@@ -105,18 +105,18 @@ said_length b = 36 + 2 * slice_index b 35
 -- the fields at their places
 unfoldable pub open_fields : List ℕ → Open
 open_fields b = record {
-  priority = slice_index b 0;
-  ticks = slice_index b 1;
-  o_t_id = number_at 2 4 b;
-  t_o_id = number_at 6 4 b;
+  priority_and_tick_time = slice_index b 0;
+  timeout_ticks = slice_index b 1;
+  o_to_t_id = number_at 2 4 b;
+  t_to_o_id = number_at 6 4 b;
   connection_serial = number_at 10 2 b;
   originator_vendor = number_at 12 2 b;
   originator_serial = number_at 14 4 b;
-  multiplier = slice_index b 18;
-  o_t_rpi = number_at 22 4 b;
-  o_t_parameters = number_at 26 2 b;
-  t_o_rpi = number_at 28 4 b;
-  t_o_parameters = number_at 32 2 b;
+  timeout_multiplier = slice_index b 18;
+  o_to_t_rpi = number_at 22 4 b;
+  o_to_t_parameters = number_at 26 2 b;
+  t_to_o_rpi = number_at 28 4 b;
+  t_to_o_parameters = number_at 32 2 b;
   transport = slice_index b 34;
   path = drop 36 b;
 }

@@ -1,6 +1,6 @@
 -- Paths to an object (Volume 1, appendix on segments: logical segments, padded form).
 use Rattle.std.specs.Prelude.{◌≡◌, ◌≢◌, ◌⊎◌, ℕ, ◌<◌, ◌^◌, List, [], ◌∷◌, ◌++◌, Option, Some, None}
-use Rattle.cip_message.specs.Numbers.{le}
+use Rattle.cip_bytes.specs.Numbers.{le}
 use Rattle.cip_message.specs.declared.path.Segment.{Segment}
 use Rattle.cip_message.specs.declared.path.Segment.TheVariants.{Class, Instance, Member, Attribute}
 use Rattle.cip_message.specs.declared.path.Path.{Path}

@@ -1,7 +1,7 @@
 -- Reading a path from left to right. What it means is said in `Path`, without an order of steps.
 use Rattle.std.specs.Prelude.{ℕ, List, [], ◌∷◌, length, drop, slice_index, Option, Some, None, Result, Ok, Err, nat_lt, ◌==◌, if◌then◌else◌}
 use Rattle.byteorder.specs.Endian.{little_from}
-use Rattle.cip_message.specs.Reading.{◌>>=◌}
+use Rattle.cip_bytes.specs.Reading.{◌>>=◌}
 use Rattle.cip_message.specs.declared.path.Segment.{Segment}
 use Rattle.cip_message.specs.declared.path.Segment.TheVariants.{Class, Instance, Member, Attribute}
 use Rattle.cip_message.specs.declared.path.Path.{Path}

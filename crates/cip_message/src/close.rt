@@ -2,22 +2,22 @@
 
 ghost use Rattle.std.specs.Prelude.{◌≡◌, ◌↔◌, ◌+◌, ◌%◌, ◌<◌, ◌≤◌, ◌++◌, length, IsOk, OnOk, OnErr};
 ghost use Rattle.arrayvec.specs.ArrayVec.{array_vec_len};
-ghost use Rattle.cip_message.specs.Reading.{Gives};
+ghost use Rattle.cip_bytes.specs.Reading.{Gives};
 ghost use Rattle.cip_message.specs.Close.{Close, IsClose, SpellsClose, close, view, said_length, close_fields, close_of};
 
 use crate::open::LengthFault;
-use crate::writing::{Full, append, append_u8, append_u16, append_u32};
 use arrayvec::ArrayVec;
 use byteorder::{ByteOrder, LittleEndian};
+use cip_bytes::{Full, append, append_u8, append_u16, append_u32};
 
 /// Which connection a request to close means: the three numbers that its opening gave. `path` is its
 /// bytes, of whole words.
 #[derive(Clone, Copy, Debug)]
 pub struct CloseRequest<'a> {
     /// Priority and tick time.
-    pub priority: u8,
+    pub priority_and_tick_time: u8,
     /// Timeout ticks.
-    pub ticks: u8,
+    pub timeout_ticks: u8,
     pub connection_serial: u16,
     pub originator_vendor: u16,
     pub originator_serial: u32,
@@ -54,8 +54,8 @@ impl<'a> CloseRequest<'a> {
         if out.remaining_capacity() < 12 + self.path.len() {
             return Err(Full);
         }
-        append_u8(out, self.priority);
-        append_u8(out, self.ticks);
+        append_u8(out, self.priority_and_tick_time);
+        append_u8(out, self.timeout_ticks);
         append_u16(out, self.connection_serial);
         append_u16(out, self.originator_vendor);
         append_u32(out, self.originator_serial);
@@ -88,8 +88,8 @@ fn fields_at(bytes: &[u8]) -> CloseRequest<'_>
     ensures { view result ≡ close_fields bytes.now }
 {
     CloseRequest {
-        priority: bytes[0],
-        ticks: bytes[1],
+        priority_and_tick_time: bytes[0],
+        timeout_ticks: bytes[1],
         connection_serial: LittleEndian::read_u16(&bytes[2..]),
         originator_vendor: LittleEndian::read_u16(&bytes[4..]),
         originator_serial: LittleEndian::read_u32(&bytes[6..]),

@@ -6,9 +6,9 @@ ghost use Rattle.arrayvec.specs.ArrayVec.{array_vec_len};
 ghost use Rattle.cip_message.specs.declared.key.Key.{Key};
 ghost use Rattle.cip_message.specs.Key.{IsKey, MeetsVendor, MeetsType, MeetsRevision, key as key_text, refusal, key_of, is_met as is_met_by};
 
-use crate::writing::{Full, append, append_u8, append_u16};
 use arrayvec::ArrayVec;
 use byteorder::{ByteOrder, LittleEndian};
+use cip_bytes::{Full, append, append_u8, append_u16};
 
 /// What an electronic key asks of a device. A number 0 asks nothing.
 #[derive(Clone, Copy, Debug, PartialEq, Eq)]

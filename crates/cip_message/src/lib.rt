@@ -10,15 +10,16 @@
 //! needs [`OpenRequest`], [`CloseRequest`], [`Key`] and [`Device`] too.
 #![tactic(auto)]
 
-pub mod close;
-pub mod key;
-pub mod open;
-pub mod open_path;
-pub mod path;
-pub mod reply;
-pub mod request;
-pub mod writing;
+mod close;
+mod key;
+pub mod laws;
+mod open;
+mod open_path;
+mod path;
+mod reply;
+mod request;
 
+pub use cip_bytes::Full;
 pub use close::CloseRequest;
 pub use key::{Device, Key, read_key};
 pub use open::{LengthFault, OpenRequest, Parameters, Transport};
@@ -26,7 +27,6 @@ pub use open_path::{OpenPath, read_open_path};
 pub use path::{Path, PathFault, Segment, read_path, write_path};
 pub use reply::{ReplyFault, ReplyView, reply_service, write_reply};
 pub use request::{RequestFault, RequestView};
-pub use writing::Full;
 
 #[cfg(test)]
 mod tests;

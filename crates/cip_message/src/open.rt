@@ -2,12 +2,12 @@
 
 ghost use Rattle.std.specs.Prelude.{◌≡◌, ◌↔◌, ◌+◌, ◌%◌, ◌<◌, ◌≤◌, ◌++◌, length, IsOk, OnOk, OnErr};
 ghost use Rattle.arrayvec.specs.ArrayVec.{array_vec_len};
-ghost use Rattle.cip_message.specs.Reading.{Gives};
-ghost use Rattle.cip_message.specs.Open.{Open, FrontFits, BackFits, IsOpen, SpellsOpen, front, back, «open», view, said_length, open_fields, open_of, connection_type, size_of, is_server_of, class_of_transport, OneOpen, length_fault_number};
+ghost use Rattle.cip_bytes.specs.Reading.{Gives};
+ghost use Rattle.cip_message.specs.Open.{Open, FrontFits, BackFits, IsOpen, SpellsOpen, front, back, «open», view, said_length, open_fields, open_of, connection_type, size_of, is_server_of, class_of_transport, length_fault_number};
 
-use crate::writing::{Full, append, append_u8, append_u16, append_u32};
 use arrayvec::ArrayVec;
 use byteorder::{ByteOrder, LittleEndian};
+use cip_bytes::{Full, append, append_u8, append_u16, append_u32};
 use thiserror::Error;
 
 /// The parameters of one direction of a connection.
@@ -59,22 +59,22 @@ impl Transport {
 #[derive(Clone, Copy, Debug)]
 pub struct OpenRequest<'a> {
     /// Priority and tick time.
-    pub priority: u8,
+    pub priority_and_tick_time: u8,
     /// Timeout ticks.
-    pub ticks: u8,
+    pub timeout_ticks: u8,
     /// The ID from originator to target, which the target chooses.
-    pub o_t_id: u32,
+    pub o_to_t_id: u32,
     /// The ID from target to originator.
-    pub t_o_id: u32,
+    pub t_to_o_id: u32,
     pub connection_serial: u16,
     pub originator_vendor: u16,
     pub originator_serial: u32,
-    /// The timeout multiplier.
-    pub multiplier: u8,
-    pub o_t_rpi: u32,
-    pub o_t_parameters: Parameters,
-    pub t_o_rpi: u32,
-    pub t_o_parameters: Parameters,
+    /// The timeout multiplier: the time-out is the RPI times 4 times 2 to it.
+    pub timeout_multiplier: u8,
+    pub o_to_t_rpi: u32,
+    pub o_to_t_parameters: Parameters,
+    pub t_to_o_rpi: u32,
+    pub t_to_o_parameters: Parameters,
     pub transport: Transport,
     pub path: &'a [u8],
 }
@@ -141,10 +141,10 @@ impl<'a> OpenRequest<'a> {
         ensures len { array_vec_len out.new ≡ array_vec_len out.old + 18 }
         ensures fits { FrontFits (view self.now) }
     {
-        append_u8(out, self.priority);
-        append_u8(out, self.ticks);
-        append_u32(out, self.o_t_id);
-        append_u32(out, self.t_o_id);
+        append_u8(out, self.priority_and_tick_time);
+        append_u8(out, self.timeout_ticks);
+        append_u32(out, self.o_to_t_id);
+        append_u32(out, self.t_to_o_id);
         append_u16(out, self.connection_serial);
         append_u16(out, self.originator_vendor);
         append_u32(out, self.originator_serial);
@@ -157,12 +157,12 @@ impl<'a> OpenRequest<'a> {
         ensures len { array_vec_len out.new ≡ array_vec_len out.old + 18 }
         ensures fits { BackFits (view self.now) }
     {
-        append_u8(out, self.multiplier);
+        append_u8(out, self.timeout_multiplier);
         append(out, &[0, 0, 0]);
-        append_u32(out, self.o_t_rpi);
-        append_u16(out, self.o_t_parameters.bits);
-        append_u32(out, self.t_o_rpi);
-        append_u16(out, self.t_o_parameters.bits);
+        append_u32(out, self.o_to_t_rpi);
+        append_u16(out, self.o_to_t_parameters.bits);
+        append_u32(out, self.t_to_o_rpi);
+        append_u16(out, self.t_to_o_parameters.bits);
         append_u8(out, self.transport.bits);
         append_u8(out, (self.path.len() / 2) as u8);
     }
@@ -191,28 +191,23 @@ fn fields_at(bytes: &[u8]) -> OpenRequest<'_>
     ensures { view result ≡ open_fields bytes.now }
 {
     OpenRequest {
-        priority: bytes[0],
-        ticks: bytes[1],
-        o_t_id: LittleEndian::read_u32(&bytes[2..]),
-        t_o_id: LittleEndian::read_u32(&bytes[6..]),
+        priority_and_tick_time: bytes[0],
+        timeout_ticks: bytes[1],
+        o_to_t_id: LittleEndian::read_u32(&bytes[2..]),
+        t_to_o_id: LittleEndian::read_u32(&bytes[6..]),
         connection_serial: LittleEndian::read_u16(&bytes[10..]),
         originator_vendor: LittleEndian::read_u16(&bytes[12..]),
         originator_serial: LittleEndian::read_u32(&bytes[14..]),
-        multiplier: bytes[18],
-        o_t_rpi: LittleEndian::read_u32(&bytes[22..]),
-        o_t_parameters: Parameters {
+        timeout_multiplier: bytes[18],
+        o_to_t_rpi: LittleEndian::read_u32(&bytes[22..]),
+        o_to_t_parameters: Parameters {
             bits: LittleEndian::read_u16(&bytes[26..]),
         },
-        t_o_rpi: LittleEndian::read_u32(&bytes[28..]),
-        t_o_parameters: Parameters {
+        t_to_o_rpi: LittleEndian::read_u32(&bytes[28..]),
+        t_to_o_parameters: Parameters {
             bits: LittleEndian::read_u16(&bytes[32..]),
         },
         transport: Transport { bits: bytes[34] },
         path: &bytes[36..],
     }
 }
-
-/// An open request that spells a front of a text is the only one that does.
-pub fn one_open_request()
-    ensures { OneOpen }
-{}

@@ -2,16 +2,16 @@
 
 ghost use Rattle.std.specs.Prelude.{◌≡◌, ◌↔◌, ℕ, ◌+◌, ◌<◌, ◌≤◌, ◌^◌, ◌++◌, length, IsOk, OnOk, OnErr, IfSome};
 ghost use Rattle.arrayvec.specs.ArrayVec.{array_vec_len};
-ghost use Rattle.cip_message.specs.Reading.{Gives};
+ghost use Rattle.cip_bytes.specs.Reading.{Gives};
 ghost use Rattle.cip_message.specs.declared.path.Path.{Path};
 ghost use Rattle.cip_message.specs.declared.path.PathFault.{PathFault};
 ghost use Rattle.cip_message.specs.Path.{IsPath, path_fault, path_fault_number};
 ghost use Rattle.cip_message.specs.PathReading.{value8_of, value16_of, value32_of, segment_of, class_of, instance_of, attribute_of, member_of, whole_of, path_of};
-ghost use Rattle.cip_message.specs.PathWriting.{short16, short32, short_optional, short, FitsPath, IsShortest, OneSegment};
+ghost use Rattle.cip_message.specs.PathWriting.{short16, short32, short_optional, short, FitsPath, IsShortest};
 
-use crate::writing::{Full, append};
 use arrayvec::ArrayVec;
 use byteorder::{ByteOrder, LittleEndian};
+use cip_bytes::{Full, append};
 use thiserror::Error;
 
 /// Where a request goes: a class, an instance of it (0 is the class itself), and perhaps one of its
@@ -313,8 +313,3 @@ pub fn write_path<const N: usize>(out: &mut ArrayVec<u8, N>, path: Path) -> Resu
     append_optional(out, 0x28, path.member);
     Ok(())
 }
-
-/// A segment that spells a front of a text is the only one that does.
-pub fn one_segment()
-    ensures { OneSegment }
-{}

@@ -3,13 +3,13 @@
 ghost use Rattle.std.specs.Prelude.{◌≡◌, ◌↔◌, ◌+◌, ◌*◌, ◌%◌, ◌<◌, ◌≤◌, ◌++◌, length, slice_get, slice_index, IsOk, OnOk, OnErr, IfOk};
 ghost use Rattle.std.specs.List.{flat_map};
 ghost use Rattle.arrayvec.specs.ArrayVec.{array_vec_len};
-ghost use Rattle.cip_message.specs.Numbers.{le};
-ghost use Rattle.cip_message.specs.Reading.{Gives};
+ghost use Rattle.cip_bytes.specs.Numbers.{le};
+ghost use Rattle.cip_bytes.specs.Reading.{Gives};
 ghost use Rattle.cip_message.specs.Reply.{Reply, SpellsReply, reply, reply_to, reply_service, view, reply_of, reply_fault_number};
 
-use crate::writing::{Full, append};
 use arrayvec::ArrayVec;
 use byteorder::{ByteOrder, LittleEndian};
+use cip_bytes::{Full, append};
 use thiserror::Error;
 
 /// A reply as it lies in a text: the request's service with bit 7 set, the general status, the

@@ -2,11 +2,11 @@
 
 ghost use Rattle.std.specs.Prelude.{◌≡◌, ◌↔◌, ◌+◌, ◌*◌, ◌%◌, ◌<◌, ◌≤◌, ◌++◌, length, slice_index, IsOk, OnOk, OnErr, Ok, Err};
 ghost use Rattle.arrayvec.specs.ArrayVec.{array_vec_len};
-ghost use Rattle.cip_message.specs.Reading.{Gives};
+ghost use Rattle.cip_bytes.specs.Reading.{Gives};
 ghost use Rattle.cip_message.specs.Request.{Request, IsRequest, request, view, request_of, request_fault_number};
 
-use crate::writing::{Full, append, append_u8};
 use arrayvec::ArrayVec;
+use cip_bytes::{Full, append, append_u8};
 use thiserror::Error;
 
 /// A request as it lies in a text: its service, the bytes of its path, and its data.

@@ -294,19 +294,19 @@ fn open_requests(rt: HostRuntime) -> Result<(), Fail> {
     let open = OpenRequest::read(&OPEN)
         .ok()
         .ok_or("the bytes are an open request")?;
-    assert_eq!(rt; open.priority, 0x0a);
-    assert_eq!(rt; open.ticks, 0x0e);
-    assert_eq!(rt; open.o_t_id, 1);
-    assert_eq!(rt; open.t_o_id, 0x1122_3344);
+    assert_eq!(rt; open.priority_and_tick_time, 0x0a);
+    assert_eq!(rt; open.timeout_ticks, 0x0e);
+    assert_eq!(rt; open.o_to_t_id, 1);
+    assert_eq!(rt; open.t_to_o_id, 0x1122_3344);
     assert_eq!(rt; open.connection_serial, 3);
     assert_eq!(rt; open.originator_vendor, 66);
     assert_eq!(rt; open.originator_serial, 0x1234_5678);
-    assert_eq!(rt; open.multiplier, 2);
-    assert_eq!(rt; open.o_t_rpi, 2_000_000);
-    assert_eq!(rt; open.o_t_parameters.connection_type(), 2);
-    assert_eq!(rt; open.o_t_parameters.size(), 500);
-    assert_eq!(rt; open.t_o_rpi, 2_000_001);
-    assert_eq!(rt; open.t_o_parameters.size(), 501);
+    assert_eq!(rt; open.timeout_multiplier, 2);
+    assert_eq!(rt; open.o_to_t_rpi, 2_000_000);
+    assert_eq!(rt; open.o_to_t_parameters.connection_type(), 2);
+    assert_eq!(rt; open.o_to_t_parameters.size(), 500);
+    assert_eq!(rt; open.t_to_o_rpi, 2_000_001);
+    assert_eq!(rt; open.t_to_o_parameters.size(), 501);
     assert!(rt; open.transport.is_server());
     assert_eq!(rt; open.transport.class(), 3);
     assert_eq!(rt; open.path, [0x20, 2, 0x24, 1].as_slice());
@@ -317,18 +317,18 @@ fn open_requests(rt: HostRuntime) -> Result<(), Fail> {
 fn open_request_written(rt: HostRuntime) {
     let path = [0x20, 2, 0x24, 1];
     let open = OpenRequest {
-        priority: 0x0a,
-        ticks: 0x0e,
-        o_t_id: 1,
-        t_o_id: 0x1122_3344,
+        priority_and_tick_time: 0x0a,
+        timeout_ticks: 0x0e,
+        o_to_t_id: 1,
+        t_to_o_id: 0x1122_3344,
         connection_serial: 3,
         originator_vendor: 66,
         originator_serial: 0x1234_5678,
-        multiplier: 2,
-        o_t_rpi: 2_000_000,
-        o_t_parameters: Parameters { bits: 0x43f4 },
-        t_o_rpi: 2_000_001,
-        t_o_parameters: Parameters { bits: 0x43f5 },
+        timeout_multiplier: 2,
+        o_to_t_rpi: 2_000_000,
+        o_to_t_parameters: Parameters { bits: 0x43f4 },
+        t_to_o_rpi: 2_000_001,
+        t_to_o_parameters: Parameters { bits: 0x43f5 },
         transport: Transport { bits: 0xa3 },
         path: &path,
     };
@@ -349,8 +349,8 @@ fn close_requests(rt: HostRuntime) -> Result<(), Fail> {
     let close = CloseRequest::read(&CLOSE)
         .ok()
         .ok_or("the bytes are a close request")?;
-    assert_eq!(rt; close.priority, 0x0a);
-    assert_eq!(rt; close.ticks, 0x0e);
+    assert_eq!(rt; close.priority_and_tick_time, 0x0a);
+    assert_eq!(rt; close.timeout_ticks, 0x0e);
     assert_eq!(rt; close.connection_serial, 1);
     assert_eq!(rt; close.originator_vendor, 66);
     assert_eq!(rt; close.originator_serial, 0x1234_5678);
@@ -358,8 +358,8 @@ fn close_requests(rt: HostRuntime) -> Result<(), Fail> {
 
     let path = [0x20, 2, 0x24, 1];
     let same = CloseRequest {
-        priority: 0x0a,
-        ticks: 0x0e,
+        priority_and_tick_time: 0x0a,
+        timeout_ticks: 0x0e,
         connection_serial: 1,
         originator_vendor: 66,
         originator_serial: 0x1234_5678,

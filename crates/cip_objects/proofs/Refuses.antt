@@ -2,7 +2,7 @@
 use Rattle.std.proofs.Common.{◌≡◌, ℕ, eqb, Bool, true, false, cond, nat_lt, nat_le, ◌+◌, ◌*◌, List, [], length, Option, Some, None, Result, Ok, Err, refl}
 use Rattle.std.specs.Option.{ok_or}
 use Rattle.byteorder.specs.Endian.{little_number}
-use Rattle.cip_message.specs.Numbers.{le}
+use Rattle.cip_bytes.specs.Numbers.{le}
 use Rattle.cip_message.specs.declared.path.Path.{Path}
 use Rattle.cip_message.specs.declared.path.PathFault.{PathFault}
 use Rattle.cip_message.specs.declared.request.RequestFault.{RequestFault}

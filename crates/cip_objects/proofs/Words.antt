@@ -2,7 +2,7 @@
 use Rattle.std.proofs.Common.{◌≡◌, ℕ, ◌+◌, ◌*◌, ◌<◌, ◌≤◌, List, [], ◌∷◌, length, drop, refl, ap, ◌∙◌, arith}
 use Rattle.std.proofs.lemmas.List.{drop-drop, length-drop}
 use Rattle.byteorder.specs.Endian.{little_number}
-use Rattle.cip_message.specs.Numbers.{words_of}
+use Rattle.cip_bytes.specs.Numbers.{words_of}
 
 words_head : (xs : List ℕ) → 2 ≤ length xs → words_of xs ≡ little_number 2 xs ∷ words_of (drop 2 xs)
 words_head [] h = absurd (omega arith)

@@ -4,7 +4,7 @@ use Rattle.std.specs.Prelude.{ℕ, ◌+◌, ◌%◌, ◌^◌, Bool, ◌==◌, no
 use Rattle.std.specs.Option.{ok_or}
 use Rattle.byteorder.specs.Endian.{little_number}
 use Rattle.cip_message.specs.declared.path.Path.{Path}
-use Rattle.cip_message.specs.Numbers.{le}
+use Rattle.cip_bytes.specs.Numbers.{le}
 use Rattle.cip_objects.specs.declared.status.Status.{Status}
 use Rattle.cip_objects.specs.declared.status.Status.TheVariants.{AttributeNotSupported, AttributeNotSettable, InvalidAttributeValue, InvalidParameter}
 use Rattle.cip_objects.specs.Check.{◌>>=◌, ◌>>◌, demand, exactly}

@@ -1,6 +1,6 @@
 //! The services that change (Volume 1, common services; Add and Clear are the counter's own).
 ghost use Rattle.std.specs.Prelude.{◌≡◌, ◌≤◌, ◌+◌, length, [], OnErr};
-ghost use Rattle.cip_message.specs.Numbers.{le};
+ghost use Rattle.cip_bytes.specs.Numbers.{le};
 ghost use Rattle.cip_objects.specs.Changing.{changed, set_attribute_single, set_member, add, clear, limited_by};
 
 use crate::Status;

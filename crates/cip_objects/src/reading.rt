@@ -1,7 +1,7 @@
 //! The services that read (Volume 1, common services).
 ghost use Rattle.std.specs.Prelude.{◌≡◌, ◌≤◌, ◌+◌, ◌++◌, length, take, drop, IsSome, IfOk, OnOk, is_some};
 ghost use Rattle.std.specs.List.{flat_map};
-ghost use Rattle.cip_message.specs.Numbers.{words_of};
+ghost use Rattle.cip_bytes.specs.Numbers.{words_of};
 ghost use Rattle.cip_objects.specs.Contents.{bytes_at};
 ghost use Rattle.cip_objects.specs.Reading.{answered, limited, get_attribute_single, get_attributes_all, get_attribute_list, get_member, named_member, listed, is_there, all_there, ALL_ATTRIBUTES};
 ghost use Rattle.cip_objects.specs.Tables.{shape_at};

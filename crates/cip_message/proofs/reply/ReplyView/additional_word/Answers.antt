@@ -1,6 +1,6 @@
 use Rattle.std.proofs.Common.{◌*◌, sym, ap, ◌∙◌, Some, ℕ}
 use Rattle.byteorder.specs.Endian.{little_number}
-use Rattle.cip_message.proofs.Bytes.{rest_slice}
+use Rattle.cip_bytes.proofs.Bytes.{rest_slice}
 use Rattle.cip_message.proofs.Replies.{word_at, no_word}
 use Rattle.cip_message.proofs.reply.ReplyView.additional_word.Goals as goal
 

@@ -2,7 +2,7 @@ use Rattle.std.proofs.Common.{◌≡◌, ◌+◌, ◌*◌, ◌++◌, ◌∷◌, 
 use Rattle.byteorder.specs.Endian.{little_number}
 use Rattle.std.proofs.lemmas.List.{take_rest, length-drop, append-nil}
 use Rattle.std.specs.List.{flat_map}
-use Rattle.cip_message.specs.Numbers.{words_of}
+use Rattle.cip_bytes.specs.Numbers.{words_of}
 use Rattle.cip_objects.specs.Reading.{listed, all_there}
 use Rattle.cip_objects.proofs.Words.{words_step, words_end}
 use Rattle.cip_objects.proofs.objects.Objects.append_list.Goals as goal

@@ -1,6 +1,6 @@
 use Rattle.std.proofs.Common.{◌≡◌, ◌≤◌, ◌*◌, ◌++◌, ◌&&◌, length, drop}
 use Rattle.std.specs.List.{flat_map}
-use Rattle.cip_message.specs.Numbers.{words_of}
+use Rattle.cip_bytes.specs.Numbers.{words_of}
 use Rattle.cip_objects.specs.Reading.{listed, all_there}
 use Rattle.cip_objects.proofs.objects.Objects.append_list.Given as goal
 

@@ -7,6 +7,17 @@ abbrev pub ◌>>=◌ : {A B E : Type 0} → Result A E → (A → Result B E) �
 (Ok x) >>= f = f x
 (Err e) >>= f = Err e
 
+-- a step that reads nothing, or its fault
+infixl 10 ◌>>◌
+abbrev pub ◌>>◌ : {A B E : Type 0} → Result A E → Result B E → Result B E
+(Ok x) >> r = r
+(Err e) >> r = Err e
+
+-- what a step read, seen by view
+abbrev pub seen_by : {A B E : Type 0} → (A → B) → Result A E → Result B E
+seen_by view (Ok x) = Ok (view x)
+seen_by view (Err e) = Err e
+
 -- What a function returned, seen by view, is what reading gives.
 abbrev pub Gives : {X Y E : Type 0} → (X → Y) → Result X E → Result Y E → Type 0
 Gives view (Ok x) read = read ≡ Ok (view x)

@@ -1,6 +1,6 @@
 -- Steps of reading one after another.
 use Rattle.std.proofs.Common.{◌≡◌, ◌↔◌, sym, ◌∙◌, Bool, true, false, cond, Result, Ok, Err, ◌⊎◌, inl, inr, refl}
-use Rattle.cip_message.specs.Reading.{◌>>=◌, Gives}
+use Rattle.cip_bytes.specs.Reading.{◌>>=◌, Gives}
 
 -- the value of a step that did not fail
 pub bind_ok : {A B E : Type 0} (r : Result A E) (f : A → Result B E) (y : B) → (r >>= f) ≡ Ok y → (x : A) × (r ≡ Ok x) × (f x ≡ Ok y)

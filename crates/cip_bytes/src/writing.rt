@@ -2,7 +2,7 @@
 
 ghost use Rattle.std.specs.Prelude.{◌≡◌, ◌+◌, ◌^◌, ◌<◌, ◌≤◌, [], ◌∷◌, ◌++◌, length};
 ghost use Rattle.arrayvec.specs.ArrayVec.{array_vec_len};
-ghost use Rattle.cip_message.specs.Numbers.{le, AreBytes};
+ghost use Rattle.cip_bytes.specs.Numbers.{le, AreBytes};
 
 use arrayvec::ArrayVec;
 use thiserror::Error;
@@ -13,16 +13,17 @@ use thiserror::Error;
 pub struct Full;
 
 /// Appends the bytes, for which there is room.
-pub(crate) fn append<const N: usize>(out: &mut ArrayVec<u8, N>, bytes: &[u8])
+pub fn append<const N: usize>(out: &mut ArrayVec<u8, N>, bytes: &[u8])
     requires { array_vec_len out.old + length bytes.now ≤ N }
     ensures text { out.new.items ≡ out.old.items ++ bytes.now }
+    ensures len { array_vec_len out.new ≡ array_vec_len out.old + length bytes.now }
     ensures bytes { AreBytes bytes.now }
 {
     let _written = out.try_extend_from_slice(bytes);
 }
 
-/// Appends a byte.
-pub(crate) fn append_u8<const N: usize>(out: &mut ArrayVec<u8, N>, value: u8)
+/// Appends a byte, for which there is room.
+pub fn append_u8<const N: usize>(out: &mut ArrayVec<u8, N>, value: u8)
     requires { array_vec_len out.old < N }
     ensures text { out.new.items ≡ out.old.items ++ value ∷ [] }
     ensures len { array_vec_len out.new ≡ array_vec_len out.old + 1 }
@@ -31,22 +32,22 @@ pub(crate) fn append_u8<const N: usize>(out: &mut ArrayVec<u8, N>, value: u8)
     out.push(value);
 }
 
-/// Appends the two bytes of a number, least first.
-pub(crate) fn append_u16<const N: usize>(out: &mut ArrayVec<u8, N>, value: u16)
+/// Appends the two bytes of a number, least first, for which there is room.
+pub fn append_u16<const N: usize>(out: &mut ArrayVec<u8, N>, value: u16)
     requires { array_vec_len out.old + 2 ≤ N }
     ensures text { out.new.items ≡ out.old.items ++ le 2 value }
     ensures len { array_vec_len out.new ≡ array_vec_len out.old + 2 }
     ensures fits { value < 2 ^ 16 }
 {
-    append(out, &value.to_le_bytes());
+    append(out, &u16::to_le_bytes(value));
 }
 
-/// Appends the four bytes of a number, least first.
-pub(crate) fn append_u32<const N: usize>(out: &mut ArrayVec<u8, N>, value: u32)
+/// Appends the four bytes of a number, least first, for which there is room.
+pub fn append_u32<const N: usize>(out: &mut ArrayVec<u8, N>, value: u32)
     requires { array_vec_len out.old + 4 ≤ N }
     ensures text { out.new.items ≡ out.old.items ++ le 4 value }
     ensures len { array_vec_len out.new ≡ array_vec_len out.old + 4 }
     ensures fits { value < 2 ^ 32 }
 {
-    append(out, &value.to_le_bytes());
+    append(out, &u32::to_le_bytes(value));
 }

@@ -1,5 +1,5 @@
 use Rattle.cip_message.proofs.Opens.{open_is_one}
-use Rattle.cip_message.proofs.open.one_open_request.Goals as goal
+use Rattle.cip_message.proofs.laws.one_open_request.Goals as goal
 
 pub returns : goal.returns
 returns c = open_is_one

@@ -1,6 +1,6 @@
 -- Numbers on the wire (Volume 1, elementary data types): the bytes of an integer, least first.
-use Rattle.std.specs.Prelude.{ℕ, ◌+◌, ◌*◌, ◌<◌, ◌^◌, List, [], ◌∷◌, slice_index, drop}
-use Rattle.byteorder.specs.Endian.{little_bytes, little_number}
+use Rattle.std.specs.Prelude.{ℕ, ◌+◌, ◌*◌, ◌<◌, ◌^◌, List, [], ◌∷◌, slice_index}
+use Rattle.byteorder.specs.Endian.{little_bytes, little_from}
 
 -- the n bytes of v, least first
 abbrev pub le : ℕ → ℕ → List ℕ
@@ -20,6 +20,6 @@ words_of [] = []
 words_of (a ∷ []) = []
 words_of (a ∷ b ∷ rest) = (a + 256 * b) ∷ words_of rest
 
--- the number in the n bytes at a place
+-- the number whose n bytes stand from a place on, the least first
 abbrev pub number_at : ℕ → ℕ → List ℕ → ℕ
-number_at place n bs = little_number n (drop place bs)
+number_at place n bytes = little_from place n bytes
