@@ -1,15 +1,18 @@
 -- A segment that is read is the one spelled, and what is spelled is read again.
-use Rattle.std.proofs.Common.{◌≡◌, ◌≢◌, ℕ, ◌+◌, ◌*◌, ◌<◌, Bool, true, false, cond, eqb, ltb, List, [], ◌∷◌, ◌++◌, length, Result, Ok, Err, refl, sym, ap, subst, ◌∙◌, arith, inl, inr}
+use Rattle.std.proofs.Common.{◌≡◌, ◌≢◌, ℕ, ◌+◌, ◌*◌, ◌/◌, ◌%◌, ◌<◌, Option, Some, None, Bool, true, false, cond, eqb, ltb, List, [], ◌∷◌, ◌++◌, length, Result, Ok, Err, refl, sym, ap, subst, ◌∙◌, arith, inl, inr}
 use Rattle.std.proofs.lemmas.Bool.{ltb-true, le-ltb, lt-ltb, eqb-true, eqb-false}
 use Rattle.std.proofs.lemmas.List.{length-append}
 use Rattle.byteorder.specs.Endian.{little_from}
 use Rattle.cip_message.specs.declared.path.Segment.{Segment}
 use Rattle.cip_message.specs.declared.path.Segment.TheVariants.{Class, Instance, Member, Attribute}
+use Rattle.std.specs.Prelude.{◌&&◌}
+use Rattle.cip_message.specs.declared.path.Kind.{Kind}
+use Rattle.cip_message.specs.declared.path.Kind.TheVariants as kinds
 use Rattle.cip_message.specs.declared.path.PathFault.{PathFault}
 use Rattle.cip_message.specs.declared.path.PathFault.TheVariants as fault
 use Rattle.cip_bytes.specs.Numbers.{le, AreBytes}
 use Rattle.cip_message.specs.Path.{In8, In16, In32, IsSegment, IsFirstByte, BeginsNone, IsFront}
-use Rattle.cip_message.specs.PathReading.{value8_of, value16_of, value32_of, with_kind, segment_at, segment_of}
+use Rattle.cip_message.specs.PathReading.{value8_of, value16_of, value32_of, with_kind, kind_of, segment_of_kind, has_32_bits, in_format, of_kind, segment_at, segment_of}
 use Rattle.cip_bytes.proofs.Bytes.{le2_back, le4_back, le2_again, le4_again}
 use Rattle.cip_bytes.proofs.Steps.{bind_ok, ok_is, err_is}
 
@@ -163,38 +166,78 @@ data Row (x : ℕ) (b : List ℕ) (read : Result (Segment × List ℕ) PathFault
   row32 : (kind : ℕ → Segment) → ((v : ℕ) (s : List ℕ) → In32 x v s → IsSegment (kind v) s) → IsFirstByte x → read ≡ with_kind kind (value32_of b) → Row x b read
   none : (IsFirstByte x → ⊥) → read ≡ Err fault.Segment → Row x b read
 
-row_if_test : (t : Bool) (x k : ℕ) (b : List ℕ) (this other : Result (Segment × List ℕ) PathFault) → eqb x k ≡ t
-    → (x ≡ k → Row x b this) → (x ≢ k → Row x b other) → Row x b (cond t this other)
-row_if_test true x k b this other e yes_ no_ = yes_ (eqb-true x k e)
-row_if_test false x k b this other e yes_ no_ = no_ (eqb-false x k e)
+row_if_test : (t : Bool) (n k x : ℕ) (b : List ℕ) (this other : Result (Segment × List ℕ) PathFault) → eqb n k ≡ t
+    → (n ≡ k → Row x b this) → (n ≢ k → Row x b other) → Row x b (cond t this other)
+row_if_test true n k x b this other e yes_ no_ = yes_ (eqb-true n k e)
+row_if_test false n k x b this other e yes_ no_ = no_ (eqb-false n k e)
 
-row_if : (x k : ℕ) (b : List ℕ) (this other : Result (Segment × List ℕ) PathFault)
-    → (x ≡ k → Row x b this) → (x ≢ k → Row x b other) → Row x b (cond (eqb x k) this other)
-row_if x k b this other yes_ no_ = row_if_test (eqb x k) x k b this other refl yes_ no_
+row_if : (n k x : ℕ) (b : List ℕ) (this other : Result (Segment × List ℕ) PathFault)
+    → (n ≡ k → Row x b this) → (n ≢ k → Row x b other) → Row x b (cond (eqb n k) this other)
+row_if n k x b this other yes_ no_ = row_if_test (eqb n k) n k x b this other refl yes_ no_
+
+none_of : (x : ℕ) → x ≢ 0x20 → x ≢ 0x21 → x ≢ 0x24 → x ≢ 0x25 → x ≢ 0x26 → x ≢ 0x28 → x ≢ 0x29 → x ≢ 0x30 → x ≢ 0x31 → IsFirstByte x → ⊥
+none_of x n0 n1 n2 n3 n4 n5 n6 n7 n8 (inl e) = n0 e
+none_of x n0 n1 n2 n3 n4 n5 n6 n7 n8 (inr (inl e)) = n1 e
+none_of x n0 n1 n2 n3 n4 n5 n6 n7 n8 (inr (inr (inl e))) = n2 e
+none_of x n0 n1 n2 n3 n4 n5 n6 n7 n8 (inr (inr (inr (inl e)))) = n3 e
+none_of x n0 n1 n2 n3 n4 n5 n6 n7 n8 (inr (inr (inr (inr (inl e))))) = n4 e
+none_of x n0 n1 n2 n3 n4 n5 n6 n7 n8 (inr (inr (inr (inr (inr (inl e)))))) = n5 e
+none_of x n0 n1 n2 n3 n4 n5 n6 n7 n8 (inr (inr (inr (inr (inr (inr (inl e))))))) = n6 e
+none_of x n0 n1 n2 n3 n4 n5 n6 n7 n8 (inr (inr (inr (inr (inr (inr (inr (inl e)))))))) = n7 e
+none_of x n0 n1 n2 n3 n4 n5 n6 n7 n8 (inr (inr (inr (inr (inr (inr (inr (inr e)))))))) = n8 e
+
+-- the two parts of a first byte make it
+byte_of : (x base format : ℕ) → base ≡ x / 4 * 4 → format ≡ x % 4 → x ≡ base + format
+byte_of x base format p q = omega arith
+
+kind_if : (t : Bool) (base k format x : ℕ) (kind : Kind) (others : Option Kind) (b : List ℕ) → eqb base k ≡ t
+    → (base ≡ k → Row x b (of_kind (Some kind) format b)) → (base ≢ k → Row x b (of_kind others format b))
+    → Row x b (of_kind (cond t (Some kind) others) format b)
+kind_if true base k format x kind others b e yes_ no_ = yes_ (eqb-true base k e)
+kind_if false base k format x kind others b e yes_ no_ = no_ (eqb-false base k e)
+
+-- the rows of one kind, whose first byte in 8 bits is k
+rows_of : (x k format : ℕ) (kind : Kind) (b : List ℕ) → x ≡ k + format → format < 4
+    → ((v : ℕ) (s : List ℕ) → In8 k v s → IsSegment (segment_of_kind kind v) s)
+    → ((v : ℕ) (s : List ℕ) → In16 (k + 1) v s → IsSegment (segment_of_kind kind v) s)
+    → IsFirstByte k → IsFirstByte (k + 1)
+    → (format ≢ 0 → format ≢ 1 → Row x b (cond (has_32_bits kind && eqb format 2) (with_kind (segment_of_kind kind) (value32_of b)) (Err fault.Segment)))
+    → Row x b (in_format format kind b)
+rows_of x k format kind b e few is8 is16 first8 first16 wide =
+    row_if format 0 x b _ _
+    (λ z. let same : x ≡ k = omega arith in
+    row8 (segment_of_kind kind) (λ v s h. is8 v s (subst (λ (n : ℕ). In8 n v s) same h)) (subst IsFirstByte (sym same) first8) refl)
+    (λ n0. row_if format 1 x b _ _
+    (λ z. let same : x ≡ k + 1 = omega arith in
+    row16 (segment_of_kind kind) (λ v s h. is16 v s (subst (λ (n : ℕ). In16 n v s) same h)) (subst IsFirstByte (sym same) first16) refl)
+    (λ n1. wide n0 n1))
+
+-- an instance in 32 bits
+wide_row : (x format : ℕ) (b : List ℕ) → x ≡ 0x24 + format → format < 4 → format ≢ 0 → format ≢ 1
+    → Row x b (cond (eqb format 2) (with_kind (segment_of_kind kinds.Instance) (value32_of b)) (Err fault.Segment))
+wide_row x format b e few n0 n1 =
+    row_if format 2 x b _ _
+    (λ z. let same : x ≡ 0x26 = omega arith in
+    row32 (segment_of_kind kinds.Instance) (λ v s h. inr (inr (subst (λ (n : ℕ). In32 n v s) same h))) (subst IsFirstByte (sym same) (inr (inr (inr (inr (inl refl)))))) refl)
+    (λ n2. none (none_of x (λ q. omega arith) (λ q. omega arith) (λ q. omega arith) (λ q. omega arith) (λ q. omega arith) (λ q. omega arith) (λ q. omega arith) (λ q. omega arith) (λ q. omega arith)) refl)
+
+row_of_parts : (x base format : ℕ) (b : List ℕ) → base ≡ x / 4 * 4 → format ≡ x % 4 → Row x b (of_kind (kind_of base) format b)
+row_of_parts x base format b p q =
+    let e = byte_of x base format p q in
+    let few : format < 4 = omega arith in
+    let whole : (x / 4) * 4 ≡ base = sym p in
+    kind_if (eqb base 0x20) base 0x20 format x _ _ b refl (λ c. let x_is : x ≡ 0x20 + format = omega arith in
+    rows_of x 0x20 format kinds.Class b x_is few (λ v s h. inl h) (λ v s h. inr h) (inl refl) (inr (inl refl)) (λ n0 n1. none (none_of x (λ q. omega arith) (λ q. omega arith) (λ q. omega arith) (λ q. omega arith) (λ q. omega arith) (λ q. omega arith) (λ q. omega arith) (λ q. omega arith) (λ q. omega arith)) refl)) (λ m0.
+    kind_if (eqb base 0x24) base 0x24 format x _ _ b refl (λ c. let x_is : x ≡ 0x24 + format = omega arith in
+    rows_of x 0x24 format kinds.Instance b x_is few (λ v s h. inl h) (λ v s h. inr (inl h)) (inr (inr (inl refl))) (inr (inr (inr (inl refl)))) (λ n0 n1. wide_row x format b x_is few n0 n1)) (λ m1.
+    kind_if (eqb base 0x28) base 0x28 format x _ _ b refl (λ c. let x_is : x ≡ 0x28 + format = omega arith in
+    rows_of x 0x28 format kinds.Member b x_is few (λ v s h. inl h) (λ v s h. inr h) (inr (inr (inr (inr (inr (inl refl)))))) (inr (inr (inr (inr (inr (inr (inl refl))))))) (λ n0 n1. none (none_of x (λ q. omega arith) (λ q. omega arith) (λ q. omega arith) (λ q. omega arith) (λ q. omega arith) (λ q. omega arith) (λ q. omega arith) (λ q. omega arith) (λ q. omega arith)) refl)) (λ m2.
+    kind_if (eqb base 0x30) base 0x30 format x _ _ b refl (λ c. let x_is : x ≡ 0x30 + format = omega arith in
+    rows_of x 0x30 format kinds.Attribute b x_is few (λ v s h. inl h) (λ v s h. inr h) (inr (inr (inr (inr (inr (inr (inr (inl refl)))))))) (inr (inr (inr (inr (inr (inr (inr (inr refl)))))))) (λ n0 n1. none (none_of x (λ q. omega arith) (λ q. omega arith) (λ q. omega arith) (λ q. omega arith) (λ q. omega arith) (λ q. omega arith) (λ q. omega arith) (λ q. omega arith) (λ q. omega arith)) refl)) (λ m3.
+    none (none_of x (λ q. omega arith) (λ q. omega arith) (λ q. omega arith) (λ q. omega arith) (λ q. omega arith) (λ q. omega arith) (λ q. omega arith) (λ q. omega arith) (λ q. omega arith)) refl))))
 
 row_of : (x : ℕ) (b : List ℕ) → Row x b (segment_at x b)
-row_of x b =
-    row_if x 0x20 b _ _ (λ e. row8 Class (λ v s h. inl (subst (λ (n : ℕ). In8 n v s) e h)) (inl e) refl) (λ n0.
-    row_if x 0x21 b _ _ (λ e. row16 Class (λ v s h. inr (subst (λ (n : ℕ). In16 n v s) e h)) (inr (inl e)) refl) (λ n1.
-    row_if x 0x24 b _ _ (λ e. row8 Instance (λ v s h. inl (subst (λ (n : ℕ). In8 n v s) e h)) (inr (inr (inl e))) refl) (λ n2.
-    row_if x 0x25 b _ _ (λ e. row16 Instance (λ v s h. inr (inl (subst (λ (n : ℕ). In16 n v s) e h))) (inr (inr (inr (inl e)))) refl) (λ n3.
-    row_if x 0x26 b _ _ (λ e. row32 Instance (λ v s h. inr (inr (subst (λ (n : ℕ). In32 n v s) e h))) (inr (inr (inr (inr (inl e))))) refl) (λ n4.
-    row_if x 0x28 b _ _ (λ e. row8 Member (λ v s h. inl (subst (λ (n : ℕ). In8 n v s) e h)) (inr (inr (inr (inr (inr (inl e)))))) refl) (λ n5.
-    row_if x 0x29 b _ _ (λ e. row16 Member (λ v s h. inr (subst (λ (n : ℕ). In16 n v s) e h)) (inr (inr (inr (inr (inr (inr (inl e))))))) refl) (λ n6.
-    row_if x 0x30 b _ _ (λ e. row8 Attribute (λ v s h. inl (subst (λ (n : ℕ). In8 n v s) e h)) (inr (inr (inr (inr (inr (inr (inr (inl e)))))))) refl) (λ n7.
-    row_if x 0x31 b _ _ (λ e. row16 Attribute (λ v s h. inr (subst (λ (n : ℕ). In16 n v s) e h)) (inr (inr (inr (inr (inr (inr (inr (inr e)))))))) refl) (λ n8.
-    none (none_of x n0 n1 n2 n3 n4 n5 n6 n7 n8) refl)))))))))
-  where
-    none_of : (x : ℕ) → x ≢ 0x20 → x ≢ 0x21 → x ≢ 0x24 → x ≢ 0x25 → x ≢ 0x26 → x ≢ 0x28 → x ≢ 0x29 → x ≢ 0x30 → x ≢ 0x31 → IsFirstByte x → ⊥
-    none_of x n0 n1 n2 n3 n4 n5 n6 n7 n8 (inl e) = n0 e
-    none_of x n0 n1 n2 n3 n4 n5 n6 n7 n8 (inr (inl e)) = n1 e
-    none_of x n0 n1 n2 n3 n4 n5 n6 n7 n8 (inr (inr (inl e))) = n2 e
-    none_of x n0 n1 n2 n3 n4 n5 n6 n7 n8 (inr (inr (inr (inl e)))) = n3 e
-    none_of x n0 n1 n2 n3 n4 n5 n6 n7 n8 (inr (inr (inr (inr (inl e))))) = n4 e
-    none_of x n0 n1 n2 n3 n4 n5 n6 n7 n8 (inr (inr (inr (inr (inr (inl e)))))) = n5 e
-    none_of x n0 n1 n2 n3 n4 n5 n6 n7 n8 (inr (inr (inr (inr (inr (inr (inl e))))))) = n6 e
-    none_of x n0 n1 n2 n3 n4 n5 n6 n7 n8 (inr (inr (inr (inr (inr (inr (inr (inl e)))))))) = n7 e
-    none_of x n0 n1 n2 n3 n4 n5 n6 n7 n8 (inr (inr (inr (inr (inr (inr (inr (inr e)))))))) = n8 e
+row_of x b = row_of_parts x (x / 4 * 4) (x % 4) b refl refl
 
 -- what a segment's reader took
 pub record TakesSegment (b : List ℕ) (g : Segment) (r : List ℕ) : Type 0 where

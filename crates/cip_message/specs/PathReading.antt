@@ -1,9 +1,11 @@
 -- Reading a path from left to right. What it means is said in `Path`, without an order of steps.
-use Rattle.std.specs.Prelude.{ℕ, List, [], ◌∷◌, length, drop, slice_index, Option, Some, None, Result, Ok, Err, nat_lt, ◌==◌, if◌then◌else◌}
-use Rattle.byteorder.specs.Endian.{little_from}
+use Rattle.std.specs.Prelude.{ℕ, ◌*◌, ◌/◌, ◌%◌, ◌&&◌, Bool, true, false, List, [], ◌∷◌, length, drop, slice_index, Option, Some, None, Result, Ok, Err, nat_lt, ◌==◌, if◌then◌else◌}
+use Rattle.cip_bytes.specs.Numbers.{number_at}
 use Rattle.cip_bytes.specs.Reading.{◌>>=◌}
 use Rattle.cip_message.specs.declared.path.Segment.{Segment}
 use Rattle.cip_message.specs.declared.path.Segment.TheVariants.{Class, Instance, Member, Attribute}
+use Rattle.cip_message.specs.declared.path.Kind.{Kind}
+use Rattle.cip_message.specs.declared.path.Kind.TheVariants as kinds
 use Rattle.cip_message.specs.declared.path.Path.{Path}
 use Rattle.cip_message.specs.declared.path.PathFault.{PathFault}
 use Rattle.cip_message.specs.declared.path.PathFault.TheVariants as fault
@@ -13,28 +15,51 @@ abbrev pub value8_of : List ℕ → Result (ℕ × List ℕ) PathFault
 value8_of b = if nat_lt (length b) 2 then Err fault.Cut else Ok (slice_index b 1, drop 2 b)
 
 abbrev pub value16_of : List ℕ → Result (ℕ × List ℕ) PathFault
-value16_of b = if nat_lt (length b) 4 then Err fault.Cut else Ok (little_from 2 2 b, drop 4 b)
+value16_of b = if nat_lt (length b) 4 then Err fault.Cut else Ok (number_at 2 2 b, drop 4 b)
 
 abbrev pub value32_of : List ℕ → Result (ℕ × List ℕ) PathFault
-value32_of b = if nat_lt (length b) 6 then Err fault.Cut else Ok (little_from 2 4 b, drop 6 b)
+value32_of b = if nat_lt (length b) 6 then Err fault.Cut else Ok (number_at 2 4 b, drop 6 b)
 
 -- the segment of that kind whose value was read, and what follows it
 abbrev pub with_kind : (ℕ → Segment) → Result (ℕ × List ℕ) PathFault → Result (Segment × List ℕ) PathFault
 with_kind kind read = read >>= λ x. Ok (kind x.0, x.1)
 
--- the segment at the front of bytes that begin with x
-abbrev pub segment_at : ℕ → List ℕ → Result (Segment × List ℕ) PathFault
-segment_at x b =
-    if x == 0x20 then with_kind Class (value8_of b) else
-    if x == 0x21 then with_kind Class (value16_of b) else
-    if x == 0x24 then with_kind Instance (value8_of b) else
-    if x == 0x25 then with_kind Instance (value16_of b) else
-    if x == 0x26 then with_kind Instance (value32_of b) else
-    if x == 0x28 then with_kind Member (value8_of b) else
-    if x == 0x29 then with_kind Member (value16_of b) else
-    if x == 0x30 then with_kind Attribute (value8_of b) else
-    if x == 0x31 then with_kind Attribute (value16_of b) else
+-- the kinds of logical segment, by the first byte without its two lowest bits (Volume 1, logical segment: type)
+abbrev pub kind_of : ℕ → Option Kind
+kind_of base =
+    if base == 0x20 then Some kinds.Class else
+    if base == 0x24 then Some kinds.Instance else
+    if base == 0x28 then Some kinds.Member else
+    if base == 0x30 then Some kinds.Attribute else
+    None
+
+-- the segment of a kind
+abbrev pub segment_of_kind : Kind → ℕ → Segment
+segment_of_kind kinds.Class v = Class v
+segment_of_kind kinds.Instance v = Instance v
+segment_of_kind kinds.Member v = Member v
+segment_of_kind kinds.Attribute v = Attribute v
+
+-- an instance alone has a value in 32 bits
+abbrev pub has_32_bits : Kind → Bool
+has_32_bits kinds.Instance = true
+has_32_bits _ = false
+
+-- the formats of its value, by the two lowest bits (Volume 1, logical segment: format)
+abbrev pub in_format : ℕ → Kind → List ℕ → Result (Segment × List ℕ) PathFault
+in_format format kind b =
+    if format == 0 then with_kind (segment_of_kind kind) (value8_of b) else
+    if format == 1 then with_kind (segment_of_kind kind) (value16_of b) else
+    if has_32_bits kind && (format == 2) then with_kind (segment_of_kind kind) (value32_of b) else
     Err fault.Segment
+
+abbrev pub of_kind : Option Kind → ℕ → List ℕ → Result (Segment × List ℕ) PathFault
+of_kind None format b = Err fault.Segment
+of_kind (Some kind) format b = in_format format kind b
+
+-- the segment at the front of bytes that begin with x: bits 7 to 2 are its kind, bits 1 and 0 the format
+abbrev pub segment_at : ℕ → List ℕ → Result (Segment × List ℕ) PathFault
+segment_at x b = of_kind (kind_of (x / 4 * 4)) (x % 4) b
 
 -- the segment at the front, where one is wanted
 unfoldable pub segment_of : List ℕ → Result (Segment × List ℕ) PathFault

@@ -1,12 +1,12 @@
 //! Paths to an object, as logical segments in padded form (Volume 1, appendix on segments).
 
-ghost use Rattle.std.specs.Prelude.{◌≡◌, ◌↔◌, ℕ, ◌+◌, ◌<◌, ◌≤◌, ◌^◌, ◌++◌, length, IsOk, OnOk, OnErr, IfSome};
+ghost use Rattle.std.specs.Prelude.{◌≡◌, ◌↔◌, ℕ, ◌+◌, ◌*◌, ◌/◌, ◌<◌, ◌≤◌, ◌^◌, ◌++◌, length, IsOk, OnOk, OnErr, IfSome};
 ghost use Rattle.arrayvec.specs.ArrayVec.{array_vec_len};
 ghost use Rattle.cip_bytes.specs.Reading.{Gives};
 ghost use Rattle.cip_message.specs.declared.path.Path.{Path};
 ghost use Rattle.cip_message.specs.declared.path.PathFault.{PathFault};
 ghost use Rattle.cip_message.specs.Path.{IsPath, path_fault, path_fault_number};
-ghost use Rattle.cip_message.specs.PathReading.{value8_of, value16_of, value32_of, segment_of, class_of, instance_of, attribute_of, member_of, whole_of, path_of};
+ghost use Rattle.cip_message.specs.PathReading.{value8_of, value16_of, value32_of, kind_of, segment_of_kind, segment_of, class_of, instance_of, attribute_of, member_of, whole_of, path_of};
 ghost use Rattle.cip_message.specs.PathWriting.{short16, short32, short_optional, short, FitsPath, IsShortest};
 
 use arrayvec::ArrayVec;
@@ -56,6 +56,8 @@ impl PathFault {
     }
 }
 
+/// A value of 8 bits behind the first byte, and what follows it.
+#[inline(always)]
 fn value8(bytes: &[u8]) -> Result<(u16, &[u8]), PathFault>
     ensures { Gives (λ x. (x.0, x.1.now)) result (value8_of bytes.now) }
 {
@@ -65,15 +67,20 @@ fn value8(bytes: &[u8]) -> Result<(u16, &[u8]), PathFault>
     Ok((u16::from(bytes[1]), &bytes[2..]))
 }
 
+/// A value of 16 bits behind the first byte and a pad, and what follows it.
+#[inline(always)]
 fn value16(bytes: &[u8]) -> Result<(u16, &[u8]), PathFault>
     ensures { Gives (λ x. (x.0, x.1.now)) result (value16_of bytes.now) }
 {
     if bytes.len() < 4 {
         return Err(PathFault::Cut);
     }
+    // the byte behind the first is a pad: any value (segments)
     Ok((LittleEndian::read_u16(&bytes[2..]), &bytes[4..]))
 }
 
+/// A value of 32 bits behind the first byte and a pad, and what follows it.
+#[inline(always)]
 fn value32(bytes: &[u8]) -> Result<(u32, &[u8]), PathFault>
     ensures { Gives (λ x. (x.0, x.1.now)) result (value32_of bytes.now) }
 {
@@ -83,7 +90,46 @@ fn value32(bytes: &[u8]) -> Result<(u32, &[u8]), PathFault>
     Ok((LittleEndian::read_u32(&bytes[2..]), &bytes[6..]))
 }
 
+/// What a logical segment names: bits 7 to 2 of its first byte. (Volume 1, logical segment: type.)
+#[derive(Clone, Copy, Debug, PartialEq, Eq)]
+enum Kind {
+    Class,
+    Instance,
+    Member,
+    Attribute,
+}
+
+impl Kind {
+    /// The kind of a segment with this first byte.
+    #[inline(always)]
+    fn of(first: u8) -> Option<Kind>
+        ensures { result ≡ kind_of (first / 4 * 4) }
+    {
+        match first / 4 * 4 {
+            0x20 => Some(Kind::Class),
+            0x24 => Some(Kind::Instance),
+            0x28 => Some(Kind::Member),
+            0x30 => Some(Kind::Attribute),
+            _ => None,
+        }
+    }
+
+    /// The segment of this kind with a value of 16 bits.
+    #[inline(always)]
+    fn segment(self, value: u16) -> Segment
+        ensures { result ≡ segment_of_kind self value }
+    {
+        match self {
+            Kind::Class => Segment::Class(value),
+            Kind::Instance => Segment::Instance(u32::from(value)),
+            Kind::Member => Segment::Member(value),
+            Kind::Attribute => Segment::Attribute(value),
+        }
+    }
+}
+
 /// The segment at the front, and what follows it.
+#[inline(always)]
 #[tactic(auto, unfolding(crate::specs::PathReading::segment_of))]
 fn first_segment(bytes: &[u8]) -> Result<(Segment, &[u8]), PathFault>
     ensures { Gives (λ x. (x.0, x.1.now)) result (segment_of bytes.now) }
@@ -91,42 +137,23 @@ fn first_segment(bytes: &[u8]) -> Result<(Segment, &[u8]), PathFault>
     let [first, ..] = bytes else {
         return Err(PathFault::Order);
     };
-    match *first {
-        0x20 => {
+    let Some(kind) = Kind::of(*first) else {
+        return Err(PathFault::Segment);
+    };
+    // bits 1 and 0 are the format of the value (segments)
+    match *first % 4 {
+        0 => {
             let (value, rest) = value8(bytes)?;
-            Ok((Segment::Class(value), rest))
+            Ok((kind.segment(value), rest))
         }
-        0x21 => {
+        1 => {
             let (value, rest) = value16(bytes)?;
-            Ok((Segment::Class(value), rest))
+            Ok((kind.segment(value), rest))
         }
-        0x24 => {
-            let (value, rest) = value8(bytes)?;
-            Ok((Segment::Instance(u32::from(value)), rest))
-        }
-        0x25 => {
-            let (value, rest) = value16(bytes)?;
-            Ok((Segment::Instance(u32::from(value)), rest))
-        }
-        0x26 => {
+        // an instance alone has 32 bits (segments)
+        2 if kind == Kind::Instance => {
             let (value, rest) = value32(bytes)?;
             Ok((Segment::Instance(value), rest))
-        }
-        0x28 => {
-            let (value, rest) = value8(bytes)?;
-            Ok((Segment::Member(value), rest))
-        }
-        0x29 => {
-            let (value, rest) = value16(bytes)?;
-            Ok((Segment::Member(value), rest))
-        }
-        0x30 => {
-            let (value, rest) = value8(bytes)?;
-            Ok((Segment::Attribute(value), rest))
-        }
-        0x31 => {
-            let (value, rest) = value16(bytes)?;
-            Ok((Segment::Attribute(value), rest))
         }
         _ => Err(PathFault::Segment),
     }
