@@ -24,7 +24,7 @@ use Rattle.cip_objects.specs.Execution.{Outcome, perform, outcome, Executed, fit
 use Rattle.cip_objects.specs.Run.{value_of, limit_of, additions_of, IsCounter, is_counter, to_counter, addition, sum_after, sum_since_cleared, number_of_additions, counter_law}
 use Rattle.cip_objects.specs.Router.{general_status}
 use Rattle.cip_objects.specs.Status.{status_code}
-use Rattle.cip_objects.proofs.Refuses.{Refuses, outcome_refuses}
+use Rattle.cip_objects.proofs.Refuses.{Refuses, no_success, outcome_refuses}
 use Rattle.cip_objects.specs.Service.{service_code, service_in}
 use Rattle.cip_objects.specs.Tables.{Shape, shape_at, services_of, assembly_services}
 use Rattle.cip_objects.proofs.Effects.{goes, set_effect, Sets, member_effect, SetsMember, add_effect, clear_effect, read_effect, change_effect, chosen_code}
@@ -282,7 +282,7 @@ by_fit true m text o h x = silent m text (reply_to text ReplyDataTooLarge []) h 
 by_fit false m text o h x = told m text (reply_to text o.status o.content) o x refl x.done
 
 by_outcome : (m : Contents) (room : ℕ) (text : List ℕ) (r : Result Outcome Status) → IsCounter m → Refuses r → ((o : Outcome) → r ≡ Ok o → Effect m text o) → Stepped m text (fitted m room text r)
-by_outcome m room text (Err s) h e x = silent m text (reply_to text s []) h e
+by_outcome m room text (Err s) h e x = silent m text (reply_to text s []) h (no_success s e)
 by_outcome m room text (Ok o) h e x = by_fit (nat_lt room (length (reply_to text o.status o.content))) m text o h (x o refl)
 
 stepped : (m : Contents) (room : ℕ) (text : List ℕ) → IsCounter m → AreBytes text → Stepped m text (exec m room text)

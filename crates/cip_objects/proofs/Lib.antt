@@ -13,3 +13,6 @@ pub mod Effects
 pub mod CounterRun
 pub mod Refuses
 pub mod Sets
+pub mod Refused
+pub mod Unsettable
+pub mod Lists

@@ -23,7 +23,7 @@ use Rattle.cip_objects.specs.Service.{service_code, service_in}
 use Rattle.cip_objects.specs.Tables.{Shape, shape_at, services_of, assembly_services}
 use Rattle.cip_objects.proofs.Effects.{goes, set_effect, member_effect, add_effect, clear_effect, change_effect, chosen_code}
 use Rattle.cip_objects.proofs.Keys.{value_at-same, value_at-other}
-use Rattle.cip_objects.proofs.Refuses.{Refuses, outcome_refuses}
+use Rattle.cip_objects.proofs.Refuses.{Refuses, no_success, outcome_refuses}
 
 pub too_large : too_large_law
 too_large m room text e = exec_too_large m room text e
@@ -122,11 +122,11 @@ by_fit true m text o e = absurd (omega arith)
 by_fit false m text o e = record { made = o; is_made = refl; after = refl }
 
 succeeded : (m : Contents) (room : ℕ) (text : List ℕ) (r : Result Outcome Status) → Refuses r → general_status (fitted m room text r).answer ≡ 0 → Succeeded m r (fitted m room text r)
-succeeded m room text (Err s) h e = absurd (let bad : true ≡ false = sym (ap (λ n. eqb n 0) e) ∙ h in cc)
+succeeded m room text (Err s) h e = absurd (let bad : true ≡ false = sym (ap (λ n. eqb n 0) e) ∙ no_success s h in cc)
 succeeded m room text (Ok o) h e = by_fit (nat_lt room (length (reply_to text o.status o.content))) m text o e
 
 -- what a get makes where the attribute is there
-get_makes : (m : Contents) (get path value : List ℕ) (p : Path) (a : ℕ) → Reads get 0x0e path [] → path_of path ≡ Ok p → chosen m.shapes p.class p.instance 0x0e ≡ Ok GetAttributeSingle → p.attribute ≡ Some a → value_at m p.class p.instance a ≡ Some value → outcome m get ≡ Ok (record { after = m; status = Success; content = value })
+pub get_makes : (m : Contents) (get path value : List ℕ) (p : Path) (a : ℕ) → Reads get 0x0e path [] → path_of path ≡ Ok p → chosen m.shapes p.class p.instance 0x0e ≡ Ok GetAttributeSingle → p.attribute ≡ Some a → value_at m p.class p.instance a ≡ Some value → outcome m get ≡ Ok (record { after = m; status = Success; content = value })
 unfolding outcome get_attribute_single
 get_makes m get path value p a e f g h v = rw (e, f, g, h, v) refl
 
@@ -166,7 +166,7 @@ left : (m : Contents) (room : ℕ) (text : List ℕ) (r : Result Outcome Status)
 left m room text (Err s) = inl refl
 left m room text (Ok o) = either_room (nat_lt room (length (reply_to text o.status o.content))) m text o
 
-exec_left : (m : Contents) (room : ℕ) (text : List ℕ) → ((exec m room text).after ≡ m) ⊎ ((o : Outcome) × (outcome m text ≡ Ok o) × ((exec m room text).after ≡ o.after))
+pub exec_left : (m : Contents) (room : ℕ) (text : List ℕ) → ((exec m room text).after ≡ m) ⊎ ((o : Outcome) × (outcome m text ≡ Ok o) × ((exec m room text).after ≡ o.after))
 unfolding exec
 exec_left m room text = left m room text (outcome m text)
 

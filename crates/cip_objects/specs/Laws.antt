@@ -1,5 +1,5 @@
 -- What executions of requests promise, in the words of objects, attributes and requests.
-use Rattle.std.specs.Prelude.{◌≡◌, ℕ, ◌+◌, ◌≤◌, List, [], ◌∷◌, length, Some, Ok}
+use Rattle.std.specs.Prelude.{◌≡◌, ℕ, ◌+◌, ◌≤◌, List, [], ◌∷◌, length, Some, None, Ok}
 use Rattle.cip_message.specs.declared.path.Path.{Path}
 use Rattle.cip_message.specs.PathReading.{path_of}
 use Rattle.cip_message.specs.Request.{request_of}
@@ -9,6 +9,7 @@ use Rattle.cip_objects.specs.declared.status.Status.TheVariants.{Success}
 use Rattle.cip_objects.specs.Contents.{Contents, value_at}
 use Rattle.cip_objects.specs.Execution.{Outcome, perform, reply_to, exec, run}
 use Rattle.cip_objects.specs.Router.{general_status, REPLY_TOO_LARGE}
+use Rattle.cip_objects.specs.Tables.{settable_size, COUNTER}
 
 -- the text is a request of this service, with this path and these data
 abbrev pub Reads : List ℕ → ℕ → List ℕ → List ℕ → Type 0
@@ -46,3 +47,20 @@ abbrev pub set_leaves_others_law : Type 0
 set_leaves_others_law =
     (m : Contents) (room : ℕ) (set path value : List ℕ) (p : Path) → Reads set 0x10 path value → path_of path ≡ Ok p
     → (class instance attribute : ℕ) → ((class ≡ p.class) × (instance ≡ p.instance) × (Some attribute ≡ p.attribute) → ⊥) → value_at (exec m room set).after class instance attribute ≡ value_at m class instance attribute
+
+-- a reply that says neither success nor that an attribute of a list is missing has no data, and the map is as it was
+abbrev pub refused_law : Type 0
+refused_law =
+    (m : Contents) (room : ℕ) (text : List ℕ) → (general_status (exec m room text).answer ≡ 0x00 → ⊥) → (general_status (exec m room text).answer ≡ 0x0a → ⊥)
+    → (length (exec m room text).answer ≡ 4) × ((exec m room text).after ≡ m)
+
+-- with room for 8 bytes or more, the map after a request is the same in every room
+abbrev pub any_room_law : Type 0
+any_room_law = (m : Contents) (room other : ℕ) (text : List ℕ) → 8 ≤ room → 8 ≤ other → (exec m room text).after ≡ (exec m other text).after
+
+-- what is neither settable nor the counter's value or additions stays as it is, over every run
+abbrev pub unsettable_law : Type 0
+unsettable_law =
+    (m : Contents) (requests : List (ℕ × List ℕ)) (class instance attribute : ℕ) → settable_size m.shapes class instance attribute ≡ None
+    → ((class ≡ COUNTER) × (instance ≡ 1) × (attribute ≡ 1) → ⊥) → ((class ≡ COUNTER) × (instance ≡ 1) × (attribute ≡ 3) → ⊥)
+    → value_at (run m requests).after class instance attribute ≡ value_at m class instance attribute

@@ -21,3 +21,4 @@ pub mod Rows
 pub mod Lookup
 pub mod Objects
 pub mod Assembly
+pub mod Lists
