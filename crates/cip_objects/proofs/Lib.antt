@@ -16,3 +16,5 @@ pub mod Sets
 pub mod Refused
 pub mod Unsettable
 pub mod Lists
+pub mod Spans
+pub mod Members

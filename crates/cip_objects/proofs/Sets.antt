@@ -111,7 +111,7 @@ unfolding chosen services_of
 offers_get shapes class instance s e =
     table_get (eqb class 1) (eqb class 4) (eqb class 6) (eqb class 100) (eqb instance 0) (eqb instance 1) (shape_at instance shapes) s e
 
--- a reply that says success is that of an outcome, which was left
+-- an outcome that was answered with success
 record Succeeded (m : Contents) (r : Result Outcome Status) (x : Executed) : Type 0 where
   made : Outcome
   is_made : r ≡ Ok made
@@ -137,19 +137,20 @@ fits_later : (m : Contents) (later : ℕ) (get value : List ℕ) → 4 + length 
 fits_later m later get value h =
     ap (λ t. (cond {A = Executed} t (record { after = m; answer = reply_to get ReplyDataTooLarge [] }) (record { after = m; answer = reply_to get Success value })).answer) (not_over later (length value) h)
 
-got : (m : Contents) (later : ℕ) (get value : List ℕ) → outcome m get ≡ Ok (record { after = m; status = Success; content = value }) → 4 + length value ≤ later → (exec m later get).answer ≡ reply_to get Success value
+pub got : (m : Contents) (later : ℕ) (get value : List ℕ) → outcome m get ≡ Ok (record { after = m; status = Success; content = value }) → 4 + length value ≤ later → (exec m later get).answer ≡ reply_to get Success value
 unfolding exec
 got m later get value e h = ap (λ r. (fitted m later get r).answer) e ∙ fits_later m later get value h
 
-after_set : (m : Contents) (room : ℕ) (set path value : List ℕ) → Reads set 0x10 path value → general_status (exec m room set).answer ≡ 0 → (o : Outcome) × (outcome m set ≡ Ok o) × ((exec m room set).after ≡ o.after)
+-- a reply that says success is that of an outcome, which was left
+pub went_well : (m : Contents) (room : ℕ) (text : List ℕ) → general_status (exec m room text).answer ≡ 0 → (o : Outcome) × (outcome m text ≡ Ok o) × ((exec m room text).after ≡ o.after)
 unfolding exec
-after_set m room set path value e s =
-    let x = succeeded m room set (outcome m set) (outcome_refuses m set) s in
+went_well m room text s =
+    let x = succeeded m room text (outcome m text) (outcome_refuses m text) s in
     (x.made, x.is_made, x.after)
 
 pub get_after_set : get_after_set_law
 get_after_set m room later set get path value e f s fits =
-    let x = after_set m room set path value e s in
+    let x = went_well m room set s in
     let w = was_set m set path value x.0 e x.1 in
     let p = w.0 in
     let n = with_value m p.class p.instance w.1.attribute value in

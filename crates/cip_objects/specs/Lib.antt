@@ -22,3 +22,4 @@ pub mod Lookup
 pub mod Objects
 pub mod Assembly
 pub mod Lists
+pub mod Members

@@ -2,6 +2,7 @@
 
 ghost use Rattle.cip_objects.specs.Laws.{too_large_law, refused_law, any_room_law, changes_fit_law, get_after_set_law, set_leaves_others_law, unsettable_law};
 ghost use Rattle.cip_objects.specs.Lists.{list_law};
+ghost use Rattle.cip_objects.specs.Members.{member_after_set_law};
 ghost use Rattle.cip_objects.specs.Run.{counter_law};
 
 /// A reply that is too large goes with the map as it was.
@@ -33,6 +34,11 @@ pub fn list_is_gets()
 /// What a get answers after a set that succeeded is what was set.
 pub fn get_after_set()
     ensures { get_after_set_law }
+{}
+
+/// What Get_Member answers after a Set_Member of the same member that succeeded is what was set.
+pub fn member_after_set()
+    ensures { member_after_set_law }
 {}
 
 /// A set at one key leaves every other.
