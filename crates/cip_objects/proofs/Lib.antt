@@ -18,3 +18,5 @@ pub mod Unsettable
 pub mod Lists
 pub mod Spans
 pub mod Members
+pub mod OtherMembers
+pub mod Whole

@@ -68,7 +68,7 @@ is_set_member SetMember e = refl
 is_set_member Add e = absurd (omega arith)
 is_set_member Clear e = absurd (omega arith)
 
-is_get_member : (s : Service) → service_code s ≡ 0x18 → s ≡ GetMember
+pub is_get_member : (s : Service) → service_code s ≡ 0x18 → s ≡ GetMember
 is_get_member GetAttributesAll e = absurd (omega arith)
 is_get_member GetAttributeList e = absurd (omega arith)
 is_get_member GetAttributeSingle e = absurd (omega arith)
@@ -99,13 +99,13 @@ member_offers shapes class instance s e =
     table_member (eqb class 1) (eqb class 4) (eqb class 6) (eqb class 100) (eqb instance 0) (eqb instance 1) (shape_at instance shapes) s e
 
 -- what a set of a member that went well has done
-record WasMember (m : Contents) (path value : List ℕ) (p : Path) (o : Outcome) : Type 0 where
-  is_path : path_of path ≡ Ok p
-  offers : chosen m.shapes p.class p.instance 0x19 ≡ Ok SetMember
-  span : Span
-  names : named_member m.shapes p ≡ Ok span
-  size : length value ≡ span.size
-  leaves : o.after ≡ with_value m 4 p.instance 3 (spliced (bytes_at m 4 p.instance 3) span.offset value)
+pub record WasMember (m : Contents) (path value : List ℕ) (p : Path) (o : Outcome) : Type 0 where
+  pub is_path : path_of path ≡ Ok p
+  pub offers : chosen m.shapes p.class p.instance 0x19 ≡ Ok SetMember
+  pub span : Span
+  pub names : named_member m.shapes p ≡ Ok span
+  pub size : length value ≡ span.size
+  pub leaves : o.after ≡ with_value m 4 p.instance 3 (spliced (bytes_at m 4 p.instance 3) span.offset value)
 
 same_request : (q r : Request) → ◌≡◌ {A = Result Request RequestFault} (Ok q) (Ok r) → q ≡ r
 same_request q r e = cc
@@ -113,7 +113,7 @@ same_request q r e = cc
 same_path : (q r : Path) → ◌≡◌ {A = Result Path PathFault} (Ok q) (Ok r) → q ≡ r
 same_path q r e = cc
 
-was_member : (m : Contents) (set path value : List ℕ) (o : Outcome) → Reads set 0x19 path value → outcome m set ≡ Ok o → (p : Path) × WasMember m path value p o
+pub was_member : (m : Contents) (set path value : List ℕ) (o : Outcome) → Reads set 0x19 path value → outcome m set ≡ Ok o → (p : Path) × WasMember m path value p o
 was_member m set path value o e done =
     let g = goes m set o done in
     let q : g.request ≡ record { service = 0x19; path = path; «data» = value } = same_request g.request _ (sym g.is_request ∙ e) in
@@ -138,7 +138,7 @@ unfolding outcome get_member
 member_makes m get path value p span e f g h v = rw (e, f, g, h, v) refl
 
 -- where the member lies in the data
-fits_in : (m : Contents) (p : Path) (span : Span) → AreWhole m → Names m.shapes p span → span.offset + span.size ≤ length (bytes_at m 4 p.instance 3)
+pub fits_in : (m : Contents) (p : Path) (span : Span) → AreWhole m → Names m.shapes p span → span.offset + span.size ≤ length (bytes_at m 4 p.instance 3)
 fits_in m p span whole n = omega (arith, whole p.instance n.shape n.is_shape, inside n.shape.members (n.number - 1) span n.lies)
 
 spliced_read : (old value : List ℕ) (span : Span) (new : List ℕ) → new ≡ spliced old span.offset value → length value ≡ span.size → span.offset + span.size ≤ length old → take span.size (drop span.offset new) ≡ value

@@ -2,7 +2,7 @@
 
 ghost use Rattle.cip_objects.specs.Laws.{too_large_law, refused_law, any_room_law, changes_fit_law, get_after_set_law, set_leaves_others_law, unsettable_law};
 ghost use Rattle.cip_objects.specs.Lists.{list_law};
-ghost use Rattle.cip_objects.specs.Members.{member_after_set_law};
+ghost use Rattle.cip_objects.specs.Members.{member_after_set_law, set_member_leaves_others_law, whole_law};
 ghost use Rattle.cip_objects.specs.Run.{counter_law};
 
 /// A reply that is too large goes with the map as it was.
@@ -44,6 +44,16 @@ pub fn member_after_set()
 /// A set at one key leaves every other.
 pub fn set_leaves_others()
     ensures { set_leaves_others_law }
+{}
+
+/// A set of a member leaves the other members, of its own assembly and of others.
+pub fn set_member_leaves_others()
+    ensures { set_member_leaves_others_law }
+{}
+
+/// Over every run, the data of each assembly keep the size that its members have together.
+pub fn data_stay_whole()
+    ensures { whole_law }
 {}
 
 /// Over every run, what is neither settable nor the counter's value or additions stays as it was.
