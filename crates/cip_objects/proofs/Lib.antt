@@ -10,6 +10,7 @@ pub mod Executed
 pub mod Sound
 pub mod Keys
 pub mod Effects
+pub mod Offers
 pub mod CounterRun
 pub mod Refuses
 pub mod Sets

@@ -1,7 +1,6 @@
 -- Sets and gets.
-use Rattle.std.proofs.Common.{◌≡◌, ℕ, ◌+◌, ◌≤◌, ◌⊎◌, inl, inr, eqb, Bool, true, false, cond, ◌&&◌, nat_lt, List, [], ◌∷◌, length, Option, Some, None, option_map, Result, Ok, Err, refl, sym, ap, ◌∙◌, arith, suc}
+use Rattle.std.proofs.Common.{◌≡◌, ℕ, ◌+◌, ◌≤◌, ◌⊎◌, inl, inr, eqb, Bool, true, false, cond, ◌&&◌, nat_lt, List, [], ◌∷◌, length, Option, Some, None, Result, Ok, Err, refl, sym, ap, ◌∙◌, arith, suc}
 use Rattle.std.proofs.lemmas.Bool.Decides.{nat_tests}
-use Rattle.std.specs.Option.{ok_or}
 use Rattle.cip_message.specs.declared.path.Path.{Path}
 use Rattle.cip_message.specs.declared.path.PathFault.{PathFault}
 use Rattle.cip_message.specs.declared.request.RequestFault.{RequestFault}
@@ -10,8 +9,7 @@ use Rattle.cip_message.specs.Request.{Request}
 use Rattle.cip_objects.specs.declared.service.Service.{Service}
 use Rattle.cip_objects.specs.declared.service.Service.TheVariants.{GetAttributesAll, GetAttributeList, GetAttributeSingle, SetAttributeSingle, GetMember, SetMember, Add, Clear}
 use Rattle.cip_objects.specs.declared.status.Status.{Status}
-use Rattle.cip_objects.specs.declared.status.Status.TheVariants.{Success, ReplyDataTooLarge, PathDestinationUnknown, ServiceNotSupported}
-use Rattle.cip_objects.specs.Check.{◌>>=◌}
+use Rattle.cip_objects.specs.declared.status.Status.TheVariants.{Success, ReplyDataTooLarge}
 use Rattle.cip_objects.specs.Contents.{Contents, value_at, with_value}
 use Rattle.cip_objects.specs.Reading.{chosen, get_attribute_single}
 use Rattle.cip_objects.specs.Changing.{set_attribute_single, set_member, add, clear}
@@ -19,8 +17,9 @@ use Rattle.cip_objects.specs.Execution.{Outcome, perform, outcome, Executed, fit
 use Rattle.cip_objects.specs.ExecutionLaws.{exec_too_large}
 use Rattle.cip_objects.specs.Laws.{Reads, too_large_law, changes_fit_law, get_after_set_law, set_leaves_others_law}
 use Rattle.cip_objects.specs.Router.{general_status}
-use Rattle.cip_objects.specs.Service.{service_code, service_in}
-use Rattle.cip_objects.specs.Tables.{Shape, shape_at, services_of, assembly_services}
+use Rattle.cip_objects.specs.Service.{service_code}
+use Rattle.cip_objects.specs.Tables.{Shape, shape_at, services_of}
+use Rattle.cip_objects.proofs.Offers.{table, offered}
 use Rattle.cip_objects.proofs.Effects.{goes, set_effect, member_effect, add_effect, clear_effect, change_effect, chosen_code}
 use Rattle.cip_objects.proofs.Keys.{value_at-same, value_at-other}
 use Rattle.cip_objects.proofs.Refuses.{Refuses, no_success, outcome_refuses}
@@ -91,7 +90,7 @@ was_set m set path value o e done =
       },
     )
 
-table_get : (b1 b4 b6 b100 z o : Bool) (x : Option Shape) (s : Service) → (ok_or (cond b1 (cond z (Some (GetAttributeSingle ∷ [])) (cond o (Some (GetAttributesAll ∷ GetAttributeList ∷ GetAttributeSingle ∷ [])) None)) (cond b4 (cond z (Some (GetAttributeSingle ∷ [])) (option_map (λ _. assembly_services) x)) (cond b6 (cond o (Some []) None) (cond b100 (cond z (Some (GetAttributeSingle ∷ [])) (cond o (Some (GetAttributeList ∷ GetAttributeSingle ∷ SetAttributeSingle ∷ Add ∷ Clear ∷ [])) None)) None)))) PathDestinationUnknown >>= λ offered. ok_or (service_in 0x10 offered) ServiceNotSupported) ≡ Ok s → (ok_or (cond b1 (cond z (Some (GetAttributeSingle ∷ [])) (cond o (Some (GetAttributesAll ∷ GetAttributeList ∷ GetAttributeSingle ∷ [])) None)) (cond b4 (cond z (Some (GetAttributeSingle ∷ [])) (option_map (λ _. assembly_services) x)) (cond b6 (cond o (Some []) None) (cond b100 (cond z (Some (GetAttributeSingle ∷ [])) (cond o (Some (GetAttributeList ∷ GetAttributeSingle ∷ SetAttributeSingle ∷ Add ∷ Clear ∷ [])) None)) None)))) PathDestinationUnknown >>= λ offered. ok_or (service_in 0x0e offered) ServiceNotSupported) ≡ Ok GetAttributeSingle
+table_get : (b1 b4 b6 b100 z o : Bool) (x : Option Shape) (s : Service) → offered 0x10 (table b1 b4 b6 b100 z o x) ≡ Ok s → offered 0x0e (table b1 b4 b6 b100 z o x) ≡ Ok GetAttributeSingle
 table_get true b4 b6 b100 true o x s e = absurd (cc)
 table_get true b4 b6 b100 false true x s e = absurd (cc)
 table_get true b4 b6 b100 false false x s e = absurd (cc)
