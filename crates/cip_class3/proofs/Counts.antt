@@ -1,54 +1,78 @@
 -- An originator under calls in any order.
-use Rattle.std.proofs.Common.{◌≡◌, ◌≢◌, ℕ, suc, ◌+◌, ◌%◌, ◌<◌, ◌^◌, Bool, true, false, if◌then◌else◌, Option, Some, None, List, [], ◌∷◌, refl, sym, slice_index, arith}
+use Rattle.std.proofs.Common.{◌≡◌, ℕ, zero, suc, ◌+◌, ◌%◌, ◌<◌, ◌^◌, Bool, true, false, if◌then◌else◌, Option, Some, None, List, [], ◌∷◌, length, refl, sym, ap, ◌∙◌, slice_index, arith}
 use Rattle.std.proofs.lemmas.Bool.{and_parts, eqb-true}
 use Rattle.cip_class3.specs.Item.{count_of, NeighboursDiffer}
 use Rattle.cip_class3.specs.OriginatorRule.{OriginatorState, Phase, Idle, Waiting, GivenUp, nothing_sent, unfit, refusal, submitted, answers, is_reply, accepted, is_waiting}
 use Rattle.cip_class3.specs.Calls.{Call, Submit, Resend, Receive, GiveUp, Event, Took, Accepted, after_submit, seen_of_submit, events_of, counts_taken, AcceptedOnce}
 use Rattle.cip_class3.specs.declared.originator.Refused.{Refused}
 
--- what is to hold of the counts that are taken from a state on, after the count before it
-abbrev Differ : List Call → Type 0
-Differ calls = (originator : OriginatorState) (before : ℕ) → before ≢ originator.next → originator.next < 2 ^ 16 →
-    NeighboursDiffer (before ∷ counts_taken (events_of originator calls))
+-- each count is the one after the count before it, from this one on
+abbrev AreInOrder : ℕ → List ℕ → Type 0
+AreInOrder next counts = (n : ℕ) → n < length counts → slice_index counts n ≡ (next + n) % 65536
 
-at_submit : (why : Option Refused) (originator : OriginatorState) (request : List ℕ) (calls : List Call) (before : ℕ) →
-    before ≢ originator.next → originator.next < 2 ^ 16 → Differ calls →
-    NeighboursDiffer (before ∷ counts_taken (seen_of_submit why originator.next (events_of (after_submit why originator request) calls)))
-at_submit None originator request calls before other fits later =
-    (other, later (submitted originator request) originator.next (λ (e : originator.next ≡ (originator.next + 1) % 2 ^ 16). omega arith) (omega arith))
-at_submit (Some why) originator request calls before other fits later = later originator before other fits
+one_more : (next : ℕ) (counts : List ℕ) → next < 2 ^ 16 → AreInOrder ((next + 1) % 65536) counts →
+    AreInOrder next (next ∷ counts)
+one_more next counts fits later zero below = omega arith
+one_more next counts fits later (suc n) below = later n (omega arith) ∙ omega arith
 
-at_receive : (is : Bool) (originator : OriginatorState) (bytes : List ℕ) (calls : List Call) (before : ℕ) →
-    before ≢ originator.next → originator.next < 2 ^ 16 → Differ calls →
-    NeighboursDiffer (before ∷ counts_taken
+-- what is to hold of the counts that are taken from a state on
+abbrev InOrder : List Call → Type 0
+InOrder calls = (originator : OriginatorState) → originator.next < 2 ^ 16 →
+    AreInOrder originator.next (counts_taken (events_of originator calls))
+
+at_submit : (why : Option Refused) (originator : OriginatorState) (request : List ℕ) (calls : List Call) →
+    originator.next < 2 ^ 16 → InOrder calls →
+    AreInOrder originator.next
+    (counts_taken (seen_of_submit why originator.next (events_of (after_submit why originator request) calls)))
+at_submit None originator request calls fits later =
+    one_more originator.next (counts_taken (events_of (submitted originator request) calls)) fits
+    (later (submitted originator request) (omega arith))
+at_submit (Some why) originator request calls fits later = later originator fits
+
+at_receive : (is : Bool) (originator : OriginatorState) (bytes : List ℕ) (calls : List Call) →
+    originator.next < 2 ^ 16 → InOrder calls →
+    AreInOrder originator.next (counts_taken
     (let later = events_of (if is then accepted originator else originator) calls in if is then Accepted (count_of bytes) ∷ later else later))
-at_receive true originator bytes calls before other fits later = later (accepted originator) before other fits
-at_receive false originator bytes calls before other fits later = later originator before other fits
+at_receive true originator bytes calls fits later = later (accepted originator) fits
+at_receive false originator bytes calls fits later = later originator fits
 
-at_give_up : (is : Bool) (originator : OriginatorState) (calls : List Call) (before : ℕ) →
-    before ≢ originator.next → originator.next < 2 ^ 16 → Differ calls →
-    NeighboursDiffer (before ∷ counts_taken (events_of (if is then record originator { phase = GivenUp } else originator) calls))
-at_give_up true originator calls before other fits later = later (record originator { phase = GivenUp }) before other fits
-at_give_up false originator calls before other fits later = later originator before other fits
+at_give_up : (is : Bool) (originator : OriginatorState) (calls : List Call) → originator.next < 2 ^ 16 → InOrder calls →
+    AreInOrder originator.next
+    (counts_taken (events_of (if is then record originator { phase = GivenUp } else originator) calls))
+at_give_up true originator calls fits later = later (record originator { phase = GivenUp }) fits
+at_give_up false originator calls fits later = later originator fits
 
-differ : (calls : List Call) → Differ calls
-differ [] originator before other fits = tt
-differ (Submit request ∷ calls) originator before other fits =
-    at_submit (refusal originator request) originator request calls before other fits (differ calls)
-differ (Resend ∷ calls) originator before other fits = differ calls originator before other fits
-differ (Receive bytes ∷ calls) originator before other fits =
-    at_receive (is_reply originator.t_o originator.phase bytes) originator bytes calls before other fits (differ calls)
-differ (GiveUp ∷ calls) originator before other fits = at_give_up (is_waiting originator.phase) originator calls before other fits (differ calls)
+in_order : (calls : List Call) → InOrder calls
+in_order [] originator fits = λ n below. absurd (omega arith)
+in_order (Submit request ∷ calls) originator fits =
+    at_submit (refusal originator request) originator request calls fits (in_order calls)
+in_order (Resend ∷ calls) originator fits = in_order calls originator fits
+in_order (Receive bytes ∷ calls) originator fits =
+    at_receive (is_reply originator.t_o originator.phase bytes) originator bytes calls fits (in_order calls)
+in_order (GiveUp ∷ calls) originator fits =
+    at_give_up (is_waiting originator.phase) originator calls fits (in_order calls)
 
-without_first : (first : ℕ) (counts : List ℕ) → NeighboursDiffer (first ∷ counts) → NeighboursDiffer counts
-without_first first [] differs = tt
-without_first first (next ∷ counts) differs = differs.1
+-- the count of the n-th request that is taken, from 0 on
+pub counts_taken-at : (first o_t t_o n : ℕ) (calls : List Call) → first < 2 ^ 16 →
+    n < length (counts_taken (events_of (nothing_sent first o_t t_o) calls)) →
+    slice_index (counts_taken (events_of (nothing_sent first o_t t_o) calls)) n ≡ (first + n) % 65536
+counts_taken-at first o_t t_o n calls fits below = in_order calls (nothing_sent first o_t t_o) fits n below
+
+neighbours_differ : (next : ℕ) (counts : List ℕ) → AreInOrder next counts → NeighboursDiffer counts
+neighbours_differ next [] order = tt
+neighbours_differ next (count ∷ []) order = tt
+neighbours_differ next (count ∷ after ∷ counts) order = (
+  (λ (e : count ≡ after). omega (arith, order 0 (omega arith), order 1 (omega arith))),
+  neighbours_differ (next + 1) (after ∷ counts)
+      (λ n below. order (suc n) (omega arith) ∙ ap (λ place. place % 65536) (omega arith)),
+)
 
 -- no two requests that are taken one after the other have the same count
-pub counts_taken-differ : (originator : OriginatorState) (calls : List Call) → originator.next < 2 ^ 16 →
-    NeighboursDiffer (counts_taken (events_of originator calls))
-counts_taken-differ originator calls fits =
-    without_first (suc originator.next) _ (differ calls originator (suc originator.next) (λ (e : suc originator.next ≡ originator.next). omega arith) fits)
+pub counts_taken-differ : (first o_t t_o : ℕ) (calls : List Call) → first < 2 ^ 16 →
+    NeighboursDiffer (counts_taken (events_of (nothing_sent first o_t t_o) calls))
+counts_taken-differ first o_t t_o calls fits =
+    neighbours_differ first (counts_taken (events_of (nothing_sent first o_t t_o) calls))
+    (λ n below. counts_taken-at first o_t t_o n calls fits below)
 
 -- what is to hold of the events from a state on
 abbrev Sound : Phase → List Event → Type 0

@@ -26,6 +26,13 @@ pub record OriginatorState : Type 0 where
 abbrev pub nothing_sent : ℕ → ℕ → ℕ → OriginatorState
 nothing_sent first o_t t_o = record { o_t = o_t; t_o = t_o; next = first; phase = Idle; tries = 0 }
 
+-- the number of a refusal, by which it is printed
+abbrev pub refused_number : Refused → ℕ
+refused_number refusals.Busy = 1
+refused_number refusals.TooLong = 2
+refused_number refusals.NoRequest = 3
+refused_number refusals.GivenUp = 4
+
 -- two bytes at least, and a service without bit 7
 abbrev pub is_request : List ℕ → Bool
 is_request request = nat_le 2 (length request) && nat_lt (slice_index request 0) 128

@@ -16,5 +16,5 @@ pub record IsTarget (target : Inside) : Type 0 where
   pub o_t_to : target.o_t ≤ 511
   pub t_o_from : 10 ≤ target.t_o
   pub t_o_to : target.t_o ≤ 511
-  pub fits : length target.kept.items ≤ 511
+  pub fits : length target.kept.items ≤ target.t_o
   pub kept : target.kept.items ≡ kept_bytes (held_of target.held target.kept.items)

@@ -1,7 +1,7 @@
 //! What follows from the rules of the two ends over whole lists of items and calls.
 //!
 //! The functions do nothing: each one's clauses are the law.
-ghost use Rattle.std.specs.Prelude.{◌≡◌, ℕ, ◌<◌, ◌^◌, List};
+ghost use Rattle.std.specs.Prelude.{◌≡◌, ℕ, ◌+◌, ◌%◌, ◌<◌, ◌^◌, List, length, slice_index};
 ghost use Rattle.cip_class3.specs.Item.{NeighboursDiffer};
 ghost use Rattle.cip_class3.specs.TargetRule.{TargetState, room_of};
 ghost use Rattle.cip_class3.specs.Deliveries.{Delivery, AreDelivered, items_of, requests_of, router_after, answers_to, executed_once, answers_once};
@@ -26,6 +26,14 @@ pub fn each_request_once<R: Router>()
         AreDelivered target deliveries →
         answers_to R.after R.answer target router (items_of deliveries)
         ≡ answers_once R.after R.answer (room_of target) router deliveries }
+{}
+
+/// The counts that an originator takes follow one another, whatever the calls: that of the n-th request, from 0
+/// on, is n more than the first one's, modulo 65,536.
+pub fn counts_in_order()
+    ensures { (first o_t t_o n : ℕ) (calls : List Call) → first < 2 ^ 16 →
+        n < length (counts_taken (events_of (nothing_sent first o_t t_o) calls)) →
+        slice_index (counts_taken (events_of (nothing_sent first o_t t_o) calls)) n ≡ (first + n) % 65536 }
 {}
 
 /// Two requests that an originator takes one after the other never have the same count, whatever the calls.

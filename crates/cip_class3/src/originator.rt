@@ -13,8 +13,6 @@ use std::marker::Model;
 use thiserror::Error;
 
 /// Why a request was not taken. Nothing changed, and no count was taken.
-///
-/// Each has its number, which `as u8` gives.
 #[derive(Clone, Copy, Debug, PartialEq, Eq, Error)]
 pub enum Refused {
     /// Another request waits for its reply.
@@ -29,6 +27,17 @@ pub enum Refused {
     /// A request was given up.
     #[error("a request was given up")]
     GivenUp = 4,
+}
+
+impl Refused {
+    ghost use Rattle.cip_class3.specs.OriginatorRule.{refused_number};
+
+    /// The number of the refusal, by which it is printed.
+    pub fn number(self) -> u8
+        ensures { result ≡ refused_number self }
+    {
+        self as u8
+    }
 }
 
 /// Where the originator stands.
@@ -110,7 +119,7 @@ impl Originator {
         ensures refused { IfErr result (λ why. refusal self.old request.now ≡ Some why) }
         ensures allowed { OnOk result (refusal self.old request.now ≡ None) }
         ensures lent { IfOk result (λ lent. lent.now ≡ item self.old.next request.now) }
-        ensures fits { IfOk result (λ lent. length lent.now ≤ 511) }
+        ensures fits { IfOk result (λ lent. length lent.now ≤ self.old.o_t) }
         ensures* after { sem 𝓛 (Rests the_row self.entry (λ new.
             IfErr result (λ _. new ≡ self.old) × IfOk result (λ _. new ≡ submitted self.old request.now))) }
     {
@@ -128,7 +137,7 @@ impl Originator {
     /// The item of the request that waits, again.
     pub fn resend(&self) -> Option<&[u8]>
         ensures lent { option_map (λ lent. lent.now) result ≡ waiting_item self.now.phase }
-        ensures fits { IfSome result (λ lent. length lent.now ≤ 511) }
+        ensures fits { IfSome result (λ lent. length lent.now ≤ self.now.o_t) }
     {
         match self.progress {
             Progress::Waiting { length, .. } => Some(&self.block[..length]),

@@ -95,7 +95,7 @@ impl Target {
     /// Empty before the first execution.
     pub fn kept(&self) -> &[u8]
         ensures bytes { result.now ≡ kept_bytes self.now.held }
-        ensures fits { length result.now ≤ 511 }
+        ensures fits { length result.now ≤ self.now.t_o }
     {
         self.kept.as_slice()
     }

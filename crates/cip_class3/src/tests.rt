@@ -131,6 +131,14 @@ fn requests_are_refused_by_the_first_check_that_fails(rt: HostRuntime) -> Result
 }
 
 #[test]
+fn refusals_have_their_numbers(rt: HostRuntime) {
+    assert_eq!(rt; Refused::Busy.number(), 1);
+    assert_eq!(rt; Refused::TooLong.number(), 2);
+    assert_eq!(rt; Refused::NoRequest.number(), 3);
+    assert_eq!(rt; Refused::GivenUp.number(), 4);
+}
+
+#[test]
 fn one_reply_is_accepted(rt: HostRuntime) -> Result<(), Fail> {
     let mut originator = Originator::new(rt.alloc(), 1, 500, 12)?;
     assert!(rt; originator.stage() == Stage::Idle && !originator.give_up());
@@ -185,6 +193,7 @@ fn each_of_many_requests_is_executed_once(rt: HostRuntime) -> Result<(), Fail> {
 #[test]
 fn the_laws_hold_at_a_router() {
     laws::each_request_once::<Counter>();
+    laws::counts_in_order();
     laws::counts_differ();
     laws::one_reply_each();
 }

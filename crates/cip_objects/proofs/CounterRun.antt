@@ -4,7 +4,6 @@ use Rattle.std.proofs.Math.Nat.{mod-eq_of_lt}
 use Rattle.std.proofs.lemmas.Bool.Decides.{nat_tests}
 use Rattle.std.proofs.lemmas.Bool.Decides.{eqb_tells}
 use Rattle.std.proofs.lemmas.List.{get_or-drop}
-use Rattle.std.specs.Option.{ok_or}
 use Rattle.byteorder.specs.Endian.{little_number}
 use Rattle.cip_message.specs.declared.path.Path.{Path}
 use Rattle.cip_message.specs.declared.request.RequestFault.{RequestFault}
@@ -15,8 +14,7 @@ use Rattle.cip_message.specs.Request.{Request, request_of}
 use Rattle.cip_objects.specs.declared.service.Service.{Service}
 use Rattle.cip_objects.specs.declared.service.Service.TheVariants.{GetAttributesAll, GetAttributeList, GetAttributeSingle, SetAttributeSingle, GetMember, SetMember, Add, Clear}
 use Rattle.cip_objects.specs.declared.status.Status.{Status}
-use Rattle.cip_objects.specs.declared.status.Status.TheVariants.{Success, ReplyDataTooLarge, PathDestinationUnknown, ServiceNotSupported}
-use Rattle.cip_objects.specs.Check.{◌>>=◌}
+use Rattle.cip_objects.specs.declared.status.Status.TheVariants.{Success, ReplyDataTooLarge}
 use Rattle.cip_objects.specs.Contents.{Contents, with_value}
 use Rattle.cip_objects.specs.Reading.{chosen, get_attribute_single, get_attributes_all, get_attribute_list, get_member}
 use Rattle.cip_objects.specs.Changing.{Change, added, is_allowed, set_attribute_single, set_member, add, clear}
@@ -24,14 +22,15 @@ use Rattle.cip_objects.specs.Execution.{Outcome, perform, outcome, Executed, fit
 use Rattle.cip_objects.specs.Run.{value_of, limit_of, additions_of, IsCounter, is_counter, to_counter, addition, sum_after, sum_since_cleared, number_of_additions, counter_law}
 use Rattle.cip_objects.specs.Router.{general_status}
 use Rattle.cip_objects.specs.Status.{status_code}
-use Rattle.cip_objects.proofs.Refuses.{Refuses, outcome_refuses}
-use Rattle.cip_objects.specs.Service.{service_code, service_in}
-use Rattle.cip_objects.specs.Tables.{Shape, shape_at, services_of, assembly_services}
+use Rattle.cip_objects.proofs.Refuses.{Refuses, no_success, outcome_refuses}
+use Rattle.cip_objects.specs.Service.{service_code}
+use Rattle.cip_objects.specs.Tables.{Shape, shape_at, services_of}
+use Rattle.cip_objects.proofs.Offers.{table, offered}
 use Rattle.cip_objects.proofs.Effects.{goes, set_effect, Sets, member_effect, SetsMember, add_effect, clear_effect, read_effect, change_effect, chosen_code}
 use Rattle.cip_objects.proofs.Keys.{number_at-same, number_at-other, number_at-set}
 use Rattle.cip_objects.proofs.Settable.{settable_limit}
 
-table_add : (b1 b4 b6 b100 z o : Bool) (x : Option Shape) (s : Service) → (ok_or (cond b1 (cond z (Some (GetAttributeSingle ∷ [])) (cond o (Some (GetAttributesAll ∷ GetAttributeList ∷ GetAttributeSingle ∷ [])) None)) (cond b4 (cond z (Some (GetAttributeSingle ∷ [])) (option_map (λ _. assembly_services) x)) (cond b6 (cond o (Some []) None) (cond b100 (cond z (Some (GetAttributeSingle ∷ [])) (cond o (Some (GetAttributeList ∷ GetAttributeSingle ∷ SetAttributeSingle ∷ Add ∷ Clear ∷ [])) None)) None)))) PathDestinationUnknown >>= λ offered. ok_or (service_in 0x32 offered) ServiceNotSupported) ≡ Ok s → (b100 ≡ true) × (o ≡ true)
+table_add : (b1 b4 b6 b100 z o : Bool) (x : Option Shape) (s : Service) → offered 0x32 (table b1 b4 b6 b100 z o x) ≡ Ok s → (b100 ≡ true) × (o ≡ true)
 table_add true b4 b6 b100 true o x s e = absurd (cc)
 table_add true b4 b6 b100 false true x s e = absurd (cc)
 table_add true b4 b6 b100 false false x s e = absurd (cc)
@@ -45,7 +44,7 @@ table_add false false false true false true x s e = (refl, refl)
 table_add false false false true false false x s e = absurd (cc)
 table_add false false false false z o x s e = absurd (cc)
 
-table_clear : (b1 b4 b6 b100 z o : Bool) (x : Option Shape) (s : Service) → (ok_or (cond b1 (cond z (Some (GetAttributeSingle ∷ [])) (cond o (Some (GetAttributesAll ∷ GetAttributeList ∷ GetAttributeSingle ∷ [])) None)) (cond b4 (cond z (Some (GetAttributeSingle ∷ [])) (option_map (λ _. assembly_services) x)) (cond b6 (cond o (Some []) None) (cond b100 (cond z (Some (GetAttributeSingle ∷ [])) (cond o (Some (GetAttributeList ∷ GetAttributeSingle ∷ SetAttributeSingle ∷ Add ∷ Clear ∷ [])) None)) None)))) PathDestinationUnknown >>= λ offered. ok_or (service_in 0x33 offered) ServiceNotSupported) ≡ Ok s → (b100 ≡ true) × (o ≡ true)
+table_clear : (b1 b4 b6 b100 z o : Bool) (x : Option Shape) (s : Service) → offered 0x33 (table b1 b4 b6 b100 z o x) ≡ Ok s → (b100 ≡ true) × (o ≡ true)
 table_clear true b4 b6 b100 true o x s e = absurd (cc)
 table_clear true b4 b6 b100 false true x s e = absurd (cc)
 table_clear true b4 b6 b100 false false x s e = absurd (cc)
@@ -282,7 +281,7 @@ by_fit true m text o h x = silent m text (reply_to text ReplyDataTooLarge []) h 
 by_fit false m text o h x = told m text (reply_to text o.status o.content) o x refl x.done
 
 by_outcome : (m : Contents) (room : ℕ) (text : List ℕ) (r : Result Outcome Status) → IsCounter m → Refuses r → ((o : Outcome) → r ≡ Ok o → Effect m text o) → Stepped m text (fitted m room text r)
-by_outcome m room text (Err s) h e x = silent m text (reply_to text s []) h e
+by_outcome m room text (Err s) h e x = silent m text (reply_to text s []) h (no_success s e)
 by_outcome m room text (Ok o) h e x = by_fit (nat_lt room (length (reply_to text o.status o.content))) m text o h (x o refl)
 
 stepped : (m : Contents) (room : ℕ) (text : List ℕ) → IsCounter m → AreBytes text → Stepped m text (exec m room text)

@@ -1,5 +1,5 @@
 -- What each service that went well has left.
-use Rattle.std.proofs.Common.{◌≡◌, ℕ, ◌+◌, ◌≤◌, eqb, Bool, true, false, cond, nat_le, List, [], ◌∷◌, Option, Some, None, Result, Ok, Err, refl, sym, ap, ◌∙◌, arith}
+use Rattle.std.proofs.Common.{◌≡◌, ℕ, ◌+◌, ◌≤◌, eqb, Bool, true, false, cond, nat_le, List, [], ◌∷◌, length, Option, Some, None, Result, Ok, Err, refl, sym, ap, ◌∙◌, arith}
 use Rattle.std.proofs.lemmas.Bool.Decides.{nat_tests}
 use Rattle.std.specs.Option.{ok_or}
 use Rattle.byteorder.specs.Endian.{little_number}
@@ -19,6 +19,7 @@ use Rattle.cip_objects.specs.Changing.{Change, added, spliced, is_allowed, set_a
 use Rattle.cip_objects.specs.Execution.{Outcome, reads, changes, perform, sized, formed, outcome}
 use Rattle.cip_objects.specs.Service.{service_code, service_in}
 use Rattle.cip_objects.specs.Tables.{Shape, services_of, settable_size}
+use Rattle.cip_objects.proofs.Settable.{sized as has_size}
 
 -- what a check that held found
 pub record Found {A B : Type 0} (r : Result A Status) (f : A → Result B Status) (y : B) : Type 0 where
@@ -51,6 +52,7 @@ pub record Sets (m : Contents) (path : Path) (content : List ℕ) (c : Change) :
   pub size : ℕ
   pub named : path.attribute ≡ Some attribute
   pub can : settable_size m.shapes path.class path.instance attribute ≡ Some size
+  pub fits : length content ≡ size
   pub allowed : is_allowed m path.class content ≡ true
   pub leaves : c.after ≡ with_value m path.class path.instance attribute content
   pub answers : c.content ≡ []
@@ -69,6 +71,7 @@ set_effect m path content c e =
       size = n.value;
       named = found_some path.attribute _ a.value a.first;
       can = found_some _ _ n.value n.first;
+      fits = has_size n.value content x.0;
       allowed = demanded (is_allowed m path.class content) _ w.0;
       leaves = sym (ap (λ z. z.after) done);
       answers = sym (ap (λ z. z.content) done);

@@ -10,6 +10,14 @@ pub mod Executed
 pub mod Sound
 pub mod Keys
 pub mod Effects
+pub mod Offers
 pub mod CounterRun
 pub mod Refuses
 pub mod Sets
+pub mod Refused
+pub mod Unsettable
+pub mod Lists
+pub mod Spans
+pub mod Members
+pub mod OtherMembers
+pub mod Whole

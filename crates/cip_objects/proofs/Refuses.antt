@@ -1,5 +1,5 @@
--- A check that fails never answers success.
-use Rattle.std.proofs.Common.{◌≡◌, ℕ, eqb, Bool, true, false, cond, nat_lt, nat_le, ◌+◌, ◌*◌, List, [], length, Option, Some, None, Result, Ok, Err, refl}
+-- A check that fails never answers success, nor that an attribute of a list is missing.
+use Rattle.std.proofs.Common.{◌≡◌, ℕ, eqb, Bool, true, false, cond, ◌||◌, nat_lt, nat_le, ◌+◌, ◌*◌, List, [], length, Option, Some, None, Result, Ok, Err, refl}
 use Rattle.std.specs.Option.{ok_or}
 use Rattle.byteorder.specs.Endian.{little_number}
 use Rattle.cip_bytes.specs.Numbers.{le}
@@ -21,9 +21,20 @@ use Rattle.cip_objects.specs.Service.{service_in}
 use Rattle.cip_objects.specs.Status.{status_code}
 use Rattle.cip_objects.specs.Tables.{Shape, services_of, settable_size, member_at}
 
+-- success, or that an attribute of a list is missing
+abbrev pub is_fine : Status → Bool
+is_fine s = eqb (status_code s) 0x00 || eqb (status_code s) 0x0a
+
 abbrev pub Refuses : {A : Type 0} → Result A Status → Type 0
 Refuses (Ok x) = Unit {0}
-Refuses (Err s) = eqb (status_code s) 0 ≡ false
+Refuses (Err s) = is_fine s ≡ false
+
+neither : (a b : Bool) → a || b ≡ false → a ≡ false
+neither true b e = absurd (cc)
+neither false b e = refl
+
+pub no_success : (s : Status) → is_fine s ≡ false → eqb (status_code s) 0 ≡ false
+no_success s e = neither (eqb (status_code s) 0x00) (eqb (status_code s) 0x0a) e
 
 then : {A B : Type 0} (r : Result A Status) (f : A → Result B Status) → Refuses r → ((x : A) → Refuses (f x)) → Refuses (r >>= f)
 then (Ok x) f h k = k x
@@ -33,11 +44,11 @@ after : {A B : Type 0} (r : Result A Status) (s : Result B Status) → Refuses r
 after (Ok x) s h k = k
 after (Err t) s h k = h
 
-or_refuses : {A : Type 0} (o : Option A) (s : Status) → eqb (status_code s) 0 ≡ false → Refuses (ok_or o s)
+or_refuses : {A : Type 0} (o : Option A) (s : Status) → is_fine s ≡ false → Refuses (ok_or o s)
 or_refuses None s h = h
 or_refuses (Some x) s h = tt
 
-demand_refuses : (b : Bool) (s : Status) → eqb (status_code s) 0 ≡ false → Refuses (demand b s)
+demand_refuses : (b : Bool) (s : Status) → is_fine s ≡ false → Refuses (demand b s)
 demand_refuses true s h = tt
 demand_refuses false s h = h
 

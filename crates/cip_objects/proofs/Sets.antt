@@ -1,7 +1,6 @@
 -- Sets and gets.
-use Rattle.std.proofs.Common.{◌≡◌, ℕ, ◌+◌, ◌≤◌, ◌⊎◌, inl, inr, eqb, Bool, true, false, cond, ◌&&◌, nat_lt, List, [], ◌∷◌, length, Option, Some, None, option_map, Result, Ok, Err, refl, sym, ap, ◌∙◌, arith, suc}
+use Rattle.std.proofs.Common.{◌≡◌, ℕ, ◌+◌, ◌≤◌, ◌⊎◌, inl, inr, eqb, Bool, true, false, cond, ◌&&◌, nat_lt, List, [], ◌∷◌, length, Option, Some, None, Result, Ok, Err, refl, sym, ap, ◌∙◌, arith, suc}
 use Rattle.std.proofs.lemmas.Bool.Decides.{nat_tests}
-use Rattle.std.specs.Option.{ok_or}
 use Rattle.cip_message.specs.declared.path.Path.{Path}
 use Rattle.cip_message.specs.declared.path.PathFault.{PathFault}
 use Rattle.cip_message.specs.declared.request.RequestFault.{RequestFault}
@@ -10,8 +9,7 @@ use Rattle.cip_message.specs.Request.{Request}
 use Rattle.cip_objects.specs.declared.service.Service.{Service}
 use Rattle.cip_objects.specs.declared.service.Service.TheVariants.{GetAttributesAll, GetAttributeList, GetAttributeSingle, SetAttributeSingle, GetMember, SetMember, Add, Clear}
 use Rattle.cip_objects.specs.declared.status.Status.{Status}
-use Rattle.cip_objects.specs.declared.status.Status.TheVariants.{Success, ReplyDataTooLarge, PathDestinationUnknown, ServiceNotSupported}
-use Rattle.cip_objects.specs.Check.{◌>>=◌}
+use Rattle.cip_objects.specs.declared.status.Status.TheVariants.{Success, ReplyDataTooLarge}
 use Rattle.cip_objects.specs.Contents.{Contents, value_at, with_value}
 use Rattle.cip_objects.specs.Reading.{chosen, get_attribute_single}
 use Rattle.cip_objects.specs.Changing.{set_attribute_single, set_member, add, clear}
@@ -19,11 +17,12 @@ use Rattle.cip_objects.specs.Execution.{Outcome, perform, outcome, Executed, fit
 use Rattle.cip_objects.specs.ExecutionLaws.{exec_too_large}
 use Rattle.cip_objects.specs.Laws.{Reads, too_large_law, changes_fit_law, get_after_set_law, set_leaves_others_law}
 use Rattle.cip_objects.specs.Router.{general_status}
-use Rattle.cip_objects.specs.Service.{service_code, service_in}
-use Rattle.cip_objects.specs.Tables.{Shape, shape_at, services_of, assembly_services}
+use Rattle.cip_objects.specs.Service.{service_code}
+use Rattle.cip_objects.specs.Tables.{Shape, shape_at, services_of}
+use Rattle.cip_objects.proofs.Offers.{table, offered}
 use Rattle.cip_objects.proofs.Effects.{goes, set_effect, member_effect, add_effect, clear_effect, change_effect, chosen_code}
 use Rattle.cip_objects.proofs.Keys.{value_at-same, value_at-other}
-use Rattle.cip_objects.proofs.Refuses.{Refuses, outcome_refuses}
+use Rattle.cip_objects.proofs.Refuses.{Refuses, no_success, outcome_refuses}
 
 pub too_large : too_large_law
 too_large m room text e = exec_too_large m room text e
@@ -91,7 +90,7 @@ was_set m set path value o e done =
       },
     )
 
-table_get : (b1 b4 b6 b100 z o : Bool) (x : Option Shape) (s : Service) → (ok_or (cond b1 (cond z (Some (GetAttributeSingle ∷ [])) (cond o (Some (GetAttributesAll ∷ GetAttributeList ∷ GetAttributeSingle ∷ [])) None)) (cond b4 (cond z (Some (GetAttributeSingle ∷ [])) (option_map (λ _. assembly_services) x)) (cond b6 (cond o (Some []) None) (cond b100 (cond z (Some (GetAttributeSingle ∷ [])) (cond o (Some (GetAttributeList ∷ GetAttributeSingle ∷ SetAttributeSingle ∷ Add ∷ Clear ∷ [])) None)) None)))) PathDestinationUnknown >>= λ offered. ok_or (service_in 0x10 offered) ServiceNotSupported) ≡ Ok s → (ok_or (cond b1 (cond z (Some (GetAttributeSingle ∷ [])) (cond o (Some (GetAttributesAll ∷ GetAttributeList ∷ GetAttributeSingle ∷ [])) None)) (cond b4 (cond z (Some (GetAttributeSingle ∷ [])) (option_map (λ _. assembly_services) x)) (cond b6 (cond o (Some []) None) (cond b100 (cond z (Some (GetAttributeSingle ∷ [])) (cond o (Some (GetAttributeList ∷ GetAttributeSingle ∷ SetAttributeSingle ∷ Add ∷ Clear ∷ [])) None)) None)))) PathDestinationUnknown >>= λ offered. ok_or (service_in 0x0e offered) ServiceNotSupported) ≡ Ok GetAttributeSingle
+table_get : (b1 b4 b6 b100 z o : Bool) (x : Option Shape) (s : Service) → offered 0x10 (table b1 b4 b6 b100 z o x) ≡ Ok s → offered 0x0e (table b1 b4 b6 b100 z o x) ≡ Ok GetAttributeSingle
 table_get true b4 b6 b100 true o x s e = absurd (cc)
 table_get true b4 b6 b100 false true x s e = absurd (cc)
 table_get true b4 b6 b100 false false x s e = absurd (cc)
@@ -111,7 +110,7 @@ unfolding chosen services_of
 offers_get shapes class instance s e =
     table_get (eqb class 1) (eqb class 4) (eqb class 6) (eqb class 100) (eqb instance 0) (eqb instance 1) (shape_at instance shapes) s e
 
--- a reply that says success is that of an outcome, which was left
+-- an outcome that was answered with success
 record Succeeded (m : Contents) (r : Result Outcome Status) (x : Executed) : Type 0 where
   made : Outcome
   is_made : r ≡ Ok made
@@ -122,11 +121,11 @@ by_fit true m text o e = absurd (omega arith)
 by_fit false m text o e = record { made = o; is_made = refl; after = refl }
 
 succeeded : (m : Contents) (room : ℕ) (text : List ℕ) (r : Result Outcome Status) → Refuses r → general_status (fitted m room text r).answer ≡ 0 → Succeeded m r (fitted m room text r)
-succeeded m room text (Err s) h e = absurd (let bad : true ≡ false = sym (ap (λ n. eqb n 0) e) ∙ h in cc)
+succeeded m room text (Err s) h e = absurd (let bad : true ≡ false = sym (ap (λ n. eqb n 0) e) ∙ no_success s h in cc)
 succeeded m room text (Ok o) h e = by_fit (nat_lt room (length (reply_to text o.status o.content))) m text o e
 
 -- what a get makes where the attribute is there
-get_makes : (m : Contents) (get path value : List ℕ) (p : Path) (a : ℕ) → Reads get 0x0e path [] → path_of path ≡ Ok p → chosen m.shapes p.class p.instance 0x0e ≡ Ok GetAttributeSingle → p.attribute ≡ Some a → value_at m p.class p.instance a ≡ Some value → outcome m get ≡ Ok (record { after = m; status = Success; content = value })
+pub get_makes : (m : Contents) (get path value : List ℕ) (p : Path) (a : ℕ) → Reads get 0x0e path [] → path_of path ≡ Ok p → chosen m.shapes p.class p.instance 0x0e ≡ Ok GetAttributeSingle → p.attribute ≡ Some a → value_at m p.class p.instance a ≡ Some value → outcome m get ≡ Ok (record { after = m; status = Success; content = value })
 unfolding outcome get_attribute_single
 get_makes m get path value p a e f g h v = rw (e, f, g, h, v) refl
 
@@ -137,19 +136,20 @@ fits_later : (m : Contents) (later : ℕ) (get value : List ℕ) → 4 + length 
 fits_later m later get value h =
     ap (λ t. (cond {A = Executed} t (record { after = m; answer = reply_to get ReplyDataTooLarge [] }) (record { after = m; answer = reply_to get Success value })).answer) (not_over later (length value) h)
 
-got : (m : Contents) (later : ℕ) (get value : List ℕ) → outcome m get ≡ Ok (record { after = m; status = Success; content = value }) → 4 + length value ≤ later → (exec m later get).answer ≡ reply_to get Success value
+pub got : (m : Contents) (later : ℕ) (get value : List ℕ) → outcome m get ≡ Ok (record { after = m; status = Success; content = value }) → 4 + length value ≤ later → (exec m later get).answer ≡ reply_to get Success value
 unfolding exec
 got m later get value e h = ap (λ r. (fitted m later get r).answer) e ∙ fits_later m later get value h
 
-after_set : (m : Contents) (room : ℕ) (set path value : List ℕ) → Reads set 0x10 path value → general_status (exec m room set).answer ≡ 0 → (o : Outcome) × (outcome m set ≡ Ok o) × ((exec m room set).after ≡ o.after)
+-- a reply that says success is that of an outcome, which was left
+pub went_well : (m : Contents) (room : ℕ) (text : List ℕ) → general_status (exec m room text).answer ≡ 0 → (o : Outcome) × (outcome m text ≡ Ok o) × ((exec m room text).after ≡ o.after)
 unfolding exec
-after_set m room set path value e s =
-    let x = succeeded m room set (outcome m set) (outcome_refuses m set) s in
+went_well m room text s =
+    let x = succeeded m room text (outcome m text) (outcome_refuses m text) s in
     (x.made, x.is_made, x.after)
 
 pub get_after_set : get_after_set_law
 get_after_set m room later set get path value e f s fits =
-    let x = after_set m room set path value e s in
+    let x = went_well m room set s in
     let w = was_set m set path value x.0 e x.1 in
     let p = w.0 in
     let n = with_value m p.class p.instance w.1.attribute value in
@@ -166,7 +166,7 @@ left : (m : Contents) (room : ℕ) (text : List ℕ) (r : Result Outcome Status)
 left m room text (Err s) = inl refl
 left m room text (Ok o) = either_room (nat_lt room (length (reply_to text o.status o.content))) m text o
 
-exec_left : (m : Contents) (room : ℕ) (text : List ℕ) → ((exec m room text).after ≡ m) ⊎ ((o : Outcome) × (outcome m text ≡ Ok o) × ((exec m room text).after ≡ o.after))
+pub exec_left : (m : Contents) (room : ℕ) (text : List ℕ) → ((exec m room text).after ≡ m) ⊎ ((o : Outcome) × (outcome m text ≡ Ok o) × ((exec m room text).after ≡ o.after))
 unfolding exec
 exec_left m room text = left m room text (outcome m text)
 

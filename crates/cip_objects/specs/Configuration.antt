@@ -5,9 +5,18 @@ use Rattle.std.specs.String.{string_bytes}
 use Rattle.cip_objects.specs.declared.config.Config.{Config}
 use Rattle.cip_objects.specs.declared.config.AssemblyConfig.{AssemblyConfig}
 use Rattle.cip_objects.specs.declared.config.ConfigFault.{ConfigFault}
-use Rattle.cip_objects.specs.declared.config.ConfigFault.TheVariants.{Name, Size, Members, DoubleInstance, Limit}
+use Rattle.cip_objects.specs.declared.config.ConfigFault.TheVariants.{Name, Size, Members, DoubleInstance, Limit, Memory}
 use Rattle.cip_objects.specs.Contents.{Contents}
 use Rattle.cip_objects.specs.Entries.{IdentityValues, Block, CounterValues, contents_of}
+
+-- the numbers by which the faults are printed
+abbrev pub config_fault_number : ConfigFault → ℕ
+config_fault_number Name = 1
+config_fault_number Size = 2
+config_fault_number Members = 3
+config_fault_number DoubleInstance = 4
+config_fault_number Limit = 5
+config_fault_number Memory = 6
 
 -- a name of over 32 bytes, or with a byte outside 0x20 to 0x7e
 abbrev pub is_misnamed : List ℕ → Bool

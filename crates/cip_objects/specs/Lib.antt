@@ -21,3 +21,5 @@ pub mod Rows
 pub mod Lookup
 pub mod Objects
 pub mod Assembly
+pub mod Lists
+pub mod Members

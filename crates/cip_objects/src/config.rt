@@ -58,27 +58,38 @@ pub struct AssemblyConfig {
     pub members: Vec<u16>,
 }
 
-/// Why there are no objects of a configuration: the first of these that holds.
+/// Why there are no objects of a configuration: the first of these that holds. Each has its number.
 #[derive(Clone, Copy, Debug, PartialEq, Eq, Error)]
 pub enum ConfigFault {
     /// The name is over 32 bytes, or has a byte outside 0x20 to 0x7e.
     #[error("the name is too long, or has a byte that can't be printed")]
-    Name,
+    Name = 1,
     /// There are over 16 assemblies, or one has 0 or over 480 bytes.
     #[error("too many assemblies, or one with no byte or too many")]
-    Size,
+    Size = 2,
     /// An assembly has over 64 members, or one of 0 bytes.
     #[error("an assembly with too many members, or one of no byte")]
-    Members,
+    Members = 3,
     /// An instance number is 0, which is the class itself, or stands twice.
     #[error("an instance number that is 0 or stands twice")]
-    DoubleInstance,
+    DoubleInstance = 4,
     /// The counter's first value is over its limit.
     #[error("the counter's first value is over its limit")]
-    Limit,
+    Limit = 5,
     /// No memory.
     #[error("out of memory")]
-    Memory,
+    Memory = 6,
+}
+
+impl ConfigFault {
+    ghost use Rattle.cip_objects.specs.Configuration.{config_fault_number};
+
+    /// The number of the fault, by which it is printed.
+    pub fn number(self) -> u8
+        ensures { result ≡ config_fault_number self }
+    {
+        self as u8
+    }
 }
 
 impl From<AllocError> for ConfigFault {

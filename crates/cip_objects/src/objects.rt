@@ -6,6 +6,7 @@ ghost use Rattle.byteorder.specs.Endian.{little_bytes};
 ghost use Rattle.cip_objects.specs.Contents.{value_at, bytes_at, number_at, with_value};
 ghost use Rattle.cip_objects.specs.Changing.{spliced};
 ghost use Rattle.cip_objects.specs.Reading.{chosen};
+ghost use Rattle.cip_objects.specs.Members.{AreWhole};
 ghost use Rattle.cip_objects.specs.Run.{IsCounter};
 ghost use Rattle.cip_objects.specs.Service.{service_in};
 ghost use Rattle.cip_objects.specs.Entries.{shape_of};
@@ -104,6 +105,7 @@ impl Objects {
         ensures allowed { fault_of config.now ≡ None → IfErr result (λ fault. fault ≡ ConfigFault.Memory) }
         ensures made { IfOk result (λ objects. objects ≡ configured config.now) }
         ensures counter { IfOk result IsCounter }
+        ensures whole { IfOk result AreWhole }
     {
         if let Some(fault) = config.fault() {
             return Err(fault);

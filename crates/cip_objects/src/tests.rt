@@ -1,7 +1,12 @@
 //! Worked requests, as a message router carries them.
 ghost use Rattle.std.specs.Prelude.{◌≤◌};
 
-use crate::{AssemblyConfig, Config, ConfigFault, CounterConfig, Objects, ReplyBuf, Router};
+mod rows;
+
+use crate::{
+    AssemblyConfig, Config, ConfigFault, CounterConfig, Objects, ReplyBuf, Router, Status,
+};
+use rows::Row;
 use std::alloc::Global;
 use std::process::Abort;
 use std::test::Fail;
@@ -32,6 +37,79 @@ fn demo(alloc: Global) -> Result<Config, Fail> {
     })
 }
 
+/// The device of the rows: its numbers all differ, the greatest assembly isn't the last, and the last can't be set.
+fn varied(alloc: Global) -> Result<Config, Fail> {
+    let mut assemblies = Vec::new(alloc);
+    assemblies.push(AssemblyConfig {
+        instance: 100,
+        settable: true,
+        members: Vec::from_slice(alloc, &[1, 2, 1])?,
+    })?;
+    assemblies.push(AssemblyConfig {
+        instance: 301,
+        settable: true,
+        members: Vec::from_slice(alloc, &[480])?,
+    })?;
+    assemblies.push(AssemblyConfig {
+        instance: 101,
+        settable: false,
+        members: Vec::from_slice(alloc, &[3, 2])?,
+    })?;
+    Ok(Config {
+        vendor: 0x1234,
+        device_type: 0x002b,
+        product_code: 0x0506,
+        major: 7,
+        minor: 8,
+        serial: 0x0b0c_0d0e,
+        name: String::from_str(alloc, "Rows")?,
+        status: 0x090a,
+        state: 0x0f,
+        counter: CounterConfig {
+            value: 3,
+            limit: 100,
+        },
+        assemblies,
+    })
+}
+
+/// 480 bytes in 64 members, of 7 and 8 bytes in turn.
+fn full(alloc: Global, instance: u16) -> Result<AssemblyConfig, Fail> {
+    let mut members = Vec::new(alloc);
+    for i in 0..64 {
+        members.push(if i % 2 == 0 { 7 } else { 8 })?;
+    }
+    Ok(AssemblyConfig {
+        instance,
+        settable: true,
+        members,
+    })
+}
+
+/// The greatest device: 16 full assemblies, the longest name, and the greatest number in each field.
+fn greatest(alloc: Global) -> Result<Config, Fail> {
+    let mut assemblies = Vec::new(alloc);
+    for i in 0..16u16 {
+        assemblies.push(full(alloc, 0xffff - i)?)?;
+    }
+    Ok(Config {
+        vendor: 0xffff,
+        device_type: 0xffff,
+        product_code: 0xffff,
+        major: 127,
+        minor: 0xff,
+        serial: 0xffff_ffff,
+        name: String::from_str(alloc, "ABCDEFGHIJKLMNOPQRSTUVWXYZabcdef")?,
+        status: 0xffff,
+        state: 0xff,
+        counter: CounterConfig {
+            value: 0xffff_ffff,
+            limit: 0xffff_ffff,
+        },
+        assemblies,
+    })
+}
+
 /// Asserts what a router answers to a request.
 fn row<R: Router, A: Abort>(rt: &A, router: &mut R, room: usize, request: &[u8], wanted: &[u8])
     requires from { 8 ≤ room }
@@ -44,130 +122,25 @@ fn row<R: Router, A: Abort>(rt: &A, router: &mut R, room: usize, request: &[u8],
 }
 
 /// Asserts what a router answers to each request.
-fn answers<R: Router, A: Abort>(rt: &A, router: &mut R, rows: &[(&[u8], &[u8])]) {
-    for (request, wanted) in rows {
+fn answers<R: Router, A: Abort>(rt: &A, router: &mut R, rows: &[Row]) {
+    for Row { request, wanted } in rows {
         row(rt, router, 504, request, wanted);
     }
 }
 
 #[test]
-fn worked_reads(rt: HostRuntime) -> Result<(), Fail> {
-    let mut objects = Objects::new(rt.alloc(), &demo(rt.alloc())?)?;
-    let rows: [(&[u8], &[u8]); 10] = [
-        // the vendor
-        (
-            b"\x0e\x03\x20\x01\x24\x01\x30\x01",
-            b"\x8e\x00\x00\x00\x34\x12",
-        ),
-        // the same in 16 bits
-        (
-            b"\x0e\x06\x21\x00\x01\x00\x25\x00\x01\x00\x31\x00\x01\x00",
-            b"\x8e\x00\x00\x00\x34\x12",
-        ),
-        // a path past the end
-        (b"\x0e\x04\x20\x01\x24\x01\x30\x01", b"\x8e\x00\x26\x00"),
-        // no segment
-        (b"\x0e\x03\x35\x00\x24\x01\x30\x01", b"\x8e\x00\x04\x00"),
-        // a list with an attribute that isn't there
-        (
-            b"\x03\x02\x20\x01\x24\x01\x03\x00\x01\x00\x63\x00\x02\x00",
-            b"\x83\x00\x0a\x00\x03\x00\x01\x00\x00\x00\x34\x12\x63\x00\x14\x00\x02\x00\x00\x00\x2b\x00",
-        ),
-        // all attributes
-        (
-            b"\x01\x02\x20\x01\x24\x01",
-            b"\x81\x00\x00\x00\x34\x12\x2b\x00\x07\x00\x02\x05\x00\x00\x04\x03\x02\x01\x04\x44\x65\x6d\x6f",
-        ),
-        // the greatest instance
-        (
-            b"\x0e\x03\x20\x04\x24\x00\x30\x02",
-            b"\x8e\x00\x00\x00\x64\x00",
-        ),
-        // the size
-        (
-            b"\x0e\x03\x20\x04\x24\x64\x30\x04",
-            b"\x8e\x00\x00\x00\x04\x00",
-        ),
-        // not a service of the objects
-        (b"\x5b\x02\x20\x06\x24\x01", b"\xdb\x00\x08\x00"),
-        // nor is this
-        (b"\x54\x02\x20\x06\x24\x01", b"\xd4\x00\x08\x00"),
-    ];
-    answers(&rt, &mut objects, &rows);
-    Ok(())
-}
-
-#[test]
-fn worked_changes(rt: HostRuntime) -> Result<(), Fail> {
-    let mut objects = Objects::new(rt.alloc(), &demo(rt.alloc())?)?;
-    let rows: [(&[u8], &[u8]); 13] = [
-        // a member is set
-        (
-            b"\x19\x04\x20\x04\x24\x64\x30\x03\x28\x02\xaa\xbb",
-            b"\x99\x00\x00\x00",
-        ),
-        // and read with all data
-        (
-            b"\x0e\x03\x20\x04\x24\x64\x30\x03",
-            b"\x8e\x00\x00\x00\x00\xaa\xbb\x00",
-        ),
-        // no such member
-        (
-            b"\x19\x04\x20\x04\x24\x64\x30\x03\x28\x04\xaa",
-            b"\x99\x00\x28\x00",
-        ),
-        // the data are unchanged
-        (
-            b"\x0e\x03\x20\x04\x24\x64\x30\x03",
-            b"\x8e\x00\x00\x00\x00\xaa\xbb\x00",
-        ),
-        // the member alone
-        (
-            b"\x18\x04\x20\x04\x24\x64\x30\x03\x28\x02",
-            b"\x98\x00\x00\x00\xaa\xbb",
-        ),
-        // all data are set
-        (
-            b"\x10\x03\x20\x04\x24\x64\x30\x03\x01\x02\x03\x04",
-            b"\x90\x00\x00\x00",
-        ),
-        // and read
-        (
-            b"\x0e\x03\x20\x04\x24\x64\x30\x03",
-            b"\x8e\x00\x00\x00\x01\x02\x03\x04",
-        ),
-        // the size can't be set
-        (
-            b"\x10\x03\x20\x04\x24\x64\x30\x04\x05\x00",
-            b"\x90\x00\x0e\x00",
-        ),
-        // over the limit
-        (
-            b"\x32\x02\x20\x64\x24\x01\x65\x00\x00\x00",
-            b"\xb2\x00\x20\x00",
-        ),
-        // up to the limit
-        (
-            b"\x32\x02\x20\x64\x24\x01\x64\x00\x00\x00",
-            b"\xb2\x00\x00\x00\x64\x00\x00\x00",
-        ),
-        // a limit below the value
-        (
-            b"\x10\x03\x20\x64\x24\x01\x30\x02\x63\x00\x00\x00",
-            b"\x90\x00\x09\x00",
-        ),
-        // cleared
-        (
-            b"\x33\x02\x20\x64\x24\x01",
-            b"\xb3\x00\x00\x00\x64\x00\x00\x00",
-        ),
-        // value 0, one addition
-        (
-            b"\x03\x02\x20\x64\x24\x01\x02\x00\x01\x00\x03\x00",
-            b"\x83\x00\x00\x00\x02\x00\x01\x00\x00\x00\x00\x00\x00\x00\x03\x00\x00\x00\x01\x00\x00\x00",
-        ),
-    ];
-    answers(&rt, &mut objects, &rows);
+fn each_row(rt: HostRuntime) -> Result<(), Fail> {
+    let mut objects = Objects::new(rt.alloc(), &varied(rt.alloc())?)?;
+    answers(&rt, &mut objects, &rows::IDENTITY);
+    answers(&rt, &mut objects, &rows::ASSEMBLIES);
+    answers(&rt, &mut objects, &rows::COUNTER);
+    answers(&rt, &mut objects, &rows::LISTS);
+    answers(&rt, &mut objects, &rows::SERVICES);
+    answers(&rt, &mut objects, &rows::PATHS);
+    answers(&rt, &mut objects, &rows::ORDER);
+    answers(&rt, &mut objects, &rows::DATA);
+    answers(&rt, &mut objects, &rows::SETTABLE);
+    answers(&rt, &mut objects, &rows::CHANGES);
     Ok(())
 }
 
@@ -209,15 +182,7 @@ fn attribute_and_device(rt: HostRuntime) -> Result<(), Fail> {
 #[test]
 fn largest_assembly(rt: HostRuntime) -> Result<(), Fail> {
     let mut config = demo(rt.alloc())?;
-    let mut members = Vec::new(rt.alloc());
-    for i in 0..64 {
-        members.push(if i % 2 == 0 { 7 } else { 8 })?;
-    }
-    config.assemblies.push(AssemblyConfig {
-        instance: 7,
-        settable: true,
-        members,
-    })?;
+    config.assemblies.push(full(rt.alloc(), 7)?)?;
     let mut objects = Objects::new(rt.alloc(), &config)?;
     let mut whole = Vec::new(rt.alloc());
     for i in 0..64u8 {
@@ -249,6 +214,149 @@ fn largest_assembly(rt: HostRuntime) -> Result<(), Fail> {
         b"\x98\x00\x00\x00\x40\x40\x40\x40\x40\x40\x40\x40",
     );
     Ok(())
+}
+
+#[test]
+fn greatest_device(rt: HostRuntime) -> Result<(), Fail> {
+    let mut objects = Objects::new(rt.alloc(), &greatest(rt.alloc())?)?;
+    let rows: [(&[u8], &[u8]); 8] = [
+        // all of Identity
+        (
+            b"\x01\x02\x20\x01\x24\x01",
+            b"\x81\x00\x00\x00\xff\xff\xff\xff\xff\xff\x7f\xff\xff\xff\xff\xff\xff\xff\x20ABCDEFGHIJKLMNOPQRSTUVWXYZabcdef",
+        ),
+        // the name
+        (
+            b"\x0e\x03\x20\x01\x24\x01\x30\x07",
+            b"\x8e\x00\x00\x00\x20ABCDEFGHIJKLMNOPQRSTUVWXYZabcdef",
+        ),
+        // the state
+        (b"\x0e\x03\x20\x01\x24\x01\x30\x08", b"\x8e\x00\x00\x00\xff"),
+        // the greatest assembly
+        (
+            b"\x0e\x03\x20\x04\x24\x00\x30\x02",
+            b"\x8e\x00\x00\x00\xff\xff",
+        ),
+        // how many assemblies
+        (
+            b"\x0e\x03\x20\x04\x24\x00\x30\x03",
+            b"\x8e\x00\x00\x00\x10\x00",
+        ),
+        // the number of members of the last
+        (
+            b"\x0e\x04\x20\x04\x25\x00\xf0\xff\x30\x01",
+            b"\x8e\x00\x00\x00\x40\x00",
+        ),
+        // its size
+        (
+            b"\x0e\x04\x20\x04\x25\x00\xf0\xff\x30\x04",
+            b"\x8e\x00\x00\x00\xe0\x01",
+        ),
+        // the counter
+        (
+            b"\x03\x02\x20\x64\x24\x01\x02\x00\x01\x00\x02\x00",
+            b"\x83\x00\x00\x00\x02\x00\x01\x00\x00\x00\xff\xff\xff\xff\x02\x00\x00\x00\xff\xff\xff\xff",
+        ),
+    ];
+    for (request, wanted) in rows {
+        row(&rt, &mut objects, 504, request, wanted);
+    }
+    Ok(())
+}
+
+#[test]
+fn largest_replies(rt: HostRuntime) -> Result<(), Fail> {
+    let mut objects = Objects::new(rt.alloc(), &greatest(rt.alloc())?)?;
+    // the data of the last assembly
+    let mut reply = Vec::from_slice(rt.alloc(), b"\x8e\x00\x00\x00")?;
+    reply.extend_from_slice(&[0; 480])?;
+    row(
+        &rt,
+        &mut objects,
+        504,
+        b"\x0e\x04\x20\x04\x25\x00\xf0\xff\x30\x03",
+        &reply,
+    );
+    // a list that just fits
+    let list: &[u8] = b"\x03\x03\x20\x04\x25\x00\xf0\xff\x04\x00\x63\x00\x63\x00\x01\x00\x03\x00";
+    let mut reply = Vec::from_slice(
+        rt.alloc(),
+        b"\x83\x00\x0a\x00\x04\x00\x63\x00\x14\x00\x63\x00\x14\x00\x01\x00\x00\x00\x40\x00\x03\x00\x00\x00",
+    )?;
+    reply.extend_from_slice(&[0; 480])?;
+    assert_eq!(rt; reply.len(), 504);
+    row(&rt, &mut objects, 504, list, &reply);
+    // and with a byte less of room doesn't
+    row(&rt, &mut objects, 503, list, b"\x83\x00\x11\x00");
+    Ok(())
+}
+
+#[test]
+fn past_the_greatest(rt: HostRuntime) -> Result<(), Fail> {
+    let alloc = rt.alloc();
+    let mut config = greatest(alloc)?;
+    config.assemblies.push(full(alloc, 1)?)?;
+    assert_eq!(rt; Objects::new(alloc, &config).err(), Some(ConfigFault::Size));
+    let mut config = demo(alloc)?;
+    config.assemblies.push(AssemblyConfig {
+        instance: 1,
+        settable: true,
+        members: Vec::from_slice(alloc, &[481])?,
+    })?;
+    assert_eq!(rt; Objects::new(alloc, &config).err(), Some(ConfigFault::Size));
+    let mut config = demo(alloc)?;
+    config.assemblies.push(AssemblyConfig {
+        instance: 1,
+        settable: true,
+        members: Vec::from_elem(alloc, 1, 65)?,
+    })?;
+    assert_eq!(rt;
+        Objects::new(alloc, &config).err(),
+        Some(ConfigFault::Members)
+    );
+    let mut config = demo(alloc)?;
+    config.name = String::from_str(alloc, "ABCDEFGHIJKLMNOPQRSTUVWXYZabcdefg")?;
+    assert_eq!(rt; Objects::new(alloc, &config).err(), Some(ConfigFault::Name));
+    Ok(())
+}
+
+#[test]
+fn codes_of_statuses(rt: HostRuntime) {
+    let codes = [
+        (Status::Success, 0x00),
+        (Status::ConnectionFailure, 0x01),
+        (Status::PathSegmentError, 0x04),
+        (Status::PathDestinationUnknown, 0x05),
+        (Status::ServiceNotSupported, 0x08),
+        (Status::InvalidAttributeValue, 0x09),
+        (Status::AttributeListError, 0x0a),
+        (Status::AttributeNotSettable, 0x0e),
+        (Status::ReplyDataTooLarge, 0x11),
+        (Status::NotEnoughData, 0x13),
+        (Status::AttributeNotSupported, 0x14),
+        (Status::TooMuchData, 0x15),
+        (Status::InvalidParameter, 0x20),
+        (Status::PathSizeInvalid, 0x26),
+        (Status::InvalidMemberId, 0x28),
+    ];
+    for (status, code) in codes {
+        assert_eq!(rt; status.code(), code, "{status:?}");
+    }
+}
+
+#[test]
+fn numbers_of_faults(rt: HostRuntime) {
+    let numbers = [
+        (ConfigFault::Name, 1),
+        (ConfigFault::Size, 2),
+        (ConfigFault::Members, 3),
+        (ConfigFault::DoubleInstance, 4),
+        (ConfigFault::Limit, 5),
+        (ConfigFault::Memory, 6),
+    ];
+    for (fault, number) in numbers {
+        assert_eq!(rt; fault.number(), number, "{fault:?}");
+    }
 }
 
 #[test]

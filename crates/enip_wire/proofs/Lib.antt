@@ -4,6 +4,7 @@ pub mod FrameLemmas
 pub mod TakeLemmas
 pub mod SeeLemmas
 pub mod StreamLemmas
+pub mod ReadingLemmas
 pub mod ItemLemmas
 pub mod BodyLemmas
 pub mod WriteLemmas

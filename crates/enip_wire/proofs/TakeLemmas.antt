@@ -35,19 +35,24 @@ IsFresh-end held fits fresh header =
       | inr within ↦ within
     ]
 
+-- where what is held and a piece end together, it is no sooner than the end of what is held
+pub IsFresh-end-append : (held piece : List ℕ) → IsBytes held → IsFresh held
+    → length held ≤ end_after (number_at 2 2 (held ++ piece))
+IsFresh-end-append held piece fits fresh =
+    elim (cases_lt (length held) 24) [
+      | inl short ↦ omega (arith, end_after-least (number_at 2 2 (held ++ piece)))
+      | inr long ↦
+          subst (λ n. length held ≤ end_after n) (sym (number_at-append held piece (omega arith)))
+          (IsFresh-end held fits fresh long)
+    ]
+
 pub Takes-count : (held piece : List ℕ) (n : ℕ) → IsBytes held → IsBytes piece → IsFresh held
     → 24 ≤ length held + length piece
     → n ≡ min (end_after (number_at 2 2 (held ++ piece)) - length held) (length piece) → Takes held piece n
 Takes-count held piece n f g fresh header e =
     let whole : length (held ++ piece) ≡ length held + length piece = length-append held piece in
     let least : 24 ≤ end_after (number_at 2 2 (held ++ piece)) = end_after-least (number_at 2 2 (held ++ piece)) in
-    let begun : length held ≤ end_after (number_at 2 2 (held ++ piece))
-    = elim (cases_lt (length held) 24) [
-      | inl short ↦ omega arith
-      | inr long ↦
-          subst (λ n. length held ≤ end_after n) (sym (number_at-append held piece (omega arith)))
-          (IsFresh-end held f fresh long)
-    ] in
+    let begun : length held ≤ end_after (number_at 2 2 (held ++ piece)) = IsFresh-end-append held piece f fresh in
     record {
       within = omega arith;
       least = λ k below stops.

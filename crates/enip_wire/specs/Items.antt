@@ -3,7 +3,7 @@ use Rattle.std.specs.List.{flat_map, AllByRecursion}
 use Rattle.std.specs.Coded.{Coded, code_by, coded×, coded_ℕ, coded_list}
 use Rattle.enip_wire.specs.declared.packet.ItemView.{ItemView}
 use Rattle.enip_wire.specs.declared.packet.CpfFault.{CpfFault}
-use Rattle.enip_wire.specs.declared.packet.CpfFault.TheVariants.{Short, Trailing}
+use Rattle.enip_wire.specs.declared.packet.CpfFault.TheVariants.{Short, Trailing, Interface, Address, Data}
 use Rattle.enip_wire.specs.Numbers.{le, number_at}
 
 -- An item of the common packet format: its type, and its data. (Volume 2, common packet format.)
@@ -54,6 +54,14 @@ abbrev pub item_code : Coded Item
 item_code =
     code_by (ℕ × List ℕ) (coded× coded_ℕ (coded_list coded_ℕ)) (λ i. (i.kind, i.bytes))
     (λ p. record { kind = p.0; bytes = p.1 }) (λ _. refl)
+
+-- The number of a fault, by which it is printed.
+abbrev pub cpf_fault_number : CpfFault → ℕ
+cpf_fault_number Short = 1
+cpf_fault_number Trailing = 2
+cpf_fault_number Interface = 3
+cpf_fault_number Address = 4
+cpf_fault_number Data = 5
 
 -- The rest says the same by numbers alone, for who computes with it.
 

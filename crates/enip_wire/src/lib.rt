@@ -2,9 +2,13 @@
 #![tactic(auto)]
 
 pub mod header;
+#[cfg(test)]
+mod header_tests;
 pub mod laws;
 pub mod packet;
 pub mod packet_laws;
 #[cfg(test)]
 mod packet_tests;
 pub mod reader;
+#[cfg(test)]
+mod reader_tests;

@@ -49,6 +49,17 @@ pub enum CpfFault {
     Data = 5,
 }
 
+impl CpfFault {
+    ghost use Rattle.enip_wire.specs.Items.{cpf_fault_number};
+
+    /// The number of the fault, by which it is printed.
+    pub fn number(self) -> u8
+        ensures { result ≡ cpf_fault_number self }
+    {
+        self as u8
+    }
+}
+
 /// A text does not fit into what is left of a buffer.
 #[derive(Clone, Copy, Debug, PartialEq, Eq, Error)]
 #[error("the text does not fit")]

@@ -44,8 +44,20 @@ fn faults_are_told(rt: HostRuntime) {
     let mut address = ROW;
     address[8] = 0xa1;
     assert_eq!(rt; rr_body(&address), Err(CpfFault::Address));
-    assert_eq!(rt; CpfFault::Short as u8, 1);
-    assert_eq!(rt; CpfFault::Data as u8, 5);
+}
+
+#[test]
+fn faults_have_their_numbers(rt: HostRuntime) {
+    let numbers = [
+        (CpfFault::Short, 1),
+        (CpfFault::Trailing, 2),
+        (CpfFault::Interface, 3),
+        (CpfFault::Address, 4),
+        (CpfFault::Data, 5),
+    ];
+    for (fault, number) in numbers {
+        assert_eq!(rt; fault.number(), number);
+    }
 }
 
 #[test]

@@ -6,6 +6,7 @@ use Rattle.cip_objects.specs.Entries.{contents_of}
 use Rattle.std.specs.String.{string_bytes}
 use Rattle.cip_objects.proofs.Numbers.{new_counts}
 use Rattle.cip_objects.proofs.Sound.{sound}
+use Rattle.cip_objects.proofs.Whole.{contents_whole, whole_blocks}
 use Rattle.cip_objects.proofs.objects.Objects.new.Goals as goal
 
 pub name_of-requires : goal.name_of-requires
@@ -50,3 +51,9 @@ returns-clause-counter c =
     let s = sound c.args.config.now (sym c.in_default.ensures) in
     let items : c.in_ok-assemblies_of.field-0.items ≡ map block_of c.args.config.now.assemblies.items = c.in_ok-assemblies_of.ensures ∙ ap (map block_of) c.deref.ensures.value in
     rw c.new.ensures.new (new_counts _ c.in_ok-assemblies_of.field-0.items (rw items s.numbered) c.args.config.now.counter.value c.args.config.now.counter.limit s.counter c.new.ensures.limit)
+
+pub returns-clause-whole : goal.returns-clause-whole
+returns-clause-whole c =
+    let s = sound c.args.config.now (sym c.in_default.ensures) in
+    let items : c.in_ok-assemblies_of.field-0.items ≡ map block_of c.args.config.now.assemblies.items = c.in_ok-assemblies_of.ensures ∙ ap (map block_of) c.deref.ensures.value in
+    contents_whole _ c.in_ok-assemblies_of.field-0.items _ (rw items s.numbered) (rw items (whole_blocks c.args.config.now.assemblies.items))

@@ -1,0 +1,26 @@
+-- Which services an instance offers, by tests of its class and its number.
+use Rattle.std.proofs.Common.{ℕ, Bool, cond, List, [], ◌∷◌, Option, Some, None, option_map, Result}
+use Rattle.std.specs.Option.{ok_or}
+use Rattle.cip_objects.specs.declared.service.Service.{Service}
+use Rattle.cip_objects.specs.declared.service.Service.TheVariants.{GetAttributesAll, GetAttributeList, GetAttributeSingle, SetAttributeSingle, Add, Clear}
+use Rattle.cip_objects.specs.declared.status.Status.{Status}
+use Rattle.cip_objects.specs.declared.status.Status.TheVariants.{PathDestinationUnknown, ServiceNotSupported}
+use Rattle.cip_objects.specs.Check.{◌>>=◌}
+use Rattle.cip_objects.specs.Service.{service_in}
+use Rattle.cip_objects.specs.Tables.{Shape, assembly_services}
+
+-- a class with one instance: the class itself, the first instance
+abbrev single : Bool → Bool → List Service → Option (List Service)
+single zero one services = cond zero (Some (GetAttributeSingle ∷ [])) (cond one (Some services) None)
+
+-- whether the class is Identity, Assembly, the Connection Manager, the counter; whether the instance is 0, 1
+abbrev pub table : Bool → Bool → Bool → Bool → Bool → Bool → Option Shape → Option (List Service)
+table b1 b4 b6 b100 z o x =
+    cond b1 (single z o (GetAttributesAll ∷ GetAttributeList ∷ GetAttributeSingle ∷ []))
+    (cond b4 (cond z (Some (GetAttributeSingle ∷ [])) (option_map (λ _. assembly_services) x))
+    (cond b6 (cond o (Some []) None)
+    (cond b100 (single z o (GetAttributeList ∷ GetAttributeSingle ∷ SetAttributeSingle ∷ Add ∷ Clear ∷ [])) None)))
+
+-- the service of this code among them
+abbrev pub offered : ℕ → Option (List Service) → Result Service Status
+offered code services = ok_or services PathDestinationUnknown >>= λ s. ok_or (service_in code s) ServiceNotSupported

@@ -1,0 +1,154 @@
+-- What is never set stays, over every run.
+use Rattle.std.proofs.Common.{◌≡◌, ℕ, ◌+◌, ◌⊎◌, inl, inr, eqb, false, ◌&&◌, List, [], ◌∷◌, length, Some, None, Result, Ok, refl, sym, ap, ◌∙◌, arith, ◌^◌, ◌%◌}
+use Rattle.std.proofs.lemmas.Bool.Decides.{nat_tests}
+use Rattle.std.specs.Option.{ok_or}
+use Rattle.byteorder.specs.Endian.{little_number}
+use Rattle.cip_message.specs.declared.path.Path.{Path}
+use Rattle.cip_message.specs.Numbers.{le}
+use Rattle.cip_objects.specs.declared.assembly.Span.{Span}
+use Rattle.cip_objects.specs.declared.service.Service.{Service}
+use Rattle.cip_objects.specs.declared.service.Service.TheVariants.{GetAttributesAll, GetAttributeList, GetAttributeSingle, SetAttributeSingle, GetMember, SetMember, Add, Clear}
+use Rattle.cip_objects.specs.declared.status.Status.{Status}
+use Rattle.cip_objects.specs.Check.{exactly}
+use Rattle.cip_objects.specs.Contents.{Contents, value_at, bytes_at, number_at, with_value}
+use Rattle.cip_objects.specs.Reading.{named_member, get_attribute_single, get_attributes_all, get_attribute_list, get_member}
+use Rattle.cip_objects.specs.Changing.{Change, added, spliced, set_attribute_single, set_member, add, clear}
+use Rattle.cip_objects.specs.Execution.{Outcome, perform, outcome, exec, run}
+use Rattle.cip_objects.specs.Laws.{unsettable_law}
+use Rattle.cip_objects.specs.Tables.{Shape, settable_size}
+use Rattle.cip_objects.proofs.Effects.{goes, bound, after_check, found_some, set_effect, add_effect, clear_effect, read_effect, change_effect}
+use Rattle.cip_objects.proofs.Keys.{value_at-other}
+use Rattle.cip_objects.proofs.Settable.{sized}
+use Rattle.cip_objects.proofs.Sets.{exec_left}
+
+-- a set member: where it lies, and the new data of its assembly
+pub record Splices (m : Contents) (path : Path) (content : List ℕ) (c : Change) : Type 0 where
+  pub span : Span
+  pub all : ℕ
+  pub names : named_member m.shapes path ≡ Ok span
+  pub can : settable_size m.shapes 4 path.instance 3 ≡ Some all
+  pub size : length content ≡ span.size
+  pub leaves : c.after ≡ with_value m 4 path.instance 3 (spliced (bytes_at m 4 path.instance 3) span.offset content)
+
+same_ok : {A : Type 0} (x y : A) → ◌≡◌ {A = Result A Status} (Ok x) (Ok y) → x ≡ y
+same_ok x y e = cc
+
+pub splices : (m : Contents) (path : Path) (content : List ℕ) (c : Change) → set_member m path content ≡ Ok c
+    → Splices m path content c
+unfolding set_member
+splices m path content c e =
+    let s = bound (named_member m.shapes path) _ c e in
+    let n = bound (ok_or (settable_size m.shapes 4 path.instance 3) _) _ c s.rest in
+    let x = after_check (exactly s.value.size content) _ c n.rest in
+    record {
+      span = s.value;
+      all = n.value;
+      names = s.first;
+      can = found_some _ _ n.value n.first;
+      size = sized s.value.size content x.0;
+      leaves = sym (ap (λ z. z.after) (same_ok _ c x.1));
+    }
+
+-- this key is none of those that a service changes
+record IsKept (shapes : List Shape) (class instance attribute : ℕ) : Type 0 where
+  unsettable : settable_size shapes class instance attribute ≡ None
+  no_value : (class ≡ 100) × (instance ≡ 1) × (attribute ≡ 1) → ⊥
+  no_additions : (class ≡ 100) × (instance ≡ 1) × (attribute ≡ 3) → ⊥
+
+-- the tables and the value at the key are as before
+record Keeps (m n : Contents) (class instance attribute : ℕ) : Type 0 where
+  shapes : n.shapes ≡ m.shapes
+  value : value_at n class instance attribute ≡ value_at m class instance attribute
+
+all_kept : (m n : Contents) (d j b : ℕ) → n ≡ m → Keeps m n d j b
+all_kept m n d j b e = record { shapes = ap (λ x. x.shapes) e; value = ap (λ x. value_at x d j b) e }
+
+other_key : (d c j i b a : ℕ) → ((d ≡ c) × (j ≡ i) × (b ≡ a) → ⊥) → eqb d c && (eqb j i && eqb b a) ≡ false
+other_key d c j i b a h = grind (arith, nat_tests)
+
+other_kept : (m n : Contents) (c i a : ℕ) (v : List ℕ) (d j b : ℕ) → n ≡ with_value m c i a v
+    → ((d ≡ c) × (j ≡ i) × (b ≡ a) → ⊥) → Keeps m n d j b
+other_kept m n c i a v d j b e h = record {
+  shapes = ap (λ x. x.shapes) e;
+  value = ap (λ x. value_at x d j b) e ∙ value_at-other m c i a v d j b (other_key d c j i b a h);
+}
+
+-- what can be set is at another key
+not_settable : (shapes : List Shape) (c i a n d j b : ℕ) → settable_size shapes c i a ≡ Some n
+    → settable_size shapes d j b ≡ None → (d ≡ c) × (j ≡ i) × (b ≡ a) → ⊥
+not_settable shapes c i a n d j b can stuck k =
+    let same : settable_size shapes d j b ≡ settable_size shapes c i a = ap (λ x. settable_size shapes x j b) k.0
+    ∙ ap (λ x. settable_size shapes c x b) k.1 ∙ ap (λ x. settable_size shapes c i x) k.2 in
+    cc
+
+add_kept : (m n : Contents) (total d j b : ℕ) → n ≡ added m total → IsKept m.shapes d j b → Keeps m n d j b
+add_kept m n total d j b e h =
+    let first = with_value m 100 1 1 (le 4 total) in
+    let more = le 4 ((number_at m 100 1 3 + 1) % 2 ^ 32) in
+    record {
+      shapes = ap (λ x. x.shapes) e;
+      value = ap (λ x. value_at x d j b) e
+          ∙ value_at-other first 100 1 3 more d j b (other_key d 100 j 1 b 3 h.no_additions)
+          ∙ value_at-other m 100 1 1 (le 4 total) d j b (other_key d 100 j 1 b 1 h.no_value);
+    }
+
+perform_kept : (m : Contents) (s : Service) (path : Path) (content : List ℕ) (o : Outcome) (d j b : ℕ)
+    → perform m s path content ≡ Ok o → IsKept m.shapes d j b → Keeps m o.after d j b
+perform_kept m GetAttributesAll path content o d j b e h = all_kept m o.after d j b
+    (read_effect m (get_attributes_all m path content) o e)
+perform_kept m GetAttributeList path content o d j b e h = all_kept m o.after d j b
+    (read_effect m (get_attribute_list m path content) o e)
+perform_kept m GetAttributeSingle path content o d j b e h = all_kept m o.after d j b
+    (read_effect m (get_attribute_single m path content) o e)
+perform_kept m SetAttributeSingle path content o d j b e h =
+    let c = change_effect (set_attribute_single m path content) o e in
+    let x = set_effect m path content c.change c.first in
+    other_kept m o.after path.class path.instance x.attribute content d j b (c.after ∙ x.leaves)
+    (not_settable m.shapes path.class path.instance x.attribute x.size d j b x.can h.unsettable)
+perform_kept m GetMember path content o d j b e h = all_kept m o.after d j b
+    (read_effect m (get_member m path content) o e)
+perform_kept m SetMember path content o d j b e h =
+    let c = change_effect (set_member m path content) o e in
+    let x = splices m path content c.change c.first in
+    other_kept m o.after 4 path.instance 3 _ d j b (c.after ∙ x.leaves)
+    (not_settable m.shapes 4 path.instance 3 x.all d j b x.can h.unsettable)
+perform_kept m Add path content o d j b e h =
+    let c = change_effect (add m content) o e in
+    let x = add_effect m content c.change c.first in
+    add_kept m o.after (number_at m 100 1 1 + little_number 4 content) d j b (c.after ∙ x.leaves) h
+perform_kept m Clear path content o d j b e h =
+    let c = change_effect (clear m content) o e in
+    let x = clear_effect m content c.change c.first in
+    other_kept m o.after 100 1 1 (le 4 0) d j b (c.after ∙ x.leaves) h.no_value
+
+either_kept : (m n : Contents) (text : List ℕ) (d j b : ℕ) → IsKept m.shapes d j b
+    → (n ≡ m) ⊎ ((o : Outcome) × (outcome m text ≡ Ok o) × (n ≡ o.after)) → Keeps m n d j b
+either_kept m n text d j b h (inl same) = all_kept m n d j b same
+either_kept m n text d j b h (inr x) =
+    let g = goes m text x.0 x.1 in
+    let k = perform_kept m g.service g.path g.request.data x.0 d j b g.is_performed h in
+    record { shapes = ap (λ y. y.shapes) x.2 ∙ k.shapes; value = ap (λ y. value_at y d j b) x.2 ∙ k.value }
+
+exec_kept : (m : Contents) (room : ℕ) (text : List ℕ) (d j b : ℕ) → IsKept m.shapes d j b
+    → Keeps m (exec m room text).after d j b
+exec_kept m room text d j b h = either_kept m (exec m room text).after text d j b h (exec_left m room text)
+
+kept_over : (m : Contents) (requests : List (ℕ × List ℕ)) (d j b : ℕ) → IsKept m.shapes d j b
+    → value_at (run m requests).after d j b ≡ value_at m d j b
+kept_over m [] d j b h = refl
+kept_over m (r ∷ requests) d j b h =
+    let n = (exec m r.0 r.1).after in
+    let k = exec_kept m r.0 r.1 d j b h in
+    kept_over n requests d j b
+    (record {
+      unsettable = ap (λ s. settable_size s d j b) k.shapes
+          ∙ h.unsettable;
+      no_value = h.no_value;
+      no_additions = h.no_additions;
+    })
+    ∙ k.value
+
+pub unsettable : unsettable_law
+unsettable m requests class instance attribute fixed value additions =
+    kept_over m requests class instance attribute
+    (record { unsettable = fixed; no_value = value; no_additions = additions })

@@ -1,0 +1,47 @@
+-- Get_Attribute_List is Get_Attribute_Single of each attribute, joined.
+use Rattle.std.specs.Prelude.{◌≡◌, ℕ, Bool, List, [], ◌∷◌, ◌++◌, ◌⊎◌, ◌==◌, length, map, drop, Option, Some, Ok}
+use Rattle.std.specs.List.{list_all}
+use Rattle.cip_message.specs.declared.path.Path.{Path}
+use Rattle.cip_message.specs.Numbers.{le, words_of}
+use Rattle.cip_message.specs.PathReading.{path_of}
+use Rattle.cip_objects.specs.Contents.{Contents}
+use Rattle.cip_objects.specs.Execution.{reply_to, exec}
+use Rattle.cip_objects.specs.Laws.{Reads}
+use Rattle.cip_objects.specs.Reading.{list_status}
+use Rattle.cip_objects.specs.Router.{general_status}
+
+-- the text is a Get_Attribute_Single of this attribute of the instance that the path names
+pub record IsGet (p : Path) (attribute : ℕ) (text : List ℕ) : Type 0 where
+  pub path : List ℕ
+  pub member : Option ℕ
+  pub reads : Reads text 0x0e path []
+  pub names :
+      path_of path ≡ Ok (record { class = p.class; instance = p.instance; attribute = Some attribute; member = member })
+
+-- the texts are the gets of these attributes, one each
+abbrev pub AreGets : Path → List ℕ → List (List ℕ) → Type 0
+AreGets p [] [] = Unit {0}
+AreGets p [] (get ∷ gets) = ⊥
+AreGets p (a ∷ attributes) [] = ⊥
+AreGets p (a ∷ attributes) (get ∷ gets) = IsGet p a get × AreGets p attributes gets
+
+-- each attribute's number, then the status and the data of its own reply
+abbrev pub joined : List ℕ → List (List ℕ) → List ℕ
+joined [] replies = []
+joined (a ∷ attributes) [] = []
+joined (a ∷ attributes) (reply ∷ replies) =
+    le 2 a ++ (le 2 (general_status reply) ++ (drop 4 reply ++ joined attributes replies))
+
+abbrev pub is_success : List ℕ → Bool
+is_success reply = general_status reply == 0x00
+
+-- A list that is answered has the count, and for each attribute what Get_Attribute_Single answers for it: its status
+-- and its data. It is a success where each of these is.
+abbrev pub list_law : Type 0
+list_law =
+    (m : Contents) (room : ℕ) (list path content : List ℕ) (p : Path) (gets : List (List ℕ))
+    → Reads list 0x03 path content → path_of path ≡ Ok p → AreGets p (words_of (drop 2 content)) gets
+    → (general_status (exec m room list).answer ≡ 0x00) ⊎ (general_status (exec m room list).answer ≡ 0x0a)
+    → let replies = map (λ get. (exec m room get).answer) gets in
+    (exec m room list).answer ≡ reply_to list (list_status (list_all is_success replies))
+    (le 2 (length gets) ++ joined (words_of (drop 2 content)) replies)

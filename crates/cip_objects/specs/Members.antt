@@ -1,0 +1,34 @@
+-- Members of an assembly: what is read of them after one was set.
+use Rattle.std.specs.Prelude.{◌≡◌, ℕ, ◌+◌, ◌≤◌, List, [], ◌∷◌, length, sum, Some, Ok}
+use Rattle.cip_message.specs.declared.path.Path.{Path}
+use Rattle.cip_message.specs.PathReading.{path_of}
+use Rattle.cip_objects.specs.declared.status.Status.TheVariants.{Success}
+use Rattle.cip_objects.specs.Contents.{Contents, bytes_at}
+use Rattle.cip_objects.specs.Execution.{reply_to, exec, run}
+use Rattle.cip_objects.specs.Laws.{Reads}
+use Rattle.cip_objects.specs.Router.{general_status}
+use Rattle.cip_objects.specs.Tables.{Shape, shape_at, ASSEMBLY}
+
+-- the data of each assembly have the size that its members have together
+abbrev pub AreWhole : Contents → Type 0
+AreWhole m = (instance : ℕ) (s : Shape) → shape_at instance m.shapes ≡ Some s
+    → length (bytes_at m ASSEMBLY instance 3) ≡ sum s.members
+
+-- no run of requests changes that
+abbrev pub whole_law : Type 0
+whole_law = (m : Contents) (requests : List (ℕ × List ℕ)) → AreWhole m → AreWhole (run m requests).after
+
+-- what Get_Member answers after a Set_Member of the same member that succeeded is what was set
+abbrev pub member_after_set_law : Type 0
+member_after_set_law =
+    (m : Contents) (room later : ℕ) (set get path value : List ℕ) → AreWhole m → Reads set 0x19 path value
+    → Reads get 0x18 path [] → general_status (exec m room set).answer ≡ 0 → 4 + length value ≤ later
+    → (run m ((room, set) ∷ (later, get) ∷ [])).answers ≡ (exec m room set).answer ∷ reply_to get Success value ∷ []
+
+-- what Get_Member answers for another member, or for a member of another assembly, is the same before and after
+abbrev pub set_member_leaves_others_law : Type 0
+set_member_leaves_others_law =
+    (m : Contents) (room later : ℕ) (set path value get other : List ℕ) (p q : Path) → AreWhole m
+    → Reads set 0x19 path value → path_of path ≡ Ok p → Reads get 0x18 other [] → path_of other ≡ Ok q
+    → ((q.instance ≡ p.instance) × (q.member ≡ p.member) → ⊥)
+    → (exec (exec m room set).after later get).answer ≡ (exec m later get).answer

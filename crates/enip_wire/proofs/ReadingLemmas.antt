@@ -1,0 +1,181 @@
+-- A written frame is read again; every list of pieces is read, and every stream has a cut.
+use Rattle.std.proofs.Common.{lit<, ◌≡◌, ℕ, zero, suc, ◌+◌, ◌-◌, ◌<◌, ◌≤◌, inl, inr, ◌⊎◌, min, List, [], ◌∷◌, ◌++◌, length, take, drop, refl, sym, ap, subst, ◌∙◌, arith, append-nil, length-append, length-drop}
+use Rattle.std.proofs.lemmas.Bool.{cases_lt}
+use Rattle.std.proofs.lemmas.Bool.Decides.{nat_tests}
+use Rattle.std.proofs.lemmas.List.{take_all, drop_at}
+use Rattle.std.specs.List.{AllByRecursion, concat}
+use Rattle.enip_wire.specs.Numbers.{number_at, IsBytes}
+use Rattle.enip_wire.specs.Headers.{header_spelling, header_at}
+use Rattle.enip_wire.specs.Frames.{Frame, frame, IsFrame, Stops, end_after}
+use Rattle.enip_wire.specs.Stream.{Cut, IsFresh, Takes, taken_of, sight_of}
+use Rattle.enip_wire.specs.Stream.Sight.{A_frame}
+use Rattle.enip_wire.specs.Reading.{Reads}
+use Rattle.enip_wire.specs.Reading.Reads.{Ended, Waited, Showed, Stayed}
+use Rattle.enip_wire.proofs.HeaderLemmas.{header_at-header_spelling, length-header_spelling}
+use Rattle.enip_wire.proofs.FrameLemmas.{number_at-frame, length-frame, end_after-within, not_before, stops_at, IsBytes-append, IsBytes-drop}
+use Rattle.enip_wire.proofs.SeeLemmas.{same_frame, sight_of-frame}
+use Rattle.enip_wire.proofs.TakeLemmas.{stops-header, front, Takes-short, Takes-count, IsFresh-end-append, IsFresh-after}
+use Rattle.enip_wire.proofs.StreamLemmas.{any_pieces_lem, not_empty}
+
+-- what a reader that holds nothing takes of a text that begins with a whole header
+taken_of-nothing : (text : List ℕ) → 24 ≤ length text
+    → taken_of [] text ≡ min (end_after (number_at 2 2 text)) (length text)
+taken_of-nothing text long = grind (arith, nat_tests)
+
+pub taken_of-frame : (f : Frame) (more : List ℕ) → IsFrame f → taken_of [] (frame f ++ more) ≡ length (frame f)
+taken_of-frame f more ok =
+    let size : length (frame f) ≡ 24 + f.header.length = length-frame f ok in
+    let whole : length (frame f ++ more) ≡ length (frame f) + length more = length-append (frame f) more in
+    let end : end_after (number_at 2 2 (frame f ++ more)) ≡ 24 + f.header.length
+    = ap end_after (number_at-frame f more ok) ∙ end_after-within f.header.length ok.within in
+    taken_of-nothing (frame f ++ more) (omega arith)
+    ∙ ap (λ e. min e (length (frame f ++ more))) end ∙ omega arith
+
+pub sight_of-written : (f : Frame) → IsFrame f → sight_of (frame f) ≡ A_frame f
+sight_of-written f ok =
+    let size : length (frame f) ≡ 24 + f.header.length = length-frame f ok in
+    let says : number_at 2 2 (frame f) ≡ f.header.length
+    = ap (λ h. h.length) (header_at-header_spelling f.header f.body ok.fields) in
+    let within : f.header.length ≤ 65511 = ok.within in
+    let same : header_at (frame f) ≡ f.header = header_at-header_spelling f.header f.body ok.fields in
+    let rest : drop 24 (frame f) ≡ f.body
+    = drop_at (header_spelling f.header) f.body 24 (length-header_spelling f.header ok.fields.context) in
+    sight_of-frame (frame f) (omega arith) (omega arith) (omega arith) ∙ ap A_frame (same_frame same rest)
+
+-- the piece is taken whole, and more is awaited
+record Awaits (held piece : List ℕ) : Type 0 where
+  takes : Takes held piece (length piece)
+  waits : Stops (held ++ piece) → ⊥
+
+-- so much of the piece makes what is held a whole frame or a too long header
+record Completes (held piece : List ℕ) : Type 0 where
+  number : ℕ
+  takes : Takes held piece number
+  stops : Stops (held ++ take number piece)
+
+-- a piece does the one or the other
+after_header : (held piece : List ℕ) (end : ℕ) → end ≡ end_after (number_at 2 2 (held ++ piece)) → IsBytes held
+    → IsBytes piece → IsFresh held → 24 ≤ length held + length piece → Awaits held piece ⊎ Completes held piece
+after_header held piece end is f g fresh header =
+    let whole : length (held ++ piece) ≡ length held + length piece = length-append held piece in
+    let begun : length held ≤ end_after (number_at 2 2 (held ++ piece)) = IsFresh-end-append held piece f fresh in
+    elim (cases_lt (length (held ++ piece)) end) [
+      | inl before ↦ inl (
+          record {
+            takes = Takes-count held piece (length piece) f g fresh header (omega arith);
+            waits = λ stops.
+                not_before (held ++ piece) (length (held ++ piece)) (omega arith) (omega arith)
+                (subst Stops (sym (take_all (length (held ++ piece)) (held ++ piece) (omega arith))) stops);
+          }
+          )
+      | inr reached ↦ inr (
+          record {
+            number = end - length held;
+            takes = Takes-count held piece (end - length held) f g fresh header (omega arith);
+            stops = subst Stops (sym (front held piece (end - length held)))
+                (stops_at (held ++ piece) (length held + (end - length held)) (IsBytes-append held piece f g)
+                (omega arith) (omega arith) (omega arith));
+          }
+          )
+    ]
+
+after_piece : (held piece : List ℕ) → IsBytes held → IsBytes piece → IsFresh held
+    → Awaits held piece ⊎ Completes held piece
+after_piece held piece f g fresh =
+    elim (cases_lt (length held + length piece) 24) [
+      | inl short ↦ inl (
+          record {
+            takes = Takes-short held piece short;
+            waits = λ stops.
+                let header : 24 ≤ length (held ++ piece) = stops-header (held ++ piece) stops in
+                omega (arith, length-append held piece);
+          }
+          )
+      | inr header ↦ after_header held piece _ refl f g fresh header
+    ]
+
+-- these pieces have a reading, for a reader that holds this
+record HasReading (held : List ℕ) (pieces : List (List ℕ)) : Type 0 where
+  frames : List Frame
+  rest : List ℕ
+  reads : Reads held pieces frames rest
+
+-- what a reader that can go on holds
+record IsRunning (held : List ℕ) : Type 0 where
+  bytes : IsBytes held
+  fresh : IsFresh held
+  running : Stops held → ⊥
+
+nothing_held : IsRunning []
+nothing_held =
+    record { bytes = λ i. lit< tt; fresh = record { running = λ k h. absurd (omega arith) }; running = not_empty }
+
+-- what becomes whole or too long takes a byte at least
+some_taken : (n : ℕ) (held piece : List ℕ) → (Stops held → ⊥) → Stops (held ++ take n piece) → 0 < n
+some_taken zero held piece running stops = absurd (running (subst Stops (append-nil held) stops))
+some_taken (suc n) held piece running stops = omega arith
+
+-- a piece that makes what is held whole or too long, where each shorter piece has a reading
+completed : (held piece : List ℕ) (pieces : List (List ℕ)) (n : ℕ) → IsRunning held → IsBytes piece
+    → Takes held piece n → Stops (held ++ take n piece)
+    → ((rest : List ℕ) → length rest < length piece → IsBytes rest → HasReading [] (rest ∷ pieces))
+    → HasReading held (piece ∷ pieces)
+completed held piece pieces n going fits takes (inl whole) shorter =
+    let some : 0 < n = some_taken n held piece going.running (inl whole) in
+    let within : n ≤ length piece = takes.within in
+    let less : length (drop n piece) < length piece = omega (arith, length-drop n piece) in
+    let later : HasReading [] (drop n piece ∷ pieces) = shorter (drop n piece) less (IsBytes-drop n piece fits) in
+    record {
+      frames = whole.of ∷ later.frames;
+      rest = later.rest;
+      reads = Showed takes whole.is_frame whole.spelled later.reads;
+    }
+completed held piece pieces n going fits takes (inr over) shorter =
+    record { frames = []; rest = held ++ piece ++ concat pieces; reads = Stayed takes over }
+
+-- a piece, where each shorter piece has a reading, and so have the pieces after it
+with_piece : (held piece : List ℕ) (pieces : List (List ℕ)) → IsRunning held → IsBytes piece
+    → ((rest : List ℕ) → length rest < length piece → IsBytes rest → HasReading [] (rest ∷ pieces))
+    → ((held : List ℕ) → IsRunning held → HasReading held pieces) → HasReading held (piece ∷ pieces)
+with_piece held piece pieces going fits shorter after =
+    elim (after_piece held piece going.bytes fits going.fresh) [
+      | inl awaits ↦
+          let whole : take (length piece) piece ≡ piece = take_all (length piece) piece (omega arith) in
+          let fresh : IsFresh (held ++ piece)
+          = subst (λ p. IsFresh (held ++ p)) whole (IsFresh-after held piece (length piece) going.fresh awaits.takes) in
+          let later : HasReading (held ++ piece) pieces
+          = after (held ++ piece)
+          (record { bytes = IsBytes-append held piece going.bytes fits; fresh = fresh; running = awaits.waits }) in
+          record { frames = later.frames; rest = later.rest; reads = Waited awaits.takes awaits.waits later.reads }
+      | inr done ↦ completed held piece pieces done.number going fits done.takes done.stops shorter
+    ]
+
+-- a piece of at most so many bytes
+with_at_most : (most : ℕ) (held piece : List ℕ) (pieces : List (List ℕ)) → length piece ≤ most → IsRunning held
+    → IsBytes piece → ((held : List ℕ) → IsRunning held → HasReading held pieces) → HasReading held (piece ∷ pieces)
+with_at_most zero held piece pieces bound going fits after =
+    with_piece held piece pieces going fits (λ rest less bytes. absurd (omega arith)) after
+with_at_most (suc most) held piece pieces bound going fits after =
+    with_piece held piece pieces going fits
+    (λ rest less bytes. with_at_most most [] rest pieces (omega arith) nothing_held bytes after) after
+
+-- every list of pieces of bytes has a reading
+reading : (pieces : List (List ℕ)) → AllByRecursion IsBytes pieces → (held : List ℕ) → IsRunning held
+    → HasReading held pieces
+reading [] each held going = record { frames = []; rest = held; reads = Ended }
+reading (piece ∷ pieces) each held going =
+    with_at_most (length piece) held piece pieces (omega arith) going each.0 (reading pieces each.1)
+
+pub some_reading_lem : (pieces : List (List ℕ)) → AllByRecursion IsBytes pieces
+    → (frames : List Frame) × ((rest : List ℕ) × Reads [] pieces frames rest)
+some_reading_lem pieces each =
+    let found : HasReading [] pieces = reading pieces each [] nothing_held in (found.frames, (found.rest, found.reads))
+
+-- the reading of a stream in one piece gives its cut
+pub some_cut_lem : (stream : List ℕ) → IsBytes stream
+    → (frames : List Frame) × ((rest : List ℕ) × Cut stream frames rest)
+some_cut_lem stream fits =
+    let found : HasReading [] (stream ∷ []) = reading (stream ∷ []) (fits, tt) [] nothing_held in
+    let cut : Cut (stream ++ []) found.frames found.rest
+    = any_pieces_lem found.reads nothing_held.fresh nothing_held.running in
+    (found.frames, (found.rest, subst (λ s. Cut s found.frames found.rest) (append-nil stream) cut))

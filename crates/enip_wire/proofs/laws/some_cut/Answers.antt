@@ -1,0 +1,5 @@
+use Rattle.enip_wire.proofs.ReadingLemmas.{some_cut_lem}
+use Rattle.enip_wire.proofs.laws.some_cut.Goals as goal
+
+pub returns : goal.returns
+returns c = some_cut_lem

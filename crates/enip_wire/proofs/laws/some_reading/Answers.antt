@@ -1,0 +1,5 @@
+use Rattle.enip_wire.proofs.ReadingLemmas.{some_reading_lem}
+use Rattle.enip_wire.proofs.laws.some_reading.Goals as goal
+
+pub returns : goal.returns
+returns c = some_reading_lem
