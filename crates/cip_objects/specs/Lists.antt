@@ -2,7 +2,7 @@
 use Rattle.std.specs.Prelude.{◌≡◌, ℕ, Bool, List, [], ◌∷◌, ◌++◌, ◌⊎◌, ◌==◌, length, map, drop, Option, Some, Ok}
 use Rattle.std.specs.List.{list_all}
 use Rattle.cip_message.specs.declared.path.Path.{Path}
-use Rattle.cip_message.specs.Numbers.{le, words_of}
+use Rattle.cip_bytes.specs.Numbers.{le, words_of}
 use Rattle.cip_message.specs.PathReading.{path_of}
 use Rattle.cip_objects.specs.Contents.{Contents}
 use Rattle.cip_objects.specs.Execution.{reply_to, exec}
