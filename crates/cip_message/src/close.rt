@@ -10,6 +10,9 @@ use arrayvec::ArrayVec;
 use byteorder::{ByteOrder, LittleEndian};
 use cip_bytes::{Full, append, append_u8, append_u16, append_u32};
 
+/// How many bytes stand before the path, the reserved one included.
+const SIZE_BEFORE_PATH: usize = 12;
+
 /// Which connection a request to close means: the three numbers that its opening gave. `path` is its
 /// bytes, of whole words.
 #[derive(Clone, Copy, Debug)]
@@ -18,9 +21,13 @@ pub struct CloseRequest<'a> {
     pub priority_and_tick_time: u8,
     /// Timeout ticks.
     pub timeout_ticks: u8,
+    /// The originator's number of the connection.
     pub connection_serial: u16,
+    /// The originator's vendor.
     pub originator_vendor: u16,
+    /// The originator's serial number.
     pub originator_serial: u32,
+    /// The bytes of the path, of whole words.
     pub path: &'a [u8],
 }
 
@@ -51,7 +58,7 @@ impl<'a> CloseRequest<'a> {
         ensures spelled { OnOk result (IsClose (view self.now)) }
         ensures err { OnErr result (out.new ≡ out.old) }
     {
-        if out.remaining_capacity() < 12 + self.path.len() {
+        if out.remaining_capacity() < SIZE_BEFORE_PATH + self.path.len() {
             return Err(Full);
         }
         append_u8(out, self.priority_and_tick_time);
@@ -65,14 +72,16 @@ impl<'a> CloseRequest<'a> {
     }
 }
 
+/// The close request that is the whole text, as a computation.
 #[tactic(auto, unfolding(crate::specs::Close::close_of))]
 fn close_at(bytes: &[u8]) -> Result<CloseRequest<'_>, LengthFault>
     ensures { Gives view result (close_of bytes.now) }
 {
-    if bytes.len() < 12 {
+    if bytes.len() < SIZE_BEFORE_PATH {
         return Err(LengthFault::Short);
     }
-    let said = 12 + 2 * usize::from(bytes[10]);
+    // byte 10 counts the words of the path; a reserved byte follows it (Forward_Close)
+    let said = SIZE_BEFORE_PATH + 2 * usize::from(bytes[10]);
     if bytes.len() < said {
         return Err(LengthFault::Short);
     }
@@ -82,6 +91,7 @@ fn close_at(bytes: &[u8]) -> Result<CloseRequest<'_>, LengthFault>
     Ok(fields_at(bytes))
 }
 
+/// The fields, each read at its place.
 #[tactic(auto, unfolding(crate::specs::Close::close_fields))]
 fn fields_at(bytes: &[u8]) -> CloseRequest<'_>
     requires { 12 ≤ length bytes.now }

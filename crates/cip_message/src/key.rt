@@ -13,18 +13,25 @@ use cip_bytes::{Full, append, append_u8, append_u16};
 /// What an electronic key asks of a device. A number 0 asks nothing.
 #[derive(Clone, Copy, Debug, PartialEq, Eq)]
 pub struct Key {
+    /// The vendor's number, 0 for any.
     pub vendor: u16,
+    /// The device type of the vendor's profile, 0 for any.
     pub device_type: u16,
+    /// The vendor's number of the product, 0 for any.
     pub product_code: u16,
-    /// Up to 127.
+    /// The major revision, up to 127, 0 for any.
     pub major: u8,
-    /// A minor revision up to the device's will do.
+    /// Bit 7 of the byte of the major revision: a minor revision up to the device's will do.
     pub compatible: bool,
+    /// The minor revision, 0 for any.
     pub minor: u8,
 }
 
 /// The segment type of a key, and its format. (Volume 1, key segment, format 4.)
-const KEY_SEGMENT: [u8; 2] = [0x34, 0x04];
+pub(crate) const KEY_SEGMENT: [u8; 2] = [0x34, 0x04];
+
+/// How many bytes a key has, its type and format included.
+pub(crate) const KEY_SIZE: usize = 10;
 
 /// The bit above the major revision: a minor revision up to the device's will do.
 const COMPATIBILITY: u8 = 0x80;
@@ -44,7 +51,7 @@ impl Key {
         ensures spelled { OnOk result (IsKey self.now) }
         ensures again { OnOk result (key_of (key_text self.now) ≡ Some self.now) }
     {
-        if out.remaining_capacity() < 10 {
+        if out.remaining_capacity() < KEY_SIZE {
             return Err(Full);
         }
         append(out, &KEY_SEGMENT);
@@ -72,10 +79,15 @@ impl Key {
 /// What a device is, as a key asks for it.
 #[derive(Clone, Copy, Debug, PartialEq, Eq)]
 pub struct Device {
+    /// The vendor's number.
     pub vendor: u16,
+    /// The device type of the vendor's profile.
     pub device_type: u16,
+    /// The vendor's number of the product.
     pub product_code: u16,
+    /// The major revision, 1 to 127.
     pub major: u8,
+    /// The minor revision.
     pub minor: u8,
 }
 
@@ -95,28 +107,32 @@ pub fn read_key(bytes: &[u8]) -> Option<Key>
     key_at(bytes)
 }
 
+/// The key that is the whole text, as a computation.
 #[tactic(auto, unfolding(crate::specs::Key::key_of))]
 fn key_at(bytes: &[u8]) -> Option<Key>
     ensures { result ≡ key_of bytes.now }
 {
-    if bytes.len() != 10 || bytes[0] != 0x34 || bytes[1] != 0x04 {
+    // a key is its type, its format and eight bytes, and nothing more (key segment)
+    if bytes.len() != KEY_SIZE || bytes[0] != KEY_SEGMENT[0] || bytes[1] != KEY_SEGMENT[1] {
         return None;
     }
+    // bit 7 of the major revision is the compatibility bit (key segment)
     let revision = bytes[8];
     Some(Key {
         vendor: LittleEndian::read_u16(&bytes[2..]),
         device_type: LittleEndian::read_u16(&bytes[4..]),
         product_code: LittleEndian::read_u16(&bytes[6..]),
-        major: if revision < 0x80 {
+        major: if revision < COMPATIBILITY {
             revision
         } else {
-            revision - 0x80
+            revision - COMPATIBILITY
         },
-        compatible: revision >= 0x80,
+        compatible: revision >= COMPATIBILITY,
         minor: bytes[9],
     })
 }
 
+/// Whether a number meets what a key asks of it: 0 asks nothing (key segment).
 fn is_met(asked: u16, has: u16) -> bool
     ensures { result ≡ is_met_by asked has }
 {
@@ -139,9 +155,11 @@ impl Device {
         self.refusal_of(key)
     }
 
+    /// The first test that fails, as a computation.
     fn refusal_of(&self, key: &Key) -> Option<u16>
         ensures { result ≡ refusal self.now key.now }
     {
+        // vendor and product code first, then the device type, then the revision (ours)
         if !is_met(key.vendor, self.vendor) || !is_met(key.product_code, self.product_code) {
             return Some(VENDOR_OR_PRODUCT_CODE);
         }
@@ -149,6 +167,7 @@ impl Device {
             return Some(DEVICE_TYPE);
         }
         let same_major = is_met(u16::from(key.major), u16::from(self.major));
+        // with the compatibility bit a minor revision up to the device's will do (key segment)
         let same_minor = is_met(u16::from(key.minor), u16::from(self.minor));
         if same_major && (same_minor || key.compatible && key.minor <= self.minor) {
             None

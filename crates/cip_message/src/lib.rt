@@ -6,6 +6,9 @@
 //! can from the bytes. Each writer appends exactly one spelling to a buffer of fixed capacity, or
 //! changes nothing. Nothing here takes memory.
 //!
+//! The body of each public reader stands in a private function of the same name with `_at`, whose clause is the
+//! reading as a computation; what its public clauses say of the grammar follows from that by a lemma.
+//!
 //! The types to know are [`Path`], [`RequestView`] and [`ReplyView`]; who serves or opens connections
 //! needs [`OpenRequest`], [`CloseRequest`], [`Key`] and [`Device`] too.
 #![tactic(auto)]

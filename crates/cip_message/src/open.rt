@@ -10,9 +10,13 @@ use byteorder::{ByteOrder, LittleEndian};
 use cip_bytes::{Full, append, append_u8, append_u16, append_u32};
 use thiserror::Error;
 
-/// The parameters of one direction of a connection.
+/// How many bytes stand before the path.
+const SIZE_BEFORE_PATH: usize = 36;
+
+/// The parameters of one direction of a connection. (Volume 1, network connection parameters.)
 #[derive(Clone, Copy, Debug, PartialEq, Eq)]
 pub struct Parameters {
+    /// Bit 15 redundant owner, 14 and 13 type, 11 and 10 priority, 9 variable, 8 to 0 size.
     pub bits: u16,
 }
 
@@ -21,6 +25,7 @@ impl Parameters {
     pub fn connection_type(self) -> u8
         ensures { result ≡ connection_type self.bits }
     {
+        // bits 14 and 13 (network connection parameters)
         (self.bits >> 13 & 3) as u8
     }
 
@@ -28,6 +33,7 @@ impl Parameters {
     pub fn size(self) -> u16
         ensures { result ≡ size_of self.bits }
     {
+        // bits 8 to 0 (network connection parameters)
         self.bits & 0x1ff
     }
 }
@@ -35,6 +41,7 @@ impl Parameters {
 /// A connection's transport: who serves, what triggers, and the class.
 #[derive(Clone, Copy, Debug, PartialEq, Eq)]
 pub struct Transport {
+    /// Bit 7 server, 6 to 4 trigger, 3 to 0 class.
     pub bits: u8,
 }
 
@@ -66,16 +73,25 @@ pub struct OpenRequest<'a> {
     pub o_to_t_id: u32,
     /// The ID from target to originator.
     pub t_to_o_id: u32,
+    /// The originator's number of the connection.
     pub connection_serial: u16,
+    /// The originator's vendor.
     pub originator_vendor: u16,
+    /// The originator's serial number.
     pub originator_serial: u32,
     /// The timeout multiplier: the time-out is the RPI times 4 times 2 to it.
     pub timeout_multiplier: u8,
+    /// The requested interval from originator to target, in microseconds.
     pub o_to_t_rpi: u32,
+    /// The parameters from originator to target.
     pub o_to_t_parameters: Parameters,
+    /// The requested interval from target to originator, in microseconds.
     pub t_to_o_rpi: u32,
+    /// The parameters from target to originator.
     pub t_to_o_parameters: Parameters,
+    /// Who serves, what triggers, and the class.
     pub transport: Transport,
+    /// The bytes of the path, of whole words.
     pub path: &'a [u8],
 }
 
@@ -126,7 +142,7 @@ impl<'a> OpenRequest<'a> {
         ensures spelled { OnOk result (IsOpen (view self.now)) }
         ensures err { OnErr result (out.new ≡ out.old) }
     {
-        if out.remaining_capacity() < 36 + self.path.len() {
+        if out.remaining_capacity() < SIZE_BEFORE_PATH + self.path.len() {
             return Err(Full);
         }
         self.append_front(out);
@@ -135,6 +151,7 @@ impl<'a> OpenRequest<'a> {
         Ok(())
     }
 
+    /// Appends the fields up to the originator's serial.
     fn append_front<const N: usize>(&self, out: &mut ArrayVec<u8, N>)
         requires { array_vec_len out.old + 18 ≤ N }
         ensures text { out.new.items ≡ out.old.items ++ front (view self.now) }
@@ -150,6 +167,7 @@ impl<'a> OpenRequest<'a> {
         append_u32(out, self.originator_serial);
     }
 
+    /// Appends the fields from the timeout multiplier on, up to the path.
     fn append_back<const N: usize>(&self, out: &mut ArrayVec<u8, N>)
         requires room { array_vec_len out.old + 18 ≤ N }
         requires counted { length self.now.path.now ≤ 510 }
@@ -168,14 +186,16 @@ impl<'a> OpenRequest<'a> {
     }
 }
 
+/// The open request that is the whole text, as a computation.
 #[tactic(auto, unfolding(crate::specs::Open::open_of))]
 fn open_at(bytes: &[u8]) -> Result<OpenRequest<'_>, LengthFault>
     ensures { Gives view result (open_of bytes.now) }
 {
-    if bytes.len() < 36 {
+    if bytes.len() < SIZE_BEFORE_PATH {
         return Err(LengthFault::Short);
     }
-    let said = 36 + 2 * usize::from(bytes[35]);
+    // byte 35 counts the words of the path (Forward_Open)
+    let said = SIZE_BEFORE_PATH + 2 * usize::from(bytes[35]);
     if bytes.len() < said {
         return Err(LengthFault::Short);
     }
@@ -185,6 +205,7 @@ fn open_at(bytes: &[u8]) -> Result<OpenRequest<'_>, LengthFault>
     Ok(fields_at(bytes))
 }
 
+/// The fields, each read at its place.
 #[tactic(auto, unfolding(crate::specs::Open::open_fields))]
 fn fields_at(bytes: &[u8]) -> OpenRequest<'_>
     requires { 36 ≤ length bytes.now }

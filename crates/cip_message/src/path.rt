@@ -18,9 +18,13 @@ use thiserror::Error;
 /// attributes and a member of that.
 #[derive(Clone, Copy, Debug, PartialEq, Eq)]
 pub struct Path {
+    /// The class.
     pub class: u16,
+    /// The instance, 0 for the class itself.
     pub instance: u32,
+    /// The attribute, if one is named.
     pub attribute: Option<u16>,
+    /// The member, if one is named.
     pub member: Option<u16>,
 }
 
@@ -159,6 +163,7 @@ fn first_segment(bytes: &[u8]) -> Result<(Segment, &[u8]), PathFault>
     }
 }
 
+/// The class, which comes first, and what follows it. (Volume 1, order of logical segments.)
 #[tactic(auto, unfolding(crate::specs::PathReading::class_of))]
 fn class(bytes: &[u8]) -> Result<(u16, &[u8]), PathFault>
     ensures { Gives (λ x. (x.0, x.1.now)) result (class_of bytes.now) }
@@ -169,6 +174,7 @@ fn class(bytes: &[u8]) -> Result<(u16, &[u8]), PathFault>
     }
 }
 
+/// The instance, which follows the class, and what follows it.
 #[tactic(auto, unfolding(crate::specs::PathReading::instance_of))]
 fn instance(bytes: &[u8]) -> Result<(u32, &[u8]), PathFault>
     ensures { Gives (λ x. (x.0, x.1.now)) result (instance_of bytes.now) }
@@ -207,6 +213,7 @@ fn member(bytes: &[u8]) -> Result<(Option<u16>, &[u8]), PathFault>
     }
 }
 
+/// The path, where nothing follows it. What follows is told from a segment out of order first.
 #[tactic(auto, unfolding(crate::specs::PathReading::whole_of))]
 fn whole(path: Path, bytes: &[u8]) -> Result<Path, PathFault>
     ensures { result ≡ whole_of path bytes.now }
@@ -229,6 +236,7 @@ pub fn read_path(bytes: &[u8]) -> Result<Path, PathFault>
     path_at(bytes)
 }
 
+/// The path that the bytes spell, as a computation.
 #[tactic(auto, unfolding(crate::specs::PathReading::path_of))]
 fn path_at(bytes: &[u8]) -> Result<Path, PathFault>
     ensures { result ≡ path_of bytes.now }
@@ -246,6 +254,7 @@ fn path_at(bytes: &[u8]) -> Result<Path, PathFault>
     whole(path, rest)
 }
 
+/// How many bytes the shortest spelling of a value of 16 bits has, its first byte included.
 fn size16(value: u16) -> usize
     ensures size { (first : ℕ) → result ≡ length (short16 first value) }
     ensures small { result ≤ 6 }
@@ -254,6 +263,7 @@ fn size16(value: u16) -> usize
     if value < 0x100 { 2 } else { 4 }
 }
 
+/// The same of a value of 32 bits.
 fn size32(value: u32) -> usize
     ensures size { (first : ℕ) → result ≡ length (short32 first value) }
     ensures small { result ≤ 6 }
@@ -268,6 +278,7 @@ fn size32(value: u32) -> usize
     }
 }
 
+/// The same of a value that may be missing.
 fn size_optional(value: Option<u16>) -> usize
     ensures size { (first : ℕ) → result ≡ length (short_optional first value) }
     ensures small { result ≤ 6 }
@@ -279,6 +290,7 @@ fn size_optional(value: Option<u16>) -> usize
     }
 }
 
+/// Appends the shortest spelling of a value of 16 bits, `first` being that of 8 bits.
 fn append16<const N: usize>(out: &mut ArrayVec<u8, N>, first: u8, value: u16)
     requires first { first < 2 ^ 7 }
     requires room { array_vec_len out.old + length (short16 first value) ≤ N }
@@ -292,6 +304,7 @@ fn append16<const N: usize>(out: &mut ArrayVec<u8, N>, first: u8, value: u16)
     }
 }
 
+/// The same of a value of 32 bits.
 fn append32<const N: usize>(out: &mut ArrayVec<u8, N>, first: u8, value: u32)
     requires first { first < 2 ^ 7 }
     requires room { array_vec_len out.old + length (short32 first value) ≤ N }
@@ -305,6 +318,7 @@ fn append32<const N: usize>(out: &mut ArrayVec<u8, N>, first: u8, value: u32)
     }
 }
 
+/// The same of a value that may be missing.
 fn append_optional<const N: usize>(out: &mut ArrayVec<u8, N>, first: u8, value: Option<u16>)
     requires first { first < 2 ^ 7 }
     requires room { array_vec_len out.old + length (short_optional first value) ≤ N }

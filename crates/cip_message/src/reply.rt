@@ -16,9 +16,13 @@ use thiserror::Error;
 /// additional status words as bytes (two each, least first), and the data.
 #[derive(Clone, Copy, Debug)]
 pub struct ReplyView<'a> {
+    /// The request's service with bit 7 set.
     pub service: u8,
+    /// The general status.
     pub status: u8,
+    /// The additional status words, two bytes each, least first.
     pub additional: &'a [u8],
+    /// The data of the reply.
     pub data: &'a [u8],
 }
 
@@ -76,6 +80,7 @@ impl<'a> ReplyView<'a> {
     }
 }
 
+/// The reply that is the whole text, as a computation.
 #[tactic(auto, using(crate::proofs::Replies::even_front), unfolding(crate::specs::Reply::reply_of))]
 fn reply_at(bytes: &[u8]) -> Result<ReplyView<'_>, ReplyFault>
     ensures exact { Gives view result (reply_of bytes.now) }
@@ -84,9 +89,11 @@ fn reply_at(bytes: &[u8]) -> Result<ReplyView<'_>, ReplyFault>
     let [service, _reserved, status, words, rest @ ..] = bytes else {
         return Err(ReplyFault::Short);
     };
+    // bit 7 tells a reply from a request (message router)
     if *service < 0x80 {
         return Err(ReplyFault::NotReply);
     }
+    // the reserved byte may have any value; the additional status is counted in words (message router)
     let size = 2 * usize::from(*words);
     if rest.len() < size {
         return Err(ReplyFault::Extra);

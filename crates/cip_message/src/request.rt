@@ -12,8 +12,11 @@ use thiserror::Error;
 /// A request as it lies in a text: its service, the bytes of its path, and its data.
 #[derive(Clone, Copy, Debug)]
 pub struct RequestView<'a> {
+    /// The service, bit 7 of which is clear in a request.
     pub service: u8,
+    /// The bytes of the path, of whole words.
     pub path: &'a [u8],
+    /// The data of the service.
     pub data: &'a [u8],
 }
 
@@ -77,6 +80,7 @@ impl<'a> RequestView<'a> {
     }
 }
 
+/// The request that is the whole text, as a computation.
 #[tactic(auto, unfolding(crate::specs::Request::request_of))]
 fn request_at(bytes: &[u8]) -> Result<RequestView<'_>, RequestFault>
     ensures { Gives view result (request_of bytes.now) }
@@ -84,6 +88,7 @@ fn request_at(bytes: &[u8]) -> Result<RequestView<'_>, RequestFault>
     let [service, words, rest @ ..] = bytes else {
         return Err(RequestFault::Short);
     };
+    // the path is counted in words of two bytes (message router)
     let size = 2 * usize::from(*words);
     if rest.len() < size {
         return Err(RequestFault::PathSize);
