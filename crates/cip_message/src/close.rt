@@ -3,7 +3,8 @@
 ghost use Rattle.std.specs.Prelude.{◌≡◌, ◌↔◌, ◌+◌, ◌%◌, ◌<◌, ◌≤◌, ◌++◌, length, IsOk, OnOk, OnErr};
 ghost use Rattle.arrayvec.specs.ArrayVec.{array_vec_len};
 ghost use Rattle.cip_bytes.specs.Reading.{Gives};
-ghost use Rattle.cip_message.specs.Close.{Close, IsClose, SpellsClose, close, view, said_length, close_fields, close_of};
+ghost use Rattle.cip_message.specs.Close.{Close, IsClose, SpellsClose, close, view, said_length, close_fields};
+ghost use Rattle.cip_message.specs.Close.{close_of};
 
 use crate::open::LengthFault;
 use arrayvec::ArrayVec;

@@ -1,10 +1,12 @@
 //! The electronic key, by which who opens a connection says which device it means (Volume 1, appendix
 //! on segments, and Connection Manager).
 
-ghost use Rattle.std.specs.Prelude.{◌≡◌, ◌↔◌, ◌+◌, ◌^◌, ◌<◌, ◌≤◌, ◌++◌, length, IsNone, Some, IsOk, OnOk, OnErr, if◌then◌else◌};
+ghost use Rattle.std.specs.Prelude.{◌≡◌, ◌↔◌, ◌+◌, ◌^◌, ◌<◌, ◌≤◌, ◌++◌, length, IsNone, Some, IsOk, OnOk, OnErr};
+ghost use Rattle.std.specs.Prelude.{if◌then◌else◌};
 ghost use Rattle.arrayvec.specs.ArrayVec.{array_vec_len};
 ghost use Rattle.cip_message.specs.declared.key.Key.{Key};
-ghost use Rattle.cip_message.specs.Key.{IsKey, MeetsVendor, MeetsType, MeetsRevision, key as key_text, refusal, key_of, is_met as is_met_by};
+ghost use Rattle.cip_message.specs.Key.{IsKey, MeetsVendor, MeetsType, MeetsRevision, key as key_text, refusal, key_of};
+ghost use Rattle.cip_message.specs.Key.{is_met as is_met_by};
 
 use arrayvec::ArrayVec;
 use byteorder::{ByteOrder, LittleEndian};

@@ -3,7 +3,9 @@
 ghost use Rattle.std.specs.Prelude.{◌≡◌, ◌↔◌, ◌+◌, ◌%◌, ◌<◌, ◌≤◌, ◌++◌, length, IsOk, OnOk, OnErr};
 ghost use Rattle.arrayvec.specs.ArrayVec.{array_vec_len};
 ghost use Rattle.cip_bytes.specs.Reading.{Gives};
-ghost use Rattle.cip_message.specs.Open.{Open, FrontFits, BackFits, IsOpen, SpellsOpen, front, back, «open», view, said_length, open_fields, open_of, connection_type, size_of, is_server_of, class_of_transport, length_fault_number};
+ghost use Rattle.cip_message.specs.Open.{Open, FrontFits, BackFits, IsOpen, SpellsOpen, front, back, «open», view};
+ghost use Rattle.cip_message.specs.Open.{said_length, open_fields, open_of, connection_type, size_of, is_server_of};
+ghost use Rattle.cip_message.specs.Open.{class_of_transport, length_fault_number};
 
 use arrayvec::ArrayVec;
 use byteorder::{ByteOrder, LittleEndian};

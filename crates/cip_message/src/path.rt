@@ -6,7 +6,9 @@ ghost use Rattle.cip_bytes.specs.Reading.{Gives};
 ghost use Rattle.cip_message.specs.declared.path.Path.{Path};
 ghost use Rattle.cip_message.specs.declared.path.PathFault.{PathFault};
 ghost use Rattle.cip_message.specs.Path.{IsPath, path_fault, path_fault_number};
-ghost use Rattle.cip_message.specs.PathReading.{value8_of, value16_of, value32_of, kind_of, segment_of_kind, segment_of, class_of, instance_of, attribute_of, member_of, whole_of, path_of};
+ghost use Rattle.cip_message.specs.PathReading.{value8_of, value16_of, value32_of, kind_of, segment_of_kind};
+ghost use Rattle.cip_message.specs.PathReading.{segment_of, class_of, instance_of, attribute_of, member_of, whole_of};
+ghost use Rattle.cip_message.specs.PathReading.{path_of};
 ghost use Rattle.cip_message.specs.PathWriting.{short16, short32, short_optional, short, FitsPath, IsShortest};
 
 use arrayvec::ArrayVec;

@@ -1,11 +1,13 @@
 //! Replies of the message router (Volume 1, message router response format).
 
-ghost use Rattle.std.specs.Prelude.{◌≡◌, ◌↔◌, ◌+◌, ◌*◌, ◌%◌, ◌<◌, ◌≤◌, ◌++◌, length, slice_get, slice_index, IsOk, OnOk, OnErr, IfOk};
+ghost use Rattle.std.specs.Prelude.{◌≡◌, ◌↔◌, ◌+◌, ◌*◌, ◌%◌, ◌<◌, ◌≤◌, ◌++◌, length, slice_get, slice_index, IsOk};
+ghost use Rattle.std.specs.Prelude.{OnOk, OnErr, IfOk};
 ghost use Rattle.std.specs.List.{flat_map};
 ghost use Rattle.arrayvec.specs.ArrayVec.{array_vec_len};
 ghost use Rattle.cip_bytes.specs.Numbers.{le};
 ghost use Rattle.cip_bytes.specs.Reading.{Gives};
-ghost use Rattle.cip_message.specs.Reply.{Reply, SpellsReply, reply, reply_to, reply_service, view, reply_of, reply_fault_number};
+ghost use Rattle.cip_message.specs.Reply.{Reply, SpellsReply, reply, reply_to, reply_service, view, reply_of};
+ghost use Rattle.cip_message.specs.Reply.{reply_fault_number};
 
 use arrayvec::ArrayVec;
 use byteorder::{ByteOrder, LittleEndian};
@@ -144,8 +146,10 @@ pub fn write_reply<const N: usize>(
     data: &[u8],
 ) -> Result<(), Full>
     requires { length additional.now < 256 }
-    ensures fits { IsOk result ↔ (array_vec_len out.old + length (reply (reply_to service status additional.now «data».now)) ≤ N) }
-    ensures ok { OnOk result (out.new.items ≡ out.old.items ++ reply (reply_to service status additional.now «data».now)) }
+    ensures fits { IsOk result
+        ↔ (array_vec_len out.old + length (reply (reply_to service status additional.now «data».now)) ≤ N) }
+    ensures ok { OnOk result
+        (out.new.items ≡ out.old.items ++ reply (reply_to service status additional.now «data».now)) }
     ensures err { OnErr result (out.new ≡ out.old) }
     // It is a reply's spelling, and is read as that reply.
     ensures spelled { SpellsReply (reply_to service status additional.now «data».now)

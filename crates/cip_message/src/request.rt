@@ -1,6 +1,7 @@
 //! Requests of the message router (Volume 1, message router request format).
 
-ghost use Rattle.std.specs.Prelude.{◌≡◌, ◌↔◌, ◌+◌, ◌*◌, ◌%◌, ◌<◌, ◌≤◌, ◌++◌, length, slice_index, IsOk, OnOk, OnErr, Ok, Err};
+ghost use Rattle.std.specs.Prelude.{◌≡◌, ◌↔◌, ◌+◌, ◌*◌, ◌%◌, ◌<◌, ◌≤◌, ◌++◌, length, slice_index, IsOk, OnOk, OnErr};
+ghost use Rattle.std.specs.Prelude.{Ok, Err};
 ghost use Rattle.arrayvec.specs.ArrayVec.{array_vec_len};
 ghost use Rattle.cip_bytes.specs.Reading.{Gives};
 ghost use Rattle.cip_message.specs.Request.{Request, IsRequest, request, view, request_of, request_fault_number};
