@@ -143,3 +143,8 @@ is_server_of bits = nat_le (2 ^ 7) bits
 -- and bits 3 to 0 are the transport class
 abbrev pub class_of_transport : ℕ → ℕ
 class_of_transport bits = bits % 2 ^ 4
+
+-- The number of a fault.
+abbrev pub length_fault_number : LengthFault → ℕ
+length_fault_number Short = 1
+length_fault_number Long = 2

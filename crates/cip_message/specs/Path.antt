@@ -104,3 +104,9 @@ pub record path_fault (k : PathFault) (b : List ℕ) : Type 0 where
   pub spelled : AreSegments before front
   pub joined : b ≡ front ++ rest
   pub wrong : IsWrong k before rest
+
+-- The number of a fault.
+abbrev pub path_fault_number : PathFault → ℕ
+path_fault_number fault.Segment = 1
+path_fault_number fault.Order = 2
+path_fault_number fault.Cut = 3

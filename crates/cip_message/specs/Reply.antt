@@ -57,3 +57,9 @@ reply_of (service ∷ reserved ∷ status ∷ words ∷ rest) =
     if nat_lt service 128 then Err NotReply
     else if nat_lt (length rest) (2 * words) then Err Extra
     else Ok (reply_of_fields service status (words_of (take (2 * words) rest)) (drop (2 * words) rest))
+
+-- The number of a fault.
+abbrev pub reply_fault_number : ReplyFault → ℕ
+reply_fault_number Short = 1
+reply_fault_number NotReply = 2
+reply_fault_number Extra = 3

@@ -34,3 +34,8 @@ request_of (service ∷ []) = Err Short
 request_of (service ∷ words ∷ rest) =
     if nat_lt (length rest) (2 * words) then Err PathSize
     else Ok (record { service = service; path = take (2 * words) rest; «data» = drop (2 * words) rest })
+
+-- The number of a fault.
+abbrev pub request_fault_number : RequestFault → ℕ
+request_fault_number Short = 1
+request_fault_number PathSize = 2

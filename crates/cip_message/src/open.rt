@@ -3,7 +3,7 @@
 ghost use Rattle.std.specs.Prelude.{◌≡◌, ◌↔◌, ◌+◌, ◌%◌, ◌<◌, ◌≤◌, ◌++◌, length, IsOk, OnOk, OnErr};
 ghost use Rattle.arrayvec.specs.ArrayVec.{array_vec_len};
 ghost use Rattle.cip_message.specs.Reading.{Gives};
-ghost use Rattle.cip_message.specs.Open.{Open, FrontFits, BackFits, IsOpen, SpellsOpen, front, back, «open», view, said_length, open_fields, open_of, connection_type, size_of, is_server_of, class_of_transport, OneOpen};
+ghost use Rattle.cip_message.specs.Open.{length_fault_number, Open, FrontFits, BackFits, IsOpen, SpellsOpen, front, back, «open», view, said_length, open_fields, open_of, connection_type, size_of, is_server_of, class_of_transport, OneOpen};
 
 use crate::writing::{Full, append, append_u8, append_u16, append_u32};
 use arrayvec::ArrayVec;
@@ -84,10 +84,19 @@ pub struct OpenRequest<'a> {
 pub enum LengthFault {
     /// They end before their fields or their path do.
     #[error("data too short")]
-    Short,
+    Short = 1,
     /// They go on behind their path.
     #[error("data too long")]
-    Long,
+    Long = 2,
+}
+
+impl LengthFault {
+    /// Its number.
+    pub fn number(self) -> u8
+        ensures { result ≡ length_fault_number self }
+    {
+        self as u8
+    }
 }
 
 impl<'a> OpenRequest<'a> {

@@ -5,7 +5,7 @@ ghost use Rattle.arrayvec.specs.ArrayVec.{array_vec_len};
 ghost use Rattle.cip_message.specs.Reading.{Gives};
 ghost use Rattle.cip_message.specs.declared.path.Path.{Path};
 ghost use Rattle.cip_message.specs.declared.path.PathFault.{PathFault};
-ghost use Rattle.cip_message.specs.Path.{IsPath, path_fault};
+ghost use Rattle.cip_message.specs.Path.{IsPath, path_fault, path_fault_number};
 ghost use Rattle.cip_message.specs.PathReading.{value8_of, value16_of, value32_of, segment_of, class_of, instance_of, attribute_of, member_of, whole_of, path_of};
 ghost use Rattle.cip_message.specs.PathWriting.{short16, short32, short_optional, short, FitsPath, IsShortest, OneSegment};
 
@@ -38,13 +38,22 @@ pub enum Segment {
 pub enum PathFault {
     /// A byte that begins no segment of a class, instance, member or attribute.
     #[error("no segment begins so")]
-    Segment,
+    Segment = 1,
     /// A segment that can't come next, or the end where the class or the instance is missing.
     #[error("segments out of order")]
-    Order,
+    Order = 2,
     /// The bytes end within a segment.
     #[error("cut within a segment")]
-    Cut,
+    Cut = 3,
+}
+
+impl PathFault {
+    /// Its number.
+    pub fn number(self) -> u8
+        ensures { result ≡ path_fault_number self }
+    {
+        self as u8
+    }
 }
 
 fn value8(bytes: &[u8]) -> Result<(u16, &[u8]), PathFault>

@@ -5,7 +5,7 @@ ghost use Rattle.std.specs.List.{flat_map};
 ghost use Rattle.arrayvec.specs.ArrayVec.{array_vec_len};
 ghost use Rattle.cip_message.specs.Numbers.{le};
 ghost use Rattle.cip_message.specs.Reading.{Gives};
-ghost use Rattle.cip_message.specs.Reply.{Reply, SpellsReply, reply, reply_of_fields, view, reply_of};
+ghost use Rattle.cip_message.specs.Reply.{reply_fault_number, Reply, SpellsReply, reply, reply_of_fields, view, reply_of};
 
 use crate::writing::{Full, append};
 use arrayvec::ArrayVec;
@@ -27,13 +27,22 @@ pub struct ReplyView<'a> {
 pub enum ReplyFault {
     /// Fewer than the four bytes before the additional words.
     #[error("shorter than a reply's first four bytes")]
-    Short,
+    Short = 1,
     /// Bit 7 of the service is clear.
     #[error("not a reply")]
-    NotReply,
+    NotReply = 2,
     /// The additional words go past the end.
     #[error("the additional words go past the end")]
-    Extra,
+    Extra = 3,
+}
+
+impl ReplyFault {
+    /// Its number.
+    pub fn number(self) -> u8
+        ensures { result ≡ reply_fault_number self }
+    {
+        self as u8
+    }
 }
 
 impl<'a> ReplyView<'a> {

@@ -3,7 +3,7 @@
 ghost use Rattle.std.specs.Prelude.{◌≡◌, ◌↔◌, ◌+◌, ◌*◌, ◌%◌, ◌<◌, ◌≤◌, ◌++◌, length, slice_index, IsOk, OnOk, OnErr, Ok, Err};
 ghost use Rattle.arrayvec.specs.ArrayVec.{array_vec_len};
 ghost use Rattle.cip_message.specs.Reading.{Gives};
-ghost use Rattle.cip_message.specs.Request.{Request, IsRequest, request, view, request_of};
+ghost use Rattle.cip_message.specs.Request.{request_fault_number, Request, IsRequest, request, view, request_of};
 
 use crate::writing::{Full, append, append_u8};
 use arrayvec::ArrayVec;
@@ -22,10 +22,19 @@ pub struct RequestView<'a> {
 pub enum RequestFault {
     /// Fewer than the two bytes before the path.
     #[error("shorter than a request's first two bytes")]
-    Short,
+    Short = 1,
     /// The path goes past the end.
     #[error("the path goes past the end")]
-    PathSize,
+    PathSize = 2,
+}
+
+impl RequestFault {
+    /// Its number.
+    pub fn number(self) -> u8
+        ensures { result ≡ request_fault_number self }
+    {
+        self as u8
+    }
 }
 
 impl<'a> RequestView<'a> {

@@ -5,7 +5,7 @@ use Rattle.std.specs.String.{string_bytes}
 use Rattle.cip_objects.specs.declared.config.Config.{Config}
 use Rattle.cip_objects.specs.declared.config.AssemblyConfig.{AssemblyConfig}
 use Rattle.cip_objects.specs.declared.config.ConfigFault.{ConfigFault}
-use Rattle.cip_objects.specs.declared.config.ConfigFault.TheVariants.{Name, Size, Members, DoubleInstance, Limit}
+use Rattle.cip_objects.specs.declared.config.ConfigFault.TheVariants.{Name, Size, Members, DoubleInstance, Limit, Memory}
 use Rattle.cip_objects.specs.Contents.{Contents}
 use Rattle.cip_objects.specs.Entries.{IdentityValues, Block, CounterValues, contents_of}
 
@@ -64,3 +64,12 @@ counter_of c = record { value = c.counter.value; limit = c.counter.limit; additi
 -- the contents of a configuration
 unfoldable pub configured : Config → Contents
 configured c = contents_of (identity_of c) (map block_of c.assemblies.items) (counter_of c)
+
+-- The number of a fault.
+abbrev pub config_fault_number : ConfigFault → ℕ
+config_fault_number Name = 1
+config_fault_number Size = 2
+config_fault_number Members = 3
+config_fault_number DoubleInstance = 4
+config_fault_number Limit = 5
+config_fault_number Memory = 6

@@ -1,7 +1,7 @@
 //! What the objects are made from, and what is refused.
 ghost use Rattle.std.specs.Prelude.{◌≡◌, ◌≤◌, ◌+◌, ◌<◌, ◌==◌, ◌||◌, not, nat_lt, length, sum, Some, None};
 ghost use Rattle.std.specs.List.{list_any};
-ghost use Rattle.cip_objects.specs.Configuration.{is_misnamed, is_missized, is_wrongly_split, is_misnumbered, instances};
+ghost use Rattle.cip_objects.specs.Configuration.{config_fault_number, is_misnamed, is_missized, is_wrongly_split, is_misnumbered, instances};
 
 use crate::assembly::{MEMBER_LIMIT, SIZE_LIMIT};
 use crate::identity::NAME_LIMIT;
@@ -63,22 +63,31 @@ pub struct AssemblyConfig {
 pub enum ConfigFault {
     /// The name is over 32 bytes, or has a byte outside 0x20 to 0x7e.
     #[error("the name is too long, or has a byte that can't be printed")]
-    Name,
+    Name = 1,
     /// There are over 16 assemblies, or one has 0 or over 480 bytes.
     #[error("too many assemblies, or one with no byte or too many")]
-    Size,
+    Size = 2,
     /// An assembly has over 64 members, or one of 0 bytes.
     #[error("an assembly with too many members, or one of no byte")]
-    Members,
+    Members = 3,
     /// An instance number is 0, which is the class itself, or stands twice.
     #[error("an instance number that is 0 or stands twice")]
-    DoubleInstance,
+    DoubleInstance = 4,
     /// The counter's first value is over its limit.
     #[error("the counter's first value is over its limit")]
-    Limit,
+    Limit = 5,
     /// No memory.
     #[error("out of memory")]
-    Memory,
+    Memory = 6,
+}
+
+impl ConfigFault {
+    /// Its number.
+    pub fn number(self) -> u8
+        ensures { result ≡ config_fault_number self }
+    {
+        self as u8
+    }
 }
 
 impl From<AllocError> for ConfigFault {

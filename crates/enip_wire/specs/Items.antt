@@ -3,7 +3,7 @@ use Rattle.std.specs.List.{flat_map, AllByRecursion}
 use Rattle.std.specs.Coded.{Coded, code_by, coded×, coded_ℕ, coded_list}
 use Rattle.enip_wire.specs.declared.packet.ItemView.{ItemView}
 use Rattle.enip_wire.specs.declared.packet.CpfFault.{CpfFault}
-use Rattle.enip_wire.specs.declared.packet.CpfFault.TheVariants.{Short, Trailing}
+use Rattle.enip_wire.specs.declared.packet.CpfFault.TheVariants.{Short, Trailing, Interface, Address, Data}
 use Rattle.enip_wire.specs.Numbers.{le, number_at}
 
 -- An item of the common packet format: its type, and its data. (Volume 2, common packet format.)
@@ -88,3 +88,11 @@ items_of text =
     if nat_lt (length text) 2
     then Err Short
     else whole (listed (number_at 0 2 text) (drop 2 text)) (after (number_at 0 2 text) (drop 2 text))
+
+-- The number of a fault.
+abbrev pub cpf_fault_number : CpfFault → ℕ
+cpf_fault_number Short = 1
+cpf_fault_number Trailing = 2
+cpf_fault_number Interface = 3
+cpf_fault_number Address = 4
+cpf_fault_number Data = 5

@@ -11,7 +11,7 @@ ghost use Rattle.std.specs.Iterator.{YieldsFirstBy, item_count};
 ghost use Rattle.std.specs.List.{flat_map};
 ghost use Rattle.arrayvec.specs.ArrayVec.{array_vec_len};
 ghost use Rattle.enip_wire.specs.Numbers.{number_at};
-ghost use Rattle.enip_wire.specs.Items.{Item, item as item_text, items, AreItems, IsShort, IsTrailing, item_of, item_at, size_at, after, items_of};
+ghost use Rattle.enip_wire.specs.Items.{cpf_fault_number, Item, item as item_text, items, AreItems, IsShort, IsTrailing, item_of, item_at, size_at, after, items_of};
 ghost use Rattle.enip_wire.specs.Bodies.{IsRrBody, IsUnitBody, Faulty, IsNull, IsConnected, rr_text, unit_text, seen_by, body_items_of, data_of, rr_body_of, unit_body_of};
 
 use arrayvec::ArrayVec;
@@ -47,6 +47,15 @@ pub enum CpfFault {
     /// There is no second item, or it is not the data of this body.
     #[error("the second item is not the data")]
     Data = 5,
+}
+
+impl CpfFault {
+    /// Its number.
+    pub fn number(self) -> u8
+        ensures { result ≡ cpf_fault_number self }
+    {
+        self as u8
+    }
 }
 
 /// A text does not fit into what is left of a buffer.
