@@ -5,6 +5,7 @@ use Rattle.cip_objects.specs.declared.config.AssemblyConfig.{AssemblyConfig}
 use Rattle.cip_objects.specs.declared.config.Config.{Config}
 use Rattle.enip_cmd.specs.declared.fault.Fault.{Fault}
 use Rattle.enip_cmd.specs.declared.fault.Fault.TheVariants.{Configuration as Refused, Memory}
+use Rattle.enip_cmd.specs.declared.fault.Refusal.TheVariants.{NotToml, BadValue, UnknownKey}
 use Rattle.enip_cmd.specs.declared.configuration.Configuration.{Configuration}
 use Rattle.enip_cmd.specs.Keys.{has_unknown_key}
 use Rattle.enip_cmd.specs.Settings.{number, number_or, name_told, counter_told, assemblies_told, address_told}
@@ -45,7 +46,7 @@ HasBadDevice told =
 
 -- Why a device is not read.
 abbrev pub IsUnreadDevice : Members → Fault → Type 0
-IsUnreadDevice told fault = (fault ≡ Memory) ⊎ ((fault ≡ Refused 8) × HasBadDevice told)
+IsUnreadDevice told fault = (fault ≡ Memory) ⊎ ((fault ≡ Refused BadValue) × HasBadDevice told)
 
 -- What a table tells of.
 abbrev pub IsWhole : Members → Configuration → Type 0
@@ -70,12 +71,12 @@ abbrev pub IsTold : Option Members → Configuration → Type 0
 IsTold None whole = ⊥
 IsTold (Some told) whole = (has_unknown_key told ≡ false) × IsWhole told whole
 
--- Why a text is refused: it is no TOML (7), else a key is unknown (9), else a value is bad (8).
+-- Why a text is refused: it is no TOML, else a key is unknown, else a value is bad.
 abbrev pub IsRefused : Option Members → Fault → Type 0
-IsRefused None fault = fault ≡ Refused 7
+IsRefused None fault = fault ≡ Refused NotToml
 IsRefused (Some told) fault =
-    ((has_unknown_key told ≡ true) × (fault ≡ Refused 9))
-    ⊎ ((has_unknown_key told ≡ false) × ((fault ≡ Refused 8) × HasBadValue told))
+    ((has_unknown_key told ≡ true) × (fault ≡ Refused UnknownKey))
+    ⊎ ((has_unknown_key told ≡ false) × ((fault ≡ Refused BadValue) × HasBadValue told))
 
 -- The same, or there was no memory.
 abbrev pub IsRefusal : Option Members → Fault → Type 0

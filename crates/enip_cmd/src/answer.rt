@@ -196,12 +196,7 @@ fn print_closed<W: Write>(output: &mut W, number: Number) -> Result<(), Fault>
 fn print_full<W: Write>(output: &mut W, number: Number, full: Full) -> Result<(), Fault>
     ensures { IfErr result IsOfRun }
 {
-    let why = match full {
-        Full::Places => b'1',
-        Full::Handles => b'2',
-    };
     output.write_all(&[number.digit()])?;
-    output.write_all(b" full ")?;
-    output.write_all(&[why, b'\n'])?;
+    writeln!(output, " full {}", full.number())?;
     Ok(())
 }

@@ -73,18 +73,18 @@ enum Stop {
     /// It is not exactly one frame.
     #[error("header")]
     Header,
-    /// The body has no such items, by the number of the check that failed.
-    #[error("cpf {0}")]
-    Cpf(u8),
+    /// The body has no such items.
+    #[error("cpf {}", .0.number())]
+    Cpf(CpfFault),
     /// The message is no request.
-    #[error("request {0}")]
-    Request(u8),
+    #[error("request {}", .0.number())]
+    Request(RequestFault),
     /// The request's path is none.
-    #[error("path {0}")]
-    Path(u8),
+    #[error("path {}", .0.number())]
+    Path(PathFault),
     /// The message is no reply.
-    #[error("reply {0}")]
-    Reply(u8),
+    #[error("reply {}", .0.number())]
+    Reply(ReplyFault),
     /// The program itself failed.
     #[error("{0}")]
     Program(Fault),
@@ -112,7 +112,7 @@ impl From<CpfFault> for Stop {
     ghost from_gives = { λ _ stop. IsStopOfRun stop };
 
     fn from(fault: CpfFault) -> Stop {
-        Stop::Cpf(fault as u8)
+        Stop::Cpf(fault)
     }
 }
 
@@ -120,10 +120,7 @@ impl From<RequestFault> for Stop {
     ghost from_gives = { λ _ stop. IsStopOfRun stop };
 
     fn from(fault: RequestFault) -> Stop {
-        Stop::Request(match fault {
-            RequestFault::Short => 1,
-            RequestFault::PathSize => 2,
-        })
+        Stop::Request(fault)
     }
 }
 
@@ -131,11 +128,7 @@ impl From<PathFault> for Stop {
     ghost from_gives = { λ _ stop. IsStopOfRun stop };
 
     fn from(fault: PathFault) -> Stop {
-        Stop::Path(match fault {
-            PathFault::Segment => 1,
-            PathFault::Order => 2,
-            PathFault::Cut => 3,
-        })
+        Stop::Path(fault)
     }
 }
 
@@ -143,11 +136,7 @@ impl From<ReplyFault> for Stop {
     ghost from_gives = { λ _ stop. IsStopOfRun stop };
 
     fn from(fault: ReplyFault) -> Stop {
-        Stop::Reply(match fault {
-            ReplyFault::Short => 1,
-            ReplyFault::NotReply => 2,
-            ReplyFault::Extra => 3,
-        })
+        Stop::Reply(fault)
     }
 }
 
