@@ -1,5 +1,6 @@
 -- Whether a configuration is what its text says, and why a text is refused.
-use Rattle.std.specs.Prelude.{◌≡◌, ◌⊎◌, ℕ, List, Bool, true, false, codes, Option, Some, None, map, string_bytes}
+use Rattle.std.specs.Prelude.{◌≡◌, ◌⊎◌, ℕ, List, Bool, true, false, codes, Option, Some, None, map, string_bytes, IsUtf8}
+use Rattle.toml.specs.Parse.{parse_document}
 use Rattle.toml.specs.Data.{Members}
 use Rattle.cip_objects.specs.declared.config.AssemblyConfig.{AssemblyConfig}
 use Rattle.cip_objects.specs.declared.config.Config.{Config}
@@ -81,3 +82,17 @@ IsRefused (Some told) fault =
 -- The same, or there was no memory.
 abbrev pub IsRefusal : Option Members → Fault → Type 0
 IsRefusal text fault = (fault ≡ Memory) ⊎ IsRefused text fault
+
+-- These bytes are a text that tells of this. (A TOML document is UTF-8.)
+abbrev pub IsToldBy : List ℕ → Configuration → Type 0
+IsToldBy bytes whole = IsUtf8 bytes × IsTold (parse_document bytes) whole
+
+-- Why bytes are refused: as the text that they are, or as no TOML where they are none.
+abbrev pub IsRefusedBy : List ℕ → Fault → Type 0
+IsRefusedBy bytes fault =
+    ((¬ (IsUtf8 bytes)) × (fault ≡ Refused NotToml))
+    ⊎ (IsUtf8 bytes × IsRefused (parse_document bytes) fault)
+
+-- The same, or there was no memory.
+abbrev pub IsRefusalBy : List ℕ → Fault → Type 0
+IsRefusalBy bytes fault = (fault ≡ Memory) ⊎ IsRefusedBy bytes fault

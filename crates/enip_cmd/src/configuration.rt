@@ -8,13 +8,14 @@ ghost use Rattle.std.specs.Prelude.{◌≡◌, ◌≤◌, IfOk, IfErr};
 ghost use Rattle.toml.specs.Parse.{parse_document};
 ghost use Rattle.toml.specs.View.{table_view};
 ghost use Rattle.enip_cmd.specs.Refusals.{IsInRange};
-ghost use Rattle.enip_cmd.specs.Told.{IsRefusal, IsTold, IsUnreadDevice, IsDevice};
+ghost use Rattle.enip_cmd.specs.Told.{IsRefusal, IsRefusalBy, IsTold, IsToldBy, IsUnreadDevice, IsDevice};
 
 use crate::fault::{Fault, Refusal};
 use assemblies::assemblies_of;
 use cip_objects::Config;
 use keys::has_unknown_key;
 use std::alloc::Global;
+use std::str;
 use toml::Table;
 use values::{address_of, counter_of, name_of, number, number_or};
 
@@ -37,6 +38,22 @@ pub struct Configuration {
 }
 
 impl Configuration {
+    /// Reads a configuration from its bytes. A TOML document is UTF-8: other bytes are no TOML.
+    ///
+    /// # Errors
+    ///
+    /// As `read`.
+    pub fn from_bytes(alloc: Global, bytes: &[u8]) -> Result<Configuration, Fault>
+        ensures read { IfOk result (IsToldBy bytes.now) }
+        ensures refused { IfErr result (IsRefusalBy bytes.now) }
+        ensures in_range { IfOk result IsInRange }
+    {
+        match str::from_utf8(bytes) {
+            Ok(text) => Configuration::read(alloc, text),
+            Err(_) => Err(Fault::Configuration(Refusal::NotToml)),
+        }
+    }
+
     /// Reads a configuration.
     ///
     /// # Errors

@@ -91,9 +91,9 @@ impl<T: Drop> From<AllocFailed<T>> for Fault {
 
 impl From<io::Error> for Fault {
     ghost use Rattle.std.specs.IoError.{error_kind};
-    ghost use Rattle.enip_cmd.specs.Statuses.{IsOfRun, fault_of_kind};
+    ghost use Rattle.enip_cmd.specs.Statuses.{IsOfDevices, fault_of_kind};
 
-    ghost from_gives = { λ error fault. IsOfRun fault × (fault ≡ fault_of_kind (error_kind error)) };
+    ghost from_gives = { λ error fault. IsOfDevices fault × (fault ≡ fault_of_kind (error_kind error)) };
 
     fn from(error: io::Error) -> Fault {
         match error.kind() {
