@@ -3,6 +3,7 @@ use Rattle.std.specs.Prelude.{Result, Ok, Err}
 use Rattle.std.specs.Borrow.{Bor}
 use Rattle.cip_objects.specs.Contents.{Contents}
 use Rattle.enip_cmd.specs.declared.adapter.Full.{Full}
+use Rattle.enip_cmd.specs.declared.adapter.Full.TheVariants.{Places, Handles}
 use Rattle.enip_cmd.specs.declared.place.Place.{Place}
 use Rattle.enip_cmd.specs.declared.place.Outcome.{Outcome}
 use Rattle.enip_cmd.specs.Desk.{Fed_places}
@@ -24,6 +25,11 @@ status_code PoorlyFormedData = 0x03
 status_code InvalidSession = 0x64
 status_code InvalidLength = 0x65
 status_code UnsupportedRevision = 0x69
+
+-- The number of why no peer can begin.
+abbrev pub full_number : Full → ℕ
+full_number Places = 1
+full_number Handles = 2
 
 -- What a call of begin answers.
 abbrev pub begin_said : Result ℕ Full → Said

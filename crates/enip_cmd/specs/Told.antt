@@ -1,10 +1,12 @@
 -- Whether a configuration is what its text says, and why a text is refused.
-use Rattle.std.specs.Prelude.{◌≡◌, ◌⊎◌, ℕ, List, Bool, true, false, codes, Option, Some, None, map, string_bytes}
+use Rattle.std.specs.Prelude.{◌≡◌, ◌⊎◌, ℕ, List, Bool, true, false, codes, Option, Some, None, map, string_bytes, IsUtf8}
+use Rattle.toml.specs.Parse.{parse_document}
 use Rattle.toml.specs.Data.{Members}
 use Rattle.cip_objects.specs.declared.config.AssemblyConfig.{AssemblyConfig}
 use Rattle.cip_objects.specs.declared.config.Config.{Config}
 use Rattle.enip_cmd.specs.declared.fault.Fault.{Fault}
 use Rattle.enip_cmd.specs.declared.fault.Fault.TheVariants.{Configuration as Refused, Memory}
+use Rattle.enip_cmd.specs.declared.fault.Refusal.TheVariants.{NotToml, BadValue, UnknownKey}
 use Rattle.enip_cmd.specs.declared.configuration.Configuration.{Configuration}
 use Rattle.enip_cmd.specs.Keys.{has_unknown_key}
 use Rattle.enip_cmd.specs.Settings.{number, number_or, name_told, counter_told, assemblies_told, address_told}
@@ -45,7 +47,7 @@ HasBadDevice told =
 
 -- Why a device is not read.
 abbrev pub IsUnreadDevice : Members → Fault → Type 0
-IsUnreadDevice told fault = (fault ≡ Memory) ⊎ ((fault ≡ Refused 8) × HasBadDevice told)
+IsUnreadDevice told fault = (fault ≡ Memory) ⊎ ((fault ≡ Refused BadValue) × HasBadDevice told)
 
 -- What a table tells of.
 abbrev pub IsWhole : Members → Configuration → Type 0
@@ -70,13 +72,27 @@ abbrev pub IsTold : Option Members → Configuration → Type 0
 IsTold None whole = ⊥
 IsTold (Some told) whole = (has_unknown_key told ≡ false) × IsWhole told whole
 
--- Why a text is refused: it is no TOML (7), else a key is unknown (9), else a value is bad (8).
+-- Why a text is refused: it is no TOML, else a key is unknown, else a value is bad.
 abbrev pub IsRefused : Option Members → Fault → Type 0
-IsRefused None fault = fault ≡ Refused 7
+IsRefused None fault = fault ≡ Refused NotToml
 IsRefused (Some told) fault =
-    ((has_unknown_key told ≡ true) × (fault ≡ Refused 9))
-    ⊎ ((has_unknown_key told ≡ false) × ((fault ≡ Refused 8) × HasBadValue told))
+    ((has_unknown_key told ≡ true) × (fault ≡ Refused UnknownKey))
+    ⊎ ((has_unknown_key told ≡ false) × ((fault ≡ Refused BadValue) × HasBadValue told))
 
 -- The same, or there was no memory.
 abbrev pub IsRefusal : Option Members → Fault → Type 0
 IsRefusal text fault = (fault ≡ Memory) ⊎ IsRefused text fault
+
+-- These bytes are a text that tells of this. (A TOML document is UTF-8.)
+abbrev pub IsToldBy : List ℕ → Configuration → Type 0
+IsToldBy bytes whole = IsUtf8 bytes × IsTold (parse_document bytes) whole
+
+-- Why bytes are refused: as the text that they are, or as no TOML where they are none.
+abbrev pub IsRefusedBy : List ℕ → Fault → Type 0
+IsRefusedBy bytes fault =
+    ((¬ (IsUtf8 bytes)) × (fault ≡ Refused NotToml))
+    ⊎ (IsUtf8 bytes × IsRefused (parse_document bytes) fault)
+
+-- The same, or there was no memory.
+abbrev pub IsRefusalBy : List ℕ → Fault → Type 0
+IsRefusalBy bytes fault = (fault ≡ Memory) ⊎ IsRefusedBy bytes fault

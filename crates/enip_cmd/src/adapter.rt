@@ -4,7 +4,7 @@ ghost use Rattle.std.specs.Prelude.{◌≡◌, ◌==◌, ◌↔◌, ◌<◌, ◌
 ghost use Rattle.std.specs.Option.{option_map};
 ghost use Rattle.std.specs.List.{position};
 ghost use Rattle.enip_cmd.specs.Desk.{fed_places};
-ghost use Rattle.enip_cmd.specs.Answers.{IsFed};
+ghost use Rattle.enip_cmd.specs.Answers.{IsFed, full_number};
 ghost use Rattle.std.specs.Borrow.{sem};
 ghost use Rattle.std.specs.Io.BufRead.{Rests};
 
@@ -24,10 +24,19 @@ const PLACES: usize = 9;
 pub enum Full {
     /// All places are taken.
     #[error("all places are taken")]
-    Places,
+    Places = 1,
     /// The last session handle was given out.
     #[error("all session handles were given out")]
-    Handles,
+    Handles = 2,
+}
+
+impl Full {
+    /// The number that is printed.
+    pub fn number(self) -> u8
+        ensures { result ≡ full_number self }
+    {
+        self as u8
+    }
 }
 
 /// A peer that has begun, known by its session handle.

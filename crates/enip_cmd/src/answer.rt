@@ -1,8 +1,10 @@
 //! `enip answer`: lines of pieces in, the adapter's answers out.
 
-ghost use Rattle.std.specs.Prelude.{◌≡◌, ◌≤◌, IfOk, IfErr, length};
+ghost use Rattle.std.specs.Prelude.{◌≡◌, ◌≤◌, true, false, IfOk, IfErr, Some, length};
 ghost use Rattle.enip_cmd.specs.declared.fault.Fault.{Fault};
-ghost use Rattle.enip_cmd.specs.Statuses.{IsOfRun, IsStatus, IsAccepted, IsRefusedText, IsFaultOf};
+ghost use Rattle.enip_cmd.specs.Digits.{bytes_spelled};
+ghost use Rattle.enip_cmd.specs.Lines.{spells_bytes, IsRefusedLine};
+ghost use Rattle.enip_cmd.specs.Statuses.{IsOfDevices, IsStatus, IsAccepted, IsRefusedText, IsFaultOf};
 
 use crate::adapter::{Adapter, Full, Peer};
 use crate::commands::LONGEST_ANSWER;
@@ -19,10 +21,10 @@ use std::io::{BufWriter, Read, Write};
 /// Runs an adapter over the lines of an input, and answers the exit status of the program: 0, or 3 where the
 /// configuration is refused, 4 where a line is, 5 where a device or memory failed, with a line on `errors`.
 ///
-/// What can be answered is written before more input is read.
+/// What can be answered is written before more input is read, and before a line is refused.
 pub fn answer<R: Read + Drop, W: Write + Drop, E: Write + Drop>(
     alloc: Global,
-    config: &str,
+    config: &[u8],
     input: R,
     output: W,
     errors: E,
@@ -44,21 +46,17 @@ pub fn answer<R: Read + Drop, W: Write + Drop, E: Write + Drop>(
 
 fn run<R: Read + Drop, W: Write + Drop>(
     alloc: Global,
-    config: &str,
+    config: &[u8],
     input: R,
     output: W,
 ) -> Result<(), Fault>
     ensures accepted { IfOk result (λ _. IsAccepted config.now) }
     ensures refused { IfErr result (IsFaultOf config.now) }
 {
-    let configuration = Configuration::read(alloc, config)?;
+    let configuration = Configuration::from_bytes(alloc, config)?;
     let objects = Objects::new(alloc, &configuration.objects)?;
     let mut desk = Desk::new(alloc, objects, output)?;
-    let read = read_lines(alloc, input, &mut desk);
-    let flushed = desk.output.flush();
-    read?;
-    flushed?;
-    Ok(())
+    read_lines(alloc, input, &mut desk)
 }
 
 /// Who has one of the nine numbers of an input.
@@ -85,7 +83,7 @@ struct Desk<W: Write + Drop> {
 
 impl<W: Write + Drop> Desk<W> {
     fn new(alloc: Global, objects: Objects, output: W) -> Result<Desk<W>, Fault>
-        ensures { IfErr result IsOfRun }
+        ensures { IfErr result IsOfDevices }
     {
         Ok(Desk {
             adapter: Adapter::new(alloc, objects)?,
@@ -107,9 +105,38 @@ impl<W: Write + Drop> Desk<W> {
         self.seats[number.place()] = Seat::Free;
     }
 
+    /// Takes the piece that digits spell, and says whether it has a byte or more.
+    fn take_piece(&mut self, digits: &[u8]) -> Result<bool, Fault>
+        ensures said { IfOk result (λ some. some ≡ spells_bytes digits.now) }
+        ensures piece { IfOk result (λ some. some ≡ true → bytes_spelled digits.now ≡ Some self.new.piece.items) }
+        ensures refused { IfErr result IsOfDevices }
+    {
+        Ok(decode(digits, &mut self.digits, &mut self.piece)? && !self.piece.is_empty())
+    }
+
+    /// Runs a line, and says whether it is one that can be run.
+    fn run_line(&mut self, text: &[u8]) -> Result<bool, Fault>
+        ensures said { IfOk result (λ runs. runs ≡ false → IsRefusedLine text.now) }
+        ensures refused { IfErr result IsOfDevices }
+    {
+        match Line::read(text) {
+            None => return Ok(false),
+            Some(Line::Nothing) => {}
+            Some(Line::Now(moment)) => self.now = moment,
+            Some(Line::End(number)) => self.end(number),
+            Some(Line::Piece(number, digits)) => {
+                if !self.take_piece(digits)? {
+                    return Ok(false);
+                }
+                self.feed(number)?;
+            }
+        }
+        Ok(true)
+    }
+
     /// Feeds the piece to the peer of a number, who begins where there is none.
     fn feed(&mut self, number: Number) -> Result<(), Fault>
-        ensures { IfErr result IsOfRun }
+        ensures { IfErr result IsOfDevices }
     {
         let seat = self.seats[number.place()];
         let peer = match seat {
@@ -142,24 +169,13 @@ impl<W: Write + Drop> Desk<W> {
 }
 
 impl<W: Write + Drop> TakeLines for Desk<W> {
+    ghost refuses = { λ _ text. IsRefusedLine text };
+
     fn take_line(&mut self, text: &[u8], number: u64) -> Result<(), Fault> {
-        match Line::read(text) {
-            None => Err(Fault::Line(number)),
-            Some(Line::Nothing) => Ok(()),
-            Some(Line::Now(moment)) => {
-                self.now = moment;
-                Ok(())
-            }
-            Some(Line::End(seat)) => {
-                self.end(seat);
-                Ok(())
-            }
-            Some(Line::Piece(seat, text)) => {
-                if !decode(text, &mut self.digits, &mut self.piece)? || self.piece.is_empty() {
-                    return Err(Fault::Line(number));
-                }
-                self.feed(seat)
-            }
+        if self.run_line(text)? {
+            Ok(())
+        } else {
+            Err(Fault::Line(number))
         }
     }
 
@@ -172,7 +188,7 @@ impl<W: Write + Drop> TakeLines for Desk<W> {
 /// Prints an answer: `P hex`.
 fn print_answer<W: Write>(output: &mut W, number: Number, frame: &[u8]) -> Result<(), Fault>
     requires { length frame.now ≤ LONGEST_ANSWER }
-    ensures { IfErr result IsOfRun }
+    ensures { IfErr result IsOfDevices }
 {
     let mut text = [0u8; 2 * LONGEST_ANSWER];
     let digits = &mut text[..2 * frame.len()];
@@ -185,7 +201,7 @@ fn print_answer<W: Write>(output: &mut W, number: Number, frame: &[u8]) -> Resul
 
 /// Prints that a peer is closed: `P closed`.
 fn print_closed<W: Write>(output: &mut W, number: Number) -> Result<(), Fault>
-    ensures { IfErr result IsOfRun }
+    ensures { IfErr result IsOfDevices }
 {
     output.write_all(&[number.digit()])?;
     output.write_all(b" closed\n")?;
@@ -194,14 +210,9 @@ fn print_closed<W: Write>(output: &mut W, number: Number) -> Result<(), Fault>
 
 /// Prints that a peer could not begin: `P full N`.
 fn print_full<W: Write>(output: &mut W, number: Number, full: Full) -> Result<(), Fault>
-    ensures { IfErr result IsOfRun }
+    ensures { IfErr result IsOfDevices }
 {
-    let why = match full {
-        Full::Places => b'1',
-        Full::Handles => b'2',
-    };
     output.write_all(&[number.digit()])?;
-    output.write_all(b" full ")?;
-    output.write_all(&[why, b'\n'])?;
+    writeln!(output, " full {}", full.number())?;
     Ok(())
 }

@@ -8,21 +8,16 @@ ghost use Rattle.std.specs.Prelude.{◌≡◌, ◌≤◌, IfOk, IfErr};
 ghost use Rattle.toml.specs.Parse.{parse_document};
 ghost use Rattle.toml.specs.View.{table_view};
 ghost use Rattle.enip_cmd.specs.Refusals.{IsInRange};
-ghost use Rattle.enip_cmd.specs.Told.{IsRefusal, IsTold, IsUnreadDevice, IsDevice};
+ghost use Rattle.enip_cmd.specs.Told.{IsRefusal, IsRefusalBy, IsTold, IsToldBy, IsUnreadDevice, IsDevice};
 
-use crate::fault::Fault;
+use crate::fault::{Fault, Refusal};
 use assemblies::assemblies_of;
 use cip_objects::Config;
 use keys::has_unknown_key;
 use std::alloc::Global;
+use std::str;
 use toml::Table;
 use values::{address_of, counter_of, name_of, number, number_or};
-
-/// The text is no TOML.
-const NOT_TOML: Fault = Fault::Configuration(7);
-
-/// A key is unknown.
-const UNKNOWN_KEY: Fault = Fault::Configuration(9);
 
 /// The port that is registered for EtherNet/IP. (Volume 2, TCP.)
 const REGISTERED_PORT: u32 = 44_818;
@@ -43,13 +38,29 @@ pub struct Configuration {
 }
 
 impl Configuration {
+    /// Reads a configuration from its bytes. A TOML document is UTF-8: other bytes are no TOML.
+    ///
+    /// # Errors
+    ///
+    /// As `read`.
+    pub fn from_bytes(alloc: Global, bytes: &[u8]) -> Result<Configuration, Fault>
+        ensures read { IfOk result (IsToldBy bytes.now) }
+        ensures refused { IfErr result (IsRefusalBy bytes.now) }
+        ensures in_range { IfOk result IsInRange }
+    {
+        match str::from_utf8(bytes) {
+            Ok(text) => Configuration::read(alloc, text),
+            Err(_) => Err(Fault::Configuration(Refusal::NotToml)),
+        }
+    }
+
     /// Reads a configuration.
     ///
     /// # Errors
     ///
-    /// `Fault::Configuration`: 7 where the text is no TOML, else 9 where any key is unknown, else 8 where a key
-    /// is missing, or its value is of another type or out of its range. `Fault::Memory` where there is no memory.
-    /// What the objects refuse is not looked at here.
+    /// `Fault::Configuration`: `NotToml` where the text is no TOML, else `UnknownKey` where any key is unknown,
+    /// else `BadValue` where a key is missing, or its value is of another type or out of its range.
+    /// `Fault::Memory` where there is no memory. What the objects refuse is not looked at here.
     pub fn read(alloc: Global, text: &str) -> Result<Configuration, Fault>
         ensures read { IfOk result (IsTold (parse_document text.now)) }
         ensures refused { IfErr result (IsRefusal (parse_document text.now)) }
@@ -58,10 +69,10 @@ impl Configuration {
         let table = match toml::table_from_str(alloc, text) {
             Ok(table) => table,
             Err(error) if error.is_memory() => return Err(Fault::Memory),
-            Err(_) => return Err(NOT_TOML),
+            Err(_) => return Err(Fault::Configuration(Refusal::NotToml)),
         };
         if has_unknown_key(&table) {
-            return Err(UNKNOWN_KEY);
+            return Err(Fault::Configuration(Refusal::UnknownKey));
         }
         Ok(Configuration {
             objects: objects_of(alloc, &table)?,

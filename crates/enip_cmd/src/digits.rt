@@ -4,7 +4,7 @@ ghost use Rattle.std.specs.Prelude.{◌≡◌, true, is_some, IfOk, IfErr, OnOk,
 ghost use Rattle.std.specs.Result.{result_ok};
 ghost use Rattle.hex.specs.Hex.{decode_of};
 ghost use Rattle.enip_cmd.specs.Digits.{without_spaces, bytes_spelled};
-ghost use Rattle.enip_cmd.specs.Statuses.{IsOfRun};
+ghost use Rattle.enip_cmd.specs.Statuses.{IsOfDevices};
 
 use crate::fault::Fault;
 use std::io::{self, Write};
@@ -17,7 +17,7 @@ const BLOCK: usize = 128;
 pub(crate) fn decode(text: &[u8], digits: &mut Vec<u8>, bytes: &mut Vec<u8>) -> Result<bool, Fault>
     ensures read { IfOk result (λ spelled. spelled ≡ is_some (bytes_spelled text.now)) }
     ensures bytes { IfOk result (λ spelled. spelled ≡ true → bytes_spelled text.now ≡ Some bytes.new.items) }
-    ensures refused { IfErr result IsOfRun }
+    ensures refused { IfErr result IsOfDevices }
 {
     if !text.contains(&b' ') {
         return decode_digits(text, bytes);
@@ -29,7 +29,7 @@ pub(crate) fn decode(text: &[u8], digits: &mut Vec<u8>, bytes: &mut Vec<u8>) -> 
 /// Copies a text without its spaces.
 fn copy_digits(text: &[u8], digits: &mut Vec<u8>) -> Result<(), Fault>
     ensures copied { OnOk result (digits.new.items ≡ without_spaces text.now) }
-    ensures refused { IfErr result IsOfRun }
+    ensures refused { IfErr result IsOfDevices }
 {
     digits.clear();
     for byte in text {
@@ -44,7 +44,7 @@ fn copy_digits(text: &[u8], digits: &mut Vec<u8>) -> Result<(), Fault>
 fn decode_digits(digits: &[u8], bytes: &mut Vec<u8>) -> Result<bool, Fault>
     ensures read { IfOk result (λ spelled. spelled ≡ is_some (result_ok (decode_of digits.now))) }
     ensures bytes { IfOk result (λ spelled. spelled ≡ true → result_ok (decode_of digits.now) ≡ Some bytes.new.items) }
-    ensures refused { IfErr result IsOfRun }
+    ensures refused { IfErr result IsOfDevices }
 {
     if digits.len() % 2 != 0 {
         return Ok(false);

@@ -1,6 +1,7 @@
 //! Why a command of the program ends early, what it then prints, and its exit status.
 
 ghost use Rattle.std.specs.Prelude.{◌≡◌};
+ghost use Rattle.enip_cmd.specs.Refusals.{refusal_number};
 ghost use Rattle.enip_cmd.specs.Statuses.{exit_status};
 
 use cip_objects::ConfigFault;
@@ -8,12 +9,42 @@ use std::alloc::{AllocError, AllocFailed};
 use std::io;
 use thiserror::Error;
 
+/// Why a configuration is refused.
+#[derive(Clone, Copy, Debug, PartialEq, Eq)]
+pub enum Refusal {
+    /// The product's name is too long, or has a byte that can't be printed.
+    Name = 1,
+    /// There are too many assemblies, or one has no byte or too many.
+    Size = 2,
+    /// An assembly has too many members, or one of no byte.
+    Members = 3,
+    /// An assembly's instance is 0 or stands twice.
+    DoubleInstance = 4,
+    /// The counter's value is over its limit.
+    Limit = 5,
+    /// The text is no TOML.
+    NotToml = 7,
+    /// A key is missing, or its value is of another type or out of its range.
+    BadValue = 8,
+    /// A key is unknown.
+    UnknownKey = 9,
+}
+
+impl Refusal {
+    /// The number that is printed.
+    pub fn number(self) -> u8
+        ensures { result ≡ refusal_number self }
+    {
+        self as u8
+    }
+}
+
 /// Why a command ends early. Its text goes to standard error.
 #[derive(Clone, Copy, Debug, PartialEq, Eq, Error)]
 pub enum Fault {
-    /// The configuration is refused, by the number of the check that failed.
-    #[error("configuration {0}")]
-    Configuration(u8),
+    /// The configuration is refused.
+    #[error("configuration {}", .0.number())]
+    Configuration(Refusal),
     /// A line of the input is refused, by its number from 1. The lines before it were run.
     #[error("line {0}")]
     Line(u64),
@@ -60,9 +91,9 @@ impl<T: Drop> From<AllocFailed<T>> for Fault {
 
 impl From<io::Error> for Fault {
     ghost use Rattle.std.specs.IoError.{error_kind};
-    ghost use Rattle.enip_cmd.specs.Statuses.{IsOfRun, fault_of_kind};
+    ghost use Rattle.enip_cmd.specs.Statuses.{IsOfDevices, fault_of_kind};
 
-    ghost from_gives = { λ error fault. IsOfRun fault × (fault ≡ fault_of_kind (error_kind error)) };
+    ghost from_gives = { λ error fault. IsOfDevices fault × (fault ≡ fault_of_kind (error_kind error)) };
 
     fn from(error: io::Error) -> Fault {
         match error.kind() {
@@ -72,7 +103,7 @@ impl From<io::Error> for Fault {
     }
 }
 
-/// The number of the check of the objects that failed.
+/// What the objects refuse.
 impl From<ConfigFault> for Fault {
     ghost use Rattle.enip_cmd.specs.Refusals.{refusal};
 
@@ -80,11 +111,11 @@ impl From<ConfigFault> for Fault {
 
     fn from(refused: ConfigFault) -> Fault {
         match refused {
-            ConfigFault::Name => Fault::Configuration(1),
-            ConfigFault::Size => Fault::Configuration(2),
-            ConfigFault::Members => Fault::Configuration(3),
-            ConfigFault::DoubleInstance => Fault::Configuration(4),
-            ConfigFault::Limit => Fault::Configuration(5),
+            ConfigFault::Name => Fault::Configuration(Refusal::Name),
+            ConfigFault::Size => Fault::Configuration(Refusal::Size),
+            ConfigFault::Members => Fault::Configuration(Refusal::Members),
+            ConfigFault::DoubleInstance => Fault::Configuration(Refusal::DoubleInstance),
+            ConfigFault::Limit => Fault::Configuration(Refusal::Limit),
             ConfigFault::Memory => Fault::Memory,
         }
     }

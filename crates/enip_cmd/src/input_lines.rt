@@ -1,8 +1,8 @@
 //! The lines of an input, one at a time, in whatever chunks it is read. Memory is taken for one line.
 
-ghost use Rattle.std.specs.Prelude.{◌≡◌, IfErr};
+ghost use Rattle.std.specs.Prelude.{ℕ, List, ◌≡◌, IfErr};
 ghost use Rattle.enip_cmd.specs.Lines.{without_return};
-ghost use Rattle.enip_cmd.specs.Statuses.{IsOfRun};
+ghost use Rattle.enip_cmd.specs.Statuses.{IsOfDevices, EndsAt, EndsBy};
 
 use crate::fault::Fault;
 use memchr::memchr;
@@ -14,22 +14,39 @@ const CHUNK: usize = 65_536;
 
 /// Who takes the lines of an input.
 pub(crate) trait TakeLines {
-    /// Takes a line, without its end, and its number from 1.
+    /// Which lines may be refused, by their number and text.
+    ghost refuses: { ℕ → List ℕ → Type 0 };
+
+    /// Takes a line, without its end, and its number from 1. A line's fault is this line's.
     fn take_line(&mut self, text: &[u8], number: u64) -> Result<(), Fault>
-        ensures { IfErr result IsOfRun };
+        ensures { IfErr result (EndsAt (refuses number text.now) number) };
 
     /// Makes what was answered go out. More of the input is read only then.
     fn send(&mut self) -> Result<(), Fault>
-        ensures { IfErr result IsOfRun };
+        ensures { IfErr result IsOfDevices };
 }
 
-/// Hands each line of an input to who takes them, up to the first fault.
+/// Hands each line of an input to who takes them, up to the first fault. What was answered goes out before that
+/// is told; where it can't, that is the fault.
 pub(crate) fn read_lines<R: Read + Drop, T: TakeLines>(
     alloc: Global,
     input: R,
     taker: &mut T,
 ) -> Result<(), Fault>
-    ensures { IfErr result IsOfRun }
+    ensures { IfErr result (EndsBy T.refuses) }
+{
+    let taken = take_lines(alloc, input, taker);
+    taker.send()?;
+    taken
+}
+
+/// Hands each line of an input to who takes them, up to the first fault.
+fn take_lines<R: Read + Drop, T: TakeLines>(
+    alloc: Global,
+    input: R,
+    taker: &mut T,
+) -> Result<(), Fault>
+    ensures { IfErr result (EndsBy T.refuses) }
 {
     let mut input = input;
     let mut chunk = vec![in alloc; 0u8; CHUNK]?;
@@ -44,7 +61,7 @@ pub(crate) fn read_lines<R: Read + Drop, T: TakeLines>(
         taker.send()?;
     }
     if !line.is_empty() {
-        taker.take_line(without_return(line.as_slice()), number)?;
+        hand_on(taker, line.as_slice(), number)?;
     }
     Ok(())
 }
@@ -57,7 +74,7 @@ fn take_chunk<T: TakeLines>(
     line: &mut Vec<u8>,
     number: u64,
 ) -> Result<u64, Fault>
-    ensures { IfErr result IsOfRun }
+    ensures { IfErr result (EndsBy T.refuses) }
 {
     let mut number = number;
     let mut rest = chunk;
@@ -65,16 +82,23 @@ fn take_chunk<T: TakeLines>(
         let (head, tail) = rest.split_at(end);
         rest = &tail[1..];
         if line.is_empty() {
-            taker.take_line(without_return(head), number)?;
+            hand_on(taker, head, number)?;
         } else {
             line.extend_from_slice(head)?;
-            taker.take_line(without_return(line.as_slice()), number)?;
+            hand_on(taker, line.as_slice(), number)?;
             line.clear();
         }
         number = number.saturating_add(1);
     }
     line.extend_from_slice(rest)?;
     Ok(number)
+}
+
+/// Hands on a line.
+fn hand_on<T: TakeLines>(taker: &mut T, line: &[u8], number: u64) -> Result<(), Fault>
+    ensures { IfErr result (EndsBy T.refuses) }
+{
+    taker.take_line(without_return(line), number)
 }
 
 /// A line without the carriage return that other systems end it with.

@@ -11,7 +11,7 @@ use crate::number::Number;
 /// A line of the input.
 #[derive(Clone, Copy, Debug, PartialEq, Eq)]
 pub enum Line<'a> {
-    /// A blank line or a remark.
+    /// An empty line or a remark.
     Nothing,
     /// A piece of a peer's stream, as the text of its hexadecimal digits, perhaps with spaces.
     Piece(Number, &'a [u8]),
@@ -22,7 +22,7 @@ pub enum Line<'a> {
 }
 
 impl<'a> Line<'a> {
-    /// Reads a line: blank, `# ..`, `P HEX`, `end P` or `now N`.
+    /// Reads a line: empty, `# ..`, `P HEX`, `end P` or `now N`.
     pub(crate) fn read(text: &'a [u8]) -> Option<Line<'a>>
         ensures read { IfSome result (Says text.now) }
         ensures refused { result ≡ None → (line : Line) → Says text.now line → ⊥ }
@@ -31,10 +31,7 @@ impl<'a> Line<'a> {
             [] | [b'#', ..] => Some(Line::Nothing),
             [b'e', b'n', b'd', b' ', digit] => Some(Line::End(Number::of(*digit)?)),
             [b'n', b'o', b'w', b' ', digits @ ..] => Some(Line::Now(decimal(digits)?)),
-            [digit, b' ', piece @ ..] if *digit != b' ' => {
-                Some(Line::Piece(Number::of(*digit)?, piece))
-            }
-            _ if text.iter().all(|byte| *byte == b' ') => Some(Line::Nothing),
+            [digit, b' ', piece @ ..] => Some(Line::Piece(Number::of(*digit)?, piece)),
             _ => None,
         }
     }

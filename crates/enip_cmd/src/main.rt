@@ -7,6 +7,7 @@ pub mod commands;
 pub mod configuration;
 pub mod digits;
 pub mod fault;
+pub mod file;
 pub mod input_lines;
 pub mod laws;
 pub mod lines;
@@ -15,16 +16,24 @@ pub mod place;
 pub mod show;
 #[cfg(test)]
 mod tests;
+pub mod words;
 
 use clap::error::ErrorKind;
 use clap::{Arg, ArgMatches, Command};
 use fault::Fault;
+use file::File;
 use std::alloc::Global;
+use std::convert::AsStr;
+use std::io::Read;
 use std::process::ExitCode;
-use std::{env, fs};
+use words::{Word, words};
 
-/// The exit status where the words are refused, or there is no memory to read them.
+/// The exit status where the words are refused.
 const WORDS_REFUSED: u8 = 2;
+
+const PROGRAM: &str = "enip";
+
+const VERSION: &str = "0.1.0";
 
 /// The words that the program takes.
 fn words_of<'a>(alloc: Global) -> Result<Command<'a>, Fault> {
@@ -39,7 +48,8 @@ fn words_of<'a>(alloc: Global) -> Result<Command<'a>, Fault> {
         .about("Prints the fields of frames that are given as lines of hexadecimal digits")
         .long_about(ABOUT_SHOW);
     Ok(
-        Command::new(alloc, "enip")
+        Command::new(alloc, PROGRAM)
+            .version(VERSION)
             .about("An EtherNet/IP adapter that is proved to answer as the standard says")
             .subcommand_required(true)
             .arg_required_else_help(true)
@@ -61,49 +71,77 @@ Reads lines from standard input, and prints the answers of an adapter:
   end P    the end of peer P
   now N    the moment of the pieces that follow, in microseconds
 
-Blank lines and lines that begin with # are skipped. An answer is printed as `P hex`, and `P closed` where the
-adapter closed the connection.";
+HEX may have spaces. Empty lines and lines that begin with # are skipped.
+
+Prints
+
+  P hex       an answer to peer P; `cut -c3- | enip show` shows what was answered, and what was asked
+  P closed    the adapter closed the connection of peer P, whose later pieces print nothing
+  P full N    P cannot begin: all places are taken (1), or all session handles were given out (2)
+
+Exit status, and the line on standard error
+
+  0                     all lines were run
+  2  an explanation     the words are refused
+  3  configuration N    the configuration is refused
+  4  line N             line N of the input, from 1, is refused; those before it were run
+  5  device             a file or a stream could not be read or written
+  5  memory             there was no memory
+
+What `configuration N` means, by the first that holds of
+
+  7    it is no TOML
+  9    a key is unknown
+  8    a key is missing, or its value is of another type or out of its range
+  1    `name` is over 32 bytes, or has a byte that can't be printed
+  2    there are over 16 tables `assembly`, or the `members` of one have 0 or over 480 bytes
+  3    the `members` of an assembly are over 64, or one has 0 bytes
+  4    the `instance` of an assembly is 0, or stands twice
+  5    `value` of the counter is over its `limit`";
 
 /// Runs the command that was asked for.
-fn run(rt: &HostRuntime, matches: &ArgMatches<'_>) -> u8 {
+fn run(rt: &HostRuntime, words: &[Word], matches: &ArgMatches<'_>) -> Result<u8, Fault> {
     match matches.subcommand() {
-        Some(("answer", matches)) => run_answer(rt, matches.get_str("CONFIG").unwrap_or("")),
-        Some(("show", _)) => show::show(rt.alloc(), rt.stdin(), rt.stdout(), rt.stderr()),
-        _ => WORDS_REFUSED,
+        Some(("answer", matches)) => {
+            let text = matches.get_str("CONFIG").unwrap_or("");
+            let word = words.iter().find(|word| word.as_str() == text);
+            run_answer(
+                rt,
+                word.map_or(text.as_bytes(), |word| word.bytes.as_slice()),
+            )
+        }
+        Some(("show", _)) => Ok(show::show(rt.alloc(), rt.stdin(), rt.stdout(), rt.stderr())),
+        _ => Ok(WORDS_REFUSED),
     }
 }
 
-/// `enip answer CONFIG`.
-fn run_answer(rt: &HostRuntime, path: &str) -> u8 {
-    match fs::read_to_string(rt, path) {
-        Ok(config) => answer::answer(
-            rt.alloc(),
-            config.as_str(),
-            rt.stdin(),
-            rt.stdout(),
-            rt.stderr(),
-        ),
-        Err(error) => {
-            let fault = Fault::from(error);
-            let _ = eprintln!(rt; "{fault}");
-            fault.exit_status()
-        }
-    }
+/// `enip answer CONFIG`. The file's name need not be text.
+fn run_answer(rt: &HostRuntime, name: &[u8]) -> Result<u8, Fault> {
+    let mut config = Vec::new(rt.alloc());
+    File::open(name)?.read_to_end(&mut config)?;
+    Ok(answer::answer(
+        rt.alloc(),
+        config.as_slice(),
+        rt.stdin(),
+        rt.stdout(),
+        rt.stderr(),
+    ))
 }
 
 /// Reads the words of the command line, and runs the command.
 fn run_words(rt: &HostRuntime) -> Result<u8, Fault> {
     let alloc = rt.alloc();
-    let mut words: Vec<String> = env::args(rt)?.collect(alloc)?;
-    if let Some(name) = words.first_mut() {
-        *name = String::from_str(alloc, "enip")?;
-    }
+    let words = words(rt, alloc, PROGRAM)?;
     match words_of(alloc)?.try_get_matches_from(words.as_slice()) {
-        Ok(matches) => Ok(run(rt, &matches)),
+        Ok(matches) => run(rt, words.as_slice(), &matches),
         Err(error) if error.kind() == ErrorKind::OutOfMemory => Err(Fault::Memory),
+        Err(error) if error.use_stderr() => {
+            let _ = error.print(rt);
+            Ok(WORDS_REFUSED)
+        }
         Err(error) => {
             error.print(rt)?;
-            Ok(if error.use_stderr() { WORDS_REFUSED } else { 0 })
+            Ok(0)
         }
     }
 }

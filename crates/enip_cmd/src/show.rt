@@ -3,7 +3,7 @@
 //! Each line is shown part by part, up to the first fault in it, which is not a fault of the program.
 
 ghost use Rattle.std.specs.Prelude.{◌≡◌, ◌⊎◌, IfErr};
-ghost use Rattle.enip_cmd.specs.Statuses.{IsOfRun, IsStopOfRun};
+ghost use Rattle.enip_cmd.specs.Statuses.{IsOfDevices, IsStopOfDevices};
 
 use crate::digits::{decode, print_digits};
 use crate::fault::Fault;
@@ -25,9 +25,6 @@ const SEND_UNIT_DATA: u16 = 0x0070;
 /// How many bytes of interface and timeout come before the packet's items. (Volume 2, SendRRData.)
 const BEFORE_ITEMS: usize = 6;
 
-/// The exit status where a device or memory failed. No line is refused here.
-const FAILED: u8 = 5;
-
 /// Prints the fields of the frames of an input, one frame of hexadecimal digits a line, and answers the exit
 /// status of the program: 0, or 5 where a device or memory failed, with a line on `errors`.
 ///
@@ -45,23 +42,21 @@ pub fn show<R: Read + Drop, W: Write + Drop, E: Write + Drop>(
         Ok(()) => 0,
         Err(fault) => {
             let _ = writeln!(errors, "{fault}");
-            FAILED
+            fault.exit_status()
         }
     }
 }
 
-fn run<R: Read + Drop, W: Write + Drop>(alloc: Global, input: R, output: W) -> Result<(), Fault> {
+fn run<R: Read + Drop, W: Write + Drop>(alloc: Global, input: R, output: W) -> Result<(), Fault>
+    ensures { IfErr result IsOfDevices }
+{
     let mut printer = Printer {
         output: BufWriter::new(alloc, output)?,
         digits: Vec::new(alloc),
         bytes: Vec::new(alloc),
         reader: FrameReader::new(alloc)?,
     };
-    let read = read_lines(alloc, input, &mut printer);
-    let flushed = printer.output.flush();
-    read?;
-    flushed?;
-    Ok(())
+    read_lines(alloc, input, &mut printer)
 }
 
 /// Why a line is shown no further.
@@ -73,18 +68,18 @@ enum Stop {
     /// It is not exactly one frame.
     #[error("header")]
     Header,
-    /// The body has no such items, by the number of the check that failed.
-    #[error("cpf {0}")]
-    Cpf(u8),
+    /// The body has no such items.
+    #[error("cpf {}", .0.number())]
+    Cpf(CpfFault),
     /// The message is no request.
-    #[error("request {0}")]
-    Request(u8),
+    #[error("request {}", .0.number())]
+    Request(RequestFault),
     /// The request's path is none.
-    #[error("path {0}")]
-    Path(u8),
+    #[error("path {}", .0.number())]
+    Path(PathFault),
     /// The message is no reply.
-    #[error("reply {0}")]
-    Reply(u8),
+    #[error("reply {}", .0.number())]
+    Reply(ReplyFault),
     /// The program itself failed.
     #[error("{0}")]
     Program(Fault),
@@ -101,7 +96,7 @@ impl From<Fault> for Stop {
 }
 
 impl From<io::Error> for Stop {
-    ghost from_gives = { λ _ stop. IsStopOfRun stop };
+    ghost from_gives = { λ _ stop. IsStopOfDevices stop };
 
     fn from(error: io::Error) -> Stop {
         Stop::Program(Fault::from(error))
@@ -109,45 +104,34 @@ impl From<io::Error> for Stop {
 }
 
 impl From<CpfFault> for Stop {
-    ghost from_gives = { λ _ stop. IsStopOfRun stop };
+    ghost from_gives = { λ _ stop. IsStopOfDevices stop };
 
     fn from(fault: CpfFault) -> Stop {
-        Stop::Cpf(fault as u8)
+        Stop::Cpf(fault)
     }
 }
 
 impl From<RequestFault> for Stop {
-    ghost from_gives = { λ _ stop. IsStopOfRun stop };
+    ghost from_gives = { λ _ stop. IsStopOfDevices stop };
 
     fn from(fault: RequestFault) -> Stop {
-        Stop::Request(match fault {
-            RequestFault::Short => 1,
-            RequestFault::PathSize => 2,
-        })
+        Stop::Request(fault)
     }
 }
 
 impl From<PathFault> for Stop {
-    ghost from_gives = { λ _ stop. IsStopOfRun stop };
+    ghost from_gives = { λ _ stop. IsStopOfDevices stop };
 
     fn from(fault: PathFault) -> Stop {
-        Stop::Path(match fault {
-            PathFault::Segment => 1,
-            PathFault::Order => 2,
-            PathFault::Cut => 3,
-        })
+        Stop::Path(fault)
     }
 }
 
 impl From<ReplyFault> for Stop {
-    ghost from_gives = { λ _ stop. IsStopOfRun stop };
+    ghost from_gives = { λ _ stop. IsStopOfDevices stop };
 
     fn from(fault: ReplyFault) -> Stop {
-        Stop::Reply(match fault {
-            ReplyFault::Short => 1,
-            ReplyFault::NotReply => 2,
-            ReplyFault::Extra => 3,
-        })
+        Stop::Reply(fault)
     }
 }
 
@@ -163,7 +147,7 @@ struct Printer<W: Write + Drop> {
 impl<W: Write + Drop> Printer<W> {
     /// Shows a line up to its first fault.
     fn show_line(&mut self, text: &[u8]) -> Result<(), Stop>
-        ensures { IfErr result IsStopOfRun }
+        ensures { IfErr result IsStopOfDevices }
     {
         if !decode(text, &mut self.digits, &mut self.bytes)? {
             return Err(Stop::Hex);
@@ -175,10 +159,11 @@ impl<W: Write + Drop> Printer<W> {
             _ => Err(Stop::Header),
         }
     }
-}
 
-impl<W: Write + Drop> TakeLines for Printer<W> {
-    fn take_line(&mut self, text: &[u8], _number: u64) -> Result<(), Fault> {
+    /// Shows a line, and its first fault.
+    fn print_line(&mut self, text: &[u8]) -> Result<(), Fault>
+        ensures { IfErr result IsOfDevices }
+    {
         match self.show_line(text) {
             Ok(()) => Ok(()),
             Err(Stop::Program(fault)) => Err(fault),
@@ -187,6 +172,14 @@ impl<W: Write + Drop> TakeLines for Printer<W> {
                 Ok(())
             }
         }
+    }
+}
+
+impl<W: Write + Drop> TakeLines for Printer<W> {
+    ghost refuses = { λ _ _. ⊥ };
+
+    fn take_line(&mut self, text: &[u8], _number: u64) -> Result<(), Fault> {
+        self.print_line(text)
     }
 
     fn send(&mut self) -> Result<(), Fault> {
@@ -197,7 +190,7 @@ impl<W: Write + Drop> TakeLines for Printer<W> {
 
 /// Shows a frame: its header, and what it carries of the router's messages.
 fn show_frame<W: Write>(output: &mut W, frame: FrameView<'_>) -> Result<(), Stop>
-    ensures { IfErr result IsStopOfRun }
+    ensures { IfErr result IsStopOfDevices }
 {
     print_header(output, &frame.header)?;
     match frame.header.command {
@@ -228,7 +221,7 @@ fn print_header<W: Write>(output: &mut W, header: &Header) -> io::Result<()> {
 
 /// Prints the type and the length of each item of a body, which is known to have its items.
 fn print_items<W: Write>(output: &mut W, body: &[u8]) -> Result<(), Stop>
-    ensures { IfErr result IsStopOfRun }
+    ensures { IfErr result IsStopOfDevices }
 {
     let Some(items) = body.get(BEFORE_ITEMS..) else {
         return Ok(());
@@ -247,7 +240,7 @@ fn print_items<W: Write>(output: &mut W, body: &[u8]) -> Result<(), Stop>
 /// Shows the data of a connected item: the sequence count, and the message behind it. (Volume 1, transport
 /// class 3.)
 fn show_counted<W: Write>(output: &mut W, item: &[u8]) -> Result<(), Stop>
-    ensures { IfErr result IsStopOfRun }
+    ensures { IfErr result IsStopOfDevices }
 {
     let [low, high, message @ ..] = item else {
         return Err(Stop::from(RequestFault::Short));
@@ -258,7 +251,7 @@ fn show_counted<W: Write>(output: &mut W, item: &[u8]) -> Result<(), Stop>
 
 /// Shows a message of the router: a reply where bit 7 of its first byte is set, else a request.
 fn show_message<W: Write>(output: &mut W, message: &[u8]) -> Result<(), Stop>
-    ensures { IfErr result IsStopOfRun }
+    ensures { IfErr result IsStopOfDevices }
 {
     match message {
         [service, ..] if *service >= 0x80 => show_reply(output, message),
@@ -268,7 +261,7 @@ fn show_message<W: Write>(output: &mut W, message: &[u8]) -> Result<(), Stop>
 
 /// Shows a request and where it goes.
 fn show_request<W: Write>(output: &mut W, message: &[u8]) -> Result<(), Stop>
-    ensures { IfErr result IsStopOfRun }
+    ensures { IfErr result IsStopOfDevices }
 {
     let request = RequestView::read(message)?;
     let path = read_path(request.path)?;
@@ -288,7 +281,7 @@ fn show_request<W: Write>(output: &mut W, message: &[u8]) -> Result<(), Stop>
 
 /// Shows a reply, whose additional status words are printed as numbers of four digits.
 fn show_reply<W: Write>(output: &mut W, message: &[u8]) -> Result<(), Stop>
-    ensures { IfErr result IsStopOfRun }
+    ensures { IfErr result IsStopOfDevices }
 {
     let reply = ReplyView::read(message)?;
     write!(

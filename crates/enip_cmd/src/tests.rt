@@ -4,9 +4,12 @@ pub(crate) mod devices;
 mod rows;
 
 use super::answer::answer;
-use devices::{BrokenReader, BrokenWriter};
+use devices::{
+    BrokenReader, BrokenWriter, CountingWriter, FullWriter, PieceReader, WatchingReader,
+};
 use rows::ROWS;
 use std::alloc::Global;
+use std::cell::Cell;
 use std::test::Fail;
 
 const DEMO: &str = "vendor = 4660
@@ -35,7 +38,13 @@ const REGISTERED: &str = "1 6500040001000000000000000102030405060708000000000100
 fn run(alloc: Global, config: &str, input: &str) -> Result<(u8, Vec<u8>, Vec<u8>), Fail> {
     let mut output = Vec::new(alloc);
     let mut errors = Vec::new(alloc);
-    let status = answer(alloc, config, input.as_bytes(), &mut output, &mut errors);
+    let status = answer(
+        alloc,
+        config.as_bytes(),
+        input.as_bytes(),
+        &mut output,
+        &mut errors,
+    );
     Ok((status, output, errors))
 }
 
@@ -72,14 +81,25 @@ fn worked_rows(rt: HostRuntime) -> Result<(), Fail> {
             4,
             "line 1\n",
         ),
-        (
-            "moment",
-            "now 18446744073709551615\n   \nend 9\n",
-            "",
-            0,
-            "",
-        ),
+        ("moment", "now 18446744073709551615\n\nend 9\n", "", 0, ""),
         ("no digits", "1 \n", "", 4, "line 1\n"),
+        ("spaces for digits", "1   \n", "", 4, "line 1\n"),
+        ("a line of spaces", "\n   \n", "", 4, "line 2\n"),
+        ("a space", " ", "", 4, "line 1\n"),
+        (
+            "a remark behind a space",
+            " # a remark\n",
+            "",
+            4,
+            "line 1\n",
+        ),
+        (
+            "a bad line of a closed peer",
+            "1 0000 e8ff 00000000 00000000 0102030405060708 00000000\n1 00\n1 0g\n",
+            "1 000000000000000065000000010203040506070800000000\n1 closed\n",
+            4,
+            "line 3\n",
+        ),
         ("no end of line", "end 1", "", 0, ""),
         ("lines of another system", "end 1\r\n", "", 0, ""),
     ];
@@ -178,7 +198,7 @@ fn a_reader_that_fails(rt: HostRuntime) -> Result<(), Fail> {
     let input = BrokenReader {
         text: Some(REGISTER.as_bytes()),
     };
-    let status = answer(rt.alloc(), DEMO, input, &mut output, &mut errors);
+    let status = answer(rt.alloc(), DEMO.as_bytes(), input, &mut output, &mut errors);
     assert_eq!(rt; status, 5);
     assert_eq!(rt; output.as_slice(), REGISTERED.as_bytes());
     assert_eq!(rt; errors.as_slice(), b"device\n".as_slice());
@@ -193,9 +213,156 @@ fn a_writer_that_fails(rt: HostRuntime) -> Result<(), Fail> {
         text: &mut written,
         room: 10,
     };
-    let status = answer(rt.alloc(), DEMO, REGISTER.as_bytes(), output, &mut errors);
+    let status = answer(
+        rt.alloc(),
+        DEMO.as_bytes(),
+        REGISTER.as_bytes(),
+        output,
+        &mut errors,
+    );
     assert_eq!(rt; status, 5);
     assert_eq!(rt; written.as_slice(), b"1 65000400".as_slice());
     assert_eq!(rt; errors.as_slice(), b"device\n".as_slice());
+    Ok(())
+}
+
+#[test]
+fn a_configuration_that_is_no_text(rt: HostRuntime) -> Result<(), Fail> {
+    let mut output = Vec::new(rt.alloc());
+    let mut errors = Vec::new(rt.alloc());
+    let config = b"name = \"\xff\"\n";
+    let input = REGISTER.as_bytes();
+    let status = answer(
+        rt.alloc(),
+        config.as_slice(),
+        input,
+        &mut output,
+        &mut errors,
+    );
+    assert_eq!(rt; status, 3);
+    assert_eq!(rt; output.len(), 0);
+    assert_eq!(rt; errors.as_slice(), b"configuration 7\n".as_slice());
+    Ok(())
+}
+
+#[test]
+fn twenty_frames_in_a_line(rt: HostRuntime) -> Result<(), Fail> {
+    let alloc = rt.alloc();
+    let mut input = String::from_str(alloc, "1 ")?;
+    let mut output = String::new(alloc);
+    for number in 0..20u8 {
+        // A command that no adapter has is answered with status 1.
+        let frame = format!(in alloc; "67000000 05000000 00000000 {number:016x} 00000000")?;
+        input.push_str(frame.as_str())?;
+        let answered = format!(in alloc; "1 670000000500000001000000{number:016x}00000000\n")?;
+        output.push_str(answered.as_str())?;
+    }
+    let got = run(alloc, DEMO, input.as_str())?;
+    assert_eq!(rt; got.0, 0);
+    assert_eq!(rt; got.1.as_slice(), output.as_bytes());
+    Ok(())
+}
+
+#[test]
+fn megabytes_of_long_lines(rt: HostRuntime) -> Result<(), Fail> {
+    // The longest NOP, over two chunks of input, between lines that are answered, and a refused line at the end.
+    let mut input = String::from_str(rt.alloc(), REGISTER)?;
+    let mut nop = String::from_str(
+        rt.alloc(),
+        "1 0000 e7ff 00000000 00000000 0102030405060708 00000000 ",
+    )?;
+    for _ in 0..65_511 {
+        nop.push_str("00")?;
+    }
+    for _ in 0..20 {
+        input.push_str(nop.as_str())?;
+        input.push_str("\r\n")?;
+    }
+    input.push_str(
+        "end 1\n1 6500 0400 00000000 00000000 0102030405060708 00000000 01000000\n1 0g",
+    )?;
+    let got = run(rt.alloc(), DEMO, input.as_str())?;
+    let want =
+        "1 65000400010000000000000001020304050607080000000001000000\n1 65000400020000000000000001020304050607080000000001000000\n";
+    assert_eq!(rt; got.0, 4);
+    assert_eq!(rt; got.1.as_slice(), want.as_bytes());
+    assert_eq!(rt; got.2.as_slice(), b"line 24\n".as_slice());
+    Ok(())
+}
+
+#[test]
+fn lines_over_several_reads(rt: HostRuntime) -> Result<(), Fail> {
+    let end = "01000000";
+    let front = "1 6500 0400 00000000 00000000 0102030405060708 00000000 ";
+    let rows: [(&[&str], &str, u8, &str); 6] = [
+        // The end of a line stands in the next read, or is cut itself.
+        (&[front, end, "\n"], REGISTERED, 0, ""),
+        (&[front, end, "\r", "\n"], REGISTERED, 0, ""),
+        (
+            &[front, "01000000\r", "\nend 1\n1 0g"],
+            REGISTERED,
+            4,
+            "line 3\n",
+        ),
+        // The last line has no end.
+        (&[front, end], REGISTERED, 0, ""),
+        (&["end 1\n", "\n", "en", "d 1x"], "", 4, "line 3\n"),
+        (&["1 0", "g\n", REGISTER], "", 4, "line 1\n"),
+    ];
+    for (place, (texts, output, status, errors)) in rows.into_iter().enumerate() {
+        let mut pieces = Vec::new(rt.alloc());
+        for text in texts {
+            pieces.push(text.as_bytes())?;
+        }
+        let input = PieceReader {
+            pieces: pieces.as_slice(),
+        };
+        let mut written = Vec::new(rt.alloc());
+        let mut told = Vec::new(rt.alloc());
+        let got = answer(rt.alloc(), DEMO.as_bytes(), input, &mut written, &mut told);
+        assert_eq!(rt; got, status, "{place}");
+        assert_eq!(rt; written.as_slice(), output.as_bytes(), "{place}");
+        assert_eq!(rt; told.as_slice(), errors.as_bytes(), "{place}");
+    }
+    Ok(())
+}
+
+#[test]
+fn answers_leave_before_more_is_read(rt: HostRuntime) -> Result<(), Fail> {
+    let (written, seen) = (Cell::new(0), Cell::new(None));
+    let input = WatchingReader {
+        text: Some(REGISTER.as_bytes()),
+        written: &written,
+        seen: &seen,
+    };
+    let output = CountingWriter { written: &written };
+    let mut errors = Vec::new(rt.alloc());
+    let status = answer(rt.alloc(), DEMO.as_bytes(), input, output, &mut errors);
+    assert_eq!(rt; status, 0);
+    assert_eq!(rt; seen.get(), Some(REGISTERED.len()));
+    Ok(())
+}
+
+#[test]
+fn output_that_does_not_leave(rt: HostRuntime) -> Result<(), Fail> {
+    let rows = [
+        // The flush before the second read fails, or the last one; the latter also before a line is refused.
+        (REGISTER, 0),
+        (REGISTER, 1),
+        ("1 0g\n", 0),
+    ];
+    for (input, flushes) in rows {
+        let mut errors = Vec::new(rt.alloc());
+        let output = FullWriter { flushes };
+        let status = answer(
+            rt.alloc(),
+            DEMO.as_bytes(),
+            input.as_bytes(),
+            output,
+            &mut errors,
+        );
+        assert_eq!(rt; status, 5, "{flushes}");
+        assert_eq!(rt; errors.as_slice(), b"device\n".as_slice(), "{flushes}");
+    }
     Ok(())
 }

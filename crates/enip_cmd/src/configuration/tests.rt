@@ -2,7 +2,7 @@
 
 use super::Configuration;
 use crate::fault::Fault;
-use cip_objects::Objects;
+use cip_objects::{ConfigFault, Objects};
 use std::alloc::Global;
 use std::test::Fail;
 
@@ -17,10 +17,35 @@ name = \"Demo\"
 ";
 
 /// Reads a configuration, and makes the objects that it tells of.
-fn refusal(alloc: Global, text: &str) -> Result<(), Fault> {
+fn make(alloc: Global, text: &str) -> Result<(), Fault> {
     let configuration = Configuration::read(alloc, text)?;
     Objects::new(alloc, &configuration.objects)?;
     Ok(())
+}
+
+/// The number of the check that refuses a configuration.
+fn refusal(alloc: Global, text: &str) -> Option<u8> {
+    match make(alloc, text) {
+        Err(Fault::Configuration(refusal)) => Some(refusal.number()),
+        _ => None,
+    }
+}
+
+#[test]
+fn the_objects_number_their_checks_so(rt: HostRuntime) {
+    let rows = [
+        ConfigFault::Name,
+        ConfigFault::Size,
+        ConfigFault::Members,
+        ConfigFault::DoubleInstance,
+        ConfigFault::Limit,
+    ];
+    for check in rows {
+        match Fault::from(check) {
+            Fault::Configuration(refusal) => assert_eq!(rt; refusal.number(), check.number()),
+            fault => assert!(rt; false, "{fault}"),
+        }
+    }
 }
 
 #[test]
@@ -125,7 +150,7 @@ fn refused(rt: HostRuntime) -> Result<(), Fail> {
     for (more, check) in rows {
         let text = format!(in alloc; "{LEAST}{more}")?;
         let got = refusal(alloc, text.as_str());
-        assert_eq!(rt; got, Err(Fault::Configuration(check)), "{more}");
+        assert_eq!(rt; got, Some(check), "{more}");
     }
     Ok(())
 }
@@ -162,7 +187,7 @@ fn values_that_have_to_be_there(rt: HostRuntime) -> Result<(), Fail> {
             }
         }
         let got = refusal(alloc, text.as_str());
-        assert_eq!(rt; got, Err(Fault::Configuration(check)), "{text}");
+        assert_eq!(rt; got, Some(check), "{text}");
     }
     Ok(())
 }

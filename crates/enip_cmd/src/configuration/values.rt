@@ -6,12 +6,12 @@ ghost use Rattle.toml.specs.View.{view, items_view, table_view};
 ghost use Rattle.enip_cmd.specs.Refusals.{IsBad, IsUnread};
 ghost use Rattle.enip_cmd.specs.Settings.{number_in, number, number_or, name_told, counter_in, counter_told, address_in, address_told};
 
-use crate::fault::Fault;
+use crate::fault::{Fault, Refusal};
 use cip_objects::CounterConfig;
 use toml::{Table, Value};
 
 /// A key is missing, or its value is of another type or out of its range.
-pub(super) const BAD_VALUE: Fault = Fault::Configuration(8);
+pub(super) const BAD_VALUE: Fault = Fault::Configuration(Refusal::BadValue);
 
 /// The value of a key.
 pub(super) fn value_of<'a>(table: &'a Table, key: &str) -> Option<&'a Value>

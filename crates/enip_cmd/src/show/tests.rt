@@ -1,8 +1,11 @@
 //! Worked rows of `show`, and each fault that a line can have.
 
 use super::show;
-use crate::tests::devices::{BrokenReader, BrokenWriter};
+use crate::tests::devices::{
+    BrokenReader, BrokenWriter, CountingWriter, FullWriter, WatchingReader,
+};
 use std::alloc::Global;
+use std::cell::Cell;
 use std::test::Fail;
 
 /// Runs `show` over a text, and gives the exit status, the output and what went to the errors.
@@ -41,6 +44,84 @@ reply 0xb2 status 0x00 extended - data 05000000
         (
             "6500 0400 02000000 69000000 A1b2c3d4e5f60718 03000000 01000000\r\n",
             "frame 0x0065 length 4 session 2 status 0x00000069 context a1b2c3d4e5f60718 options 3\n",
+        ),
+        // The numbers of the header are of 32 bits, but for the command and the length.
+        (
+            "6500 0000 fffefdfc 78563412 ffffffffffffffff feffffff",
+            "frame 0x0065 length 0 session 4244504319 status 0x12345678 context ffffffffffffffff options 4294967294\n",
+        ),
+        // Class, instance, attribute and member of 16 bits, and an instance of 32 bits.
+        (
+            "6f00 2200 01000000 00000000 0102030405060708 00000000 00000000 0000 0200 0000 0000 b200 1200 1808 21000401 25000302 31000201 29000103",
+            "frame 0x006f length 34 session 1 status 0x00000000 context 0102030405060708 options 0
+item 0x0000 length 0
+item 0x00b2 length 18
+request 0x18 class 260 instance 515 attribute 258 member 769 data -
+",
+        ),
+        (
+            "6f00 1c00 01000000 00000000 0102030405060708 00000000 00000000 0000 0200 0000 0000 b200 0c00 0e05 21ff0104 26ff04030201",
+            "frame 0x006f length 28 session 1 status 0x00000000 context 0102030405060708 options 0
+item 0x0000 length 0
+item 0x00b2 length 12
+request 0x0e class 1025 instance 16909060 attribute - member - data -
+",
+        ),
+        // The greatest service of a request, and the least of a reply.
+        (
+            "6f00 1600 01000000 00000000 0102030405060708 00000000 00000000 0000 0200 0000 0000 b200 0600 7f02 2001 2401",
+            "frame 0x006f length 22 session 1 status 0x00000000 context 0102030405060708 options 0
+item 0x0000 length 0
+item 0x00b2 length 6
+request 0x7f class 1 instance 1 attribute - member - data -
+",
+        ),
+        (
+            "6f00 1400 01000000 00000000 0102030405060708 00000000 00000000 0000 0200 0000 0000 b200 0400 80000000",
+            "frame 0x006f length 20 session 1 status 0x00000000 context 0102030405060708 options 0
+item 0x0000 length 0
+item 0x00b2 length 4
+reply 0x80 status 0x00 extended - data -
+",
+        ),
+        // Two additional status words.
+        (
+            "6f00 1900 01000000 00000000 0102030405060708 00000000 00000000 0000 0200 0000 0000 b200 0900 d4ff0102 1503 0a0b 0c",
+            "frame 0x006f length 25 session 1 status 0x00000000 context 0102030405060708 options 0
+item 0x0000 length 0
+item 0x00b2 length 9
+reply 0xd4 status 0x01 extended 03150b0a data 0c
+",
+        ),
+        // Types of items of 16 bits.
+        (
+            "6f00 1e00 01000000 00000000 0102030405060708 00000000 00000000 0000 0300 0000 0000 b200 0600 0102 2001 2401 0180 0400 01020304",
+            "frame 0x006f length 30 session 1 status 0x00000000 context 0102030405060708 options 0
+item 0x0000 length 0
+item 0x00b2 length 6
+item 0x8001 length 4
+request 0x01 class 1 instance 1 attribute - member - data -
+",
+        ),
+        // A count of 16 bits, and an item with a connection of 32 bits.
+        (
+            "7000 1c00 01000000 00000000 0102030405060708 00000000 00000000 0000 0200 a100 0400 fefdfcfb b100 0800 ffff 0102 2001 2401",
+            "frame 0x0070 length 28 session 1 status 0x00000000 context 0102030405060708 options 0
+item 0x00a1 length 4
+item 0x00b1 length 8
+count 65535
+request 0x01 class 1 instance 1 attribute - member - data -
+",
+        ),
+        // Several frames, and the last line has no end.
+        (
+            "6500 0000 01000000 00000000 0102030405060708 00000000\n0400 0000 02000000 00000000 0807060504030201 00000000\r\n6f00 0000 03000000 00000000 0102030405060708 00000000\n6300 0000 04000000 00000000 0102030405060708 00000000",
+            "frame 0x0065 length 0 session 1 status 0x00000000 context 0102030405060708 options 0
+frame 0x0004 length 0 session 2 status 0x00000000 context 0807060504030201 options 0
+frame 0x006f length 0 session 3 status 0x00000000 context 0102030405060708 options 0
+fault cpf 1
+frame 0x0063 length 0 session 4 status 0x00000000 context 0102030405060708 options 0
+",
         ),
         // A member is set, in a path of all four kinds of segment.
         (
@@ -276,5 +357,71 @@ fn a_writer_that_fails(rt: HostRuntime) -> Result<(), Fail> {
     assert_eq!(rt; status, 5);
     assert_eq!(rt; written.as_slice(), b"frame 0x006f".as_slice());
     assert_eq!(rt; errors.as_slice(), b"device\n".as_slice());
+    Ok(())
+}
+
+/// A text so many times.
+fn repeated(alloc: Global, text: &str, count: usize) -> Result<String, Fail> {
+    let mut all = String::new(alloc);
+    for _ in 0..count {
+        all.push_str(text)?;
+    }
+    Ok(all)
+}
+
+#[test]
+fn long_messages(rt: HostRuntime) -> Result<(), Fail> {
+    let alloc = rt.alloc();
+    let contents = repeated(alloc, "00a5ff5a", 125)?;
+    // An assembly of 500 bytes is set without a connection, and read on one.
+    let input = format!(in alloc;
+        "6f00 0c02 01000000 00000000 0102030405060708 00000000 00000000 0000 0200 0000 0000 b200 fc01 1003 2004 2464 3003 {contents}
+7000 0e02 01000000 00000000 0102030405060708 00000000 00000000 0000 0200 a100 0400 44332211 b100 fa01 0201 8e000000 {contents}
+"
+    )?;
+    let output = format!(in alloc;
+        "frame 0x006f length 524 session 1 status 0x00000000 context 0102030405060708 options 0
+item 0x0000 length 0
+item 0x00b2 length 508
+request 0x10 class 4 instance 100 attribute 3 member - data {contents}
+frame 0x0070 length 526 session 1 status 0x00000000 context 0102030405060708 options 0
+item 0x00a1 length 4
+item 0x00b1 length 506
+count 258
+reply 0x8e status 0x00 extended - data {contents}
+"
+    )?;
+    let got = run(alloc, input.as_str())?;
+    assert_eq!(rt; got.0, 0);
+    assert_eq!(rt; got.1.as_slice(), output.as_bytes());
+    Ok(())
+}
+
+#[test]
+fn fields_leave_before_more_is_read(rt: HostRuntime) -> Result<(), Fail> {
+    let (written, seen) = (Cell::new(0), Cell::new(None));
+    let input = WatchingReader {
+        text: Some(REQUEST.as_bytes()),
+        written: &written,
+        seen: &seen,
+    };
+    let output = CountingWriter { written: &written };
+    let mut errors = Vec::new(rt.alloc());
+    let status = show(rt.alloc(), input, output, &mut errors);
+    assert_eq!(rt; status, 0);
+    assert_eq!(rt; seen.get(), Some(REQUEST_SHOWN.len()));
+    Ok(())
+}
+
+#[test]
+fn output_that_does_not_leave(rt: HostRuntime) -> Result<(), Fail> {
+    // The flush before the second read fails, or the last one.
+    for flushes in 0..2 {
+        let mut errors = Vec::new(rt.alloc());
+        let output = FullWriter { flushes };
+        let status = show(rt.alloc(), REQUEST.as_bytes(), output, &mut errors);
+        assert_eq!(rt; status, 5, "{flushes}");
+        assert_eq!(rt; errors.as_slice(), b"device\n".as_slice(), "{flushes}");
+    }
     Ok(())
 }

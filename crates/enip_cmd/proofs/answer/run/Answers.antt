@@ -1,11 +1,18 @@
 use Rattle.std.proofs.Common.{IfErr, rules}
-use Rattle.enip_cmd.specs.Statuses.{IsOfRun}
-use Rattle.enip_cmd.proofs.StatusLemmas.{accepted, objects_refuse, fails_later}
+use Rattle.enip_cmd.specs.Lines.{IsRefusedLine}
+use Rattle.enip_cmd.specs.Statuses.{IsOfDevices}
+use Rattle.enip_cmd.proofs.StatusLemmas.{accepted, objects_refuse, fails_later, devices_later, done_later}
 use Rattle.enip_cmd.proofs.answer.run.Goals as goal
 
 pub returns-clause-accepted : goal.returns-clause-accepted
 returns-clause-accepted g c =
-    accepted c.args.config.now c.in_ok-configuration.configuration c.new.result c.in_ok-objects.objects c.in_ok-configuration.ensures.read c.new.ensures.refused c.in_ok-objects.was
+    let taken = accepted c.args.config.now c.in_ok-configuration.configuration c.new.result c.in_ok-objects.objects c.in_ok-configuration.ensures.read c.new.ensures.refused c.in_ok-objects.was in
+    done_later c.args.config.now c.read_lines.result taken
+
+pub returns-clause-refused : goal.returns-clause-refused
+returns-clause-refused g c =
+    let taken = accepted c.args.config.now c.in_ok-configuration.configuration c.new.result c.in_ok-objects.objects c.in_ok-configuration.ensures.read c.new.ensures.refused c.in_ok-objects.was in
+    fails_later c.args.config.now (λ _ text. IsRefusedLine text) c.read_lines.result taken c.read_lines.ensures
 
 pub returns-in_err-objects-clause-refused : goal.returns-in_err-objects-clause-refused
 returns-in_err-objects-clause-refused g c =
@@ -15,17 +22,5 @@ returns-in_err-objects-clause-refused g c =
 pub returns-in_err-desk-clause-refused : goal.returns-in_err-desk-clause-refused
 returns-in_err-desk-clause-refused g c =
     let taken = accepted c.args.config.now c.in_ok-configuration.configuration c.new.result c.in_ok-objects.objects c.in_ok-configuration.ensures.read c.new.ensures.refused c.in_ok-objects.was in
-    let run : IfErr c.from_residual-in_err-desk.result IsOfRun = search rules in
-    fails_later c.args.config.now c.from_residual-in_err-desk.result taken run
-
-pub returns-in_err-read-clause-refused : goal.returns-in_err-read-clause-refused
-returns-in_err-read-clause-refused g c =
-    let taken = accepted c.args.config.now c.in_ok-configuration.configuration c.new.result c.in_ok-objects.objects c.in_ok-configuration.ensures.read c.new.ensures.refused c.in_ok-objects.was in
-    let run : IfErr c.from_residual-in_err-read.result IsOfRun = search rules in
-    fails_later c.args.config.now c.from_residual-in_err-read.result taken run
-
-pub returns-in_err-flushed-clause-refused : goal.returns-in_err-flushed-clause-refused
-returns-in_err-flushed-clause-refused g c =
-    let taken = accepted c.args.config.now c.in_ok-configuration.configuration c.new.result c.in_ok-objects.objects c.in_ok-configuration.ensures.read c.new.ensures.refused c.in_ok-objects.was in
-    let run : IfErr c.from_residual-in_err-flushed.result IsOfRun = search rules in
-    fails_later c.args.config.now c.from_residual-in_err-flushed.result taken run
+    let run : IfErr c.from_residual-in_err-desk.result IsOfDevices = search rules in
+    devices_later c.args.config.now c.from_residual-in_err-desk.result taken run
