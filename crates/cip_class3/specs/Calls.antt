@@ -1,7 +1,7 @@
 -- Calls of an originator in any order, and what is seen of them.
 use Rattle.std.specs.Prelude.{◌≡◌, ℕ, if◌then◌else◌, Option, Some, None, List, [], ◌∷◌}
-use Rattle.cip_class3.specs.Item.{count_of}
-use Rattle.cip_class3.specs.OriginatorRule.{OriginatorState, refusal, submitted, is_reply, heard, given_up}
+use Rattle.cip_class3.specs.Item.{sequence_count_of}
+use Rattle.cip_class3.specs.OriginatorRule.{OriginatorState, submit_refusal, with_next_request, is_reply, after_item, after_give_up}
 use Rattle.cip_class3.specs.declared.originator.Refused.{Refused}
 
 -- a call
@@ -17,14 +17,14 @@ pub data Event : Type 0 where
   Accepted : (count : ℕ) → Event
 
 abbrev pub after_submit : Option Refused → OriginatorState → List ℕ → OriginatorState
-after_submit None originator request = submitted originator request
+after_submit None originator request = with_next_request originator request
 after_submit (Some why) originator request = originator
 
 abbrev pub after_call : OriginatorState → Call → OriginatorState
-after_call originator (Submit request) = after_submit (refusal originator request) originator request
+after_call originator (Submit request) = after_submit (submit_refusal originator request) originator request
 after_call originator Resend = originator
-after_call originator (Receive bytes) = heard originator bytes
-after_call originator GiveUp = given_up originator
+after_call originator (Receive bytes) = after_item originator bytes
+after_call originator GiveUp = after_give_up originator
 
 -- what is seen of a submit, and then later
 abbrev pub seen_of_submit : Option Refused → ℕ → List Event → List Event
@@ -33,10 +33,10 @@ seen_of_submit (Some why) count later = later
 
 -- what is seen of a call, and then later
 abbrev pub seen_of_call : OriginatorState → Call → List Event → List Event
-seen_of_call originator (Submit request) later = seen_of_submit (refusal originator request) originator.next later
+seen_of_call originator (Submit request) later = seen_of_submit (submit_refusal originator request) originator.next later
 seen_of_call originator Resend later = later
 seen_of_call originator (Receive bytes) later =
-    if is_reply originator.t_o originator.phase bytes then Accepted (count_of bytes) ∷ later else later
+    if is_reply originator.t_to_o_size originator.phase bytes then Accepted (sequence_count_of bytes) ∷ later else later
 seen_of_call originator GiveUp later = later
 
 -- what is seen of the calls, in order

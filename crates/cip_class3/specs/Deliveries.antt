@@ -2,40 +2,40 @@
 use Rattle.std.specs.Prelude.{ℕ, suc, ◌+◌, ◌≤◌, ◌<◌, ◌^◌, Option, Some, None, List, [], ◌∷◌, ◌++◌, length, map, replicate}
 use Rattle.std.specs.List.{flat_map, AllByRecursion}
 use Rattle.cip_class3.specs.Item.{item, NeighboursDiffer}
-use Rattle.cip_class3.specs.TargetRule.{TargetState, Kept, Outcome, kept_bytes, target_step}
+use Rattle.cip_class3.specs.TargetRule.{TargetState, Kept, TargetStep, kept_bytes, target_step}
 use Rattle.cip_class3.specs.declared.target.Received.TheVariants.{Dropped, Repeated, Executed}
 
 -- a request with its count, and how often it comes again
 pub record Delivery : Type 0 where
-  pub count : ℕ
+  pub sequence_count : ℕ
   pub request : List ℕ
   pub repeats : ℕ
 
 -- it has a count and a request, and fits the O->T size
-pub record IsDeliverable (o_t : ℕ) (delivery : Delivery) : Type 0 where
-  pub count : delivery.count < 2 ^ 16
+pub record IsDeliverable (o_to_t_size : ℕ) (delivery : Delivery) : Type 0 where
+  pub count : delivery.sequence_count < 2 ^ 16
   pub request : 2 ≤ length delivery.request
-  pub size : length delivery.request + 2 ≤ o_t
+  pub size : length delivery.request + 2 ≤ o_to_t_size
 
 -- the items that come, in order
 abbrev pub items_of : List Delivery → List (List ℕ)
-items_of deliveries = flat_map (λ d. replicate (suc d.repeats) (item d.count d.request)) deliveries
+items_of deliveries = flat_map (λ d. replicate (suc d.repeats) (item d.sequence_count d.request)) deliveries
 
 abbrev pub requests_of : List Delivery → List (List ℕ)
 requests_of deliveries = map (λ d. d.request) deliveries
 
 -- the held count, if any, and the counts that come
 abbrev pub counts_from : Option Kept → List Delivery → List ℕ
-counts_from None deliveries = map (λ d. d.count) deliveries
-counts_from (Some kept) deliveries = kept.count ∷ map (λ d. d.count) deliveries
+counts_from None deliveries = map (λ d. d.sequence_count) deliveries
+counts_from (Some kept) deliveries = kept.sequence_count ∷ map (λ d. d.sequence_count) deliveries
 
 -- each request fits, and each has another count than the one before it
 pub record AreDelivered (target : TargetState) (deliveries : List Delivery) : Type 0 where
-  pub each : AllByRecursion (IsDeliverable target.o_t) deliveries
+  pub each : AllByRecursion (IsDeliverable target.o_to_t_size) deliveries
   pub another : NeighboursDiffer (counts_from target.held deliveries)
 
 -- what an item is answered with: the kept bytes, or nothing where it was dropped
-abbrev pub answer_to : {M : Type 0} → Outcome M → Option (List ℕ)
+abbrev pub answer_to : {M : Type 0} → TargetStep M → Option (List ℕ)
 answer_to done = elim done.received [ Dropped ↦ None | Repeated ↦ Some (kept_bytes done.target.held) | Executed ↦ Some (kept_bytes done.target.held) ]
 
 module _ {M : Type 0} (after : M → ℕ → List ℕ → M) (answer : M → ℕ → List ℕ → List ℕ) where
@@ -52,13 +52,13 @@ module _ {M : Type 0} (after : M → ℕ → List ℕ → M) (answer : M → ℕ
       let done = target_step after answer target router bytes in answer_to done ∷ answers_to done.target done.router items
 
   -- the router after it executed each of the requests once, in this order
-  abbrev pub executed_once : ℕ → M → List (List ℕ) → M
-  executed_once room router [] = router
-  executed_once room router (request ∷ requests) = executed_once room (after router room request) requests
+  abbrev pub router_after_requests : ℕ → M → List (List ℕ) → M
+  router_after_requests room router [] = router
+  router_after_requests room router (request ∷ requests) = router_after_requests room (after router room request) requests
 
   -- each time that a request came, its count with the reply of its one execution
   abbrev pub answers_once : ℕ → M → List Delivery → List (Option (List ℕ))
   answers_once room router [] = []
   answers_once room router (d ∷ deliveries) =
-      replicate (suc d.repeats) (Some (item d.count (answer router room d.request)))
+      replicate (suc d.repeats) (Some (item d.sequence_count (answer router room d.request)))
       ++ answers_once room (after router room d.request) deliveries

@@ -1,13 +1,17 @@
 -- The item of a class 3 connection: a sequence count and a message (Volume 2, connected data item).
 use Rattle.std.specs.Prelude.{◌≢◌, ℕ, List, [], ◌∷◌, ◌++◌, drop}
-use Rattle.byteorder.specs.Endian.{little_number, little_bytes}
+use Rattle.cip_bytes.specs.Numbers.{le, number_at}
+
+-- the largest size of a connection in one direction, in bytes, the sequence count included
+abbrev pub LARGEST_SIZE : ℕ
+LARGEST_SIZE = 511
 
 -- two bytes of sequence count, least first, and a request or a reply
 abbrev pub item : ℕ → List ℕ → List ℕ
-item count message = little_bytes 2 count ++ message
+item count message = le 2 count ++ message
 
-abbrev pub count_of : List ℕ → ℕ
-count_of bytes = little_number 2 bytes
+abbrev pub sequence_count_of : List ℕ → ℕ
+sequence_count_of bytes = number_at 0 2 bytes
 
 abbrev pub message_of : List ℕ → List ℕ
 message_of bytes = drop 2 bytes

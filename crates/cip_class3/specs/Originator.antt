@@ -1,6 +1,6 @@
 -- What a contract sees of an `Originator`.
 use Rattle.std.specs.Prelude.{◌≡◌, ℕ, ◌≤◌, List, length, take, drop}
-use Rattle.cip_class3.specs.Item.{item}
+use Rattle.cip_class3.specs.Item.{LARGEST_SIZE, item}
 use Rattle.cip_class3.specs.OriginatorRule.{OriginatorState, Phase, Idle, Waiting, GivenUp}
 use Rattle.cip_class3.specs.declared.originator.Progress.{Progress}
 use Rattle.cip_class3.specs.declared.originator.Progress.TheVariants as progress
@@ -21,8 +21,8 @@ tries_of progress.GivenUp = 1
 
 abbrev pub originator_state : Inside → OriginatorState
 originator_state originator = record {
-  o_t = originator.o_t;
-  t_o = originator.t_o;
+  o_to_t_size = originator.o_to_t_size;
+  t_to_o_size = originator.t_to_o_size;
   next = originator.next;
   phase = phase_of originator.progress originator.block.items;
   tries = tries_of originator.progress;
@@ -41,9 +41,9 @@ HoldsItem (progress.Waiting count length) block = StandsInFront count length blo
 HoldsItem progress.GivenUp block = Unit {0}
 
 pub record IsOriginator (originator : Inside) : Type 0 where
-  pub o_t_from : 4 ≤ originator.o_t
-  pub o_t_to : originator.o_t ≤ 511
-  pub t_o_from : 10 ≤ originator.t_o
-  pub t_o_to : originator.t_o ≤ 511
-  pub block : length originator.block.items ≡ originator.o_t
+  pub o_to_t_from : 4 ≤ originator.o_to_t_size
+  pub o_to_t_to : originator.o_to_t_size ≤ LARGEST_SIZE
+  pub t_to_o_from : 10 ≤ originator.t_to_o_size
+  pub t_to_o_to : originator.t_to_o_size ≤ LARGEST_SIZE
+  pub block : length originator.block.items ≡ originator.o_to_t_size
   pub item : HoldsItem originator.progress originator.block.items

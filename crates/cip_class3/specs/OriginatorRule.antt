@@ -1,7 +1,7 @@
 -- The originator's end of a class 3 connection (Volume 1, transport class 3, sequence counts).
 use Rattle.std.specs.Prelude.{ℕ, ◌+◌, ◌%◌, ◌==◌, nat_lt, nat_le, Bool, true, false, ◌&&◌, if◌then◌else◌, Option, Some, None, List, length, slice_index}
-use Rattle.cip_objects.specs.Router.{reply_service}
-use Rattle.cip_class3.specs.Item.{item, count_of, message_of}
+use Rattle.cip_message.specs.Reply.{reply_service}
+use Rattle.cip_class3.specs.Item.{item, sequence_count_of, message_of}
 use Rattle.cip_class3.specs.declared.originator.Stage.{Stage}
 use Rattle.cip_class3.specs.declared.originator.Stage.TheVariants as stages
 use Rattle.cip_class3.specs.declared.originator.Refused.{Refused}
@@ -16,15 +16,16 @@ pub data Phase : Type 0 where
 -- the originator's end: both sizes, the sequence count included, the count of the next request, the phase,
 -- and how many requests were submitted since the last reply was accepted
 pub record OriginatorState : Type 0 where
-  pub o_t : ℕ
-  pub t_o : ℕ
+  pub o_to_t_size : ℕ
+  pub t_to_o_size : ℕ
   pub next : ℕ
   pub phase : Phase
   pub tries : ℕ
 
 -- the originator of a connection that was just opened
-abbrev pub nothing_sent : ℕ → ℕ → ℕ → OriginatorState
-nothing_sent first o_t t_o = record { o_t = o_t; t_o = t_o; next = first; phase = Idle; tries = 0 }
+abbrev pub originator_at_opening : ℕ → ℕ → ℕ → OriginatorState
+originator_at_opening first o_to_t_size t_to_o_size =
+    record { o_to_t_size = o_to_t_size; t_to_o_size = t_to_o_size; next = first; phase = Idle; tries = 0 }
 
 -- the number of a refusal, by which it is printed
 abbrev pub refused_number : Refused → ℕ
@@ -38,18 +39,18 @@ abbrev pub is_request : List ℕ → Bool
 is_request request = nat_le 2 (length request) && nat_lt (slice_index request 0) 128
 
 -- why a request of this form is not taken, at this O->T size
-abbrev pub unfit : ℕ → List ℕ → Option Refused
-unfit o_t request =
-    if is_request request then (if nat_le (length request + 2) o_t then None else Some refusals.TooLong)
+abbrev pub form_refusal : ℕ → List ℕ → Option Refused
+form_refusal o_to_t_size request =
+    if is_request request then (if nat_le (length request + 2) o_to_t_size then None else Some refusals.TooLong)
     else Some refusals.NoRequest
 
 -- why a request is not taken now, if it isn't
-abbrev pub refusal : OriginatorState → List ℕ → Option Refused
-refusal originator request = elim originator.phase [ Idle ↦ unfit originator.o_t request | Waiting _ _ ↦ Some refusals.Busy | GivenUp ↦ Some refusals.GivenUp ]
+abbrev pub submit_refusal : OriginatorState → List ℕ → Option Refused
+submit_refusal originator request = elim originator.phase [ Idle ↦ form_refusal originator.o_to_t_size request | Waiting _ _ ↦ Some refusals.Busy | GivenUp ↦ Some refusals.GivenUp ]
 
 -- the request waits with the next count, and the count after it is the next one, modulo 65,536
-abbrev pub submitted : OriginatorState → List ℕ → OriginatorState
-submitted originator request =
+abbrev pub with_next_request : OriginatorState → List ℕ → OriginatorState
+with_next_request originator request =
     record originator { phase = Waiting originator.next request; next = (originator.next + 1) % 65536; tries = originator.tries + 1 }
 
 -- the item of the request that waits
@@ -58,30 +59,30 @@ waiting_item Idle = None
 waiting_item (Waiting count request) = Some (item count request)
 waiting_item GivenUp = None
 
--- an item of 6 to `t_o` bytes, with this count, and with this service with bit 7 set
+-- an item of 6 to `t_to_o_size` bytes, with this count, and with this service with bit 7 set
 abbrev pub answers : ℕ → ℕ → ℕ → List ℕ → Bool
-answers t_o count service bytes =
-    nat_le 6 (length bytes) && nat_le (length bytes) t_o && (count_of bytes == count)
+answers t_to_o_size count service bytes =
+    nat_le 6 (length bytes) && nat_le (length bytes) t_to_o_size && (sequence_count_of bytes == count)
     && (slice_index bytes 2 == reply_service service)
 
 -- the item has the reply to the request that waits
 abbrev pub is_reply : ℕ → Phase → List ℕ → Bool
-is_reply t_o Idle bytes = false
-is_reply t_o (Waiting count request) bytes = answers t_o count (slice_index request 0) bytes
-is_reply t_o GivenUp bytes = false
+is_reply t_to_o_size Idle bytes = false
+is_reply t_to_o_size (Waiting count request) bytes = answers t_to_o_size count (slice_index request 0) bytes
+is_reply t_to_o_size GivenUp bytes = false
 
 -- no request waits any more, and the requests are counted from here
-abbrev pub accepted : OriginatorState → OriginatorState
-accepted originator = record originator { phase = Idle; tries = 0 }
+abbrev pub idle_again : OriginatorState → OriginatorState
+idle_again originator = record originator { phase = Idle; tries = 0 }
 
 -- after an item came
-abbrev pub heard : OriginatorState → List ℕ → OriginatorState
-heard originator bytes = if is_reply originator.t_o originator.phase bytes then accepted originator else originator
+abbrev pub after_item : OriginatorState → List ℕ → OriginatorState
+after_item originator bytes = if is_reply originator.t_to_o_size originator.phase bytes then idle_again originator else originator
 
 -- the reply that was accepted of an item, if one was
 abbrev pub accepted_reply : OriginatorState → List ℕ → Option (List ℕ)
 accepted_reply originator bytes =
-    if is_reply originator.t_o originator.phase bytes then Some (message_of bytes) else None
+    if is_reply originator.t_to_o_size originator.phase bytes then Some (message_of bytes) else None
 
 abbrev pub is_waiting : Phase → Bool
 is_waiting Idle = false
@@ -89,8 +90,8 @@ is_waiting (Waiting count request) = true
 is_waiting GivenUp = false
 
 -- the request that waits is given up
-abbrev pub given_up : OriginatorState → OriginatorState
-given_up originator = if is_waiting originator.phase then record originator { phase = GivenUp } else originator
+abbrev pub after_give_up : OriginatorState → OriginatorState
+after_give_up originator = if is_waiting originator.phase then record originator { phase = GivenUp } else originator
 
 abbrev pub stage_of : Phase → Stage
 stage_of Idle = stages.Idle

@@ -1,8 +1,8 @@
 -- Worked rows of the two rules.
 use Rattle.std.specs.Prelude.{◌≡◌, ℕ, true, false, Some, None, List, [], ◌∷◌, replicate, refl}
-use Rattle.cip_class3.specs.Item.{item, count_of}
+use Rattle.cip_class3.specs.Item.{item, sequence_count_of}
 use Rattle.cip_class3.specs.TargetRule.{is_held}
-use Rattle.cip_class3.specs.OriginatorRule.{OriginatorState, Waiting, nothing_sent, refusal, submitted, is_reply}
+use Rattle.cip_class3.specs.OriginatorRule.{OriginatorState, Waiting, originator_at_opening, submit_refusal, with_next_request, is_reply}
 use Rattle.cip_class3.specs.declared.originator.Refused.TheVariants.{Busy, TooLong, NoRequest}
 
 -- service 0x32 at class 0x64, instance 1, with the number 5
@@ -13,40 +13,40 @@ add_five = 0x32 ∷ 2 ∷ 0x20 ∷ 0x64 ∷ 0x24 ∷ 1 ∷ 5 ∷ 0 ∷ 0 ∷ 0 �
 pub item-add_five : item 1 add_five ≡ 1 ∷ 0 ∷ add_five
 item-add_five = refl
 
-pub count_of-item : count_of (1 ∷ 0 ∷ add_five) ≡ 1
-count_of-item = refl
+pub sequence_count_of-item : sequence_count_of (1 ∷ 0 ∷ add_five) ≡ 1
+sequence_count_of-item = refl
 
 -- where nothing is held, count 0 isn't either
 pub is_held-nothing : is_held None 0 ≡ false
 is_held-nothing = refl
 
-pub is_held-zero : (reply : List ℕ) → is_held (Some (record { count = 0; reply = reply })) 0 ≡ true
+pub is_held-zero : (reply : List ℕ) → is_held (Some (record { sequence_count = 0; reply = reply })) 0 ≡ true
 is_held-zero reply = refl
 
 abbrev pub idle : OriginatorState
-idle = nothing_sent 65535 500 500
+idle = originator_at_opening 65535 500 500
 
 -- 498 bytes and their count are 500; with 499 they are too many
-pub refusal-longest : refusal idle (replicate 498 14) ≡ None
-refusal-longest = refl
+pub submit_refusal-longest : submit_refusal idle (replicate 498 14) ≡ None
+submit_refusal-longest = refl
 
-pub refusal-longer : refusal idle (replicate 499 14) ≡ Some TooLong
-refusal-longer = refl
+pub submit_refusal-longer : submit_refusal idle (replicate 499 14) ≡ Some TooLong
+submit_refusal-longer = refl
 
 -- one byte, or a service with bit 7
-pub refusal-short : refusal idle (0x32 ∷ []) ≡ Some NoRequest
-refusal-short = refl
+pub submit_refusal-short : submit_refusal idle (0x32 ∷ []) ≡ Some NoRequest
+submit_refusal-short = refl
 
-pub refusal-reply : refusal idle (0xb2 ∷ 2 ∷ 0x20 ∷ 0x64 ∷ 0x24 ∷ 1 ∷ []) ≡ Some NoRequest
-refusal-reply = refl
+pub submit_refusal-reply : submit_refusal idle (0xb2 ∷ 2 ∷ 0x20 ∷ 0x64 ∷ 0x24 ∷ 1 ∷ []) ≡ Some NoRequest
+submit_refusal-reply = refl
 
 -- a second request while one waits, of whatever form
-pub refusal-waiting : refusal (submitted idle add_five) (0x32 ∷ []) ≡ Some Busy
-refusal-waiting = refl
+pub submit_refusal-waiting : submit_refusal (with_next_request idle add_five) (0x32 ∷ []) ≡ Some Busy
+submit_refusal-waiting = refl
 
 -- count 0 follows count 65,535
-pub next-submitted : (submitted idle add_five).next ≡ 0
-next-submitted = refl
+pub next-with_next_request : (with_next_request idle add_five).next ≡ 0
+next-with_next_request = refl
 
 -- the reply has the count, and the service with bit 7; five bytes are none
 pub is_reply-reply : is_reply 500 (Waiting 1 add_five) (1 ∷ 0 ∷ 0xb2 ∷ 0 ∷ 0 ∷ 0 ∷ []) ≡ true

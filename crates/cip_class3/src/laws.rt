@@ -1,11 +1,13 @@
 //! What follows from the rules of the two ends over whole lists of items and calls.
 //!
 //! The functions do nothing: each one's clauses are the law.
+
 ghost use Rattle.std.specs.Prelude.{◌≡◌, ℕ, ◌+◌, ◌%◌, ◌<◌, ◌^◌, List, length, slice_index};
 ghost use Rattle.cip_class3.specs.Item.{NeighboursDiffer};
 ghost use Rattle.cip_class3.specs.TargetRule.{TargetState, room_of};
-ghost use Rattle.cip_class3.specs.Deliveries.{Delivery, AreDelivered, items_of, requests_of, router_after, answers_to, executed_once, answers_once};
-ghost use Rattle.cip_class3.specs.OriginatorRule.{nothing_sent};
+ghost use Rattle.cip_class3.specs.Deliveries.{Delivery, AreDelivered, items_of, requests_of, router_after, answers_to};
+ghost use Rattle.cip_class3.specs.Deliveries.{router_after_requests, answers_once};
+ghost use Rattle.cip_class3.specs.OriginatorRule.{originator_at_opening};
 ghost use Rattle.cip_class3.specs.Calls.{Call, events_of, counts_taken, AcceptedOnce};
 
 use cip_objects::Router;
@@ -20,7 +22,7 @@ pub fn each_request_once<R: Router>()
     ensures once { (target : TargetState) (router : R) (deliveries : List Delivery) →
         AreDelivered target deliveries →
         router_after R.after R.answer target router (items_of deliveries)
-        ≡ executed_once R.after R.answer (room_of target) router (requests_of deliveries) }
+        ≡ router_after_requests R.after R.answer (room_of target) router (requests_of deliveries) }
     // Each time a request comes, its count and the reply of its one execution answer it.
     ensures same_bytes { (target : TargetState) (router : R) (deliveries : List Delivery) →
         AreDelivered target deliveries →
@@ -31,19 +33,20 @@ pub fn each_request_once<R: Router>()
 /// The counts that an originator takes follow one another, whatever the calls: that of the n-th request, from 0
 /// on, is n more than the first one's, modulo 65,536.
 pub fn counts_in_order()
-    ensures { (first o_t t_o n : ℕ) (calls : List Call) → first < 2 ^ 16 →
-        n < length (counts_taken (events_of (nothing_sent first o_t t_o) calls)) →
-        slice_index (counts_taken (events_of (nothing_sent first o_t t_o) calls)) n ≡ (first + n) % 65536 }
+    ensures { (first o_to_t_size t_to_o_size n : ℕ) (calls : List Call) → first < 2 ^ 16 →
+        n < length (counts_taken (events_of (originator_at_opening first o_to_t_size t_to_o_size) calls)) →
+        slice_index (counts_taken (events_of (originator_at_opening first o_to_t_size t_to_o_size) calls)) n
+        ≡ (first + n) % 65536 }
 {}
 
 /// Two requests that an originator takes one after the other never have the same count, whatever the calls.
 pub fn counts_differ()
-    ensures { (first o_t t_o : ℕ) (calls : List Call) → first < 2 ^ 16 →
-        NeighboursDiffer (counts_taken (events_of (nothing_sent first o_t t_o) calls)) }
+    ensures { (first o_to_t_size t_to_o_size : ℕ) (calls : List Call) → first < 2 ^ 16 →
+        NeighboursDiffer (counts_taken (events_of (originator_at_opening first o_to_t_size t_to_o_size) calls)) }
 {}
 
 /// A reply is accepted at most once for each request that an originator takes, whatever the calls.
 pub fn one_reply_each()
-    ensures { (first o_t t_o : ℕ) (calls : List Call) →
-        AcceptedOnce (events_of (nothing_sent first o_t t_o) calls) }
+    ensures { (first o_to_t_size t_to_o_size : ℕ) (calls : List Call) →
+        AcceptedOnce (events_of (originator_at_opening first o_to_t_size t_to_o_size) calls) }
 {}

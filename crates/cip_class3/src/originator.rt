@@ -1,13 +1,16 @@
 //! The originator's end of a class 3 connection.
+
 ghost use Rattle.std.specs.Prelude.{◌≡◌, ℕ, ◌≤◌, ◌+◌, Some, None, IfOk, IfErr, IfSome, OnOk, length, drop, ◌++◌};
 ghost use Rattle.std.specs.Option.{option_map};
 ghost use Rattle.std.specs.Borrow.{sem};
 ghost use Rattle.std.specs.Io.BufRead.{Rests};
-ghost use Rattle.cip_objects.specs.Router.{reply_service};
-ghost use Rattle.cip_class3.specs.Item.{item};
+ghost use Rattle.cip_message.specs.Reply.{reply_service};
+ghost use Rattle.cip_class3.specs.Item.{LARGEST_SIZE, item};
 ghost use Rattle.cip_class3.specs.OriginatorRule.{answers};
 
+use crate::item::{COUNT, SMALLEST_REPLY, SMALLEST_REQUEST};
 use byteorder::{ByteOrder, LittleEndian};
+use cip_message::reply_service;
 use std::alloc::{AllocError, Global};
 use std::marker::Model;
 use thiserror::Error;
@@ -60,21 +63,23 @@ pub enum Came<'a> {
     Ignored,
 }
 
-// Where the originator stands, and what of the block is the item that waits.
+/// Where the originator stands, and how much of the block is the item that waits.
 #[derive(Clone, Copy)]
 enum Progress {
     Idle,
-    Waiting { count: u16, length: usize },
+    Waiting { sequence_count: u16, length: usize },
     GivenUp,
 }
 
 /// The originator's end: at most one request, which waits for its reply.
 #[derive(Drop)]
 pub struct Originator {
-    o_t: u16,
-    t_o: u16,
+    o_to_t_size: u16,
+    t_to_o_size: u16,
+    /// The sequence count of the next request.
     next: u16,
     progress: Progress,
+    /// The item of the request that waits, at the front of as many bytes as the O->T size.
     block: Vec<u8>,
 }
 
@@ -91,53 +96,72 @@ impl Model for Originator {
 }
 
 impl Originator {
-    ghost use Rattle.cip_class3.specs.OriginatorRule.{nothing_sent, refusal, submitted, waiting_item, heard, accepted_reply, is_waiting, given_up, stage_of, is_reply};
+    ghost use Rattle.cip_class3.specs.OriginatorRule.{originator_at_opening, submit_refusal, with_next_request};
+    ghost use Rattle.cip_class3.specs.OriginatorRule.{waiting_item, after_item, accepted_reply, is_waiting};
+    ghost use Rattle.cip_class3.specs.OriginatorRule.{after_give_up, stage_of, is_reply};
     ghost use Rattle.cip_class3.specs.Came.{reply_in};
     ghost use Rattle.cip_class3.specs.contracts.originator.Originator.{the_row};
 
     /// The end of a connection that was just opened, whose first request has the count `first`.
     ///
-    /// The sizes count the item's two bytes of sequence count. No later call takes memory.
-    pub fn new(alloc: Global, first: u16, o_t: u16, t_o: u16) -> Result<Originator, AllocError>
-        requires o_t_from { 4 ≤ o_t }
-        requires o_t_to { o_t ≤ 511 }
-        requires t_o_from { 10 ≤ t_o }
-        requires t_o_to { t_o ≤ 511 }
-        ensures { IfOk result (λ originator. originator ≡ nothing_sent first o_t t_o) }
+    /// The sizes are in bytes, and count the item's two bytes of sequence count. No later call takes memory.
+    ///
+    /// # Errors
+    ///
+    /// `AllocError` where the memory is refused.
+    pub fn new(
+        alloc: Global,
+        first: u16,
+        o_to_t_size: u16,
+        t_to_o_size: u16,
+    ) -> Result<Originator, AllocError>
+        requires o_to_t_from { 4 ≤ o_to_t_size }
+        requires o_to_t_to { o_to_t_size ≤ LARGEST_SIZE }
+        requires t_to_o_from { 10 ≤ t_to_o_size }
+        requires t_to_o_to { t_to_o_size ≤ LARGEST_SIZE }
+        ensures { IfOk result (λ originator. originator ≡ originator_at_opening first o_to_t_size t_to_o_size) }
     {
         Ok(Originator {
-            o_t,
-            t_o,
+            o_to_t_size,
+            t_to_o_size,
             next: first,
             progress: Progress::Idle,
-            block: vec![in alloc; 0; o_t as usize]?,
+            block: vec![in alloc; 0; o_to_t_size as usize]?,
         })
     }
 
     /// Takes a request with the next count, and lends the item to send.
+    ///
+    /// # Errors
+    ///
+    /// The first of these: `GivenUp`, `Busy`, `NoRequest`, `TooLong`. Nothing changed, and no count was taken.
     pub fn submit(&mut self, request: &[u8]) -> Result<&[u8], Refused>
-        ensures refused { IfErr result (λ why. refusal self.old request.now ≡ Some why) }
-        ensures allowed { OnOk result (refusal self.old request.now ≡ None) }
+        ensures refused { IfErr result (λ why. submit_refusal self.old request.now ≡ Some why) }
+        ensures allowed { OnOk result (submit_refusal self.old request.now ≡ None) }
         ensures lent { IfOk result (λ lent. lent.now ≡ item self.old.next request.now) }
-        ensures fits { IfOk result (λ lent. length lent.now ≤ self.old.o_t) }
+        ensures fits { IfOk result (λ lent. length lent.now ≤ self.old.o_to_t_size) }
         ensures* after { sem 𝓛 (Rests the_row self.entry (λ new.
-            IfErr result (λ _. new ≡ self.old) × IfOk result (λ _. new ≡ submitted self.old request.now))) }
+            IfErr result (λ _. new ≡ self.old) × IfOk result (λ _. new ≡ with_next_request self.old request.now))) }
     {
-        if let Some(why) = self.refusal(request) {
+        if let Some(why) = self.submit_refusal(request) {
             return Err(why);
         }
-        let count = self.next;
-        let length = request.len() + 2;
-        write_item(&mut self.block, count, request);
-        self.progress = Progress::Waiting { count, length };
-        self.next = count.wrapping_add(1);
+        let sequence_count = self.next;
+        let length = COUNT + request.len();
+        write_item(&mut self.block, sequence_count, request);
+        self.progress = Progress::Waiting {
+            sequence_count,
+            length,
+        };
+        // After count 65,535 comes count 0 (the originator's end).
+        self.next = sequence_count.wrapping_add(1);
         Ok(&self.block[..length])
     }
 
     /// The item of the request that waits, again.
     pub fn resend(&self) -> Option<&[u8]>
         ensures lent { option_map (λ lent. lent.now) result ≡ waiting_item self.now.phase }
-        ensures fits { IfSome result (λ lent. length lent.now ≤ self.now.o_t) }
+        ensures fits { IfSome result (λ lent. length lent.now ≤ self.now.o_to_t_size) }
     {
         match self.progress {
             Progress::Waiting { length, .. } => Some(&self.block[..length]),
@@ -148,19 +172,21 @@ impl Originator {
     /// Accepts the reply to the request that waits, and lends it from the item.
     pub fn receive<'a>(&mut self, item: &'a [u8]) -> Came<'a>
         ensures reply { reply_in result ≡ accepted_reply self.old item.now }
-        ensures state { self.new ≡ heard self.old item.now }
+        ensures state { self.new ≡ after_item self.old item.now }
     {
         if !self.is_reply(item) {
             return Came::Ignored;
         }
         self.progress = Progress::Idle;
-        Came::Accepted(&item[2..])
+        Came::Accepted(&item[COUNT..])
     }
 
     /// Gives the request that waits up: from then on none is taken. False where none waits.
+    ///
+    /// Nobody knows whether it was executed, so the originator never goes on (the originator's end).
     pub fn give_up(&mut self) -> bool
         ensures waited { result ≡ is_waiting self.old.phase }
-        ensures state { self.new ≡ given_up self.old }
+        ensures state { self.new ≡ after_give_up self.old }
     {
         let waits = matches!(self.progress, Progress::Waiting { .. });
         if waits {
@@ -180,61 +206,54 @@ impl Originator {
         }
     }
 
-    // Why a request is not taken now, in the order of the checks.
-    fn refusal(&self, request: &[u8]) -> Option<Refused>
-        ensures { result ≡ refusal self.now request.now }
+    /// Why a request is not taken now, in the order of the checks.
+    fn submit_refusal(&self, request: &[u8]) -> Option<Refused>
+        ensures { result ≡ submit_refusal self.now request.now }
     {
         match self.progress {
             Progress::GivenUp => return Some(Refused::GivenUp),
             Progress::Waiting { .. } => return Some(Refused::Busy),
             Progress::Idle => {}
         }
-        if request.len() < 2 || request[0] >= 128 {
+        // A service and a path size at least, and bit 7 marks a reply (router messages).
+        if request.len() < SMALLEST_REQUEST || request[0] >= 0x80 {
             return Some(Refused::NoRequest);
         }
-        if request.len() + 2 > self.o_t as usize {
+        // The O->T size counts the sequence count (the item).
+        if COUNT + request.len() > self.o_to_t_size as usize {
             return Some(Refused::TooLong);
         }
         None
     }
 
-    // Whether the item has the reply to the request that waits.
+    /// Whether the item has the reply to the request that waits.
     fn is_reply(&self, item: &[u8]) -> bool
-        ensures { result ≡ is_reply self.now.t_o self.now.phase item.now }
+        ensures { result ≡ is_reply self.now.t_to_o_size self.now.phase item.now }
     {
         match self.progress {
-            Progress::Waiting { count, .. } => answers(item, self.t_o, count, self.block[2]),
+            Progress::Waiting { sequence_count, .. } => {
+                answers(item, self.t_to_o_size, sequence_count, self.block[COUNT])
+            }
             _ => false,
         }
     }
 }
 
-// Whether an item answers the request with this count and this service.
-fn answers(item: &[u8], t_o: u16, count: u16, service: u8) -> bool
-    ensures { result ≡ answers t_o count service item.now }
+/// Whether an item answers the request with this count and this service: sizes, count and service agree.
+fn answers(item: &[u8], t_to_o_size: u16, sequence_count: u16, service: u8) -> bool
+    ensures { result ≡ answers t_to_o_size sequence_count service item.now }
 {
-    6 <= item.len()
-        && item.len() <= t_o as usize
-        && LittleEndian::read_u16(item) == count
-        && item[2] == service_of_reply(service)
+    COUNT + SMALLEST_REPLY <= item.len()
+        && item.len() <= t_to_o_size as usize
+        && LittleEndian::read_u16(item) == sequence_count
+        && item[COUNT] == reply_service(service)
 }
 
-// The service with bit 7 set.
-fn service_of_reply(service: u8) -> u8
-    ensures { result ≡ reply_service service }
-{
-    if service < 128 {
-        service + 128
-    } else {
-        service
-    }
-}
-
-// Writes a count and a request to the front of the block.
-fn write_item(block: &mut [u8], count: u16, request: &[u8])
+/// Writes a count and a request to the front of the block.
+fn write_item(block: &mut [u8], sequence_count: u16, request: &[u8])
     requires { length request.now + 2 ≤ length block.old }
-    ensures { block.new ≡ item count request.now ++ drop (length request.now + 2) block.old }
+    ensures { block.new ≡ item sequence_count request.now ++ drop (length request.now + 2) block.old }
 {
-    LittleEndian::write_u16(block, count);
-    block[2..request.len() + 2].copy_from_slice(request);
+    LittleEndian::write_u16(block, sequence_count);
+    block[COUNT..COUNT + request.len()].copy_from_slice(request);
 }

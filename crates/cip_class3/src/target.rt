@@ -1,10 +1,13 @@
 //! The target's end of a class 3 connection.
+
 ghost use Rattle.std.specs.Prelude.{◌≡◌, ℕ, ◌≤◌, ◌-◌, ◌<◌, Option, Some, None, length};
 ghost use Rattle.cip_class3.specs.TargetRule.{kept_bytes};
-ghost use Rattle.cip_class3.specs.Item.{message_of};
+ghost use Rattle.cip_class3.specs.Item.{LARGEST_SIZE, message_of};
 
+use crate::item::{COUNT, LARGEST_SIZE, SMALLEST_REQUEST};
 use arrayvec::ArrayVec;
 use byteorder::{ByteOrder, LittleEndian};
+use cip_bytes::{append, append_u16};
 use cip_objects::{ReplyBuf, Router};
 use std::marker::Model;
 
@@ -22,10 +25,14 @@ pub enum Received {
 /// The target's end: the count and reply of the request that was executed last.
 #[derive(Drop)]
 pub struct Target {
-    o_t: u16,
-    t_o: u16,
+    o_to_t_size: u16,
+    t_to_o_size: u16,
+    /// The sequence count that is held.
     held: Option<u16>,
-    kept: ReplyBuf,
+    /// That count and its reply in one block.
+    kept: ArrayVec<u8, LARGEST_SIZE>,
+    /// Where the router writes, so that the kept bytes are written once and never moved.
+    reply: ReplyBuf,
 }
 
 impl Model for Target {
@@ -41,29 +48,31 @@ impl Model for Target {
 }
 
 impl Target {
-    ghost use Rattle.cip_class3.specs.TargetRule.{nothing_held, outcome, target_step, IsTaken, IsRepeat, HasAnotherCount};
+    ghost use Rattle.cip_class3.specs.TargetRule.{target_at_opening, step_of, target_step, IsTaken, IsRepeat};
+    ghost use Rattle.cip_class3.specs.TargetRule.{HasAnotherCount};
 
     /// The end of a connection that was just opened, which holds nothing.
     ///
-    /// The sizes count the item's two bytes of sequence count.
-    pub fn new(o_t: u16, t_o: u16) -> Target
-        requires o_t_from { 4 ≤ o_t }
-        requires o_t_to { o_t ≤ 511 }
-        requires t_o_from { 10 ≤ t_o }
-        requires t_o_to { t_o ≤ 511 }
-        ensures { result ≡ nothing_held o_t t_o }
+    /// The sizes are in bytes, and count the item's two bytes of sequence count.
+    pub fn new(o_to_t_size: u16, t_to_o_size: u16) -> Target
+        requires o_to_t_from { 4 ≤ o_to_t_size }
+        requires o_to_t_to { o_to_t_size ≤ LARGEST_SIZE }
+        requires t_to_o_from { 10 ≤ t_to_o_size }
+        requires t_to_o_to { t_to_o_size ≤ LARGEST_SIZE }
+        ensures { result ≡ target_at_opening o_to_t_size t_to_o_size }
     {
         Target {
-            o_t,
-            t_o,
+            o_to_t_size,
+            t_to_o_size,
             held: None,
             kept: ArrayVec::new(),
+            reply: ArrayVec::new(),
         }
     }
 
     /// Executes the item's request where its count is another than the held one.
     pub fn receive<R: Router>(&mut self, router: &mut R, item: &[u8]) -> Received
-        ensures rule { outcome result self.new router.new
+        ensures rule { step_of result self.new router.new
             ≡ target_step R.after R.answer self.old router.old item.now }
 
         // A repeat changes nothing: the router's state is equal, and the same bytes answer it.
@@ -73,20 +82,23 @@ impl Target {
         // Any other count is executed, also with the bytes of the request before it.
         ensures another { IsTaken self.old item.now → HasAnotherCount self.old item.now →
             (result ≡ Received.Executed)
-            × (router.new ≡ R.after router.old (self.old.t_o - 2) (message_of item.now)) }
+            × (router.new ≡ R.after router.old (self.old.t_to_o_size - 2) (message_of item.now)) }
     {
-        if item.len() < 4 || item.len() > self.o_t as usize {
+        // A count and a request, within the O->T size (the target's end).
+        if item.len() < COUNT + SMALLEST_REQUEST || item.len() > self.o_to_t_size as usize {
             return Received::Dropped;
         }
-        let count = LittleEndian::read_u16(item);
-        if self.held == Some(count) {
+        let sequence_count = LittleEndian::read_u16(item);
+        // The count alone decides, and holding nothing is not holding count 0 (the target's end).
+        if self.held == Some(sequence_count) {
             return Received::Repeated;
         }
-        router.execute(&item[2..], self.t_o as usize - 2, &mut self.kept);
-        let [low, high] = count.to_le_bytes();
-        self.kept.insert(0, high);
-        self.kept.insert(0, low);
-        self.held = Some(count);
+        let room = self.t_to_o_size as usize - COUNT;
+        router.execute(&item[COUNT..], room, &mut self.reply);
+        self.kept.clear();
+        append_u16(&mut self.kept, sequence_count);
+        append(&mut self.kept, self.reply.as_slice());
+        self.held = Some(sequence_count);
         Received::Executed
     }
 
@@ -95,7 +107,7 @@ impl Target {
     /// Empty before the first execution.
     pub fn kept(&self) -> &[u8]
         ensures bytes { result.now ≡ kept_bytes self.now.held }
-        ensures fits { length result.now ≤ self.now.t_o }
+        ensures fits { length result.now ≤ self.now.t_to_o_size }
     {
         self.kept.as_slice()
     }

@@ -1,7 +1,8 @@
 //! A router that counts what it executes, and the ends of a connection over it.
+
 ghost use Rattle.std.specs.Prelude.{◌≡◌, ℕ, ◌+◌, ◌%◌, ◌^◌, [], ◌∷◌, ◌++◌, slice_index};
 ghost use Rattle.std.specs.Int.{to_le_bytes, w32};
-ghost use Rattle.cip_objects.specs.Router.{reply_service};
+ghost use Rattle.cip_message.specs.Reply.{reply_service};
 
 mod demo;
 
@@ -10,7 +11,7 @@ use cip_objects::{ReplyBuf, Router};
 use std::process::Abort;
 use std::test::Fail;
 
-// Executes whatever comes, and replies with the number of executions so far: eight bytes.
+/// Executes whatever comes, and replies with the number of executions so far: eight bytes.
 #[derive(Drop)]
 struct Counter {
     executions: u32,
@@ -28,14 +29,8 @@ impl Router for Counter {
     fn execute(&mut self, request: &[u8], room: usize, reply: &mut ReplyBuf) {
         self.executions = self.executions.wrapping_add(1);
         let [a, b, c, d] = self.executions.to_le_bytes();
-        let service = request[0];
-        let service = if service < 128 {
-            service + 128
-        } else {
-            service
-        };
         reply.clear();
-        reply.push(service);
+        reply.push(cip_message::reply_service(request[0]));
         reply.push(0);
         reply.push(0);
         reply.push(0);
@@ -52,10 +47,10 @@ impl Router for Counter {
     ghost within = { λ counter room request eight two. eight };
 }
 
-// Service 0x32 at class 0x64, instance 1, with the number 5.
+/// Service 0x32 at class 0x64, instance 1, with the number 5.
 const ADD_FIVE: [u8; 10] = [0x32, 0x02, 0x20, 0x64, 0x24, 0x01, 0x05, 0x00, 0x00, 0x00];
 
-// A target that takes and gives 500 bytes, and the router behind it.
+/// A target that takes and gives 500 bytes, and the router behind it.
 #[derive(Drop)]
 struct Served {
     target: Target,
@@ -63,7 +58,7 @@ struct Served {
 }
 
 impl Served {
-    // An item with this count is dealt with so, and is answered with the number of executions up to then.
+    /// An item with this count is dealt with so, and is answered with the number of executions up to then.
     fn check(&mut self, rt: &impl Abort, count: u16, received: Received, executions: u32) {
         let [low, high] = count.to_le_bytes();
         let item = [

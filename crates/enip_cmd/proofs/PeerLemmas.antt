@@ -6,7 +6,7 @@ use Rattle.cip_objects.specs.Contents.{Contents}
 use Rattle.enip_wire.specs.Frames.{Frame}
 use Rattle.enip_wire.specs.declared.packet.CpfFault.{CpfFault}
 use Rattle.enip_wire.specs.Bodies.{rr_body_of}
-use Rattle.enip_wire.specs.Numbers.{number_at}
+use Rattle.cip_bytes.specs.Numbers.{number_at}
 use Rattle.enip_wire.specs.Stream.{Sight, sight_of, taken_of}
 use Rattle.enip_wire.specs.Stream.Sight.{Nothing_yet, A_frame, A_long_header}
 use Rattle.enip_cmd.specs.declared.commands.Session.{Session}

@@ -3,7 +3,7 @@ use Rattle.std.proofs.Common.{◌≡◌, ℕ, ◌+◌, ◌-◌, ◌≤◌, ◌<�
 use Rattle.std.proofs.Math.Seq.{take-append-add}
 use Rattle.std.proofs.lemmas.Bool.{cases_lt, cases_eq}
 use Rattle.std.proofs.lemmas.Bool.Decides.{nat_tests}
-use Rattle.enip_wire.specs.Numbers.{number_at}
+use Rattle.cip_bytes.specs.Numbers.{number_at}
 use Rattle.enip_wire.specs.Frames.{end_after}
 use Rattle.enip_wire.specs.Headers.{header_at}
 use Rattle.enip_wire.specs.Stream.{taken_of, sight_of}

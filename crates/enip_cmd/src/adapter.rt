@@ -11,7 +11,7 @@ ghost use Rattle.std.specs.Io.BufRead.{Rests};
 use crate::commands::{Answer, LONGEST_ANSWER, Session};
 use crate::place::{Outcome, Place};
 use cip_objects::Objects;
-use enip_wire::reader::FrameReader;
+use enip_wire::FrameReader;
 use std::alloc::{AllocError, Global};
 use std::marker::Model;
 use thiserror::Error;

@@ -12,9 +12,7 @@ ghost use Rattle.enip_cmd.specs.Answers.{said, status_code};
 use arrayvec::ArrayVec;
 use byteorder::{ByteOrder, LittleEndian};
 use cip_objects::{Objects, ReplyBuf, Router};
-use enip_wire::header::Header;
-use enip_wire::packet;
-use enip_wire::reader::FrameView;
+use enip_wire::{FrameView, Header, rr_body, write_rr_body};
 
 /// The longest answer, in bytes.
 pub const LONGEST_ANSWER: usize = 544;
@@ -124,7 +122,7 @@ fn send_rr_data(objects: &mut Objects, session: Session, frame: FrameView<'_>, a
     if !session.registered || frame.header.session != session.handle {
         return refuse(&frame.header, Status::InvalidSession, answer);
     }
-    match packet::rr_body(frame.body) {
+    match rr_body(frame.body) {
         Ok(request) if request.len() >= 2 => execute(objects, &frame.header, request, answer),
         _ => refuse(&frame.header, Status::PoorlyFormedData, answer),
     }
@@ -169,7 +167,7 @@ fn write_rr_reply(asked: &Header, router_reply: &[u8], answer: &mut Answer)
         16 + router_reply.len(),
         answer,
     );
-    let _ = packet::write_rr_body(answer, router_reply);
+    let _ = write_rr_body(answer, router_reply);
 }
 
 /// Writes a whole reply: command and context of what asked, no options.

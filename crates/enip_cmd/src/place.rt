@@ -5,7 +5,7 @@ ghost use Rattle.enip_cmd.specs.Answers.{said};
 
 use crate::commands::{self, Answer, Session};
 use cip_objects::Objects;
-use enip_wire::reader::{FrameReader, Held};
+use enip_wire::{FrameReader, Held};
 
 /// A place that a peer holds.
 #[derive(Drop)]

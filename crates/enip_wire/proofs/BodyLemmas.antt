@@ -7,11 +7,12 @@ use Rattle.std.proofs.lemmas.Bool.Decides.{nat_tests}
 use Rattle.std.specs.List.{flat_map}
 use Rattle.enip_wire.specs.declared.packet.CpfFault.{CpfFault}
 use Rattle.enip_wire.specs.declared.packet.CpfFault.TheVariants.{Short, Trailing, Interface, Address, Data}
-use Rattle.enip_wire.specs.Numbers.{le, number_at, IsBytes}
+use Rattle.cip_bytes.specs.Numbers.{le, number_at, AreBytes}
+use Rattle.cip_bytes.specs.Reading.{◌>>=◌, seen_by}
 use Rattle.enip_wire.specs.Items.{Item, item, items, IsShort, IsTrailing, items_of}
-use Rattle.enip_wire.specs.Bodies.{null_address, connected_address, unconnected_data, connected_data, Opens, IsBody, IsRrBody, IsUnitBody, Faulty, IsNull, IsConnected, seen_by, then_of, body_items_of, data_of, rr_items_of, with_id, unit_items_of, rr_body_of, unit_body_of}
-use Rattle.enip_wire.proofs.Cells.{cells, drop-cells, le-number_at_2, le-number_at_4, of_four}
-use Rattle.enip_wire.proofs.FrameLemmas.{number-two, number-four, IsBytes-drop, IsBytes-take}
+use Rattle.enip_wire.specs.Bodies.{null_address, connected_address, unconnected_data, connected_data, Opens, IsBody, IsRrBody, IsUnitBody, Faulty, IsNull, IsConnected, body_items_of, data_of, rr_items_of, with_id, unit_items_of, rr_body_of, unit_body_of}
+use Rattle.cip_bytes.proofs.Bytes.{AreBytes-drop, AreBytes-take, cells, drop-cells, le-number_at_2, le-number_at_4, of_four}
+use Rattle.enip_wire.proofs.FrameLemmas.{number-two, number-four}
 use Rattle.enip_wire.proofs.ItemLemmas.{Spells, spells, items_of-spells, same_item}
 
 -- which way a test went
@@ -29,7 +30,7 @@ body_items-zero : (text : List ℕ) → 6 ≤ length text → number_at 0 4 text
 body_items-zero text long none = grind (arith, nat_tests)
 
 -- a text with interface 0 opens a body
-opens-zero : (text : List ℕ) → IsBytes text → 6 ≤ length text → number_at 0 4 text ≡ 0 → Opens text (drop 6 text)
+opens-zero : (text : List ℕ) → AreBytes text → 6 ≤ length text → number_at 0 4 text ≡ 0 → Opens text (drop 6 text)
 opens-zero text fits long e =
     record {
       timeout = number_at 4 2 text;
@@ -44,13 +45,13 @@ body_items-opens text rest o =
     ap body_items_of o.spelled
     ∙ body_items-zero (le 4 0 ++ le 2 o.timeout ++ rest) (omega arith) refl
 
-IsBytes-opens : (text rest : List ℕ) → Opens text rest → IsBytes text → IsBytes rest
-IsBytes-opens text rest o fits = subst IsBytes (ap (drop 6) o.spelled) (IsBytes-drop 6 text fits)
+AreBytes-opens : (text rest : List ℕ) → Opens text rest → AreBytes text → AreBytes rest
+AreBytes-opens text rest o fits = subst AreBytes (ap (drop 6) o.spelled) (AreBytes-drop 6 text fits)
 
-body_items-body : (text : List ℕ) (l : List Item) → IsBytes text → IsBody text l → body_items_of text ≡ Ok l
+body_items-body : (text : List ℕ) (l : List Item) → AreBytes text → IsBody text l → body_items_of text ≡ Ok l
 body_items-body text l fits b =
     body_items-opens text (items l) b.opens
-    ∙ items_of-spells (items l) (Ok l) (IsBytes-opens text (items l) b.opens fits) (b.are_items, refl)
+    ∙ items_of-spells (items l) (Ok l) (AreBytes-opens text (items l) b.opens fits) (b.are_items, refl)
 
 -- what a body is, or why a text is none
 abbrev pub Bodies : List ℕ → Result (List Item) CpfFault → Type 0
@@ -73,7 +74,7 @@ opened text rest (Err Interface) o p = absurd p
 opened text rest (Err Address) o p = p
 opened text rest (Err Data) o p = p
 
-bodies_long : (text : List ℕ) → IsBytes text → 6 ≤ length text → Bodies text (body_items_of text)
+bodies_long : (text : List ℕ) → AreBytes text → 6 ≤ length text → Bodies text (body_items_of text)
 bodies_long text fits long =
     elim (cases_lt 0 (number_at 0 4 text)) [
       | inl other ↦
@@ -82,10 +83,10 @@ bodies_long text fits long =
       | inr least ↦
           let none : number_at 0 4 text ≡ 0 = omega arith in
           subst (Bodies text) (sym (body_items-zero text long none))
-          (opened text (drop 6 text) (items_of (drop 6 text)) (opens-zero text fits long none) (spells (drop 6 text) (IsBytes-drop 6 text fits)))
+          (opened text (drop 6 text) (items_of (drop 6 text)) (opens-zero text fits long none) (spells (drop 6 text) (AreBytes-drop 6 text fits)))
     ]
 
-bodies : (text : List ℕ) → IsBytes text → Bodies text (body_items_of text)
+bodies : (text : List ℕ) → AreBytes text → Bodies text (body_items_of text)
 bodies text fits =
     elim (cases_lt (length text) 6) [
       | inl short ↦ subst (Bodies text) (sym (body_items-short text short)) (inl short)
@@ -182,7 +183,7 @@ rr_first text (a ∷ l) b =
       ]
     ]
 
-rr_handed : (text : List ℕ) (r : Result (List Item) CpfFault) → Bodies text r → RrSpells text (then_of r rr_items_of)
+rr_handed : (text : List ℕ) (r : Result (List Item) CpfFault) → Bodies text r → RrSpells text (r >>= rr_items_of)
 rr_handed text (Ok l) b = rr_first text l b
 rr_handed text (Err Short) p = p
 rr_handed text (Err Trailing) p = p
@@ -190,31 +191,31 @@ rr_handed text (Err Interface) p = p
 rr_handed text (Err Address) p = absurd p
 rr_handed text (Err Data) p = absurd p
 
-pub rr_spells : (text : List ℕ) → IsBytes text → RrSpells text (rr_body_of text)
+pub rr_spells : (text : List ℕ) → AreBytes text → RrSpells text (rr_body_of text)
 unfolding rr_body_of
 rr_spells text fits = rr_handed text (body_items_of text) (bodies text fits)
 
 -- what is spelled is read
-pub rr_body_of-spells : (text : List ℕ) (r : Result (List ℕ) CpfFault) → IsBytes text → RrSpells text r → rr_body_of text ≡ r
+pub rr_body_of-spells : (text : List ℕ) (r : Result (List ℕ) CpfFault) → AreBytes text → RrSpells text r → rr_body_of text ≡ r
 unfolding rr_body_of
 rr_body_of-spells text (Ok bytes) fits p =
-    ap (λ r. then_of r rr_items_of)
+    ap (λ r. r >>= rr_items_of)
     (body_items-body text (null_address ∷ unconnected_data bytes ∷ p.further) fits p.body)
-rr_body_of-spells text (Err Short) fits (inl short) = ap (λ r. then_of r rr_items_of) (body_items-short text short)
+rr_body_of-spells text (Err Short) fits (inl short) = ap (λ r. r >>= rr_items_of) (body_items-short text short)
 rr_body_of-spells text (Err Short) fits (inr p) =
-    ap (λ r. then_of r rr_items_of)
-    (body_items-opens text p.0 p.1 ∙ items_of-spells p.0 (Err Short) (IsBytes-opens text p.0 p.1 fits) p.2)
+    ap (λ r. r >>= rr_items_of)
+    (body_items-opens text p.0 p.1 ∙ items_of-spells p.0 (Err Short) (AreBytes-opens text p.0 p.1 fits) p.2)
 rr_body_of-spells text (Err Trailing) fits p =
-    ap (λ r. then_of r rr_items_of)
-    (body_items-opens text p.0 p.1 ∙ items_of-spells p.0 (Err Trailing) (IsBytes-opens text p.0 p.1 fits) p.2)
-rr_body_of-spells text (Err Interface) fits p = ap (λ r. then_of r rr_items_of) (body_items-interface text p.0 p.1)
+    ap (λ r. r >>= rr_items_of)
+    (body_items-opens text p.0 p.1 ∙ items_of-spells p.0 (Err Trailing) (AreBytes-opens text p.0 p.1 fits) p.2)
+rr_body_of-spells text (Err Interface) fits p = ap (λ r. r >>= rr_items_of) (body_items-interface text p.0 p.1)
 rr_body_of-spells text (Err Address) fits p =
-    ap (λ r. then_of r rr_items_of) (body_items-body text p.0 fits p.1) ∙ rr_items-none p.0 p.2
+    ap (λ r. r >>= rr_items_of) (body_items-body text p.0 fits p.1) ∙ rr_items-none p.0 p.2
 rr_body_of-spells text (Err Data) fits p =
-    ap (λ r. then_of r rr_items_of) (body_items-body text (p.0 ∷ p.1) fits p.3)
+    ap (λ r. r >>= rr_items_of) (body_items-body text (p.0 ∷ p.1) fits p.3)
     ∙ rr_items-address p.0 p.1 (ap (λ i. i.kind) p.2) (ap (λ i. length i.bytes) p.2) ∙ data_of-none 0xb2 p.1 p.4
 
-pub rr_iff : (text : List ℕ) (found r : Result (List ℕ) CpfFault) → IsBytes text → found ≡ rr_body_of text
+pub rr_iff : (text : List ℕ) (found r : Result (List ℕ) CpfFault) → AreBytes text → found ≡ rr_body_of text
     → (found ≡ r) ↔ RrSpells text r
 rr_iff text found r fits e = (
   λ is. subst (RrSpells text) (sym e ∙ is) (rr_spells text fits),
@@ -256,18 +257,18 @@ unit_items-none (a ∷ l) absent =
     ]
 
 -- the data of the first item are bytes of the text
-IsBytes-first : (text : List ℕ) (a : Item) (l : List Item) → IsBody text (a ∷ l) → IsBytes text → IsBytes a.bytes
-IsBytes-first text a l b fits =
+AreBytes-first : (text : List ℕ) (a : Item) (l : List Item) → IsBody text (a ∷ l) → AreBytes text → AreBytes a.bytes
+AreBytes-first text a l b fits =
     let rest : drop 12 text ≡ a.bytes ++ flat_map item l = ap (drop 12) b.opens.spelled in
-    subst IsBytes (ap (take (length a.bytes)) rest ∙ take_at a.bytes (flat_map item l) (length a.bytes) refl)
-    (IsBytes-take (length a.bytes) (drop 12 text) (IsBytes-drop 12 text fits))
+    subst AreBytes (ap (take (length a.bytes)) rest ∙ take_at a.bytes (flat_map item l) (length a.bytes) refl)
+    (AreBytes-take (length a.bytes) (drop 12 text) (AreBytes-drop 12 text fits))
 
-four_cells : (xs : List ℕ) → length xs ≡ 4 → IsBytes xs → xs ≡ le 4 (number_at 0 4 xs)
+four_cells : (xs : List ℕ) → length xs ≡ 4 → AreBytes xs → xs ≡ le 4 (number_at 0 4 xs)
 four_cells xs n fits =
     drop-cells 4 0 xs (omega arith) ∙ ap (λ r. cells 4 0 xs ++ r) (drop_all 4 xs (omega arith))
     ∙ append-nil (cells 4 0 xs) ∙ sym (le-number_at_4 0 xs fits)
 
-is_connected : (a : Item) → IsConnected a → IsBytes a.bytes → a ≡ connected_address (number_at 0 4 a.bytes)
+is_connected : (a : Item) → IsConnected a → AreBytes a.bytes → a ≡ connected_address (number_at 0 4 a.bytes)
 is_connected a c fits = same_item c.0 (four_cells a.bytes c.1 fits)
 
 -- what a SendUnitData is, or why a text is none
@@ -278,7 +279,7 @@ UnitSpells text (Err fault) = Faulty IsConnected 0xb1 text fault
 with_data : {r s : Result (List ℕ) CpfFault} (id : ℕ) → r ≡ s → seen_by (with_id id) r ≡ seen_by (with_id id) s
 with_data id e = ap (seen_by (with_id id)) e
 
-unit_second : (text : List ℕ) (a : Item) (l : List Item) → IsConnected a → IsBytes text → IsBody text (a ∷ l)
+unit_second : (text : List ℕ) (a : Item) (l : List Item) → IsConnected a → AreBytes text → IsBody text (a ∷ l)
     → UnitSpells text (seen_by (with_id (number_at 0 4 a.bytes)) (data_of 0xb1 l))
 unit_second text a [] c fits b = (a, [], c, b, λ d further wrong _. cc)
 unit_second text a (d ∷ l) c fits b =
@@ -287,11 +288,11 @@ unit_second text a (d ∷ l) c fits b =
           subst (UnitSpells text) (sym (with_data (number_at 0 4 a.bytes) (data_of-kind 0xb1 d l kind)))
           (
           record {
-            four_bytes = number-four 0 a.bytes (IsBytes-first text a (d ∷ l) b fits);
+            four_bytes = number-four 0 a.bytes (AreBytes-first text a (d ∷ l) b fits);
             further = l;
             body = same_body (
                 let k : d ≡ connected_data d.bytes = same_item kind refl in
-                let h : a ≡ connected_address (number_at 0 4 a.bytes) = is_connected a c (IsBytes-first text a (d ∷ l) b fits) in
+                let h : a ≡ connected_address (number_at 0 4 a.bytes) = is_connected a c (AreBytes-first text a (d ∷ l) b fits) in
                 cc
                 ) b;
           }
@@ -315,7 +316,7 @@ unit_not_connected text a l other b =
           ],
     )
 
-unit_first : (text : List ℕ) (l : List Item) → IsBytes text → IsBody text l → UnitSpells text (unit_items_of l)
+unit_first : (text : List ℕ) (l : List Item) → AreBytes text → IsBody text l → UnitSpells text (unit_items_of l)
 unit_first text [] fits b = ([], b, λ a others wrong _. cc)
 unit_first text (a ∷ l) fits b =
     elim (same_or_not a.kind 0xa1) [
@@ -327,8 +328,8 @@ unit_first text (a ∷ l) fits b =
       ]
     ]
 
-unit_handed : (text : List ℕ) (r : Result (List Item) CpfFault) → IsBytes text → Bodies text r
-    → UnitSpells text (then_of r unit_items_of)
+unit_handed : (text : List ℕ) (r : Result (List Item) CpfFault) → AreBytes text → Bodies text r
+    → UnitSpells text (r >>= unit_items_of)
 unit_handed text (Ok l) fits b = unit_first text l fits b
 unit_handed text (Err Short) fits p = p
 unit_handed text (Err Trailing) fits p = p
@@ -336,33 +337,33 @@ unit_handed text (Err Interface) fits p = p
 unit_handed text (Err Address) fits p = absurd p
 unit_handed text (Err Data) fits p = absurd p
 
-pub unit_spells : (text : List ℕ) → IsBytes text → UnitSpells text (unit_body_of text)
+pub unit_spells : (text : List ℕ) → AreBytes text → UnitSpells text (unit_body_of text)
 unfolding unit_body_of
 unit_spells text fits = unit_handed text (body_items_of text) fits (bodies text fits)
 
 -- what is spelled is read
-pub unit_body_of-spells : (text : List ℕ) (r : Result (ℕ × List ℕ) CpfFault) → IsBytes text → UnitSpells text r
+pub unit_body_of-spells : (text : List ℕ) (r : Result (ℕ × List ℕ) CpfFault) → AreBytes text → UnitSpells text r
     → unit_body_of text ≡ r
 unfolding unit_body_of
 unit_body_of-spells text (Ok x) fits p =
-    ap (λ r. then_of r unit_items_of)
+    ap (λ r. r >>= unit_items_of)
     (body_items-body text (connected_address x.0 ∷ connected_data x.1 ∷ p.further) fits p.body)
     ∙ ap (λ id. Ok (with_id id x.1)) (of_four x.0 p.four_bytes)
-unit_body_of-spells text (Err Short) fits (inl short) = ap (λ r. then_of r unit_items_of) (body_items-short text short)
+unit_body_of-spells text (Err Short) fits (inl short) = ap (λ r. r >>= unit_items_of) (body_items-short text short)
 unit_body_of-spells text (Err Short) fits (inr p) =
-    ap (λ r. then_of r unit_items_of)
-    (body_items-opens text p.0 p.1 ∙ items_of-spells p.0 (Err Short) (IsBytes-opens text p.0 p.1 fits) p.2)
+    ap (λ r. r >>= unit_items_of)
+    (body_items-opens text p.0 p.1 ∙ items_of-spells p.0 (Err Short) (AreBytes-opens text p.0 p.1 fits) p.2)
 unit_body_of-spells text (Err Trailing) fits p =
-    ap (λ r. then_of r unit_items_of)
-    (body_items-opens text p.0 p.1 ∙ items_of-spells p.0 (Err Trailing) (IsBytes-opens text p.0 p.1 fits) p.2)
-unit_body_of-spells text (Err Interface) fits p = ap (λ r. then_of r unit_items_of) (body_items-interface text p.0 p.1)
+    ap (λ r. r >>= unit_items_of)
+    (body_items-opens text p.0 p.1 ∙ items_of-spells p.0 (Err Trailing) (AreBytes-opens text p.0 p.1 fits) p.2)
+unit_body_of-spells text (Err Interface) fits p = ap (λ r. r >>= unit_items_of) (body_items-interface text p.0 p.1)
 unit_body_of-spells text (Err Address) fits p =
-    ap (λ r. then_of r unit_items_of) (body_items-body text p.0 fits p.1) ∙ unit_items-none p.0 p.2
+    ap (λ r. r >>= unit_items_of) (body_items-body text p.0 fits p.1) ∙ unit_items-none p.0 p.2
 unit_body_of-spells text (Err Data) fits p =
-    ap (λ r. then_of r unit_items_of) (body_items-body text (p.0 ∷ p.1) fits p.3)
+    ap (λ r. r >>= unit_items_of) (body_items-body text (p.0 ∷ p.1) fits p.3)
     ∙ unit_items-address p.0 p.1 p.2.0 p.2.1 ∙ with_data (number_at 0 4 p.0.bytes) (data_of-none 0xb1 p.1 p.4)
 
-pub unit_iff : (text : List ℕ) (found r : Result (ℕ × List ℕ) CpfFault) → IsBytes text → found ≡ unit_body_of text
+pub unit_iff : (text : List ℕ) (found r : Result (ℕ × List ℕ) CpfFault) → AreBytes text → found ≡ unit_body_of text
     → (found ≡ r) ↔ UnitSpells text r
 unit_iff text found r fits e = (
   λ is. subst (UnitSpells text) (sym e ∙ is) (unit_spells text fits),

@@ -1,22 +1,22 @@
 -- Whole frames and too long headers by their numbers.
-use Rattle.std.proofs.Common.{lit<, ◌≡◌, ℕ, zero, suc, ◌+◌, ◌^◌, ◌<◌, ◌≤◌, inl, inr, List, [], ◌∷◌, ◌++◌, length, take, drop, get_or, refl, sym, ap, ◌∙◌, arith, append_assoc, length-append, length-take, length-drop}
-use Rattle.std.proofs.lemmas.List.{get_or-take, get_or-drop, get_or_past}
+use Rattle.std.proofs.Common.{◌≡◌, ℕ, zero, suc, ◌+◌, ◌^◌, ◌<◌, ◌≤◌, inl, inr, List, [], ◌∷◌, ◌++◌, length, take, drop, refl, sym, ap, ◌∙◌, arith, append_assoc, length-append, length-take, length-drop}
 use Rattle.std.proofs.Math.Seq.{take-append_seam}
 use Rattle.std.proofs.lemmas.Bool.{cases_lt}
 use Rattle.std.proofs.lemmas.Bool.Decides.{nat_tests}
 use Rattle.byteorder.specs.Numbers.{little_from-take}
-use Rattle.enip_wire.specs.Numbers.{number_at, IsBytes}
+use Rattle.cip_bytes.specs.Numbers.{number_at, AreBytes}
+use Rattle.cip_bytes.proofs.Bytes.{AreBytes-take}
 use Rattle.enip_wire.specs.Headers.{header_spelling, header_at, IsHeader}
 use Rattle.enip_wire.specs.Frames.{Frame, frame, IsFrame, IsWhole, Stops, end_after}
 use Rattle.enip_wire.proofs.HeaderLemmas.{header_spelling-header_at, header_at-header_spelling, length-header_spelling}
 
-pub number-two : (place : ℕ) (bytes : List ℕ) → IsBytes bytes → number_at place 2 bytes < 2 ^ 16
+pub number-two : (place : ℕ) (bytes : List ℕ) → AreBytes bytes → number_at place 2 bytes < 2 ^ 16
 number-two i xs fits = omega (arith, fits i, fits (suc i))
 
-pub number-four : (place : ℕ) (bytes : List ℕ) → IsBytes bytes → number_at place 4 bytes < 2 ^ 32
+pub number-four : (place : ℕ) (bytes : List ℕ) → AreBytes bytes → number_at place 4 bytes < 2 ^ 32
 number-four i xs fits = omega (arith, fits i, fits (suc i), fits (suc (suc i)), fits (suc (suc (suc i))))
 
-pub IsHeader-header_at : (bytes : List ℕ) → 24 ≤ length bytes → IsBytes bytes → IsHeader (header_at bytes)
+pub IsHeader-header_at : (bytes : List ℕ) → 24 ≤ length bytes → AreBytes bytes → IsHeader (header_at bytes)
 IsHeader-header_at bytes long fits =
     record {
       command = number-two 0 bytes fits;
@@ -58,7 +58,7 @@ Sized-whole bytes w =
       total = whole ∙ ap (λ n. 24 + n) (sym says);
     }
 
-pub whole-Sized : (bytes : List ℕ) → IsBytes bytes → Sized bytes → IsWhole bytes
+pub whole-Sized : (bytes : List ℕ) → AreBytes bytes → Sized bytes → IsWhole bytes
 whole-Sized bytes fits s =
     let h : 24 ≤ length bytes = s.header in
     let t : length bytes ≡ 24 + number_at 2 2 bytes = s.total in
@@ -118,26 +118,13 @@ not_before bytes m short before (inr over) =
     = end_after-over (number_at 2 2 bytes) (omega (arith, over.over)) in
     omega arith
 
-pub IsBytes-take : (m : ℕ) (bytes : List ℕ) → IsBytes bytes → IsBytes (take m bytes)
-IsBytes-take m bytes fits i =
-    elim (cases_lt i m) [
-      | inl below ↦ let e : get_or (take m bytes) i 0 ≡ get_or bytes i 0 = get_or-take m bytes i 0 below in rw e (fits i)
-      | inr past ↦
-          let e : get_or (take m bytes) i 0 ≡ 0
-          = get_or_past (take m bytes) i 0 (omega (arith, length-take m bytes)) in
-          rw e (lit< tt)
-    ]
-
-pub IsBytes-drop : (n : ℕ) (bytes : List ℕ) → IsBytes bytes → IsBytes (drop n bytes)
-IsBytes-drop n bytes fits i = rw get_or-drop (fits (n + i))
-
-pub IsBytes-append : (xs ys : List ℕ) → IsBytes xs → IsBytes ys → IsBytes (xs ++ ys)
-IsBytes-append [] ys f g i = g i
-IsBytes-append (x ∷ xs) ys f g zero = f zero
-IsBytes-append (x ∷ xs) ys f g (suc i) = IsBytes-append xs ys (λ k. f (suc k)) g i
+pub AreBytes-append : (xs ys : List ℕ) → AreBytes xs → AreBytes ys → AreBytes (xs ++ ys)
+AreBytes-append [] ys f g i = g i
+AreBytes-append (x ∷ xs) ys f g zero = f zero
+AreBytes-append (x ∷ xs) ys f g (suc i) = AreBytes-append xs ys (λ k. f (suc k)) g i
 
 -- what begins so stops at the end
-pub stops_at : (bytes : List ℕ) (m : ℕ) → IsBytes bytes → 24 ≤ length bytes → m ≡ end_after (number_at 2 2 bytes)
+pub stops_at : (bytes : List ℕ) (m : ℕ) → AreBytes bytes → 24 ≤ length bytes → m ≡ end_after (number_at 2 2 bytes)
     → m ≤ length bytes → Stops (take m bytes)
 stops_at bytes m fits header e short =
     let far : 24 ≤ m = omega (arith, end_after-least (number_at 2 2 bytes)) in
@@ -148,7 +135,7 @@ stops_at bytes m fits header e short =
       | inr within ↦
           let f : end_after (number_at 2 2 bytes) ≡ 24 + number_at 2 2 bytes = end_after-within (number_at 2 2 bytes) within in
           inl (
-          whole-Sized (take m bytes) (IsBytes-take m bytes fits)
+          whole-Sized (take m bytes) (AreBytes-take m bytes fits)
           (record { header = omega arith; within = omega arith; total = omega arith })
           )
     ]

@@ -2,16 +2,16 @@
 use Rattle.std.proofs.Common.{◌≡◌, ℕ, ◌≤◌, List, [], ◌∷◌, ◌++◌, length, take, drop, refl, sym, ap, ◌∙◌, arith, append-nil, append_assoc, length-append}
 use Rattle.std.proofs.lemmas.List.{take-append-drop, drop-drop, drop_all}
 use Rattle.enip_wire.specs.declared.header.Header.{Header}
-use Rattle.enip_wire.specs.Numbers.{IsBytes}
+use Rattle.cip_bytes.specs.Numbers.{AreBytes}
 use Rattle.enip_wire.specs.Headers.{header_spelling, header_at, IsHeader}
-use Rattle.enip_wire.proofs.Cells.{cells, drop-cells, le-number_at_2, le-number_at_4, of_two, of_four}
+use Rattle.cip_bytes.proofs.Bytes.{cells, drop-cells, le-number_at_2, le-number_at_4, of_two, of_four}
 
 joined : {a a' b b' c c' d d' e e' f f' : List ℕ} → a ≡ a' → b ≡ b' → c ≡ c' → d ≡ d' → e ≡ e' → f ≡ f'
     → a ++ b ++ c ++ d ++ e ++ f ≡ a' ++ b' ++ c' ++ d' ++ e' ++ f'
 joined p q r s t u = cc
 
 -- Any 24 bytes spell the header that stands in them.
-pub header_spelling-header_at : (bytes : List ℕ) → 24 ≤ length bytes → IsBytes bytes
+pub header_spelling-header_at : (bytes : List ℕ) → 24 ≤ length bytes → AreBytes bytes
     → header_spelling (header_at bytes) ++ drop 24 bytes ≡ bytes
 header_spelling-header_at bytes long fits =
     let spelled : header_spelling (header_at bytes)

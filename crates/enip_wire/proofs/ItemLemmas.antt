@@ -1,29 +1,23 @@
 -- Texts that spell a list of items, and those that spell none.
 use Rattle.std.specs.Prelude.{◌↔◌}
 use Rattle.std.proofs.Common.{◌≡◌, ℕ, zero, suc, ◌+◌, ◌-◌, ◌^◌, ◌<◌, ◌≤◌, inl, inr, List, [], ◌∷◌, ◌++◌, length, take, drop, Result, Ok, Err, refl, sym, ap, subst, ◌∙◌, arith, append_assoc, append-nil, length-append, length-take, length-drop, lit<}
-use Rattle.std.proofs.lemmas.List.{take-append-drop, drop-drop, take_at, drop_at}
+use Rattle.std.proofs.lemmas.List.{take-append-drop, drop-drop}
 use Rattle.std.proofs.lemmas.Bool.{cases_lt}
 use Rattle.std.proofs.lemmas.Bool.Decides.{nat_tests}
 use Rattle.std.specs.List.{flat_map, AllByRecursion}
 use Rattle.enip_wire.specs.declared.packet.CpfFault.{CpfFault}
 use Rattle.enip_wire.specs.declared.packet.CpfFault.TheVariants.{Short, Trailing, Interface, Address, Data}
-use Rattle.enip_wire.specs.Numbers.{le, number_at, IsBytes}
-use Rattle.enip_wire.specs.Items.{Item, item, items, IsItem, AreItems, IsShort, IsTrailing, item_at, size_at, listed, after, whole, items_of}
-use Rattle.enip_wire.proofs.Cells.{cells, drop-cells, le-number_at_2, of_two}
-use Rattle.enip_wire.proofs.FrameLemmas.{number-two, number_at-append, IsBytes-drop, IsBytes-append}
+use Rattle.cip_bytes.specs.Numbers.{le, number_at, AreBytes}
+use Rattle.enip_wire.specs.Items.{Item, item, items, IsItem, AreItems, IsShort, IsTrailing, item_at, size_at, first_items, after, whole, items_of}
+use Rattle.cip_bytes.proofs.Bytes.{AreBytes-drop, cells, drop-cells, le-number_at_2, of_two}
+use Rattle.cip_bytes.proofs.Joined.{same_front}
+use Rattle.enip_wire.proofs.FrameLemmas.{number-two, number_at-append, AreBytes-append}
 
 pub same_item : {k m : ℕ} {b c : List ℕ} → k ≡ m → b ≡ c
     → ◌≡◌ {A = Item} (record { kind = k; bytes = b }) (record { kind = m; bytes = c })
 same_item p q = cc
 
 -- One spelling.
-
--- texts of one length at the front are the same, and so is what follows
-pub split_same : (a b x y : List ℕ) → length a ≡ length b → a ++ x ≡ b ++ y → (a ≡ b) × (x ≡ y)
-split_same a b x y n e = (
-  sym (take_at a x (length b) n) ∙ ap (take (length b)) e ∙ take_at b y (length b) refl,
-  sym (drop_at a x (length b) n) ∙ ap (drop (length b)) e ∙ drop_at b y (length b) refl,
-)
 
 -- numbers of two bytes at the front are the same, and so is what follows
 pub le_same : (m n : ℕ) (x y : List ℕ) → m < 2 ^ 16 → n < 2 ^ 16 → le 2 m ++ x ≡ le 2 n ++ y → (m ≡ n) × (x ≡ y)
@@ -42,7 +36,7 @@ one_item i j x y p q e =
     p.kind q.kind (sym (item_parts i x) ∙ e ∙ item_parts j y) in
     let sizes : (length i.bytes ≡ length j.bytes) × (i.bytes ++ x ≡ j.bytes ++ y)
     = le_same (length i.bytes) (length j.bytes) (i.bytes ++ x) (j.bytes ++ y) p.counted q.counted kinds.1 in
-    let both : (i.bytes ≡ j.bytes) × (x ≡ y) = split_same i.bytes j.bytes x y sizes.0 sizes.1 in
+    let both : (i.bytes ≡ j.bytes) × (x ≡ y) = same_front i.bytes j.bytes x y (sym sizes.0) sizes.1 in
     (same_item kinds.0 both.0, both.1)
 
 one_flat : (l m : List Item) (x y : List ℕ) → length l ≡ length m → AllByRecursion IsItem l → AllByRecursion IsItem m
@@ -67,7 +61,7 @@ one_items_lem l m x y p q e =
 -- What stands at the front of a text.
 
 -- a whole item
-pub item-item_at : (text : List ℕ) → IsBytes text → size_at text ≤ length text
+pub item-item_at : (text : List ℕ) → AreBytes text → size_at text ≤ length text
     → item (item_at text) ++ drop (size_at text) text ≡ text
 item-item_at text fits long =
     let body : length (take (number_at 2 2 text) (drop 4 text)) ≡ number_at 2 2 text
@@ -84,7 +78,7 @@ item-item_at text fits long =
     ∙ ap (λ n. cells 2 0 text ++ (n ++ (take (number_at 2 2 text) (drop 4 text) ++ drop (size_at text) text))) size
     ∙ ap (λ r. cells 4 0 text ++ r) rest ∙ sym head
 
-pub IsItem-item_at : (text : List ℕ) → IsBytes text → IsItem (item_at text)
+pub IsItem-item_at : (text : List ℕ) → AreBytes text → IsItem (item_at text)
 IsItem-item_at text fits =
     record {
       kind = number-two 0 text fits;
@@ -93,9 +87,9 @@ IsItem-item_at text fits =
 
 -- the front of a text has a list of items, and what follows them
 pub record Front (n : ℕ) (text rest : List ℕ) : Type 0 where
-  pub count : length (listed n text) ≡ n
-  pub each : AllByRecursion IsItem (listed n text)
-  pub spelled : text ≡ flat_map item (listed n text) ++ rest
+  pub count : length (first_items n text) ≡ n
+  pub each : AllByRecursion IsItem (first_items n text)
+  pub spelled : text ≡ flat_map item (first_items n text) ++ rest
 
 -- the text ends within n items
 pub record Within (n : ℕ) (text : List ℕ) : Type 0 where
@@ -121,9 +115,9 @@ pub after-long : (n : ℕ) (text : List ℕ) → size_at text ≤ length text
     → after (suc n) text ≡ after n (drop (size_at text) text)
 after-long n text long = grind (arith, nat_tests)
 
-pub listed-long : (n : ℕ) (text : List ℕ) → size_at text ≤ length text
-    → listed (suc n) text ≡ item_at text ∷ listed n (drop (size_at text) text)
-listed-long n text long = grind (arith, nat_tests)
+pub first_items-long : (n : ℕ) (text : List ℕ) → size_at text ≤ length text
+    → first_items (suc n) text ≡ item_at text ∷ first_items n (drop (size_at text) text)
+first_items-long n text long = grind (arith, nat_tests)
 
 pub after_step : (n i : ℕ) (text next : List ℕ) → i < n → size_at text ≤ length text → next ≡ drop (size_at text) text
     → after (n - (i + 1)) next ≡ after (n - i) text
@@ -141,11 +135,11 @@ unfolding zeros
 length-zeros zero = refl
 length-zeros (suc n) = ap suc (length-zeros n)
 
-IsBytes-zeros : (n : ℕ) → IsBytes (zeros n)
+AreBytes-zeros : (n : ℕ) → AreBytes (zeros n)
 unfolding zeros
-IsBytes-zeros zero i = lit< tt
-IsBytes-zeros (suc n) zero = lit< tt
-IsBytes-zeros (suc n) (suc i) = IsBytes-zeros n i
+AreBytes-zeros zero i = lit< tt
+AreBytes-zeros (suc n) zero = lit< tt
+AreBytes-zeros (suc n) (suc i) = AreBytes-zeros n i
 
 -- items to go on with
 nulls : ℕ → List Item
@@ -166,14 +160,14 @@ AreItems-nulls (suc n) = (record { kind = lit< tt; counted = lit< tt }, AreItems
 front_more : (text z thing rest : List ℕ) (k : ℕ) → thing ++ rest ≡ text ++ z → length thing ≡ length text + k
     → k ≤ length z → thing ≡ text ++ take k z
 front_more text z thing rest k e size short =
-    (split_same thing (text ++ take k z) rest (drop k z)
-    (size ∙ sym (length-append text (take k z) ∙ ap (λ n. length text + n) (length-take k z ∙ omega arith)))
+    (same_front thing (text ++ take k z) rest (drop k z)
+    (length-append text (take k z) ∙ ap (λ n. length text + n) (length-take k z ∙ omega arith) ∙ sym size)
     (e ∙ ap (λ r. text ++ r) (sym (take-append-drop k z)) ∙ sym (append_assoc text (take k z) (drop k z)))).0
 
-cut_in : (n : ℕ) (text z : List ℕ) → IsBytes text → IsBytes z → 65539 ≤ length z → length text < size_at text
+cut_in : (n : ℕ) (text z : List ℕ) → AreBytes text → AreBytes z → 65539 ≤ length z → length text < size_at text
     → Within (suc n) text
 cut_in n text z fits more_fits long short =
-    let full_fits : IsBytes (text ++ z) = IsBytes-append text z fits more_fits in
+    let full_fits : AreBytes (text ++ z) = AreBytes-append text z fits more_fits in
     let whole_length : length (text ++ z) ≡ length text + length z = length-append text z in
     let bound : number_at 2 2 (text ++ z) < 2 ^ 16 = number-two 2 (text ++ z) full_fits in
     let past : length text < size_at (text ++ z)
@@ -202,19 +196,19 @@ cut_in n text z fits more_fits long short =
           ∙ ap (λ t. t ++ flat_map item (nulls n)) (sym front);
     }
 
-cut : (n : ℕ) (text : List ℕ) → IsBytes text → length text < size_at text → Within (suc n) text
+cut : (n : ℕ) (text : List ℕ) → AreBytes text → length text < size_at text → Within (suc n) text
 cut n text fits short =
-    cut_in n text (zeros 65539) fits (IsBytes-zeros 65539) (let e : length (zeros 65539) ≡ 65539 = length-zeros 65539 in omega arith) short
+    cut_in n text (zeros 65539) fits (AreBytes-zeros 65539) (let e : length (zeros 65539) ≡ 65539 = length-zeros 65539 in omega arith) short
 
-further : (n : ℕ) (text : List ℕ) (r : Result (List ℕ) CpfFault) → IsBytes text → size_at text ≤ length text
+further : (n : ℕ) (text : List ℕ) (r : Result (List ℕ) CpfFault) → AreBytes text → size_at text ≤ length text
     → Fronts n (drop (size_at text) text) r → Fronts (suc n) text r
 further n text (Ok rest) fits long f =
-    let e : listed (suc n) text ≡ item_at text ∷ listed n (drop (size_at text) text) = listed-long n text long in
+    let e : first_items (suc n) text ≡ item_at text ∷ first_items n (drop (size_at text) text) = first_items-long n text long in
     record {
       count = ap length e ∙ ap suc f.count;
       each = subst (AllByRecursion IsItem) (sym e) (IsItem-item_at text fits, f.each);
       spelled = sym (item-item_at text fits long) ∙ ap (λ t. item (item_at text) ++ t) f.spelled
-          ∙ sym (append_assoc (item (item_at text)) (flat_map item (listed n (drop (size_at text) text))) rest)
+          ∙ sym (append_assoc (item (item_at text)) (flat_map item (first_items n (drop (size_at text) text))) rest)
           ∙ ap (λ l. flat_map item l ++ rest) (sym e);
     }
 further n text (Err Short) fits long w =
@@ -233,14 +227,14 @@ further n text (Err Interface) fits long f = f
 further n text (Err Address) fits long f = f
 further n text (Err Data) fits long f = f
 
-pub fronts : (n : ℕ) (text : List ℕ) → IsBytes text → Fronts n text (after n text)
+pub fronts : (n : ℕ) (text : List ℕ) → AreBytes text → Fronts n text (after n text)
 fronts zero text fits = record { count = refl; each = tt; spelled = refl }
 fronts (suc n) text fits =
     elim (cases_lt (length text) (size_at text)) [
       | inl short ↦ subst (Fronts (suc n) text) (sym (after-short n text short)) (cut n text fits short)
       | inr long ↦
           subst (Fronts (suc n) text) (sym (after-long n text long))
-          (further n text (after n (drop (size_at text) text)) fits long (fronts n (drop (size_at text) text) (IsBytes-drop (size_at text) text fits)))
+          (further n text (after n (drop (size_at text) text)) fits long (fronts n (drop (size_at text) text) (AreBytes-drop (size_at text) text fits)))
     ]
 
 -- Lists of items.
@@ -258,17 +252,17 @@ items_of-short : (text : List ℕ) → length text < 2 → items_of text ≡ Err
 items_of-short text short = grind (arith, nat_tests)
 
 pub items_of-long : (text : List ℕ) → 2 ≤ length text
-    → items_of text ≡ whole (listed (number_at 0 2 text) (drop 2 text)) (after (number_at 0 2 text) (drop 2 text))
+    → items_of text ≡ whole (first_items (number_at 0 2 text) (drop 2 text)) (after (number_at 0 2 text) (drop 2 text))
 items_of-long text long = grind (arith, nat_tests)
 
 -- the number at the front
-le-front : (text : List ℕ) → IsBytes text → 2 ≤ length text → text ≡ le 2 (number_at 0 2 text) ++ drop 2 text
+le-front : (text : List ℕ) → AreBytes text → 2 ≤ length text → text ≡ le 2 (number_at 0 2 text) ++ drop 2 text
 le-front text fits long =
     drop-cells 2 0 text (omega arith) ∙ ap (λ c. c ++ drop 2 text) (sym (le-number_at_2 0 text fits))
 
-cut_count_in : (text z : List ℕ) → IsBytes text → IsBytes z → 2 ≤ length z → length text < 2 → IsShort text
+cut_count_in : (text z : List ℕ) → AreBytes text → AreBytes z → 2 ≤ length z → length text < 2 → IsShort text
 cut_count_in text z fits more_fits long short =
-    let full_fits : IsBytes (text ++ z) = IsBytes-append text z fits more_fits in
+    let full_fits : AreBytes (text ++ z) = AreBytes-append text z fits more_fits in
     let whole_length : length (text ++ z) ≡ length text + length z = length-append text z in
     let n : ℕ = number_at 0 2 (text ++ z) in
     let front : le 2 (number_at 0 2 (text ++ z)) ≡ text ++ take (2 - length text) z
@@ -291,25 +285,25 @@ cut_count_in text z fits more_fits long short =
           ∙ ap (λ c. le 2 c ++ flat_map item (nulls (number_at 0 2 (text ++ z)))) (sym (length-nulls (number_at 0 2 (text ++ z))));
     }
 
-cut_count : (text : List ℕ) → IsBytes text → length text < 2 → IsShort text
+cut_count : (text : List ℕ) → AreBytes text → length text < 2 → IsShort text
 cut_count text fits short =
-    cut_count_in text (zeros 2) fits (IsBytes-zeros 2) (let e : length (zeros 2) ≡ 2 = length-zeros 2 in omega arith) short
+    cut_count_in text (zeros 2) fits (AreBytes-zeros 2) (let e : length (zeros 2) ≡ 2 = length-zeros 2 in omega arith) short
 
 counted : (n : ℕ) (text rest : List ℕ) (r : Result (List ℕ) CpfFault) → n < 2 ^ 16 → text ≡ le 2 n ++ rest
-    → Fronts n rest r → Spells text (whole (listed n rest) r)
+    → Fronts n rest r → Spells text (whole (first_items n rest) r)
 counted n text rest (Ok []) small e f = (
   record { count = omega (arith, f.count); each = f.each },
-  e ∙ ap (λ t. le 2 n ++ t) (f.spelled ∙ append-nil (flat_map item (listed n rest)))
-      ∙ ap (λ c. le 2 c ++ flat_map item (listed n rest)) (sym f.count),
+  e ∙ ap (λ t. le 2 n ++ t) (f.spelled ∙ append-nil (flat_map item (first_items n rest)))
+      ∙ ap (λ c. le 2 c ++ flat_map item (first_items n rest)) (sym f.count),
 )
 counted n text rest (Ok (b ∷ more)) small e f =
     record {
-      of = listed n rest;
+      of = first_items n rest;
       more = b ∷ more;
       are_items = record { count = omega (arith, f.count); each = f.each };
       some = omega arith;
       spelled = e ∙ ap (λ t. le 2 n ++ t) f.spelled
-          ∙ ap (λ c. le 2 c ++ (flat_map item (listed n rest) ++ (b ∷ more))) (sym f.count);
+          ∙ ap (λ c. le 2 c ++ (flat_map item (first_items n rest) ++ (b ∷ more))) (sym f.count);
     }
 counted n text rest (Err Short) small e w =
     record {
@@ -325,14 +319,14 @@ counted n text rest (Err Interface) small e f = f
 counted n text rest (Err Address) small e f = f
 counted n text rest (Err Data) small e f = f
 
-pub spells : (text : List ℕ) → IsBytes text → Spells text (items_of text)
+pub spells : (text : List ℕ) → AreBytes text → Spells text (items_of text)
 spells text fits =
     elim (cases_lt (length text) 2) [
       | inl short ↦ subst (Spells text) (sym (items_of-short text short)) (cut_count text fits short)
       | inr long ↦
           subst (Spells text) (sym (items_of-long text long))
           (counted (number_at 0 2 text) text (drop 2 text) (after (number_at 0 2 text) (drop 2 text)) (number-two 0 text fits)
-          (le-front text fits long) (fronts (number_at 0 2 text) (drop 2 text) (IsBytes-drop 2 text fits)))
+          (le-front text fits long) (fronts (number_at 0 2 text) (drop 2 text) (AreBytes-drop 2 text fits)))
     ]
 
 -- one list is not a proper front of another
@@ -383,10 +377,10 @@ same_outcome text (Err Address) s p q = absurd p
 same_outcome text (Err Data) s p q = absurd p
 
 -- what is spelled is read
-pub items_of-spells : (text : List ℕ) (r : Result (List Item) CpfFault) → IsBytes text → Spells text r → items_of text ≡ r
+pub items_of-spells : (text : List ℕ) (r : Result (List Item) CpfFault) → AreBytes text → Spells text r → items_of text ≡ r
 items_of-spells text r fits p = same_outcome text (items_of text) r (spells text fits) p
 
-pub items_iff : (text : List ℕ) (found r : Result (List Item) CpfFault) → IsBytes text → found ≡ items_of text
+pub items_iff : (text : List ℕ) (found r : Result (List Item) CpfFault) → AreBytes text → found ≡ items_of text
     → (found ≡ r) ↔ Spells text r
 items_iff text found r fits e = (
   λ is. subst (Spells text) (sym e ∙ is) (spells text fits),

@@ -1,10 +1,9 @@
-pub mod Cells
 pub mod HeaderLemmas
 pub mod FrameLemmas
 pub mod TakeLemmas
 pub mod SeeLemmas
 pub mod StreamLemmas
-pub mod ReadingLemmas
+pub mod PieceLemmas
 pub mod ItemLemmas
 pub mod BodyLemmas
 pub mod WriteLemmas

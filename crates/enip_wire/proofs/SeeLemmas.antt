@@ -4,7 +4,7 @@ use Rattle.std.proofs.lemmas.List.{take-append-drop, take_at, take-take, drop-ta
 use Rattle.std.proofs.lemmas.Bool.Decides.{nat_tests}
 use Rattle.byteorder.specs.Numbers.{little_from-take}
 use Rattle.enip_wire.specs.declared.header.Header.{Header}
-use Rattle.enip_wire.specs.Numbers.{number_at, IsBytes}
+use Rattle.cip_bytes.specs.Numbers.{number_at, AreBytes}
 use Rattle.enip_wire.specs.Headers.{header_spelling, header_at, IsHeader}
 use Rattle.enip_wire.specs.Frames.{Frame, frame, IsFrame, IsTooLong, Stops}
 use Rattle.enip_wire.specs.Stream.{sight_of}
@@ -40,7 +40,7 @@ see-long bytes head h front long is over =
     (record { header = long; over = omega (arith, says) }, same)
 
 pub see-whole : (bytes head body : List ℕ) (h : Header) → head ≡ take 24 bytes → body ≡ drop 24 bytes
-    → 24 ≤ length bytes → IsBytes bytes → h ≡ header_at head → header_spelling h ≡ head → h.length ≤ 65511
+    → 24 ≤ length bytes → AreBytes bytes → h ≡ header_at head → header_spelling h ≡ head → h.length ≤ 65511
     → length body ≡ h.length
     → IsFrame (record { header = h; body = body }) × (bytes ≡ frame (record { header = h; body = body }))
 see-whole bytes head body h front back long fits is spelled within counted = (

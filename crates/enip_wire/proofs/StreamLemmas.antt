@@ -2,12 +2,13 @@
 use Rattle.std.proofs.Common.{◌≡◌, ℕ, ◌≤◌, inl, List, [], ◌∷◌, ◌++◌, length, take, drop, refl, sym, ap, subst, ◌∙◌, arith, append_assoc, append-nil, length-append}
 use Rattle.std.proofs.lemmas.List.{take-append-drop, take_at, drop_at, take_all}
 use Rattle.std.specs.List.{flat_map, concat}
-use Rattle.enip_wire.specs.Numbers.{number_at}
+use Rattle.cip_bytes.specs.Numbers.{number_at}
+use Rattle.cip_bytes.proofs.Joined.{same_front}
 use Rattle.enip_wire.specs.Headers.{header_spelling, header_at}
 use Rattle.enip_wire.specs.Frames.{Frame, frame, IsFrame, IsTooLong, Stops}
 use Rattle.enip_wire.specs.Stream.{Cut, IsFresh}
-use Rattle.enip_wire.specs.Reading.{Reads}
-use Rattle.enip_wire.specs.Reading.Reads.{Ended, Waited, Showed, Stayed}
+use Rattle.enip_wire.specs.Pieces.{Reads}
+use Rattle.enip_wire.specs.Pieces.Reads.{Ended, Waited, Showed, Stayed}
 use Rattle.enip_wire.proofs.HeaderLemmas.{header_at-header_spelling}
 use Rattle.enip_wire.proofs.FrameLemmas.{number_at-frame, number_at-append}
 use Rattle.enip_wire.proofs.SeeLemmas.{same_frame}
@@ -19,23 +20,16 @@ header_in f x ok =
     ap header_at (append_assoc (header_spelling f.header) f.body x)
     ∙ header_at-header_spelling f.header (f.body ++ x) ok.fields
 
--- texts of one length at the front are the same, and so is what follows
-split_same : (a b x y : List ℕ) → length a ≡ length b → a ++ x ≡ b ++ y → (a ≡ b) × (x ≡ y)
-split_same a b x y n e = (
-  sym (take_at a x (length b) n) ∙ ap (take (length b)) e ∙ take_at b y (length b) refl,
-  sym (drop_at a x (length b) n) ∙ ap (drop (length b)) e ∙ drop_at b y (length b) refl,
-)
-
 pub one_spelling_lem : (f g : Frame) (x y : List ℕ) → IsFrame f → IsFrame g → frame f ++ x ≡ frame g ++ y
     → (f ≡ g) × (x ≡ y)
 one_spelling_lem f g x y p q e =
     let header : f.header ≡ g.header = sym (header_in f x p) ∙ ap header_at e ∙ header_in g y q in
     let size : length f.body ≡ length g.body = p.counted ∙ ap (λ h. h.length) header ∙ sym q.counted in
     let rest : f.body ++ x ≡ g.body ++ y
-    = (split_same (header_spelling f.header) (header_spelling g.header) (f.body ++ x) (g.body ++ y)
-    (ap (λ h. length (header_spelling h)) header)
+    = (same_front (header_spelling f.header) (header_spelling g.header) (f.body ++ x) (g.body ++ y)
+    (ap (λ h. length (header_spelling h)) (sym header))
     (sym (append_assoc (header_spelling f.header) f.body x) ∙ e ∙ append_assoc (header_spelling g.header) g.body y)).1 in
-    let both : (f.body ≡ g.body) × (x ≡ y) = split_same f.body g.body x y size rest in
+    let both : (f.body ≡ g.body) × (x ≡ y) = same_front f.body g.body x y (sym size) rest in
     (same_frame header both.0, both.1)
 
 pub one_cut_lem : (stream : List ℕ) (fs gs : List Frame) (r q : List ℕ) → Cut stream fs r → Cut stream gs q

@@ -3,10 +3,10 @@ use Rattle.std.proofs.Common.{◌≡◌, ℕ, ◌+◌, ◌-◌, ◌<◌, ◌≤�
 use Rattle.std.proofs.Math.Seq.{take-append-add}
 use Rattle.std.proofs.lemmas.Bool.{cases_lt}
 use Rattle.std.proofs.lemmas.List.{take-append-le, take-take}
-use Rattle.enip_wire.specs.Numbers.{number_at, IsBytes}
+use Rattle.cip_bytes.specs.Numbers.{number_at, AreBytes}
 use Rattle.enip_wire.specs.Frames.{Stops, end_after}
 use Rattle.enip_wire.specs.Stream.{IsFresh, Takes}
-use Rattle.enip_wire.proofs.FrameLemmas.{end_after-most, number_at-append, end_after-least, not_before, stops_at, Sized, Sized-whole, IsBytes-append}
+use Rattle.enip_wire.proofs.FrameLemmas.{end_after-most, number_at-append, end_after-least, not_before, stops_at, Sized, Sized-whole, AreBytes-append}
 
 pub stops-header : (bytes : List ℕ) → Stops bytes → 24 ≤ length bytes
 stops-header bytes (inl whole) = let s : Sized bytes = Sized-whole bytes whole in s.header
@@ -27,7 +27,7 @@ Takes-short held piece short =
     }
 
 -- what is held is no longer than its end
-pub IsFresh-end : (held : List ℕ) → IsBytes held → IsFresh held → 24 ≤ length held
+pub IsFresh-end : (held : List ℕ) → AreBytes held → IsFresh held → 24 ≤ length held
     → length held ≤ end_after (number_at 2 2 held)
 IsFresh-end held fits fresh header =
     elim (cases_lt (end_after (number_at 2 2 held)) (length held)) [
@@ -36,7 +36,7 @@ IsFresh-end held fits fresh header =
     ]
 
 -- where what is held and a piece end together, it is no sooner than the end of what is held
-pub IsFresh-end-append : (held piece : List ℕ) → IsBytes held → IsFresh held
+pub IsFresh-end-append : (held piece : List ℕ) → AreBytes held → IsFresh held
     → length held ≤ end_after (number_at 2 2 (held ++ piece))
 IsFresh-end-append held piece fits fresh =
     elim (cases_lt (length held) 24) [
@@ -46,7 +46,7 @@ IsFresh-end-append held piece fits fresh =
           (IsFresh-end held fits fresh long)
     ]
 
-pub Takes-count : (held piece : List ℕ) (n : ℕ) → IsBytes held → IsBytes piece → IsFresh held
+pub Takes-count : (held piece : List ℕ) (n : ℕ) → AreBytes held → AreBytes piece → IsFresh held
     → 24 ≤ length held + length piece
     → n ≡ min (end_after (number_at 2 2 (held ++ piece)) - length held) (length piece) → Takes held piece n
 Takes-count held piece n f g fresh header e =
@@ -60,14 +60,14 @@ Takes-count held piece n f g fresh header e =
       ends = elim (cases_lt n (length piece)) [
         | inl some ↦ inl (
             subst Stops (sym (front held piece n))
-            (stops_at (held ++ piece) (length held + n) (IsBytes-append held piece f g) (omega arith) (omega arith) (omega arith))
+            (stops_at (held ++ piece) (length held + n) (AreBytes-append held piece f g) (omega arith) (omega arith) (omega arith))
             )
         | inr all ↦ inr (omega arith)
       ];
     }
 
 -- what is held and taken is at most a frame
-pub bound-count : (held piece : List ℕ) (n e : ℕ) → IsBytes held → IsFresh held
+pub bound-count : (held piece : List ℕ) (n e : ℕ) → AreBytes held → IsFresh held
     → n ≡ min (e - length held) (length piece) → e ≤ 65535 → length held + n ≤ 65535
 bound-count held piece n e f fresh is most =
     let begun : length held ≤ 65535

@@ -5,11 +5,12 @@ use Rattle.std.proofs.lemmas.Grind.{flat_map-append}
 use Rattle.std.proofs.lemmas.List.{take_more, map-append, take_at, drop_at}
 use Rattle.std.proofs.lemmas.List.Folds.{flat_map-map, length-flat_map-take}
 use Rattle.enip_wire.specs.declared.packet.ItemView.{ItemView}
-use Rattle.enip_wire.specs.Numbers.{le, number_at}
-use Rattle.enip_wire.specs.Items.{Item, item, items, item_of, IsItem, AreItems, item_at, size_at, listed, after, whole, items_of}
-use Rattle.enip_wire.specs.Bodies.{null_address, connected_address, unconnected_data, connected_data, IsBody, IsRrBody, IsUnitBody, rr_text, unit_text, then_of, rr_items_of, unit_items_of, with_id, rr_body_of, unit_body_of}
-use Rattle.enip_wire.proofs.Cells.{of_two, of_four}
-use Rattle.enip_wire.proofs.ItemLemmas.{same_item, after-long, listed-long, items_of-long}
+use Rattle.cip_bytes.specs.Numbers.{le, number_at}
+use Rattle.cip_bytes.specs.Reading.{◌>>=◌}
+use Rattle.enip_wire.specs.Items.{Item, item, items, item_of, IsItem, AreItems, item_at, size_at, first_items, after, whole, items_of}
+use Rattle.enip_wire.specs.Bodies.{null_address, connected_address, unconnected_data, connected_data, IsBody, IsRrBody, IsUnitBody, rr_text, unit_text, rr_items_of, unit_items_of, with_id, rr_body_of, unit_body_of}
+use Rattle.cip_bytes.proofs.Bytes.{of_two, of_four}
+use Rattle.enip_wire.proofs.ItemLemmas.{same_item, after-long, first_items-long, items_of-long}
 use Rattle.enip_wire.proofs.BodyLemmas.{body_items-opens}
 
 -- the texts of items, one after the other
@@ -92,24 +93,24 @@ after-flat (i ∷ l) rest each =
     ∙ after-long (length l) (item i ++ (flat_map item l ++ rest)) (long_item i (flat_map item l ++ rest) each.0)
     ∙ ap (after (length l)) (at_item i (flat_map item l ++ rest) each.0).2 ∙ after-flat l rest each.1
 
-listed-flat : (l : List Item) (rest : List ℕ) → AllByRecursion IsItem l → listed (length l) (flat_map item l ++ rest) ≡ l
-listed-flat [] rest each = refl
-listed-flat (i ∷ l) rest each =
+first_items-flat : (l : List Item) (rest : List ℕ) → AllByRecursion IsItem l → first_items (length l) (flat_map item l ++ rest) ≡ l
+first_items-flat [] rest each = refl
+first_items-flat (i ∷ l) rest each =
     let first : item_at (item i ++ (flat_map item l ++ rest)) ≡ i = (at_item i (flat_map item l ++ rest) each.0).1 in
-    let others : listed (length l) (drop (size_at (item i ++ (flat_map item l ++ rest))) (item i ++ (flat_map item l ++ rest))) ≡ l
-    = ap (listed (length l)) (at_item i (flat_map item l ++ rest) each.0).2 ∙ listed-flat l rest each.1 in
-    ap (listed (suc (length l))) (append_assoc (item i) (flat_map item l) rest)
-    ∙ listed-long (length l) (item i ++ (flat_map item l ++ rest)) (long_item i (flat_map item l ++ rest) each.0)
+    let others : first_items (length l) (drop (size_at (item i ++ (flat_map item l ++ rest))) (item i ++ (flat_map item l ++ rest))) ≡ l
+    = ap (first_items (length l)) (at_item i (flat_map item l ++ rest) each.0).2 ∙ first_items-flat l rest each.1 in
+    ap (first_items (suc (length l))) (append_assoc (item i) (flat_map item l) rest)
+    ∙ first_items-long (length l) (item i ++ (flat_map item l ++ rest)) (long_item i (flat_map item l ++ rest) each.0)
     ∙ cc
 
 pub items_again : (l : List Item) → AreItems l → items_of (items l) ≡ Ok l
 items_again l p =
     let count : number_at 0 2 (items l) ≡ length l = of_two (length l) p.count in
     items_of-long (items l) (omega arith)
-    ∙ ap (λ n. whole (listed n (flat_map item l)) (after n (flat_map item l))) count
-    ∙ ap (λ t. whole (listed (length l) t) (after (length l) t)) (sym (append-nil (flat_map item l)))
-    ∙ ap (λ r. whole (listed (length l) (flat_map item l ++ [])) r) (after-flat l [] p.each)
-    ∙ ap Ok (listed-flat l [] p.each)
+    ∙ ap (λ n. whole (first_items n (flat_map item l)) (after n (flat_map item l))) count
+    ∙ ap (λ t. whole (first_items (length l) t) (after (length l) t)) (sym (append-nil (flat_map item l)))
+    ∙ ap (λ r. whole (first_items (length l) (flat_map item l ++ [])) r) (after-flat l [] p.each)
+    ∙ ap Ok (first_items-flat l [] p.each)
 
 rr_is_body : (bytes : List ℕ) → length bytes < 2 ^ 16 → IsBody (rr_text bytes) (null_address ∷ unconnected_data bytes ∷ [])
 rr_is_body bytes small =
@@ -141,7 +142,7 @@ unit_spelled id bytes four small = record { four_bytes = four; further = []; bod
 pub rr_again : (bytes : List ℕ) → length bytes < 2 ^ 16 → rr_body_of (rr_text bytes) ≡ Ok bytes
 unfolding rr_body_of
 rr_again bytes small =
-    ap (λ r. then_of r rr_items_of)
+    ap (λ r. r >>= rr_items_of)
     (
     body_items-opens (rr_text bytes) (items (null_address ∷ unconnected_data bytes ∷ [])) (rr_is_body bytes small).opens
     ∙ items_again (null_address ∷ unconnected_data bytes ∷ []) (rr_is_body bytes small).are_items
@@ -150,7 +151,7 @@ rr_again bytes small =
 pub unit_again : (id : ℕ) (bytes : List ℕ) → id < 2 ^ 32 → length bytes < 2 ^ 16 → unit_body_of (unit_text id bytes) ≡ Ok (id, bytes)
 unfolding unit_body_of
 unit_again id bytes four small =
-    ap (λ r. then_of r unit_items_of)
+    ap (λ r. r >>= unit_items_of)
     (
     body_items-opens (unit_text id bytes) (items (connected_address id ∷ connected_data bytes ∷ [])) (unit_is_body id bytes small).opens
     ∙ items_again (connected_address id ∷ connected_data bytes ∷ []) (unit_is_body id bytes small).are_items

@@ -1,7 +1,8 @@
 use Rattle.std.specs.Prelude.{if◌then◌else◌, nat_lt, ◌==◌, ◌&&◌, ℕ, List, [], ◌∷◌, ◌≡◌, ◌≢◌, ◌<◌, ◌≤◌, ◌^◌, ◌++◌, ◌⊎◌, length, drop, Result, Ok, Err, refl}
 use Rattle.enip_wire.specs.declared.packet.CpfFault.{CpfFault}
 use Rattle.enip_wire.specs.declared.packet.CpfFault.TheVariants.{Short, Trailing, Interface, Address, Data}
-use Rattle.enip_wire.specs.Numbers.{le, number_at}
+use Rattle.cip_bytes.specs.Numbers.{le, number_at}
+use Rattle.cip_bytes.specs.Reading.{◌>>=◌, seen_by}
 use Rattle.enip_wire.specs.Items.{Item, items, AreItems, IsShort, IsTrailing, items_of}
 
 -- The null address item, and the connected address item with its connection ID.
@@ -72,16 +73,6 @@ unit_text id bytes = le 4 0 ++ le 2 0 ++ items (connected_address id ∷ connect
 
 -- The rest says the same by numbers alone, for who computes with it.
 
--- What was returned, with what it lends as a list.
-abbrev pub seen_by : {A B E : Type 0} → (A → B) → Result A E → Result B E
-seen_by view (Ok x) = Ok (view x)
-seen_by view (Err fault) = Err fault
-
--- What was read is handed on, and a fault ends all.
-abbrev pub then_of : {A B : Type 0} → Result A CpfFault → (A → Result B CpfFault) → Result B CpfFault
-then_of (Ok x) f = f x
-then_of (Err fault) f = Err fault
-
 -- The items of a body.
 abbrev pub body_items_of : List ℕ → Result (List Item) CpfFault
 body_items_of text =
@@ -110,10 +101,10 @@ unit_items_of (a ∷ others) =
 
 -- The data of a SendRRData, or its fault; the connection ID and the data of a SendUnitData, or its fault.
 unfoldable pub rr_body_of : List ℕ → Result (List ℕ) CpfFault
-rr_body_of text = then_of (body_items_of text) rr_items_of
+rr_body_of text = body_items_of text >>= rr_items_of
 
 unfoldable pub unit_body_of : List ℕ → Result (ℕ × List ℕ) CpfFault
-unit_body_of text = then_of (body_items_of text) unit_items_of
+unit_body_of text = body_items_of text >>= unit_items_of
 
 -- A SendRRData with eight bytes of data; one with a byte behind its items; one that is cut short.
 rr_row : rr_body_of (0 ∷ 0 ∷ 0 ∷ 0 ∷ 0 ∷ 0 ∷ 2 ∷ 0 ∷ 0 ∷ 0 ∷ 0 ∷ 0 ∷ 0xb2 ∷ 0 ∷ 8 ∷ 0 ∷ 0x0e ∷ 3 ∷ 0x20 ∷ 1 ∷ 0x24 ∷ 1 ∷ 0x30 ∷ 1 ∷ [])

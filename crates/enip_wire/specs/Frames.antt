@@ -1,6 +1,6 @@
 use Rattle.std.specs.Prelude.{if◌then◌else◌, nat_lt, ◌+◌, ℕ, List, ◌≡◌, ◌<◌, ◌≤◌, ◌++◌, ◌⊎◌, length}
 use Rattle.enip_wire.specs.declared.header.Header.{Header}
-use Rattle.enip_wire.specs.Numbers.{number_at}
+use Rattle.cip_bytes.specs.Numbers.{number_at}
 use Rattle.enip_wire.specs.Headers.{header_spelling, IsHeader}
 
 -- A message of the encapsulation: a header, and the data that follow it.

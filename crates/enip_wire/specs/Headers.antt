@@ -1,6 +1,6 @@
 use Rattle.std.specs.Prelude.{ℕ, List, ◌≡◌, ◌<◌, ◌^◌, ◌++◌, length, slice_range}
 use Rattle.enip_wire.specs.declared.header.Header.{Header}
-use Rattle.enip_wire.specs.Numbers.{le, number_at}
+use Rattle.cip_bytes.specs.Numbers.{le, number_at}
 
 -- The six fields in their order. (Volume 2, encapsulation header.)
 abbrev pub header_spelling : Header → List ℕ

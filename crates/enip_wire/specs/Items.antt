@@ -4,7 +4,7 @@ use Rattle.std.specs.Coded.{Coded, code_by, coded×, coded_ℕ, coded_list}
 use Rattle.enip_wire.specs.declared.packet.ItemView.{ItemView}
 use Rattle.enip_wire.specs.declared.packet.CpfFault.{CpfFault}
 use Rattle.enip_wire.specs.declared.packet.CpfFault.TheVariants.{Short, Trailing, Interface, Address, Data}
-use Rattle.enip_wire.specs.Numbers.{le, number_at}
+use Rattle.cip_bytes.specs.Numbers.{le, number_at}
 
 -- An item of the common packet format: its type, and its data. (Volume 2, common packet format.)
 pub record Item : Type 0 where
@@ -73,10 +73,10 @@ abbrev pub size_at : List ℕ → ℕ
 size_at text = 4 + number_at 2 2 text
 
 -- The first n items of a text, as far as they are whole.
-abbrev pub listed : ℕ → List ℕ → List Item
-listed zero text = []
-listed (suc n) text =
-    if nat_lt (length text) (size_at text) then [] else item_at text ∷ listed n (drop (size_at text) text)
+abbrev pub first_items : ℕ → List ℕ → List Item
+first_items zero text = []
+first_items (suc n) text =
+    if nat_lt (length text) (size_at text) then [] else item_at text ∷ first_items n (drop (size_at text) text)
 
 -- What follows the first n items of a text.
 abbrev pub after : ℕ → List ℕ → Result (List ℕ) CpfFault
@@ -95,4 +95,4 @@ abbrev pub items_of : List ℕ → Result (List Item) CpfFault
 items_of text =
     if nat_lt (length text) 2
     then Err Short
-    else whole (listed (number_at 0 2 text) (drop 2 text)) (after (number_at 0 2 text) (drop 2 text))
+    else whole (first_items (number_at 0 2 text) (drop 2 text)) (after (number_at 0 2 text) (drop 2 text))

@@ -1,7 +1,6 @@
-pub mod Numbers
 pub mod Headers
 pub mod Frames
 pub mod Stream
-pub mod Reading
+pub mod Pieces
 pub mod Items
 pub mod Bodies

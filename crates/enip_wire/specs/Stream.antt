@@ -4,7 +4,7 @@ use Rattle.enip_wire.specs.declared.reader.FrameView.{FrameView}
 use Rattle.enip_wire.specs.declared.reader.Held.{Held}
 use Rattle.enip_wire.specs.declared.reader.Held.TheVariants.{More, Frame as Whole, TooLong}
 use Rattle.enip_wire.specs.declared.header.Header.{Header}
-use Rattle.enip_wire.specs.Numbers.{number_at}
+use Rattle.cip_bytes.specs.Numbers.{number_at}
 use Rattle.enip_wire.specs.Headers.{header_at}
 use Rattle.enip_wire.specs.Frames.{Frame, frame, IsFrame, IsTooLong, Stops, end_after}
 

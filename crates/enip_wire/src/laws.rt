@@ -1,12 +1,14 @@
 //! What follows from the definitions alone, for every text and every stream. Each law is the contract
 //! of a function that does nothing.
 
-ghost use Rattle.std.specs.Prelude.{ℕ, List, [], ◌≡◌, ◌++◌, length};
+ghost use Rattle.std.specs.Prelude.{ℕ, List, [], ◌≡◌, ◌<◌, ◌^◌, ◌++◌, length, Ok};
 ghost use Rattle.std.specs.List.{concat, AllByRecursion};
-ghost use Rattle.enip_wire.specs.Numbers.{IsBytes};
+ghost use Rattle.cip_bytes.specs.Numbers.{AreBytes};
 ghost use Rattle.enip_wire.specs.Frames.{Frame, frame, IsFrame};
 ghost use Rattle.enip_wire.specs.Stream.{Cut, Takes, taken_of, sight_of, A_frame};
-ghost use Rattle.enip_wire.specs.Reading.{Reads};
+ghost use Rattle.enip_wire.specs.Pieces.{Reads};
+ghost use Rattle.enip_wire.specs.Items.{Item, items, AreItems, items_of};
+ghost use Rattle.enip_wire.specs.Bodies.{IsRrBody, IsUnitBody, rr_text, unit_text, rr_body_of, unit_body_of};
 
 /// A frame that spells a front of a text is the only one that does.
 pub fn one_spelling()
@@ -29,7 +31,7 @@ pub fn one_cut()
 
 /// Every stream of bytes has a cut.
 pub fn some_cut()
-    ensures { (stream : List ℕ) → IsBytes stream → (frames : List Frame) × ((rest : List ℕ) × Cut stream frames rest) }
+    ensures { (stream : List ℕ) → AreBytes stream → (frames : List Frame) × ((rest : List ℕ) × Cut stream frames rest) }
 {}
 
 /// What is held and a piece say how many bytes are taken.
@@ -46,6 +48,31 @@ pub fn any_pieces()
 
 /// Every list of pieces of bytes is read: repeated push, state and clear come to an end of it.
 pub fn some_reading()
-    ensures { (pieces : List (List ℕ)) → AllByRecursion IsBytes pieces
+    ensures { (pieces : List (List ℕ)) → AllByRecursion AreBytes pieces
         → (frames : List Frame) × ((rest : List ℕ) × Reads [] pieces frames rest) }
+{}
+
+/// A list of items that spells a front of a text is the only one that does.
+pub fn one_items()
+    ensures { (l m : List Item) (x y : List ℕ) → AreItems l → AreItems m → items l ++ x ≡ items m ++ y
+        → (l ≡ m) × (x ≡ y) }
+{}
+
+/// A list of items that was written is read again.
+pub fn items_read_again()
+    ensures { (l : List Item) → AreItems l → items_of (items l) ≡ Ok l }
+{}
+
+/// The body of a SendRRData that is written is one, and is read again.
+pub fn rr_body_read_again()
+    ensures spelled { (bytes : List ℕ) → length bytes < 2 ^ 16 → IsRrBody (rr_text bytes) bytes }
+    ensures again { (bytes : List ℕ) → length bytes < 2 ^ 16 → rr_body_of (rr_text bytes) ≡ Ok bytes }
+{}
+
+/// The body of a SendUnitData that is written is one, and is read again.
+pub fn unit_body_read_again()
+    ensures spelled { (id : ℕ) (bytes : List ℕ) → id < 2 ^ 32 → length bytes < 2 ^ 16
+        → IsUnitBody (unit_text id bytes) id bytes }
+    ensures again { (id : ℕ) (bytes : List ℕ) → id < 2 ^ 32 → length bytes < 2 ^ 16
+        → unit_body_of (unit_text id bytes) ≡ Ok (id, bytes) }
 {}

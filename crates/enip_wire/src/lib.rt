@@ -1,14 +1,32 @@
-//! EtherNet/IP's encapsulation: the header, frames from a stream in any pieces, and the items of a packet.
+//! EtherNet/IP's encapsulation (ODVA CIP Networks Library, Volume 2): the header, frames from a stream in any
+//! pieces, and the items of a packet.
+//!
+//! [`FrameReader`] gathers one frame at a time from the pieces of a stream; [`Header`] is the 24 bytes in front of
+//! a frame's data. [`cpf_items`], [`rr_body`] and [`unit_body`] read such data and lend what they find;
+//! [`write_items`], [`write_rr_body`] and [`write_unit_body`] append them.
+//!
+//! Each reader answers exactly the value that the bytes spell, or the first fault. Each writer appends exactly one
+//! spelling to a buffer of fixed capacity, or changes nothing. Only `FrameReader::new` takes memory.
+//!
+//! The three readers of items say what they read and which fault comes where; the body of each is a private
+//! function `read_..`, whose one clause is the equation that the public clauses follow from.
 #![tactic(auto)]
 
-pub mod header;
+mod header;
 #[cfg(test)]
 mod header_tests;
 pub mod laws;
-pub mod packet;
-pub mod packet_laws;
+mod packet;
 #[cfg(test)]
 mod packet_tests;
-pub mod reader;
+mod reader;
 #[cfg(test)]
 mod reader_tests;
+
+pub use cip_bytes::Full;
+pub use header::Header;
+pub use packet::{
+    CpfFault, ItemView, Items, cpf_items, rr_body, unit_body, write_items, write_rr_body,
+    write_unit_body,
+};
+pub use reader::{FrameReader, FrameView, Held, LONGEST_BODY};

@@ -10,12 +10,14 @@ ghost use Rattle.enip_wire.specs.declared.packet.CpfFault.{CpfFault};
 ghost use Rattle.std.specs.Iterator.{YieldsFirstBy, item_count};
 ghost use Rattle.std.specs.List.{flat_map};
 ghost use Rattle.arrayvec.specs.ArrayVec.{array_vec_len};
-ghost use Rattle.enip_wire.specs.Numbers.{number_at};
+ghost use Rattle.cip_bytes.specs.Numbers.{number_at};
+ghost use Rattle.cip_bytes.specs.Reading.{seen_by};
 ghost use Rattle.enip_wire.specs.Items.{Item, item as item_text, items, AreItems, IsShort, IsTrailing, item_of, item_at, size_at, after, items_of};
-ghost use Rattle.enip_wire.specs.Bodies.{IsRrBody, IsUnitBody, Faulty, IsNull, IsConnected, rr_text, unit_text, seen_by, body_items_of, data_of, rr_body_of, unit_body_of};
+ghost use Rattle.enip_wire.specs.Bodies.{IsRrBody, IsUnitBody, Faulty, IsNull, IsConnected, rr_text, unit_text, body_items_of, data_of, rr_body_of, unit_body_of};
 
 use arrayvec::ArrayVec;
 use byteorder::{ByteOrder, LittleEndian};
+use cip_bytes::{Full, append, append_u16, append_u32};
 use std::marker::Model;
 use thiserror::Error;
 
@@ -27,6 +29,27 @@ const CONNECTED_ADDRESS: u16 = 0xa1;
 const CONNECTED_DATA: u16 = 0xb1;
 
 const UNCONNECTED_DATA: u16 = 0xb2;
+
+/// How many bytes a body's interface has, and with its timeout, in front of the items.
+const INTERFACE: usize = 4;
+
+const BODY_HEAD: usize = INTERFACE + 2;
+
+/// How many bytes the number of items has, in front of the first.
+const COUNT: usize = 2;
+
+/// How many bytes an item has in front of its data: its type and its length.
+const ITEM_HEAD: usize = 4;
+
+/// How many bytes the connection ID of a connected address has.
+const CONNECTION_ID: usize = 4;
+
+/// The front of a SendRRData that is written: interface 0, timeout 0, two items, and the null address.
+const RR_FRONT: [u8; BODY_HEAD + COUNT + ITEM_HEAD] = [0, 0, 0, 0, 0, 0, 2, 0, 0, 0, 0, 0];
+
+/// The front of a SendUnitData that is written: interface 0, timeout 0, two items, and the connected address up to
+/// its connection ID.
+const UNIT_FRONT: [u8; BODY_HEAD + COUNT + ITEM_HEAD] = [0, 0, 0, 0, 0, 0, 2, 0, 0xa1, 0, 4, 0];
 
 /// Why a text is no list of items, or no body: the first of these that is met, from 1 on.
 /// (Volume 2, common packet format.)
@@ -60,16 +83,12 @@ impl CpfFault {
     }
 }
 
-/// A text does not fit into what is left of a buffer.
-#[derive(Clone, Copy, Debug, PartialEq, Eq, Error)]
-#[error("the text does not fit")]
-pub struct Full;
-
 /// An item, lent: its type and its data.
 #[derive(Clone, Copy, Debug)]
 pub struct ItemView<'a> {
-    /// What the data are.
+    /// What the data are, by the type's number of 16 bits.
     pub kind: u16,
+    /// The data, at most 65,535 bytes.
     pub bytes: &'a [u8],
 }
 
@@ -83,13 +102,13 @@ pub struct Items<'a> {
 impl<'a> Model for Items<'a> {
     ghost use Rattle.std.specs.Prelude.{List};
     ghost use Rattle.std.specs.Coded.{coded_list};
-    ghost use Rattle.enip_wire.specs.Items.{Item, item_code, listed};
+    ghost use Rattle.enip_wire.specs.Items.{Item, item_code, first_items};
 
     ghost Value = { List Item };
 
     ghost coded = { coded_list item_code };
 
-    ghost view = { λ s. listed s.left s.text.now };
+    ghost view = { λ s. first_items s.left s.text.now };
 }
 
 impl<'a> Iterator for Items<'a> {
@@ -122,23 +141,22 @@ pub fn cpf_items(text: &[u8]) -> Result<Items<'_>, CpfFault>
     ensures trailing { (result ≡ Err CpfFault.Trailing) ↔ IsTrailing text.now }
     ensures exact { result ≡ items_of text.now }
 {
-    whole_items(text)
+    read_items(text)
 }
 
 /// The items of the whole text.
-fn whole_items(text: &[u8]) -> Result<Items<'_>, CpfFault>
+fn read_items(text: &[u8]) -> Result<Items<'_>, CpfFault>
     ensures { result ≡ items_of text.now }
 {
-    if text.len() < 2 {
+    if text.len() < COUNT {
         return Err(CpfFault::Short);
     }
-    let left = LittleEndian::read_u16(&text[..2]);
-    let rest = after_items(left, &text[2..])?;
+    let left = LittleEndian::read_u16(&text[..COUNT]);
+    let text = &text[COUNT..];
+    let rest = after_items(left, text)?;
+    // Nothing follows the last item (common packet format).
     if rest.is_empty() {
-        Ok(Items {
-            left,
-            text: &text[2..],
-        })
+        Ok(Items { left, text })
     } else {
         Err(CpfFault::Trailing)
     }
@@ -158,16 +176,17 @@ pub fn rr_body(text: &[u8]) -> Result<&[u8], CpfFault>
     ensures faulty { (fault : CpfFault) → (seen_by (λ lent. lent.now) result ≡ Err fault) ↔ Faulty IsNull 0xb2 text.now fault }
     ensures exact { seen_by (λ lent. lent.now) result ≡ rr_body_of text.now }
 {
-    rr_data(text)
+    read_rr_body(text)
 }
 
 /// The data of a SendRRData.
 #[tactic(auto, unfolding(crate::specs::Bodies::rr_body_of))]
-fn rr_data(text: &[u8]) -> Result<&[u8], CpfFault>
+fn read_rr_body(text: &[u8]) -> Result<&[u8], CpfFault>
     ensures { seen_by (λ lent. lent.now) result ≡ rr_body_of text.now }
 {
     let mut items = body_items(text)?;
     match items.next() {
+        // The null address has no data (common packet format, address items).
         Some(ItemView { kind, bytes }) if kind == NULL_ADDRESS && bytes.is_empty() => {
             data(&mut items, UNCONNECTED_DATA)
         }
@@ -188,17 +207,19 @@ pub fn unit_body(text: &[u8]) -> Result<(u32, &[u8]), CpfFault>
     ensures faulty { (fault : CpfFault) → (seen_by {B = ℕ × List ℕ} (λ found. (found.0, found.1.now)) result ≡ Err fault) ↔ Faulty IsConnected 0xb1 text.now fault }
     ensures exact { seen_by {B = ℕ × List ℕ} (λ found. (found.0, found.1.now)) result ≡ unit_body_of text.now }
 {
-    unit_data(text)
+    read_unit_body(text)
 }
 
 /// The connection ID and the data of a SendUnitData.
 #[tactic(auto, unfolding(crate::specs::Bodies::unit_body_of))]
-fn unit_data(text: &[u8]) -> Result<(u32, &[u8]), CpfFault>
+fn read_unit_body(text: &[u8]) -> Result<(u32, &[u8]), CpfFault>
     ensures { seen_by {B = ℕ × List ℕ} (λ found. (found.0, found.1.now)) result ≡ unit_body_of text.now }
 {
     let mut items = body_items(text)?;
     match items.next() {
-        Some(ItemView { kind, bytes }) if kind == CONNECTED_ADDRESS && bytes.len() == 4 => {
+        // The connected address is a connection ID (common packet format, address items).
+        Some(ItemView { kind, bytes })
+            if kind == CONNECTED_ADDRESS && bytes.len() == CONNECTION_ID => {
             let id = LittleEndian::read_u32(bytes);
             Ok((id, data(&mut items, CONNECTED_DATA)?))
         }
@@ -210,13 +231,14 @@ fn unit_data(text: &[u8]) -> Result<(u32, &[u8]), CpfFault>
 fn body_items(text: &[u8]) -> Result<Items<'_>, CpfFault>
     ensures { result ≡ body_items_of text.now }
 {
-    if text.len() < 6 {
+    if text.len() < BODY_HEAD {
         return Err(CpfFault::Short);
     }
-    if LittleEndian::read_u32(&text[..4]) != 0 {
+    // The interface is 0, that of CIP; the timeout behind it is any (SendRRData and SendUnitData).
+    if LittleEndian::read_u32(&text[..INTERFACE]) != 0 {
         return Err(CpfFault::Interface);
     }
-    cpf_items(&text[6..])
+    cpf_items(&text[BODY_HEAD..])
 }
 
 /// The data of the next item, which is to have this type.
@@ -230,22 +252,26 @@ fn data<'a>(items: &mut Items<'a>, kind: u16) -> Result<&'a [u8], CpfFault>
 }
 
 /// The item at the front of a text and what follows it, where the item is whole.
+#[inline(always)]
 fn first_item(text: &[u8]) -> Option<(ItemView<'_>, &[u8])>
     ensures { MatchOption result (length text.now < size_at text.now)
         (λ x. (size_at text.now ≤ length text.now) × (item_of x.0 ≡ item_at text.now) × (x.1.now ≡ drop (size_at text.now) text.now)) }
 {
-    if text.len() < 4 {
+    if text.len() < ITEM_HEAD {
         return None;
     }
-    let length = usize::from(LittleEndian::read_u16(&text[2..4]));
-    if text.len() - 4 < length {
+    let kind = LittleEndian::read_u16(&text[..2]);
+    let length = usize::from(LittleEndian::read_u16(&text[2..ITEM_HEAD]));
+    let rest = &text[ITEM_HEAD..];
+    // The data lie in the text whole, else the item is cut short (common packet format).
+    if rest.len() < length {
         return None;
     }
     let item = ItemView {
-        kind: LittleEndian::read_u16(&text[..2]),
-        bytes: &text[4..4 + length],
+        kind,
+        bytes: &rest[..length],
     };
-    Some((item, &text[4 + length..]))
+    Some((item, &rest[length..]))
 }
 
 /// What follows so many items at the front of a text.
@@ -266,7 +292,7 @@ fn after_items(count: u16, text: &[u8]) -> Result<&[u8], CpfFault>
 ///
 /// # Errors
 ///
-/// `Full` where the text does not fit, and then nothing is written.
+/// `Full` where the text doesn't fit, and then nothing is written.
 pub fn write_items<const N: usize>(
     out: &mut ArrayVec<u8, N>,
     list: &[ItemView<'_>],
@@ -277,10 +303,10 @@ pub fn write_items<const N: usize>(
     ensures err { OnErr result (out.new ≡ out.old) }
 {
     let room = out.remaining_capacity();
-    if room < 2 || !fit(room - 2, list) {
+    if room < COUNT || !fit(room - COUNT, list) {
         return Err(Full);
     }
-    append(out, &(list.len() as u16).to_le_bytes());
+    append_u16(out, list.len() as u16);
     for item in list {
         append_item(out, item.kind, item.bytes);
     }
@@ -292,7 +318,7 @@ pub fn write_items<const N: usize>(
 ///
 /// # Errors
 ///
-/// `Full` where the text does not fit, and then nothing is written.
+/// `Full` where the text doesn't fit, and then nothing is written.
 pub fn write_rr_body<const N: usize>(out: &mut ArrayVec<u8, N>, data: &[u8]) -> Result<(), Full>
     requires { length «data».now < 2 ^ 16 }
     ensures fits { IsOk result ↔ (array_vec_len out.old + length (rr_text «data».now) ≤ N) }
@@ -300,10 +326,11 @@ pub fn write_rr_body<const N: usize>(out: &mut ArrayVec<u8, N>, data: &[u8]) -> 
     ensures err { OnErr result (out.new ≡ out.old) }
 {
     let room = out.remaining_capacity();
-    if room < 16 || room - 16 < data.len() {
+    let before = RR_FRONT.len() + ITEM_HEAD;
+    if room < before || room - before < data.len() {
         return Err(Full);
     }
-    append(out, &[0, 0, 0, 0, 0, 0, 2, 0, 0, 0, 0, 0]);
+    append(out, &RR_FRONT);
     append_item(out, UNCONNECTED_DATA, data);
     Ok(())
 }
@@ -313,7 +340,7 @@ pub fn write_rr_body<const N: usize>(out: &mut ArrayVec<u8, N>, data: &[u8]) -> 
 ///
 /// # Errors
 ///
-/// `Full` where the text does not fit, and then nothing is written.
+/// `Full` where the text doesn't fit, and then nothing is written.
 pub fn write_unit_body<const N: usize>(
     out: &mut ArrayVec<u8, N>,
     id: u32,
@@ -325,11 +352,12 @@ pub fn write_unit_body<const N: usize>(
     ensures err { OnErr result (out.new ≡ out.old) }
 {
     let room = out.remaining_capacity();
-    if room < 20 || room - 20 < data.len() {
+    let before = UNIT_FRONT.len() + CONNECTION_ID + ITEM_HEAD;
+    if room < before || room - before < data.len() {
         return Err(Full);
     }
-    append(out, &[0, 0, 0, 0, 0, 0, 2, 0, 0xa1, 0, 4, 0]);
-    append(out, &id.to_le_bytes());
+    append(out, &UNIT_FRONT);
+    append_u32(out, id);
     append_item(out, CONNECTED_DATA, data);
     Ok(())
 }
@@ -339,10 +367,10 @@ fn fit(mut room: usize, list: &[ItemView<'_>]) -> bool
     ensures { IsTrue result ↔ (length (flat_map item_text (map item_of list.now)) ≤ room) }
 {
     for item in list {
-        if room < 4 || room - 4 < item.bytes.len() {
+        if room < ITEM_HEAD || room - ITEM_HEAD < item.bytes.len() {
             return false;
         }
-        room -= 4 + item.bytes.len();
+        room -= ITEM_HEAD + item.bytes.len();
     }
     true
 }
@@ -353,16 +381,7 @@ fn append_item<const N: usize>(out: &mut ArrayVec<u8, N>, kind: u16, bytes: &[u8
     requires counted { length bytes.now < 2 ^ 16 }
     ensures { out.new.items ≡ out.old.items ++ item_text (record { kind = kind; bytes = bytes.now }) }
 {
-    append(out, &kind.to_le_bytes());
-    append(out, &(bytes.len() as u16).to_le_bytes());
+    append_u16(out, kind);
+    append_u16(out, bytes.len() as u16);
     append(out, bytes);
-}
-
-/// Appends bytes, for which there is room.
-fn append<const N: usize>(out: &mut ArrayVec<u8, N>, bytes: &[u8])
-    requires { array_vec_len out.old + length bytes.now ≤ N }
-    ensures items { out.new.items ≡ out.old.items ++ bytes.now }
-    ensures len { array_vec_len out.new ≡ array_vec_len out.old + length bytes.now }
-{
-    let _written = out.try_extend_from_slice(bytes);
 }

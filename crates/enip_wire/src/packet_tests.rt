@@ -1,15 +1,27 @@
-use crate::packet::*;
+//! Items and bodies, read and written.
+
+use crate::*;
 use arrayvec::ArrayVec;
 use std::test::*;
 
 /// A SendRRData with the request of the vendor.
 const ROW: [u8; 24] = [
-    0, 0, 0, 0, 0, 0, 2, 0, 0, 0, 0, 0, 0xb2, 0, 8, 0, 0x0e, 3, 0x20, 1, 0x24, 1, 0x30, 1,
+    // Interface, timeout, and two items.
+    0x00, 0x00, 0x00, 0x00, 0x00, 0x00, 0x02, 0x00,
+    // The null address, and eight bytes of unconnected data.
+    0x00, 0x00, 0x00, 0x00, 0xb2, 0x00, 0x08, 0x00,
+    // Get_Attribute_Single of attribute 1 of Identity.
+    0x0e, 0x03, 0x20, 0x01, 0x24, 0x01, 0x30, 0x01,
 ];
 
 /// A SendUnitData on connection 0x01020304.
 const UNIT: [u8; 22] = [
-    0, 0, 0, 0, 0, 0, 2, 0, 0xa1, 0, 4, 0, 4, 3, 2, 1, 0xb1, 0, 2, 0, 7, 9,
+    // Interface, timeout, and two items.
+    0x00, 0x00, 0x00, 0x00, 0x00, 0x00, 0x02, 0x00,
+    // The connected address.
+    0xa1, 0x00, 0x04, 0x00, 0x04, 0x03, 0x02, 0x01,
+    // Two bytes of connected data.
+    0xb1, 0x00, 0x02, 0x00, 0x07, 0x09,
 ];
 
 #[test]
@@ -21,7 +33,12 @@ fn bodies_are_read(rt: HostRuntime) {
     assert_eq!(rt; unit_body(&UNIT), Ok((0x0102_0304, [7, 9].as_slice())));
     assert_eq!(rt; unit_body(&ROW), Err(CpfFault::Address));
     let further = [
-        0, 0, 0, 0, 9, 9, 3, 0, 0, 0, 0, 0, 0xb2, 0, 1, 0, 5, 0, 0x80, 0, 0,
+        // Interface, another timeout, and three items.
+        0x00, 0x00, 0x00, 0x00, 0x09, 0x09, 0x03, 0x00,
+        // The null address, and one byte of unconnected data.
+        0x00, 0x00, 0x00, 0x00, 0xb2, 0x00, 0x01, 0x00, 0x05,
+        // An item that says nothing.
+        0x00, 0x80, 0x00, 0x00,
     ];
     assert_eq!(rt; rr_body(&further), Ok([5].as_slice()));
 }
@@ -36,7 +53,10 @@ fn faults_are_told(rt: HostRuntime) {
     let mut interface = ROW;
     interface[0] = 1;
     assert_eq!(rt; rr_body(&interface), Err(CpfFault::Interface));
-    let one_item = [0, 0, 0, 0, 0, 0, 1, 0, 0, 0, 0, 0];
+    // Interface, timeout, and one item, the null address.
+    let one_item = [
+        0x00, 0x00, 0x00, 0x00, 0x00, 0x00, 0x01, 0x00, 0x00, 0x00, 0x00, 0x00,
+    ];
     assert_eq!(rt; rr_body(&one_item), Err(CpfFault::Data));
     let mut data = ROW;
     data[12] = 0xb1;

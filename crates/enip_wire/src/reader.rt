@@ -7,7 +7,7 @@
 //! ```
 
 ghost use Rattle.std.specs.Prelude.{◌≡◌, ◌≤◌, ◌<◌, ◌^◌, ◌+◌, ◌++◌, [], take, length, IfOk, slice_index};
-ghost use Rattle.enip_wire.specs.Numbers.{number_at, IsBytes};
+ghost use Rattle.cip_bytes.specs.Numbers.{number_at, AreBytes};
 ghost use Rattle.enip_wire.specs.Frames.{end_after as end_after_length};
 ghost use Rattle.enip_wire.specs.Stream.{IsFresh, Takes, taken_of, Shows, sight, sight_of};
 
@@ -16,16 +16,19 @@ use byteorder::{ByteOrder, LittleEndian};
 use std::alloc::{AllocError, Global};
 use std::marker::Model;
 
-/// The longest data of a frame, in bytes. (Volume 2, encapsulation header, length.)
+/// The longest data of a frame, in bytes: header and data are at most 65,535.
+/// (Volume 2, encapsulation header, length.)
 pub const LONGEST_BODY: u16 = 65_511;
 
 /// The longest frame, in bytes.
-const LONGEST_FRAME: usize = 65_535;
+const LONGEST_FRAME: usize = Header::SIZE + LONGEST_BODY as usize;
 
 /// A whole frame, lent: its header, and the `header.length` bytes that follow it.
 #[derive(Clone, Copy, Debug)]
 pub struct FrameView<'a> {
+    /// The header.
     pub header: Header,
+    /// The data, `header.length` bytes.
     pub body: &'a [u8],
 }
 
@@ -60,6 +63,10 @@ impl Model for FrameReader {
 
 impl FrameReader {
     /// A reader that holds no byte. Its 65,535 bytes are reserved here: no later call allocates.
+    ///
+    /// # Errors
+    ///
+    /// `AllocError` where the memory is refused.
     pub fn new(alloc: Global) -> Result<FrameReader, AllocError>
         ensures { IfOk result (λ r. r ≡ []) }
     {
@@ -109,6 +116,7 @@ fn count(held: &[u8], piece: &[u8]) -> usize
     if held.len() < Header::SIZE && piece.len() < Header::SIZE - held.len() {
         return piece.len();
     }
+    // No byte is taken past a whole frame, nor past a header that can begin none (a peer's stream).
     let end = end_after(length_in(held, piece));
     end.saturating_sub(held.len()).min(piece.len())
 }
@@ -122,9 +130,11 @@ fn place(buffer: &mut [u8], len: usize, text: &[u8])
 }
 
 /// Where what begins with a header of this length ends.
+#[inline(always)]
 fn end_after(length: u16) -> usize
     ensures { result ≡ end_after_length length }
 {
+    // A length over 65,511 can begin no frame (encapsulation header).
     if length > LONGEST_BODY {
         Header::SIZE
     } else {
@@ -133,6 +143,7 @@ fn end_after(length: u16) -> usize
 }
 
 /// The length in the header that these bytes begin, the first joined with the second.
+#[inline(always)]
 fn length_in(held: &[u8], piece: &[u8]) -> u16
     requires { 24 ≤ length held.now + length piece.now }
     ensures { result ≡ number_at 2 2 (held.now ++ piece.now) }
@@ -141,6 +152,7 @@ fn length_in(held: &[u8], piece: &[u8]) -> u16
 }
 
 /// One byte of two texts that stand one after the other.
+#[inline(always)]
 fn byte_in(held: &[u8], piece: &[u8], place: usize) -> u8
     requires { place < length held.now + length piece.now }
     ensures { result ≡ slice_index (held.now ++ piece.now) place }
@@ -157,10 +169,11 @@ fn see(bytes: &[u8]) -> Held<'_>
     ensures shown { Shows bytes.now result }
     ensures kind { sight result ≡ sight_of bytes.now }
 {
-    let Some((head, body)) = bytes.split_first_chunk::<24>() else {
+    let Some((head, body)) = bytes.split_first_chunk::<{ Header::SIZE }>() else {
         return Held::More;
     };
     let header = Header::read(head);
+    // A length over 65,511 can begin no frame (encapsulation header).
     if header.length > LONGEST_BODY {
         Held::TooLong(header)
     } else if body.len() == header.length as usize {

@@ -1,4 +1,4 @@
-use Rattle.enip_wire.proofs.ReadingLemmas.{taken_of-frame, sight_of-written}
+use Rattle.enip_wire.proofs.PieceLemmas.{taken_of-frame, sight_of-written}
 use Rattle.enip_wire.proofs.laws.frame_read_again.Goals as goal
 
 pub returns-clause-taken : goal.returns-clause-taken

@@ -1,4 +1,4 @@
-use Rattle.enip_wire.proofs.ReadingLemmas.{some_cut_lem}
+use Rattle.enip_wire.proofs.PieceLemmas.{some_cut_lem}
 use Rattle.enip_wire.proofs.laws.some_cut.Goals as goal
 
 pub returns : goal.returns

@@ -1,4 +1,4 @@
-use Rattle.enip_wire.proofs.ReadingLemmas.{some_reading_lem}
+use Rattle.enip_wire.proofs.PieceLemmas.{some_reading_lem}
 use Rattle.enip_wire.proofs.laws.some_reading.Goals as goal
 
 pub returns : goal.returns

@@ -1,5 +1,5 @@
 use Rattle.std.proofs.Common.{◌≡◌, ◌++◌, length, take}
-use Rattle.enip_wire.specs.Numbers.{le}
+use Rattle.cip_bytes.specs.Numbers.{le}
 use Rattle.enip_wire.proofs.WriteLemmas.{texts}
 use Rattle.enip_wire.proofs.packet.write_items.Given as goal
 

@@ -1,5 +1,5 @@
 use Rattle.std.proofs.Common.{◌≡◌, ◌+◌, ◌-◌, ◌≤◌, ◌++◌, min, length, ap, ◌∙◌, arith}
-use Rattle.enip_wire.specs.Numbers.{number_at}
+use Rattle.cip_bytes.specs.Numbers.{number_at}
 use Rattle.enip_wire.specs.Frames.{end_after}
 use Rattle.enip_wire.proofs.FrameLemmas.{end_after-most}
 use Rattle.enip_wire.proofs.TakeLemmas.{Takes-short, Takes-count, bound-count}

@@ -1,5 +1,5 @@
 use Rattle.enip_wire.proofs.WriteLemmas.{unit_spelled, unit_again}
-use Rattle.enip_wire.proofs.packet_laws.unit_body_read_again.Goals as goal
+use Rattle.enip_wire.proofs.laws.unit_body_read_again.Goals as goal
 
 pub returns-clause-spelled : goal.returns-clause-spelled
 returns-clause-spelled c = unit_spelled

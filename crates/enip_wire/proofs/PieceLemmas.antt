@@ -4,15 +4,16 @@ use Rattle.std.proofs.lemmas.Bool.{cases_lt}
 use Rattle.std.proofs.lemmas.Bool.Decides.{nat_tests}
 use Rattle.std.proofs.lemmas.List.{take_all, drop_at}
 use Rattle.std.specs.List.{AllByRecursion, concat}
-use Rattle.enip_wire.specs.Numbers.{number_at, IsBytes}
+use Rattle.cip_bytes.specs.Numbers.{number_at, AreBytes}
+use Rattle.cip_bytes.proofs.Bytes.{AreBytes-drop}
 use Rattle.enip_wire.specs.Headers.{header_spelling, header_at}
 use Rattle.enip_wire.specs.Frames.{Frame, frame, IsFrame, Stops, end_after}
 use Rattle.enip_wire.specs.Stream.{Cut, IsFresh, Takes, taken_of, sight_of}
 use Rattle.enip_wire.specs.Stream.Sight.{A_frame}
-use Rattle.enip_wire.specs.Reading.{Reads}
-use Rattle.enip_wire.specs.Reading.Reads.{Ended, Waited, Showed, Stayed}
+use Rattle.enip_wire.specs.Pieces.{Reads}
+use Rattle.enip_wire.specs.Pieces.Reads.{Ended, Waited, Showed, Stayed}
 use Rattle.enip_wire.proofs.HeaderLemmas.{header_at-header_spelling, length-header_spelling}
-use Rattle.enip_wire.proofs.FrameLemmas.{number_at-frame, length-frame, end_after-within, not_before, stops_at, IsBytes-append, IsBytes-drop}
+use Rattle.enip_wire.proofs.FrameLemmas.{number_at-frame, length-frame, end_after-within, not_before, stops_at, AreBytes-append}
 use Rattle.enip_wire.proofs.SeeLemmas.{same_frame, sight_of-frame}
 use Rattle.enip_wire.proofs.TakeLemmas.{stops-header, front, Takes-short, Takes-count, IsFresh-end-append, IsFresh-after}
 use Rattle.enip_wire.proofs.StreamLemmas.{any_pieces_lem, not_empty}
@@ -54,8 +55,8 @@ record Completes (held piece : List ℕ) : Type 0 where
   stops : Stops (held ++ take number piece)
 
 -- a piece does the one or the other
-after_header : (held piece : List ℕ) (end : ℕ) → end ≡ end_after (number_at 2 2 (held ++ piece)) → IsBytes held
-    → IsBytes piece → IsFresh held → 24 ≤ length held + length piece → Awaits held piece ⊎ Completes held piece
+after_header : (held piece : List ℕ) (end : ℕ) → end ≡ end_after (number_at 2 2 (held ++ piece)) → AreBytes held
+    → AreBytes piece → IsFresh held → 24 ≤ length held + length piece → Awaits held piece ⊎ Completes held piece
 after_header held piece end is f g fresh header =
     let whole : length (held ++ piece) ≡ length held + length piece = length-append held piece in
     let begun : length held ≤ end_after (number_at 2 2 (held ++ piece)) = IsFresh-end-append held piece f fresh in
@@ -73,13 +74,13 @@ after_header held piece end is f g fresh header =
             number = end - length held;
             takes = Takes-count held piece (end - length held) f g fresh header (omega arith);
             stops = subst Stops (sym (front held piece (end - length held)))
-                (stops_at (held ++ piece) (length held + (end - length held)) (IsBytes-append held piece f g)
+                (stops_at (held ++ piece) (length held + (end - length held)) (AreBytes-append held piece f g)
                 (omega arith) (omega arith) (omega arith));
           }
           )
     ]
 
-after_piece : (held piece : List ℕ) → IsBytes held → IsBytes piece → IsFresh held
+after_piece : (held piece : List ℕ) → AreBytes held → AreBytes piece → IsFresh held
     → Awaits held piece ⊎ Completes held piece
 after_piece held piece f g fresh =
     elim (cases_lt (length held + length piece) 24) [
@@ -102,7 +103,7 @@ record HasReading (held : List ℕ) (pieces : List (List ℕ)) : Type 0 where
 
 -- what a reader that can go on holds
 record IsRunning (held : List ℕ) : Type 0 where
-  bytes : IsBytes held
+  bytes : AreBytes held
   fresh : IsFresh held
   running : Stops held → ⊥
 
@@ -116,15 +117,15 @@ some_taken zero held piece running stops = absurd (running (subst Stops (append-
 some_taken (suc n) held piece running stops = omega arith
 
 -- a piece that makes what is held whole or too long, where each shorter piece has a reading
-completed : (held piece : List ℕ) (pieces : List (List ℕ)) (n : ℕ) → IsRunning held → IsBytes piece
+completed : (held piece : List ℕ) (pieces : List (List ℕ)) (n : ℕ) → IsRunning held → AreBytes piece
     → Takes held piece n → Stops (held ++ take n piece)
-    → ((rest : List ℕ) → length rest < length piece → IsBytes rest → HasReading [] (rest ∷ pieces))
+    → ((rest : List ℕ) → length rest < length piece → AreBytes rest → HasReading [] (rest ∷ pieces))
     → HasReading held (piece ∷ pieces)
 completed held piece pieces n going fits takes (inl whole) shorter =
     let some : 0 < n = some_taken n held piece going.running (inl whole) in
     let within : n ≤ length piece = takes.within in
     let less : length (drop n piece) < length piece = omega (arith, length-drop n piece) in
-    let later : HasReading [] (drop n piece ∷ pieces) = shorter (drop n piece) less (IsBytes-drop n piece fits) in
+    let later : HasReading [] (drop n piece ∷ pieces) = shorter (drop n piece) less (AreBytes-drop n piece fits) in
     record {
       frames = whole.of ∷ later.frames;
       rest = later.rest;
@@ -134,8 +135,8 @@ completed held piece pieces n going fits takes (inr over) shorter =
     record { frames = []; rest = held ++ piece ++ concat pieces; reads = Stayed takes over }
 
 -- a piece, where each shorter piece has a reading, and so have the pieces after it
-with_piece : (held piece : List ℕ) (pieces : List (List ℕ)) → IsRunning held → IsBytes piece
-    → ((rest : List ℕ) → length rest < length piece → IsBytes rest → HasReading [] (rest ∷ pieces))
+with_piece : (held piece : List ℕ) (pieces : List (List ℕ)) → IsRunning held → AreBytes piece
+    → ((rest : List ℕ) → length rest < length piece → AreBytes rest → HasReading [] (rest ∷ pieces))
     → ((held : List ℕ) → IsRunning held → HasReading held pieces) → HasReading held (piece ∷ pieces)
 with_piece held piece pieces going fits shorter after =
     elim (after_piece held piece going.bytes fits going.fresh) [
@@ -145,14 +146,14 @@ with_piece held piece pieces going fits shorter after =
           = subst (λ p. IsFresh (held ++ p)) whole (IsFresh-after held piece (length piece) going.fresh awaits.takes) in
           let later : HasReading (held ++ piece) pieces
           = after (held ++ piece)
-          (record { bytes = IsBytes-append held piece going.bytes fits; fresh = fresh; running = awaits.waits }) in
+          (record { bytes = AreBytes-append held piece going.bytes fits; fresh = fresh; running = awaits.waits }) in
           record { frames = later.frames; rest = later.rest; reads = Waited awaits.takes awaits.waits later.reads }
       | inr done ↦ completed held piece pieces done.number going fits done.takes done.stops shorter
     ]
 
 -- a piece of at most so many bytes
 with_at_most : (most : ℕ) (held piece : List ℕ) (pieces : List (List ℕ)) → length piece ≤ most → IsRunning held
-    → IsBytes piece → ((held : List ℕ) → IsRunning held → HasReading held pieces) → HasReading held (piece ∷ pieces)
+    → AreBytes piece → ((held : List ℕ) → IsRunning held → HasReading held pieces) → HasReading held (piece ∷ pieces)
 with_at_most zero held piece pieces bound going fits after =
     with_piece held piece pieces going fits (λ rest less bytes. absurd (omega arith)) after
 with_at_most (suc most) held piece pieces bound going fits after =
@@ -160,19 +161,19 @@ with_at_most (suc most) held piece pieces bound going fits after =
     (λ rest less bytes. with_at_most most [] rest pieces (omega arith) nothing_held bytes after) after
 
 -- every list of pieces of bytes has a reading
-reading : (pieces : List (List ℕ)) → AllByRecursion IsBytes pieces → (held : List ℕ) → IsRunning held
+reading : (pieces : List (List ℕ)) → AllByRecursion AreBytes pieces → (held : List ℕ) → IsRunning held
     → HasReading held pieces
 reading [] each held going = record { frames = []; rest = held; reads = Ended }
 reading (piece ∷ pieces) each held going =
     with_at_most (length piece) held piece pieces (omega arith) going each.0 (reading pieces each.1)
 
-pub some_reading_lem : (pieces : List (List ℕ)) → AllByRecursion IsBytes pieces
+pub some_reading_lem : (pieces : List (List ℕ)) → AllByRecursion AreBytes pieces
     → (frames : List Frame) × ((rest : List ℕ) × Reads [] pieces frames rest)
 some_reading_lem pieces each =
     let found : HasReading [] pieces = reading pieces each [] nothing_held in (found.frames, (found.rest, found.reads))
 
 -- the reading of a stream in one piece gives its cut
-pub some_cut_lem : (stream : List ℕ) → IsBytes stream
+pub some_cut_lem : (stream : List ℕ) → AreBytes stream
     → (frames : List Frame) × ((rest : List ℕ) × Cut stream frames rest)
 some_cut_lem stream fits =
     let found : HasReading [] (stream ∷ []) = reading (stream ∷ []) (fits, tt) [] nothing_held in
