@@ -1,3 +1,6 @@
+pub mod Check
 pub mod Connection
 pub mod Manager
+pub mod Opening
+pub mod Replies
 pub mod Room

@@ -13,3 +13,11 @@ pub record ManagerState : Type 0 where
 
 abbrev pub no_connection : ℕ → ℕ → Device → ManagerState
 no_connection places first_id device = record { places = places; next_id = first_id; device = device; connections = [] }
+
+-- what a request leaves, and the whole reply to it
+pub record Turn : Type 0 where
+  pub manager : ManagerState
+  pub reply : List ℕ
+
+abbrev pub turn : ManagerState → List ℕ → Turn
+turn manager reply = record { manager = manager; reply = reply }

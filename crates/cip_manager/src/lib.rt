@@ -10,5 +10,7 @@
 
 pub mod connection;
 pub mod manager;
+pub mod opening;
+pub mod reply;
 
 pub use manager::Manager;
