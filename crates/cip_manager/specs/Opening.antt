@@ -2,7 +2,7 @@
 --
 -- `Opening` and `Direction` are the records that `src/opening.rt` declares. They have what an opening asks for,
 -- and not how its bytes say it: another layout of the request shares all but `opening_of`.
-use Rattle.std.specs.Prelude.{ℕ, ◌+◌, ◌^◌, nat_lt, nat_le, ◌==◌, Bool, false, not, ◌&&◌, is_some, is_none, List, [], ◌∷◌, ◌++◌, length, Option, Some, None, Result, Ok, Err}
+use Rattle.std.specs.Prelude.{ℕ, ◌+◌, ◌^◌, ◌≤◌, nat_lt, nat_le, ◌==◌, Bool, false, not, ◌&&◌, is_some, is_none, List, [], ◌∷◌, ◌++◌, length, Option, Some, None, Result, Ok, Err}
 use Rattle.std.specs.List.{list_any}
 use Rattle.cip_message.specs.declared.key.Device.{Device}
 use Rattle.cip_message.specs.declared.key.Key.{Key}
@@ -86,6 +86,14 @@ opening_check manager asked =
     ∷ demand (not (list_any (has_triad asked.triad) manager.connections)) 0x0100
     ∷ demand (nat_lt (length manager.connections) manager.places && nat_lt manager.next_id (2 ^ 32)) 0x0113
     ∷ [])
+
+-- what a connection can be made of
+pub record CanBeOpened (asked : Opening) : Type 0 where
+  pub multiplier : asked.timeout_multiplier ≤ 7
+  pub o_to_t_from : 4 ≤ asked.o_to_t.size
+  pub o_to_t_to : asked.o_to_t.size ≤ 511
+  pub t_to_o_from : 10 ≤ asked.t_to_o.size
+  pub t_to_o_to : asked.t_to_o.size ≤ 511
 
 -- the connection that an opening asks for, with this ID
 abbrev pub new_connection : ℕ → ℕ → ℕ → Opening → Connection

@@ -1,5 +1,13 @@
 //! One open connection (Volume 1, Connection Manager).
+ghost use Rattle.std.specs.Prelude.{◌≡◌, ◌≤◌};
+ghost use Rattle.cip_manager.specs.Opening.{CanBeOpened, new_connection};
+ghost use Rattle.cip_manager.specs.Connection.{timeout_of, moment_after};
+
+use crate::opening::Opening;
 use cip_class3::Target;
+
+/// The least time from an opening to the deadline, in microseconds.
+const LEAST_FIRST_TIMEOUT: u64 = 10_000_000;
 
 /// The three numbers by which an originator names its connection.
 #[derive(Clone, Copy, Debug, PartialEq, Eq)]
@@ -25,4 +33,38 @@ pub struct Connection {
     pub deadline: u64,
     /// Both sizes, and the count and reply that are held.
     pub target: Target,
+}
+
+impl Connection {
+    /// The connection that an opening asks for, which holds nothing yet.
+    pub fn new(id: u32, now: u64, session: u32, asked: &Opening) -> Connection
+        requires { CanBeOpened asked.now }
+        ensures { result ≡ new_connection id now session asked.now }
+    {
+        let timeout = timeout_of(asked.o_to_t.rpi, asked.timeout_multiplier);
+        Connection {
+            session,
+            o_to_t_id: id,
+            t_to_o_id: asked.t_to_o_id,
+            triad: asked.triad,
+            timeout,
+            deadline: moment_after(now, timeout.max(LEAST_FIRST_TIMEOUT)),
+            target: Target::new(asked.o_to_t.size, asked.t_to_o.size),
+        }
+    }
+}
+
+/// How long a connection stays open without an item, in microseconds.
+fn timeout_of(rpi: u32, multiplier: u8) -> u64
+    requires { multiplier ≤ 7 }
+    ensures { result ≡ timeout_of rpi multiplier }
+{
+    u64::from(rpi) * 4 * 2u64.pow(u32::from(multiplier))
+}
+
+/// So long after a moment, at most the greatest moment.
+fn moment_after(now: u64, time: u64) -> u64
+    ensures { result ≡ moment_after now time }
+{
+    now.saturating_add(time)
 }

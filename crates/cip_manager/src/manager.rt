@@ -1,8 +1,15 @@
 //! The open connections, and the calls that change them (Volume 1, Connection Manager).
-ghost use Rattle.std.specs.Prelude.{◌≡◌, ◌≤◌, ◌-◌, length, IfOk};
+ghost use Rattle.std.specs.Prelude.{◌≡◌, ◌≤◌, ◌-◌, ◌<◌, ◌^◌, ◌&&◌, nat_lt, not, [], ◌∷◌, length, IfOk, OnOk};
+ghost use Rattle.std.specs.List.{list_any};
+ghost use Rattle.cip_manager.specs.Check.{demand, first_failure};
+ghost use Rattle.cip_manager.specs.Connection.{has_triad};
+ghost use Rattle.cip_manager.specs.Opening.{CanBeOpened};
 
-use crate::connection::Connection;
-use cip_message::Device;
+use crate::connection::{Connection, Triad};
+use crate::opening::{DOUBLE_OPEN, NO_MORE_CONNECTIONS, Opening};
+use crate::reply::{Service, write_failure, write_length_fault, write_open_success};
+use cip_message::{Device, OpenRequest};
+use cip_objects::ReplyBuf;
 use std::alloc::{AllocError, Global};
 use std::marker::Model;
 
@@ -29,7 +36,8 @@ impl Model for Manager {
 }
 
 impl Manager {
-    ghost use Rattle.cip_manager.specs.Manager.{no_connection};
+    ghost use Rattle.cip_manager.specs.Manager.{no_connection, turn};
+    ghost use Rattle.cip_manager.specs.Opening.{opening_check, opening_turn, open_turn};
 
     /// A manager with no connection, whose first O->T ID is `first_id`. All its memory is taken here.
     pub fn new(
@@ -57,4 +65,70 @@ impl Manager {
     {
         self.places - self.connections.len() as u16
     }
+
+    /// Forward_Open: opens the connection that the data of a session's request ask for, at a moment, and leaves
+    /// the whole router reply in `reply`.
+    pub fn open(&mut self, now: u64, session: u32, data: &[u8], reply: &mut ReplyBuf)
+        ensures turn { turn self.new reply.new.items ≡ open_turn self.old now session «data».now }
+    {
+        match OpenRequest::read(data) {
+            Ok(request) => self.open_as_asked(now, session, &Opening::of(&request), reply),
+            Err(fault) => write_length_fault(Service::ForwardOpen, fault, reply),
+        }
+    }
+
+    fn open_as_asked(&mut self, now: u64, session: u32, asked: &Opening, reply: &mut ReplyBuf)
+        ensures turn { turn self.new reply.new.items ≡ opening_turn self.old now session asked.now }
+    {
+        if let Err(extended) = self.check(asked) {
+            write_failure(Service::ForwardOpen, extended, asked.triad, reply);
+            return;
+        }
+        let id = self.next_id as u32;
+        self.next_id += 1;
+        self.connections
+            .push_reserved(Connection::new(id, now, session, asked));
+        write_open_success(id, asked, reply);
+    }
+
+    /// Why an opening is refused: the first check that fails.
+    fn check(&self, asked: &Opening) -> Result<(), u16>
+        ensures check { result ≡ opening_check self.now asked.now }
+        ensures can_be { OnOk result (CanBeOpened asked.now) }
+        ensures place { OnOk result (length self.now.connections < self.now.places) }
+        ensures id { OnOk result (self.now.next_id < 2 ^ 32) }
+    {
+        asked.check_path(&self.device)?;
+        asked.check_fields()?;
+        self.check_room(asked.triad)
+    }
+
+    /// The checks of what is open already.
+    fn check_room(&self, triad: Triad) -> Result<(), u16>
+        ensures check { result ≡ first_failure (
+            demand (not (list_any (has_triad triad) self.now.connections)) 0x0100
+            ∷ demand (nat_lt (length self.now.connections) self.now.places && nat_lt self.now.next_id (2 ^ 32)) 0x0113
+            ∷ []) }
+        ensures place { OnOk result (length self.now.connections < self.now.places) }
+        ensures id { OnOk result (self.now.next_id < 2 ^ 32) }
+    {
+        if is_open(&self.connections, triad) {
+            return Err(DOUBLE_OPEN);
+        }
+        if self.connections.len() >= usize::from(self.places)
+            || self.next_id > u64::from(u32::MAX)
+        {
+            return Err(NO_MORE_CONNECTIONS);
+        }
+        Ok(())
+    }
+}
+
+/// Whether a connection has this triad.
+fn is_open(connections: &[Connection], triad: Triad) -> bool
+    ensures { result ≡ list_any (has_triad triad) connections.now }
+{
+    connections
+        .iter()
+        .any(|connection| connection.triad == triad)
 }

@@ -1,8 +1,8 @@
 //! What a Forward_Open asks for, and the checks of it (Volume 1, Connection Manager).
-ghost use Rattle.std.specs.Prelude.{◌≡◌, ◌≤◌, ◌==◌, ◌&&◌, nat_le, not, [], ◌∷◌, is_some, OnOk};
+ghost use Rattle.std.specs.Prelude.{◌≡◌, ◌==◌, ◌&&◌, nat_le, not, [], ◌∷◌, is_some, OnOk};
 ghost use Rattle.cip_message.specs.Open.{view};
 ghost use Rattle.cip_manager.specs.Check.{demand, refusal_by, first_failure};
-ghost use Rattle.cip_manager.specs.Opening.{direction_of, opening_of, is_point_to_point, is_size, key_in, key_refusal, is_message_router, names_message_router};
+ghost use Rattle.cip_manager.specs.Opening.{direction_of, opening_of, is_point_to_point, is_size, key_in, key_refusal, is_message_router, names_message_router, CanBeOpened};
 
 use crate::connection::Triad;
 use cip_message::{Device, Key, OpenPath, OpenRequest, Parameters, Path, read_open_path};
@@ -132,12 +132,7 @@ impl Opening {
             ∷ demand (is_size 4 511 self.now.o_to_t && is_size 10 511 self.now.t_to_o) 0x0109
             ∷ demand (not (self.now.o_to_t.rpi == 0)) 0x0111
             ∷ []) }
-        // What a connection can be made of.
-        ensures multiplier { OnOk result (self.now.timeout_multiplier ≤ 7) }
-        ensures o_to_t_from { OnOk result (4 ≤ self.now.o_to_t.size) }
-        ensures o_to_t_to { OnOk result (self.now.o_to_t.size ≤ 511) }
-        ensures t_to_o_from { OnOk result (10 ≤ self.now.t_to_o.size) }
-        ensures t_to_o_to { OnOk result (self.now.t_to_o.size ≤ 511) }
+        ensures can_be { OnOk result (CanBeOpened self.now) }
     {
         if !self.is_server || self.transport_class != 3 {
             return Err(TRANSPORT);
