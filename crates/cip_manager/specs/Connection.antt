@@ -26,9 +26,9 @@ deadline_at_opening now timeout = moment_after now (max timeout 10000000)
 abbrev pub deadline_at_item : ℕ → ℕ → ℕ
 deadline_at_item now timeout = moment_after now timeout
 
--- whether the moment reaches the connection's deadline
-abbrev pub is_over : ℕ → Connection → Bool
-is_over now connection = if nat_lt now connection.deadline then false else true
+-- the connection is open at this moment: its deadline is still to come
+abbrev pub is_open_at : ℕ → Connection → Bool
+is_open_at now connection = nat_lt now connection.deadline
 
 -- two triads are the same
 abbrev pub is_same_triad : Triad → Triad → Bool

@@ -1,4 +1,5 @@
 pub mod Check
+pub mod Closing
 pub mod Connection
 pub mod Manager
 pub mod Opening

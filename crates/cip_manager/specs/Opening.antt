@@ -2,7 +2,7 @@
 --
 -- `Opening` and `Direction` are the records that `src/opening.rt` declares. They have what an opening asks for,
 -- and not how its bytes say it: another layout of the request shares all but `opening_of`.
-use Rattle.std.specs.Prelude.{ℕ, ◌+◌, ◌^◌, ◌≤◌, nat_lt, nat_le, ◌==◌, Bool, false, not, ◌&&◌, is_some, is_none, List, [], ◌∷◌, ◌++◌, length, Option, Some, None, Result, Ok, Err}
+use Rattle.std.specs.Prelude.{◌≡◌, ℕ, ◌+◌, ◌^◌, ◌≤◌, nat_lt, nat_le, ◌==◌, Bool, false, not, ◌&&◌, is_some, is_none, List, [], ◌∷◌, ◌++◌, length, Option, Some, None, Result, Ok, Err}
 use Rattle.std.specs.List.{list_any}
 use Rattle.cip_message.specs.declared.key.Device.{Device}
 use Rattle.cip_message.specs.declared.key.Key.{Key}
@@ -21,7 +21,7 @@ use Rattle.cip_class3.specs.TargetRule.{nothing_held}
 use Rattle.cip_manager.specs.Check.{demand, refusal_by, first_failure}
 use Rattle.cip_manager.specs.Connection.{has_triad, timeout_of, deadline_at_opening}
 use Rattle.cip_manager.specs.Manager.{ManagerState, Turn, turn}
-use Rattle.cip_manager.specs.Replies.{reply_of_service, length_reply, failure_reply, open_success_data}
+use Rattle.cip_manager.specs.Replies.{reply_of_service, length_reply, failure_reply, open_success_data, o_to_t_id_in}
 
 -- what one direction asks for, by its RPI and its parameters of 16 bits
 abbrev pub direction_of : ℕ → ℕ → Direction
@@ -116,6 +116,16 @@ with_opening manager now session asked =
       next_id = manager.next_id + 1;
       connections = manager.connections ++ new_connection manager.next_id now session asked ∷ [];
     }
+
+-- The next ID is drawn, and the reply has it. One more connection, with this ID, is open behind the others.
+pub record OpensNext (old new : ManagerState) (reply : List ℕ) : Type 0 where
+  pub places : new.places ≡ old.places
+  pub device : new.device ≡ old.device
+  pub drawn : new.next_id ≡ old.next_id + 1
+  pub told : o_to_t_id_in reply ≡ old.next_id
+  pub connection : Connection
+  pub id : connection.o_to_t_id ≡ old.next_id
+  pub behind : new.connections ≡ old.connections ++ connection ∷ []
 
 -- the reply to an opening that succeeds
 abbrev pub open_success : ℕ → Opening → List ℕ

@@ -1,6 +1,6 @@
 -- What answers a Forward_Open and a Forward_Close (Volume 1, Connection Manager): whole router replies.
 use Rattle.std.specs.Prelude.{ℕ, List, [], ◌∷◌, ◌++◌}
-use Rattle.cip_message.specs.Numbers.{le}
+use Rattle.cip_message.specs.Numbers.{le, number_at}
 use Rattle.cip_message.specs.Reply.{reply, reply_of_fields}
 use Rattle.cip_message.specs.declared.open.LengthFault.{LengthFault}
 use Rattle.cip_message.specs.declared.open.LengthFault.TheVariants.{Short, Long}
@@ -53,3 +53,11 @@ failure_reply service extended triad = reply_of_service service ConnectionFailur
 
 abbrev pub close_success : Triad → List ℕ
 close_success triad = reply_of_service ForwardClose Success [] (close_success_data triad)
+
+-- the general status of a reply that does not refuse
+abbrev pub SUCCESS : ℕ
+SUCCESS = status_code Success
+
+-- the O->T ID in the reply to a Forward_Open that succeeds, behind its four bytes
+abbrev pub o_to_t_id_in : List ℕ → ℕ
+o_to_t_id_in reply = number_at 4 4 reply

@@ -5,6 +5,7 @@ ghost use Rattle.cip_manager.specs.Connection.{timeout_of, moment_after};
 
 use crate::opening::Opening;
 use cip_class3::Target;
+use cip_message::CloseRequest;
 
 /// The least time from an opening to the deadline, in microseconds.
 const LEAST_FIRST_TIMEOUT: u64 = 10_000_000;
@@ -15,6 +16,22 @@ pub struct Triad {
     pub connection_serial: u16,
     pub originator_vendor: u16,
     pub originator_serial: u32,
+}
+
+impl Triad {
+    ghost use Rattle.cip_manager.specs.Closing.{triad_of};
+    ghost use Rattle.cip_message.specs.Close.{view};
+
+    /// The connection that a Forward_Close names.
+    pub fn of(request: &CloseRequest<'_>) -> Triad
+        ensures { result ≡ triad_of (view request.now) }
+    {
+        Triad {
+            connection_serial: request.connection_serial,
+            originator_vendor: request.originator_vendor,
+            originator_serial: request.originator_serial,
+        }
+    }
 }
 
 /// An open connection, as its target has it.

@@ -1,14 +1,16 @@
 //! The open connections, and the calls that change them (Volume 1, Connection Manager).
-ghost use Rattle.std.specs.Prelude.{◌≡◌, ◌≤◌, ◌-◌, ◌<◌, ◌^◌, ◌&&◌, nat_lt, not, [], ◌∷◌, length, IfOk, OnOk};
+ghost use Rattle.std.specs.Prelude.{◌≡◌, ◌≢◌, ◌≤◌, ◌-◌, ◌<◌, ◌^◌, ◌&&◌, nat_lt, not, [], ◌∷◌, length, IfOk, OnOk};
 ghost use Rattle.std.specs.List.{list_any};
 ghost use Rattle.cip_manager.specs.Check.{demand, first_failure};
-ghost use Rattle.cip_manager.specs.Connection.{has_triad};
+ghost use Rattle.cip_manager.specs.Connection.{has_triad, is_of_session_with};
 ghost use Rattle.cip_manager.specs.Opening.{CanBeOpened};
 
 use crate::connection::{Connection, Triad};
-use crate::opening::{DOUBLE_OPEN, NO_MORE_CONNECTIONS, Opening};
-use crate::reply::{Service, write_failure, write_length_fault, write_open_success};
-use cip_message::{Device, OpenRequest};
+use crate::opening::{DOUBLE_OPEN, NO_MORE_CONNECTIONS, NO_SUCH_CONNECTION, Opening};
+use crate::reply::{
+    Service, write_close_success, write_failure, write_length_fault, write_open_success,
+};
+use cip_message::{CloseRequest, Device, OpenRequest};
 use cip_objects::ReplyBuf;
 use std::alloc::{AllocError, Global};
 use std::marker::Model;
@@ -37,7 +39,10 @@ impl Model for Manager {
 
 impl Manager {
     ghost use Rattle.cip_manager.specs.Manager.{no_connection, turn};
-    ghost use Rattle.cip_manager.specs.Opening.{opening_check, opening_turn, open_turn};
+    ghost use Rattle.cip_manager.specs.Opening.{opening_check, opening_turn, open_turn, OpensNext};
+    ghost use Rattle.cip_manager.specs.Closing.{close_turn, closing_turn, without_overdue, without_session};
+    ghost use Rattle.cip_objects.specs.Router.{general_status};
+    ghost use Rattle.cip_manager.specs.Replies.{SUCCESS};
 
     /// A manager with no connection, whose first O->T ID is `first_id`. All its memory is taken here.
     pub fn new(
@@ -70,6 +75,11 @@ impl Manager {
     /// the whole router reply in `reply`.
     pub fn open(&mut self, now: u64, session: u32, data: &[u8], reply: &mut ReplyBuf)
         ensures turn { turn self.new reply.new.items ≡ open_turn self.old now session «data».now }
+
+        // A refused open changes nothing, and draws no ID. Any other draws the next one, and opens one connection
+        // more, behind the others.
+        ensures refused { general_status reply.new.items ≢ SUCCESS → self.new ≡ self.old }
+        ensures opened { general_status reply.new.items ≡ SUCCESS → OpensNext self.old self.new reply.new.items }
     {
         match OpenRequest::read(data) {
             Ok(request) => self.open_as_asked(now, session, &Opening::of(&request), reply),
@@ -77,8 +87,52 @@ impl Manager {
         }
     }
 
+    /// Forward_Close: ends the connection that the data of a session's request name, where that session has it,
+    /// and leaves the whole router reply in `reply`.
+    pub fn close(&mut self, session: u32, data: &[u8], reply: &mut ReplyBuf)
+        ensures turn { turn self.new reply.new.items ≡ close_turn self.old session «data».now }
+
+        // A refused close changes nothing.
+        ensures refused { general_status reply.new.items ≢ SUCCESS → self.new ≡ self.old }
+    {
+        match CloseRequest::read(data) {
+            Ok(request) => self.close_named(session, Triad::of(&request), reply),
+            Err(fault) => write_length_fault(Service::ForwardClose, fault, reply),
+        }
+    }
+
+    /// Ends the connections whose deadline is at or before the moment.
+    pub fn expire(&mut self, now: u64)
+        ensures { self.new ≡ without_overdue self.old now }
+    {
+        self.connections
+            .retain(|connection| now < connection.deadline);
+    }
+
+    /// Ends the connections that a session opened.
+    pub fn end_session(&mut self, session: u32)
+        ensures { self.new ≡ without_session self.old session }
+    {
+        self.connections
+            .retain(|connection| connection.session != session);
+    }
+
+    fn close_named(&mut self, session: u32, triad: Triad, reply: &mut ReplyBuf)
+        ensures turn { turn self.new reply.new.items ≡ closing_turn self.old session triad }
+    {
+        if !has_open(&self.connections, session, triad) {
+            write_failure(Service::ForwardClose, NO_SUCH_CONNECTION, triad, reply);
+            return;
+        }
+        self.connections.retain(|connection| !(connection.session == session
+            && connection.triad == triad));
+        write_close_success(triad, reply);
+    }
+
     fn open_as_asked(&mut self, now: u64, session: u32, asked: &Opening, reply: &mut ReplyBuf)
         ensures turn { turn self.new reply.new.items ≡ opening_turn self.old now session asked.now }
+        ensures refused { general_status reply.new.items ≢ SUCCESS → self.new ≡ self.old }
+        ensures opened { general_status reply.new.items ≡ SUCCESS → OpensNext self.old self.new reply.new.items }
     {
         if let Err(extended) = self.check(asked) {
             write_failure(Service::ForwardOpen, extended, asked.triad, reply);
@@ -131,4 +185,11 @@ fn is_open(connections: &[Connection], triad: Triad) -> bool
     connections
         .iter()
         .any(|connection| connection.triad == triad)
+}
+
+/// Whether a connection of this session has this triad.
+fn has_open(connections: &[Connection], session: u32, triad: Triad) -> bool
+    ensures { result ≡ list_any (is_of_session_with session triad) connections.now }
+{
+    connections.iter().any(|connection| connection.session == session && connection.triad == triad)
 }
