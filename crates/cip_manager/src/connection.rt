@@ -1,11 +1,14 @@
 //! One open connection (Volume 1, Connection Manager).
 ghost use Rattle.std.specs.Prelude.{◌≡◌, ◌≤◌};
 ghost use Rattle.cip_manager.specs.Opening.{CanBeOpened, new_connection};
+ghost use Rattle.cip_manager.specs.Items.{view as reply_in, reply_of, connection_turn, turn_of_connection};
 ghost use Rattle.cip_manager.specs.Connection.{timeout_of, moment_after};
 
+use crate::manager::Answer;
 use crate::opening::Opening;
-use cip_class3::Target;
+use cip_class3::{Received, Target};
 use cip_message::CloseRequest;
+use cip_objects::Router;
 
 /// The least time from an opening to the deadline, in microseconds.
 const LEAST_FIRST_TIMEOUT: u64 = 10_000_000;
@@ -67,6 +70,28 @@ impl Connection {
             timeout,
             deadline: moment_after(now, timeout.max(LEAST_FIRST_TIMEOUT)),
             target: Target::new(asked.o_to_t.size, asked.t_to_o.size),
+        }
+    }
+
+    /// Gives an item to the target, at a moment. What is not dropped moves the deadline.
+    pub fn receive<R: Router>(&mut self, now: u64, item: &[u8], router: &mut R) -> Received
+        ensures { connection_turn result self.new router.new
+            ≡ turn_of_connection R.after R.answer self.old now item.now router.old }
+    {
+        let received = self.target.receive(router, item);
+        if received != Received::Dropped {
+            self.deadline = moment_after(now, self.timeout);
+        }
+        received
+    }
+
+    /// What answers the connection's last request.
+    pub fn answer(&self) -> Answer<'_>
+        ensures { reply_in result ≡ reply_of self.now }
+    {
+        Answer {
+            id: self.t_to_o_id,
+            bytes: self.target.kept(),
         }
     }
 }

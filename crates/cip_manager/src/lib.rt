@@ -13,4 +13,4 @@ pub mod manager;
 pub mod opening;
 pub mod reply;
 
-pub use manager::Manager;
+pub use manager::{Answer, Manager};

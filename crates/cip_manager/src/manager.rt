@@ -1,8 +1,12 @@
 //! The open connections, and the calls that change them (Volume 1, Connection Manager).
 ghost use Rattle.std.specs.Prelude.{◌≡◌, ◌≢◌, ◌≤◌, ◌-◌, ◌<◌, ◌^◌, ◌&&◌, nat_lt, not, [], ◌∷◌, length, IfOk, OnOk};
-ghost use Rattle.std.specs.List.{list_any};
+ghost use Rattle.std.specs.List.{list_any, position};
+ghost use Rattle.std.specs.Option.{option_map};
+ghost use Rattle.std.specs.Borrow.{sem};
+ghost use Rattle.std.specs.Io.BufRead.{Rests};
+ghost use Rattle.cip_manager.specs.Items.{view as reply_in, item_turn, IsAt};
 ghost use Rattle.cip_manager.specs.Check.{demand, first_failure};
-ghost use Rattle.cip_manager.specs.Connection.{has_triad, is_of_session_with};
+ghost use Rattle.cip_manager.specs.Connection.{has_triad, is_named, is_of_session_with};
 ghost use Rattle.cip_manager.specs.Opening.{CanBeOpened};
 
 use crate::connection::{Connection, Triad};
@@ -10,10 +14,20 @@ use crate::opening::{DOUBLE_OPEN, NO_MORE_CONNECTIONS, NO_SUCH_CONNECTION, Openi
 use crate::reply::{
     Service, write_close_success, write_failure, write_length_fault, write_open_success,
 };
+use cip_class3::Received;
 use cip_message::{CloseRequest, Device, OpenRequest};
-use cip_objects::ReplyBuf;
+use cip_objects::{ReplyBuf, Router};
 use std::alloc::{AllocError, Global};
 use std::marker::Model;
+
+/// What answers an item on a connection.
+#[derive(Clone, Copy, Debug)]
+pub struct Answer<'a> {
+    /// The T->O connection ID.
+    pub id: u32,
+    /// The sequence count and the reply.
+    pub bytes: &'a [u8],
+}
 
 /// The open connections of a device.
 #[derive(Drop)]
@@ -41,6 +55,7 @@ impl Manager {
     ghost use Rattle.cip_manager.specs.Manager.{no_connection, turn};
     ghost use Rattle.cip_manager.specs.Opening.{opening_check, opening_turn, open_turn, OpensNext};
     ghost use Rattle.cip_manager.specs.Closing.{close_turn, closing_turn, without_overdue, without_session};
+    ghost use Rattle.cip_manager.specs.contracts.manager.Manager.{the_row};
     ghost use Rattle.cip_objects.specs.Router.{general_status};
     ghost use Rattle.cip_manager.specs.Replies.{SUCCESS};
 
@@ -99,6 +114,29 @@ impl Manager {
             Ok(request) => self.close_named(session, Triad::of(&request), reply),
             Err(fault) => write_length_fault(Service::ForwardClose, fault, reply),
         }
+    }
+
+    /// Gives an item to the connection that a session and an O->T ID name, at a moment, and lends what answers it:
+    /// `None` where the session has no connection with that ID, or where the item is dropped.
+    ///
+    /// It ends no connection: `expire` with the same moment comes first.
+    pub fn connected<R: Router>(
+        &mut self,
+        now: u64,
+        session: u32,
+        id: u32,
+        item: &[u8],
+        router: &mut R,
+    ) -> Option<Answer<'_>>
+        ensures* state { sem 𝓛 (Rests the_row self.entry (λ last. last
+            ≡ record self.old { connections = (item_turn R.after R.answer self.old.connections now session id item.now router.old).connections })) }
+        ensures answer { option_map reply_in result
+            ≡ (item_turn R.after R.answer self.old.connections now session id item.now router.old).reply }
+        ensures router { router.new
+            ≡ (item_turn R.after R.answer self.old.connections now session id item.now router.old).router }
+    {
+        let place = receive(&mut self.connections, now, session, id, item, router)?;
+        Some(self.connections[place].answer())
     }
 
     /// Ends the connections whose deadline is at or before the moment.
@@ -192,4 +230,30 @@ fn has_open(connections: &[Connection], session: u32, triad: Triad) -> bool
     ensures { result ≡ list_any (is_of_session_with session triad) connections.now }
 {
     connections.iter().any(|connection| connection.session == session && connection.triad == triad)
+}
+
+/// Where the connection is that a session and an O->T ID name.
+fn position(connections: &[Connection], session: u32, id: u32) -> Option<usize>
+    ensures { result ≡ position (is_named session id) connections.now }
+{
+    connections.iter().position(|connection| connection.session == session
+        && connection.o_to_t_id == id)
+}
+
+/// Gives an item to the connection that it names: where that is, if it answers.
+fn receive<R: Router>(
+    connections: &mut [Connection],
+    now: u64,
+    session: u32,
+    id: u32,
+    item: &[u8],
+    router: &mut R,
+) -> Option<usize>
+    ensures { IsAt result (item_turn R.after R.answer connections.old now session id item.now router.old) connections.new router.new }
+{
+    let place = position(connections, session, id)?;
+    match connections[place].receive(now, item, router) {
+        Received::Dropped => None,
+        Received::Repeated | Received::Executed => Some(place),
+    }
 }
