@@ -1,10 +1,10 @@
 //! The open connections, and the calls that change them (Volume 1, Connection Manager).
-ghost use Rattle.std.specs.Prelude.{◌≡◌, ◌≢◌, ◌≤◌, ◌-◌, ◌<◌, ◌^◌, ◌&&◌, nat_lt, not, [], ◌∷◌, length, IfOk, OnOk};
+ghost use Rattle.std.specs.Prelude.{◌≡◌, ◌≢◌, ◌≤◌, ◌-◌, ◌<◌, ◌^◌, ◌&&◌, nat_lt, not, [], ◌∷◌, length, is_some, IfNone, IfOk, OnOk};
 ghost use Rattle.std.specs.List.{list_any, position};
 ghost use Rattle.std.specs.Option.{option_map};
 ghost use Rattle.std.specs.Borrow.{sem};
 ghost use Rattle.std.specs.Io.BufRead.{Rests};
-ghost use Rattle.cip_manager.specs.Items.{view as reply_in, item_turn, IsAt};
+ghost use Rattle.cip_manager.specs.Items.{view as reply_in, item_turn, is_taken, IsAt};
 ghost use Rattle.cip_manager.specs.Check.{demand, first_failure};
 ghost use Rattle.cip_manager.specs.Connection.{has_triad, is_named, is_of_session_with};
 ghost use Rattle.cip_manager.specs.Opening.{CanBeOpened};
@@ -116,6 +116,7 @@ impl Manager {
         }
     }
 
+    #[tactic(auto, using(crate::proofs::ItemLemmas::answered_item))]
     /// Gives an item to the connection that a session and an O->T ID name, at a moment, and lends what answers it:
     /// `None` where the session has no connection with that ID, or where the item is dropped.
     ///
@@ -128,8 +129,13 @@ impl Manager {
         item: &[u8],
         router: &mut R,
     ) -> Option<Answer<'_>>
-        ensures* state { sem 𝓛 (Rests the_row self.entry (λ last. last
-            ≡ record self.old { connections = (item_turn R.after R.answer self.old.connections now session id item.now router.old).connections })) }
+        ensures* state { sem 𝓛 (Rests the_row self.entry (λ last.
+            (last ≡ record self.old { connections = (item_turn R.after R.answer self.old.connections now session id item.now router.old).connections })
+            × IfNone result (last ≡ self.old))) }
+        // An item is answered exactly where the session has a connection with that ID, and the item a size that its
+        // target takes. What is not answered leaves the router as it was, and by `state` each connection too.
+        ensures taken { is_some result ≡ is_taken self.old.connections session id item.now }
+        ensures silent { IfNone result (router.new ≡ router.old) }
         ensures answer { option_map reply_in result
             ≡ (item_turn R.after R.answer self.old.connections now session id item.now router.old).reply }
         ensures router { router.new
@@ -249,7 +255,8 @@ fn receive<R: Router>(
     item: &[u8],
     router: &mut R,
 ) -> Option<usize>
-    ensures { IsAt result (item_turn R.after R.answer connections.old now session id item.now router.old) connections.new router.new }
+    ensures at { IsAt result (item_turn R.after R.answer connections.old now session id item.now router.old) connections.new router.new }
+    ensures silent { IfNone result ((connections.new ≡ connections.old) × (router.new ≡ router.old)) }
 {
     let place = position(connections, session, id)?;
     match connections[place].receive(now, item, router) {
