@@ -6,3 +6,4 @@ pub mod Manager
 pub mod Opening
 pub mod Replies
 pub mod Room
+pub mod Runs

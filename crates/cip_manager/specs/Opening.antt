@@ -72,10 +72,9 @@ names_message_router None = false
 names_message_router (Some o) = is_message_router o.path
 
 -- The checks of an opening, in their order, each with the extended status that refuses it (beside the general
--- status 0x01). That its data are too short or too long was seen before, as they were read.
-abbrev pub opening_check : ManagerState → Opening → Result (Unit {0}) ℕ
-opening_check manager asked =
-    first_failure (
+-- status 0x01). That its data are too short, 0x13, or too long, 0x15, was seen before, as they were read.
+abbrev pub opening_checks : ManagerState → Opening → List (Result (Unit {0}) ℕ)
+opening_checks manager asked =
     demand (is_some asked.path) 0x0315
     ∷ refusal_by (key_refusal manager.device (key_in asked.path))
     ∷ demand (names_message_router asked.path) 0x0117
@@ -85,7 +84,11 @@ opening_check manager asked =
     ∷ demand (not (asked.o_to_t.rpi == 0)) 0x0111
     ∷ demand (not (list_any (has_triad asked.triad) manager.connections)) 0x0100
     ∷ demand (nat_lt (length manager.connections) manager.places && nat_lt manager.next_id (2 ^ 32)) 0x0113
-    ∷ [])
+    ∷ []
+
+-- why it is refused: the first check that fails
+abbrev pub opening_check : ManagerState → Opening → Result (Unit {0}) ℕ
+opening_check manager asked = first_failure (opening_checks manager asked)
 
 -- what a connection can be made of
 pub record CanBeOpened (asked : Opening) : Type 0 where

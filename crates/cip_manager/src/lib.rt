@@ -9,6 +9,7 @@
 #![tactic(auto)]
 
 pub mod connection;
+pub mod laws;
 pub mod manager;
 pub mod opening;
 pub mod reply;
