@@ -1,5 +1,5 @@
 //! One open connection (Volume 1, Connection Manager).
-ghost use Rattle.std.specs.Prelude.{◌≡◌, ◌≤◌};
+ghost use Rattle.std.specs.Prelude.{◌≡◌, ◌≤◌, length};
 ghost use Rattle.cip_manager.specs.Opening.{CanBeOpened, new_connection};
 ghost use Rattle.cip_manager.specs.Items.{view as reply_in, reply_of, connection_turn, turn_of_connection};
 ghost use Rattle.cip_manager.specs.Connection.{timeout_of, moment_after};
@@ -87,7 +87,8 @@ impl Connection {
 
     /// What answers the connection's last request.
     pub fn answer(&self) -> Answer<'_>
-        ensures { reply_in result ≡ reply_of self.now }
+        ensures reply { reply_in result ≡ reply_of self.now }
+        ensures fits { length result.bytes.now ≤ 511 }
     {
         Answer {
             id: self.t_to_o_id,

@@ -15,3 +15,6 @@ pub mod opening;
 pub mod reply;
 
 pub use manager::{Answer, Manager};
+
+#[cfg(test)]
+mod tests;

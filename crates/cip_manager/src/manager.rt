@@ -1,5 +1,5 @@
 //! The open connections, and the calls that change them (Volume 1, Connection Manager).
-ghost use Rattle.std.specs.Prelude.{◌≡◌, ◌≢◌, ◌≤◌, ◌-◌, ◌<◌, ◌^◌, ◌&&◌, nat_lt, not, [], ◌∷◌, length, is_some, IfNone, IfOk, OnOk};
+ghost use Rattle.std.specs.Prelude.{◌≡◌, ◌≢◌, ◌≤◌, ◌-◌, ◌<◌, ◌^◌, ◌&&◌, nat_lt, not, [], ◌∷◌, length, is_some, IfNone, IfSome, IfOk, OnOk};
 ghost use Rattle.std.specs.List.{list_any, position};
 ghost use Rattle.std.specs.Option.{option_map};
 ghost use Rattle.std.specs.Borrow.{sem};
@@ -19,6 +19,9 @@ use cip_message::{CloseRequest, Device, OpenRequest};
 use cip_objects::{ReplyBuf, Router};
 use std::alloc::{AllocError, Global};
 use std::marker::Model;
+
+/// The most bytes that a reply to a Forward_Open or a Forward_Close has.
+pub const LONGEST_REPLY: usize = 30;
 
 /// What answers an item on a connection.
 #[derive(Clone, Copy, Debug)]
@@ -95,6 +98,7 @@ impl Manager {
         // more, behind the others.
         ensures refused { general_status reply.new.items ≢ SUCCESS → self.new ≡ self.old }
         ensures opened { general_status reply.new.items ≡ SUCCESS → OpensNext self.old self.new reply.new.items }
+        ensures fits { length reply.new.items ≤ LONGEST_REPLY }
     {
         match OpenRequest::read(data) {
             Ok(request) => self.open_as_asked(now, session, &Opening::of(&request), reply),
@@ -109,6 +113,7 @@ impl Manager {
 
         // A refused close changes nothing.
         ensures refused { general_status reply.new.items ≢ SUCCESS → self.new ≡ self.old }
+        ensures fits { length reply.new.items ≤ LONGEST_REPLY }
     {
         match CloseRequest::read(data) {
             Ok(request) => self.close_named(session, Triad::of(&request), reply),
@@ -140,6 +145,7 @@ impl Manager {
             ≡ (item_turn R.after R.answer self.old.connections now session id item.now router.old).reply }
         ensures router { router.new
             ≡ (item_turn R.after R.answer self.old.connections now session id item.now router.old).router }
+        ensures fits { IfSome result (λ answer. length answer.bytes.now ≤ 511) }
     {
         let place = receive(&mut self.connections, now, session, id, item, router)?;
         Some(self.connections[place].answer())
@@ -163,6 +169,7 @@ impl Manager {
 
     fn close_named(&mut self, session: u32, triad: Triad, reply: &mut ReplyBuf)
         ensures turn { turn self.new reply.new.items ≡ closing_turn self.old session triad }
+        ensures fits { length reply.new.items ≤ LONGEST_REPLY }
     {
         if !has_open(&self.connections, session, triad) {
             write_failure(Service::ForwardClose, NO_SUCH_CONNECTION, triad, reply);
@@ -177,6 +184,7 @@ impl Manager {
         ensures turn { turn self.new reply.new.items ≡ opening_turn self.old now session asked.now }
         ensures refused { general_status reply.new.items ≢ SUCCESS → self.new ≡ self.old }
         ensures opened { general_status reply.new.items ≡ SUCCESS → OpensNext self.old self.new reply.new.items }
+        ensures fits { length reply.new.items ≤ LONGEST_REPLY }
     {
         if let Err(extended) = self.check(asked) {
             write_failure(Service::ForwardOpen, extended, asked.triad, reply);
