@@ -49,6 +49,9 @@ opening_of o = record {
 abbrev pub is_point_to_point : Direction → Bool
 is_point_to_point direction = direction.connection_type == 2
 
+abbrev pub are_point_to_point : Opening → Bool
+are_point_to_point asked = is_point_to_point asked.o_to_t && is_point_to_point asked.t_to_o
+
 -- the size of an item, its count included, is from the first number to the second
 abbrev pub is_size : ℕ → ℕ → Direction → Bool
 is_size least greatest direction = nat_le least direction.size && nat_le direction.size greatest
@@ -79,7 +82,7 @@ opening_checks manager asked =
     ∷ refusal_by (key_refusal manager.device (key_in asked.path))
     ∷ demand (names_message_router asked.path) 0x0117
     ∷ demand (asked.is_server && (asked.transport_class == 3)) 0x0103
-    ∷ demand (is_point_to_point asked.o_to_t && is_point_to_point asked.t_to_o && nat_le asked.timeout_multiplier 7) 0x0108
+    ∷ demand (are_point_to_point asked && nat_le asked.timeout_multiplier 7) 0x0108
     ∷ demand (is_size 4 511 asked.o_to_t && is_size 10 511 asked.t_to_o) 0x0109
     ∷ demand (not (asked.o_to_t.rpi == 0)) 0x0111
     ∷ demand (not (list_any (has_triad asked.triad) manager.connections)) 0x0100
@@ -133,7 +136,8 @@ pub record OpensNext (old new : ManagerState) (reply : List ℕ) : Type 0 where
 -- the reply to an opening that succeeds
 abbrev pub open_success : ℕ → Opening → List ℕ
 open_success id asked =
-    reply_of_service ForwardOpen Success [] (open_success_data id asked.t_to_o_id asked.triad asked.o_to_t.rpi asked.t_to_o.rpi)
+    reply_of_service ForwardOpen Success []
+    (open_success_data id asked.t_to_o_id asked.triad asked.o_to_t.rpi asked.t_to_o.rpi)
 
 -- what follows the checks
 abbrev pub decided_opening : ManagerState → ℕ → ℕ → Opening → Result (Unit {0}) ℕ → Turn

@@ -36,7 +36,8 @@ module _ {M : Type 0} (after : M → ℕ → List ℕ → M) (answer : M → ℕ
       let turn = item_turn after answer state.manager.connections now session id bytes state.router in
       record { manager = record state.manager { connections = turn.connections }; router = turn.router }
   state_after_call state (Expires now) = record { manager = without_overdue state.manager now; router = state.router }
-  state_after_call state (Ends session) = record { manager = without_session state.manager session; router = state.router }
+  state_after_call state (Ends session) =
+      record { manager = without_session state.manager session; router = state.router }
 
   -- the state after calls, one after the other
   abbrev pub state_after : State M → List Call → State M

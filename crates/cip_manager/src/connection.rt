@@ -2,7 +2,7 @@
 ghost use Rattle.std.specs.Prelude.{◌≡◌, ◌≤◌, length};
 ghost use Rattle.cip_manager.specs.Opening.{CanBeOpened, new_connection};
 ghost use Rattle.cip_manager.specs.Items.{view as reply_in, reply_of, connection_turn, turn_of_connection};
-ghost use Rattle.cip_manager.specs.Connection.{timeout_of, moment_after};
+ghost use Rattle.cip_manager.specs.Connection.{timeout_of, moment_after, is_named, is_of_session_with};
 
 use crate::manager::Answer;
 use crate::opening::Opening;
@@ -71,6 +71,20 @@ impl Connection {
             deadline: moment_after(now, timeout.max(LEAST_FIRST_TIMEOUT)),
             target: Target::new(asked.o_to_t.size, asked.t_to_o.size),
         }
+    }
+
+    /// Whether a session and an O->T ID name it.
+    pub fn is_named(&self, session: u32, id: u32) -> bool
+        ensures { result ≡ is_named session id self.now }
+    {
+        self.session == session && self.o_to_t_id == id
+    }
+
+    /// Whether a Forward_Close of a session with this triad means it.
+    pub fn is_closed_by(&self, session: u32, triad: Triad) -> bool
+        ensures { result ≡ is_of_session_with session triad self.now }
+    {
+        self.session == session && self.triad == triad
     }
 
     /// Gives an item to the target, at a moment. What is not dropped moves the deadline.

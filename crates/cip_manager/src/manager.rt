@@ -49,7 +49,12 @@ impl Model for Manager {
 
     ghost use Rattle.cip_manager.specs.Room.{IsRoomy};
 
-    ghost view = { λ m. record { places = m.places; next_id = m.next_id; device = m.device; connections = m.connections.items } };
+    ghost view = { λ m. record {
+      places = m.places;
+      next_id = m.next_id;
+      device = m.device;
+      connections = m.connections.items;
+    } };
 
     ghost invariant = { λ m. IsRoomy m.places m.next_id m.connections };
 }
@@ -121,11 +126,11 @@ impl Manager {
         }
     }
 
-    #[tactic(auto, using(crate::proofs::ItemLemmas::answered_item))]
     /// Gives an item to the connection that a session and an O->T ID name, at a moment, and lends what answers it:
     /// `None` where the session has no connection with that ID, or where the item is dropped.
     ///
     /// It ends no connection: `expire` with the same moment comes first.
+    #[tactic(auto, using(crate::proofs::ItemLemmas::answered_item))]
     pub fn connected<R: Router>(
         &mut self,
         now: u64,
@@ -135,7 +140,10 @@ impl Manager {
         router: &mut R,
     ) -> Option<Answer<'_>>
         ensures* state { sem 𝓛 (Rests the_row self.entry (λ last.
-            (last ≡ record self.old { connections = (item_turn R.after R.answer self.old.connections now session id item.now router.old).connections })
+            (last ≡ record self.old {
+              connections =
+                  (item_turn R.after R.answer self.old.connections now session id item.now router.old).connections;
+            })
             × IfNone result (last ≡ self.old))) }
         // An item is answered exactly where the session has a connection with that ID, and the item a size that its
         // target takes. What is not answered leaves the router as it was, and by `state` each connection too.
@@ -175,8 +183,8 @@ impl Manager {
             write_failure(Service::ForwardClose, NO_SUCH_CONNECTION, triad, reply);
             return;
         }
-        self.connections.retain(|connection| !(connection.session == session
-            && connection.triad == triad));
+        self.connections
+            .retain(|connection| !connection.is_closed_by(session, triad));
         write_close_success(triad, reply);
     }
 
@@ -243,15 +251,18 @@ fn is_open(connections: &[Connection], triad: Triad) -> bool
 fn has_open(connections: &[Connection], session: u32, triad: Triad) -> bool
     ensures { result ≡ list_any (is_of_session_with session triad) connections.now }
 {
-    connections.iter().any(|connection| connection.session == session && connection.triad == triad)
+    connections
+        .iter()
+        .any(|connection| connection.is_closed_by(session, triad))
 }
 
 /// Where the connection is that a session and an O->T ID name.
 fn position(connections: &[Connection], session: u32, id: u32) -> Option<usize>
     ensures { result ≡ position (is_named session id) connections.now }
 {
-    connections.iter().position(|connection| connection.session == session
-        && connection.o_to_t_id == id)
+    connections
+        .iter()
+        .position(|connection| connection.is_named(session, id))
 }
 
 /// Gives an item to the connection that it names: where that is, if it answers.
@@ -263,7 +274,8 @@ fn receive<R: Router>(
     item: &[u8],
     router: &mut R,
 ) -> Option<usize>
-    ensures at { IsAt result (item_turn R.after R.answer connections.old now session id item.now router.old) connections.new router.new }
+    ensures at { IsAt result (item_turn R.after R.answer connections.old now session id item.now router.old)
+        connections.new router.new }
     ensures silent { IfNone result ((connections.new ≡ connections.old) × (router.new ≡ router.old)) }
 {
     let place = position(connections, session, id)?;

@@ -2,7 +2,7 @@
 ghost use Rattle.std.specs.Prelude.{◌≡◌, ◌==◌, ◌&&◌, nat_le, not, [], ◌∷◌, is_some, OnOk};
 ghost use Rattle.cip_message.specs.Open.{view};
 ghost use Rattle.cip_manager.specs.Check.{demand, refusal_by, first_failure};
-ghost use Rattle.cip_manager.specs.Opening.{direction_of, opening_of, is_point_to_point, is_size, key_in, key_refusal, is_message_router, names_message_router, CanBeOpened};
+ghost use Rattle.cip_manager.specs.Opening.{direction_of, opening_of, is_point_to_point, are_point_to_point, is_size, key_in, key_refusal, is_message_router, names_message_router, CanBeOpened};
 
 use crate::connection::Triad;
 use cip_message::{Device, Key, OpenPath, OpenRequest, Parameters, Path, read_open_path};
@@ -127,8 +127,7 @@ impl Opening {
     pub fn check_fields(&self) -> Result<(), u16>
         ensures check { result ≡ first_failure (
             demand (self.now.is_server && (self.now.transport_class == 3)) 0x0103
-            ∷ demand (is_point_to_point self.now.o_to_t && is_point_to_point self.now.t_to_o
-            && nat_le self.now.timeout_multiplier 7) 0x0108
+            ∷ demand (are_point_to_point self.now && nat_le self.now.timeout_multiplier 7) 0x0108
             ∷ demand (is_size 4 511 self.now.o_to_t && is_size 10 511 self.now.t_to_o) 0x0109
             ∷ demand (not (self.now.o_to_t.rpi == 0)) 0x0111
             ∷ []) }
