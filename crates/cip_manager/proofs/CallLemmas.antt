@@ -1,0 +1,67 @@
+-- What a call does to the connections, one of a few kinds of change.
+use Rattle.std.proofs.Common.{false, ◌≡◌, ℕ, List, Option, Some, None, Result, Ok, Err, refl}
+use Rattle.std.specs.Prelude.{find, ◌==◌}
+use Rattle.cip_message.specs.declared.open.LengthFault.{LengthFault}
+use Rattle.cip_message.specs.declared.open.LengthFault.TheVariants.{Short, Long}
+use Rattle.cip_message.specs.Open.{Open, open_of}
+use Rattle.cip_message.specs.Close.{Close, close_of}
+use Rattle.cip_objects.specs.Router.{general_status}
+use Rattle.cip_manager.specs.declared.reply.Service.TheVariants.{ForwardOpen}
+use Rattle.cip_manager.specs.Replies.{SUCCESS, failure_reply, length_reply}
+use Rattle.cip_manager.specs.declared.connection.Connection.{Connection}
+use Rattle.cip_manager.specs.declared.opening.Opening.{Opening}
+use Rattle.cip_manager.specs.Connection.{is_named, is_of_session_with}
+use Rattle.cip_manager.specs.Manager.{ManagerState, Turn}
+use Rattle.cip_manager.specs.Opening.{opening_of, opening_check, decided_opening, read_opening_turn, open_turn}
+use Rattle.cip_manager.specs.Closing.{triad_of, closing_check, decided_closing, read_closing_turn, close_turn, without}
+use Rattle.cip_manager.specs.Items.{with_first, turn_of_found, item_turn}
+
+-- An open leaves all as it was and refuses, or opens what it asks for.
+pub after_open : (P : Turn → Type 0) (manager : ManagerState) (now session : ℕ) (bytes : List ℕ)
+    → ((reply : List ℕ) → (general_status reply == SUCCESS) ≡ false → P (record { manager = manager; reply = reply }))
+    → ((asked : Opening) → opening_check manager asked ≡ Ok tt → P (decided_opening manager now session asked (Ok tt)))
+    → P (open_turn manager now session bytes)
+after_open P manager now session bytes stays opens = read (open_of bytes)
+  where
+    decide : (asked : Opening) (check : Result (Unit {0}) ℕ) → opening_check manager asked ≡ check → P (decided_opening manager now session asked check)
+    decide asked (Err extended) e = stays (failure_reply ForwardOpen extended asked.triad) refl
+    decide asked (Ok passed) e = opens asked e
+
+    read : (request : Result Open LengthFault) → P (read_opening_turn manager now session request)
+    read (Err Short) = stays (length_reply ForwardOpen Short) refl
+    read (Err Long) = stays (length_reply ForwardOpen Long) refl
+    read (Ok request) = decide (opening_of request) (opening_check manager (opening_of request)) refl
+
+-- A close leaves all as it was, or ends the connections that it names.
+pub after_close : (P : ManagerState → Type 0) (manager : ManagerState) (session : ℕ) (bytes : List ℕ)
+    → P manager
+    → ((request : Close) → close_of bytes ≡ Ok request → P (without (is_of_session_with session (triad_of request)) manager))
+    → P (close_turn manager session bytes).manager
+after_close P manager session bytes stays ends = read (close_of bytes) refl
+  where
+    decide : (request : Close) → close_of bytes ≡ Ok request → (check : Result (Unit {0}) ℕ)
+        → P (decided_closing manager session (triad_of request) check).manager
+    decide request e (Err extended) = stays
+    decide request e (Ok passed) = ends request e
+
+    read : (request : Result Close LengthFault) → close_of bytes ≡ request → P (read_closing_turn manager session request).manager
+    read (Err fault) e = stays
+    read (Ok request) e = decide request e (closing_check manager session (triad_of request))
+
+-- the same connection, but for its deadline and its target
+pub record IsSame (old new : Connection) : Type 0 where
+  pub session : new.session ≡ old.session
+  pub id : new.o_to_t_id ≡ old.o_to_t_id
+  pub triad : new.triad ≡ old.triad
+
+module _ {M : Type 0} (after : M → ℕ → List ℕ → M) (answer : M → ℕ → List ℕ → List ℕ) where
+  -- An item leaves all as it was, or changes the first connection that it names.
+  pub after_item_turn : (P : List Connection → Type 0) (cs : List Connection) (now session id : ℕ) (bytes : List ℕ) (router : M)
+      → P cs
+      → ((old new : Connection) → find (is_named session id) cs ≡ Some old → IsSame old new → P (with_first (is_named session id) new cs))
+      → P (item_turn after answer cs now session id bytes router).connections
+  after_item_turn P cs now session id bytes router stays changes = go (find (is_named session id) cs) refl
+    where
+      go : (o : Option Connection) → find (is_named session id) cs ≡ o → P (turn_of_found after answer cs now session id bytes router o).connections
+      go None e = stays
+      go (Some c) e = changes c _ e (record { session = refl; id = refl; triad = refl })

@@ -1,0 +1,86 @@
+-- What an item leaves, where nothing answers it and where something does.
+use Rattle.std.proofs.Common.{◌≡◌, ℕ, List, [], ◌∷◌, Bool, true, false, cond, Option, Some, None, refl, ap, sym, ◌∙◌}
+use Rattle.std.specs.Prelude.{find, is_some}
+use Rattle.cip_class3.specs.declared.target.Received.TheVariants.{Dropped, Repeated}
+use Rattle.cip_class3.specs.Item.{count_of}
+use Rattle.cip_class3.specs.TargetRule.{TargetState, Outcome, outcome, target_step, executed, is_of_size, is_held}
+use Rattle.cip_manager.specs.declared.connection.Connection.{Connection}
+use Rattle.cip_manager.specs.Connection.{is_named, is_answered, after_item, deadline_at_item}
+use Rattle.cip_manager.specs.Items.{with_first, Reply, turn_of_found, item_turn, is_taken_by, is_taken, IsAt}
+
+with_first-same : {X : Type 0} → (test : X → Bool) (x : X) (xs : List X) → find test xs ≡ Some x → with_first test x xs ≡ xs
+with_first-same test x [] e = refl
+with_first-same {X} test x (y ∷ ys) e = go (test y) (λ f. with_first-same test x ys f) e
+  where
+    go : (b : Bool) → (find test ys ≡ Some x → with_first test x ys ≡ ys) → cond b (Some y) (find test ys) ≡ Some x
+        → cond b (x ∷ ys) (y ∷ with_first test x ys) ≡ y ∷ ys
+    go true rest f =
+        let same : y ≡ x = cc in
+        ap (λ z. z ∷ ys) (sym same)
+    go false rest f = ap (λ zs. y ∷ zs) (rest f)
+
+module _ {M : Type 0} (after : M → ℕ → List ℕ → M) (answer : M → ℕ → List ℕ → List ℕ) where
+  -- a target answers an item exactly if it has a size that it takes, and else nothing is changed
+  record Says (b : Bool) (target : TargetState) (router : M) (step : Outcome M) : Type 0 where
+    answered : is_answered step.received ≡ b
+    same : b ≡ false → step.target ≡ target
+    still : b ≡ false → step.router ≡ router
+
+  target_step-says : (target : TargetState) (router : M) (bytes : List ℕ) → Says (is_of_size target bytes) target router (target_step after answer target router bytes)
+  target_step-says target router bytes =
+      elim (is_of_size target bytes) as (
+      λ b. Says b target router (cond b (cond (is_held target.held (count_of bytes)) (outcome Repeated target router) (executed after answer target router bytes)) (outcome Dropped target router))
+      ) [
+        | true ↦ elim (is_held target.held (count_of bytes)) as (
+            λ h. Says true target router (cond h (outcome Repeated target router) (executed after answer target router bytes))
+            ) [
+              | true ↦ record { answered = refl; same = λ e. refl; still = λ e. refl }
+              | false ↦ record { answered = refl; same = λ e. cc; still = λ e. cc }
+            ]
+        | false ↦ record { answered = refl; same = λ e. refl; still = λ e. refl }
+      ]
+
+  -- an item is answered exactly if it is taken
+  pub answered_item : (cs : List Connection) (now session id : ℕ) (bytes : List ℕ) (router : M)
+      → is_some (item_turn after answer cs now session id bytes router).reply ≡ is_taken cs session id bytes
+  answered_item cs now session id bytes router = go (find (is_named session id) cs)
+    where
+      option : (b : Bool) (x : Reply) → is_some (cond b (Some x) None) ≡ b
+      option true x = refl
+      option false x = refl
+
+      go : (o : Option Connection) → is_some (turn_of_found after answer cs now session id bytes router o).reply ≡ is_taken_by o bytes
+      go None = refl
+      go (Some c) = option (is_answered (target_step after answer c.target router bytes).received) _ ∙ (target_step-says c.target router bytes).answered
+
+  -- and where nothing answers it, nothing is changed
+  unanswered_item : (cs : List Connection) (now session id : ℕ) (bytes : List ℕ) (router : M)
+      → (item_turn after answer cs now session id bytes router).reply ≡ None
+      → ((item_turn after answer cs now session id bytes router).connections ≡ cs) × ((item_turn after answer cs now session id bytes router).router ≡ router)
+  unanswered_item cs now session id bytes router = go (find (is_named session id) cs) refl
+    where
+      dropped : (b : Bool) (x : Reply) → cond b (Some x) None ≡ None → b ≡ false
+      dropped true x e = cc
+      dropped false x e = refl
+
+      same : (c : Connection) (step : Outcome M) → is_answered step.received ≡ false → step.target ≡ c.target → after_item now step.received step.target c ≡ c
+      same c step e t =
+          ap (λ b. record c { deadline = cond b (deadline_at_item now c.timeout) c.deadline; target = step.target }) e
+          ∙ ap (λ x. record c { target = x }) t
+
+      go : (o : Option Connection) → find (is_named session id) cs ≡ o → (turn_of_found after answer cs now session id bytes router o).reply ≡ None
+          → ((turn_of_found after answer cs now session id bytes router o).connections ≡ cs) × ((turn_of_found after answer cs now session id bytes router o).router ≡ router)
+      go None f e = (refl, refl)
+      go (Some c) f e =
+          let step : Outcome M = target_step after answer c.target router bytes in
+          let says : Says (is_of_size c.target bytes) c.target router step = target_step-says c.target router bytes in
+          let not_answered : is_answered step.received ≡ false = dropped (is_answered step.received) _ e in
+          let not_of_size : is_of_size c.target bytes ≡ false = sym says.answered ∙ not_answered in
+          (ap (λ x. with_first (is_named session id) x cs) (same c step not_answered (says.same not_of_size)) ∙ with_first-same (is_named session id) c cs f, says.still not_of_size)
+
+  -- the same of a place that is none
+  pub unanswered_place : (cs : List Connection) (now session id : ℕ) (bytes : List ℕ) (router : M) (left : List Connection) (moved : M)
+      → IsAt None (item_turn after answer cs now session id bytes router) left moved → (left ≡ cs) × (moved ≡ router)
+  unanswered_place cs now session id bytes router left moved at =
+      let unchanged = unanswered_item cs now session id bytes router at.reply in
+      (at.connections ∙ unchanged.0, at.router ∙ unchanged.1)

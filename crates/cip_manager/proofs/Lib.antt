@@ -1,0 +1,6 @@
+pub mod CallLemmas
+pub mod IdLemmas
+pub mod ItemLemmas
+pub mod ListLemmas
+pub mod Places
+pub mod SessionLemmas

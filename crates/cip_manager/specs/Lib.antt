@@ -1,0 +1,9 @@
+pub mod Check
+pub mod Closing
+pub mod Connection
+pub mod Items
+pub mod Manager
+pub mod Opening
+pub mod Replies
+pub mod Room
+pub mod Runs

@@ -1,0 +1,158 @@
+-- Forward_Open (Volume 1, Connection Manager): what an opening asks for, and why it is refused.
+--
+-- `Opening` and `Direction` are the records that `src/opening.rt` declares. They have what an opening asks for,
+-- and not how its bytes say it: another layout of the request shares all but `opening_of`.
+use Rattle.std.specs.Prelude.{◌≡◌, ℕ, ◌+◌, ◌^◌, ◌≤◌, nat_lt, nat_le, ◌==◌, Bool, false, not, ◌&&◌, is_some, is_none, List, [], ◌∷◌, ◌++◌, length, Option, Some, None, Result, Ok, Err}
+use Rattle.std.specs.List.{list_any}
+use Rattle.cip_message.specs.declared.key.Device.{Device}
+use Rattle.cip_message.specs.declared.key.Key.{Key}
+use Rattle.cip_message.specs.declared.path.Path.{Path}
+use Rattle.cip_message.specs.declared.open_path.OpenPath.{OpenPath}
+use Rattle.cip_message.specs.declared.open.LengthFault.{LengthFault}
+use Rattle.cip_message.specs.Open.{Open, open_of, connection_type, size_of, is_server_of, class_of_transport}
+use Rattle.cip_message.specs.OpenPath.{open_path_of}
+use Rattle.cip_message.specs.Key.{refusal}
+use Rattle.cip_manager.specs.declared.connection.Connection.{Connection}
+use Rattle.cip_manager.specs.declared.reply.Service.TheVariants.{ForwardOpen}
+use Rattle.cip_manager.specs.declared.opening.Direction.{Direction}
+use Rattle.cip_manager.specs.declared.opening.Opening.{Opening}
+use Rattle.cip_objects.specs.declared.status.Status.TheVariants.{Success}
+use Rattle.cip_class3.specs.TargetRule.{nothing_held}
+use Rattle.cip_manager.specs.Check.{demand, refusal_by, first_failure}
+use Rattle.cip_manager.specs.Connection.{has_triad, timeout_of, deadline_at_opening}
+use Rattle.cip_manager.specs.Manager.{ManagerState, Turn, turn}
+use Rattle.cip_manager.specs.Replies.{reply_of_service, length_reply, failure_reply, open_success_data, o_to_t_id_in}
+
+-- what one direction asks for, by its RPI and its parameters of 16 bits
+abbrev pub direction_of : ℕ → ℕ → Direction
+direction_of rpi parameters =
+    record { rpi = rpi; connection_type = connection_type parameters; size = size_of parameters }
+
+-- what a Forward_Open asks for
+abbrev pub opening_of : Open → Opening
+opening_of o = record {
+  t_to_o_id = o.t_o_id;
+  triad = record {
+    connection_serial = o.connection_serial;
+    originator_vendor = o.originator_vendor;
+    originator_serial = o.originator_serial;
+  };
+  timeout_multiplier = o.multiplier;
+  o_to_t = direction_of o.o_t_rpi o.o_t_parameters;
+  t_to_o = direction_of o.t_o_rpi o.t_o_parameters;
+  is_server = is_server_of o.transport;
+  transport_class = class_of_transport o.transport;
+  path = open_path_of o.path;
+}
+
+-- a connection of two ends, and not of many
+abbrev pub is_point_to_point : Direction → Bool
+is_point_to_point direction = direction.connection_type == 2
+
+abbrev pub are_point_to_point : Opening → Bool
+are_point_to_point asked = is_point_to_point asked.o_to_t && is_point_to_point asked.t_to_o
+
+-- the size of an item, its count included, is from the first number to the second
+abbrev pub is_size : ℕ → ℕ → Direction → Bool
+is_size least greatest direction = nat_le least direction.size && nat_le direction.size greatest
+
+-- the device refuses the key, where there is one
+abbrev pub key_refusal : Device → Option Key → Option ℕ
+key_refusal device None = None
+key_refusal device (Some key) = refusal device key
+
+abbrev pub key_in : Option OpenPath → Option Key
+key_in None = None
+key_in (Some o) = o.key
+
+-- class 2, instance 1, with no attribute and no member
+abbrev pub is_message_router : Path → Bool
+is_message_router path =
+    (path.class == 2) && (path.instance == 1) && is_none path.attribute && is_none path.member
+
+abbrev pub names_message_router : Option OpenPath → Bool
+names_message_router None = false
+names_message_router (Some o) = is_message_router o.path
+
+-- The checks of an opening, in their order, each with the extended status that refuses it (beside the general
+-- status 0x01). That its data are too short, 0x13, or too long, 0x15, was seen before, as they were read.
+abbrev pub opening_checks : ManagerState → Opening → List (Result (Unit {0}) ℕ)
+opening_checks manager asked =
+    demand (is_some asked.path) 0x0315
+    ∷ refusal_by (key_refusal manager.device (key_in asked.path))
+    ∷ demand (names_message_router asked.path) 0x0117
+    ∷ demand (asked.is_server && (asked.transport_class == 3)) 0x0103
+    ∷ demand (are_point_to_point asked && nat_le asked.timeout_multiplier 7) 0x0108
+    ∷ demand (is_size 4 511 asked.o_to_t && is_size 10 511 asked.t_to_o) 0x0109
+    ∷ demand (not (asked.o_to_t.rpi == 0)) 0x0111
+    ∷ demand (not (list_any (has_triad asked.triad) manager.connections)) 0x0100
+    ∷ demand (nat_lt (length manager.connections) manager.places && nat_lt manager.next_id (2 ^ 32)) 0x0113
+    ∷ []
+
+-- why it is refused: the first check that fails
+abbrev pub opening_check : ManagerState → Opening → Result (Unit {0}) ℕ
+opening_check manager asked = first_failure (opening_checks manager asked)
+
+-- what a connection can be made of
+pub record CanBeOpened (asked : Opening) : Type 0 where
+  pub multiplier : asked.timeout_multiplier ≤ 7
+  pub o_to_t_from : 4 ≤ asked.o_to_t.size
+  pub o_to_t_to : asked.o_to_t.size ≤ 511
+  pub t_to_o_from : 10 ≤ asked.t_to_o.size
+  pub t_to_o_to : asked.t_to_o.size ≤ 511
+
+-- the connection that an opening asks for, with this ID
+abbrev pub new_connection : ℕ → ℕ → ℕ → Opening → Connection
+new_connection id now session asked =
+    let timeout = timeout_of asked.o_to_t.rpi asked.timeout_multiplier in
+    record {
+      session = session;
+      o_to_t_id = id;
+      t_to_o_id = asked.t_to_o_id;
+      triad = asked.triad;
+      timeout = timeout;
+      deadline = deadline_at_opening now timeout;
+      target = nothing_held asked.o_to_t.size asked.t_to_o.size;
+    }
+
+-- it is opened behind the others, and draws the next ID
+abbrev pub with_opening : ManagerState → ℕ → ℕ → Opening → ManagerState
+with_opening manager now session asked =
+    record manager {
+      next_id = manager.next_id + 1;
+      connections = manager.connections ++ new_connection manager.next_id now session asked ∷ [];
+    }
+
+-- The next ID is drawn, and the reply has it. One more connection, with this ID, is open behind the others.
+pub record OpensNext (old new : ManagerState) (reply : List ℕ) : Type 0 where
+  pub places : new.places ≡ old.places
+  pub device : new.device ≡ old.device
+  pub drawn : new.next_id ≡ old.next_id + 1
+  pub told : o_to_t_id_in reply ≡ old.next_id
+  pub connection : Connection
+  pub id : connection.o_to_t_id ≡ old.next_id
+  pub behind : new.connections ≡ old.connections ++ connection ∷ []
+
+-- the reply to an opening that succeeds
+abbrev pub open_success : ℕ → Opening → List ℕ
+open_success id asked =
+    reply_of_service ForwardOpen Success []
+    (open_success_data id asked.t_to_o_id asked.triad asked.o_to_t.rpi asked.t_to_o.rpi)
+
+-- what follows the checks
+abbrev pub decided_opening : ManagerState → ℕ → ℕ → Opening → Result (Unit {0}) ℕ → Turn
+decided_opening manager now session asked (Err extended) = turn manager (failure_reply ForwardOpen extended asked.triad)
+decided_opening manager now session asked (Ok passed) =
+    turn (with_opening manager now session asked) (open_success manager.next_id asked)
+
+-- A Forward_Open of a session at a moment: the first check that fails refuses it, and then nothing is changed.
+abbrev pub opening_turn : ManagerState → ℕ → ℕ → Opening → Turn
+opening_turn manager now session asked = decided_opening manager now session asked (opening_check manager asked)
+
+-- the same, as its data say it
+abbrev pub read_opening_turn : ManagerState → ℕ → ℕ → Result Open LengthFault → Turn
+read_opening_turn manager now session (Err fault) = turn manager (length_reply ForwardOpen fault)
+read_opening_turn manager now session (Ok request) = opening_turn manager now session (opening_of request)
+
+abbrev pub open_turn : ManagerState → ℕ → ℕ → List ℕ → Turn
+open_turn manager now session content = read_opening_turn manager now session (open_of content)

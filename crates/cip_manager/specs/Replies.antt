@@ -1,0 +1,63 @@
+-- What answers a Forward_Open and a Forward_Close (Volume 1, Connection Manager): whole router replies.
+use Rattle.std.specs.Prelude.{ℕ, List, [], ◌∷◌, ◌++◌}
+use Rattle.cip_message.specs.Numbers.{le, number_at}
+use Rattle.cip_message.specs.Reply.{reply, reply_of_fields}
+use Rattle.cip_message.specs.declared.open.LengthFault.{LengthFault}
+use Rattle.cip_message.specs.declared.open.LengthFault.TheVariants.{Short, Long}
+use Rattle.cip_objects.specs.declared.status.Status.{Status}
+use Rattle.cip_objects.specs.declared.status.Status.TheVariants.{Success, ConnectionFailure, NotEnoughData, TooMuchData}
+use Rattle.cip_objects.specs.Router.{reply_service}
+use Rattle.cip_objects.specs.Status.{status_code}
+use Rattle.cip_manager.specs.declared.reply.Service.{Service}
+use Rattle.cip_manager.specs.declared.reply.Service.TheVariants.{ForwardOpen, ForwardClose}
+use Rattle.cip_manager.specs.declared.connection.Triad.{Triad}
+
+abbrev pub service_code : Service → ℕ
+service_code ForwardOpen = 0x54
+service_code ForwardClose = 0x4e
+
+-- the reply to a service, with this general status, additional words and data
+abbrev pub reply_of_service : Service → Status → List ℕ → List ℕ → List ℕ
+reply_of_service service status additional content =
+    reply (reply_of_fields (reply_service (service_code service)) (status_code status) additional content)
+
+-- connection serial 2, originator vendor 2, originator serial 4
+abbrev pub triad_bytes : Triad → List ℕ
+triad_bytes triad = le 2 triad.connection_serial ++ le 2 triad.originator_vendor ++ le 4 triad.originator_serial
+
+-- The data of a reply that refuses: the triad, remaining path size 0, reserved 0.
+abbrev pub failure_data : Triad → List ℕ
+failure_data triad = triad_bytes triad ++ 0 ∷ 0 ∷ []
+
+-- The data of a reply to a Forward_Open that succeeds: O->T ID 4, T->O ID 4, the triad, O->T RPI 4, T->O RPI 4,
+-- application reply size 0, reserved 0.
+abbrev pub open_success_data : ℕ → ℕ → Triad → ℕ → ℕ → List ℕ
+open_success_data o_to_t_id t_to_o_id triad o_to_t_rpi t_to_o_rpi =
+    le 4 o_to_t_id ++ le 4 t_to_o_id ++ triad_bytes triad ++ le 4 o_to_t_rpi ++ le 4 t_to_o_rpi ++ 0 ∷ 0 ∷ []
+
+-- The data of a reply to a Forward_Close that succeeds: the triad, application reply size 0, reserved 0.
+abbrev pub close_success_data : Triad → List ℕ
+close_success_data triad = triad_bytes triad ++ 0 ∷ 0 ∷ []
+
+-- data that are too short or too long
+abbrev pub length_status : LengthFault → Status
+length_status Short = NotEnoughData
+length_status Long = TooMuchData
+
+abbrev pub length_reply : Service → LengthFault → List ℕ
+length_reply service fault = reply_of_service service (length_status fault) [] []
+
+-- general status 0x01, and an extended status
+abbrev pub failure_reply : Service → ℕ → Triad → List ℕ
+failure_reply service extended triad = reply_of_service service ConnectionFailure (extended ∷ []) (failure_data triad)
+
+abbrev pub close_success : Triad → List ℕ
+close_success triad = reply_of_service ForwardClose Success [] (close_success_data triad)
+
+-- the general status of a reply that does not refuse
+abbrev pub SUCCESS : ℕ
+SUCCESS = status_code Success
+
+-- the O->T ID in the reply to a Forward_Open that succeeds, behind its four bytes
+abbrev pub o_to_t_id_in : List ℕ → ℕ
+o_to_t_id_in reply = number_at 4 4 reply

@@ -1,0 +1,105 @@
+-- Lists of calls of the manager, over the router behind its connections.
+use Rattle.std.specs.Prelude.{◌≡◌, ◌≢◌, ℕ, ◌+◌, ◌<◌, ◌==◌, Bool, true, false, not, if◌then◌else◌, List, [], ◌∷◌, ◌++◌, filter, Result, Ok, Err, ⊤}
+use Rattle.std.specs.List.{list_all}
+use Rattle.cip_message.specs.declared.open.LengthFault.{LengthFault}
+use Rattle.cip_message.specs.Close.{Close, close_of}
+use Rattle.cip_objects.specs.Router.{general_status}
+use Rattle.cip_manager.specs.declared.connection.Connection.{Connection}
+use Rattle.cip_manager.specs.Connection.{is_of_session, is_of_session_with, is_named, is_open_at}
+use Rattle.cip_manager.specs.Manager.{ManagerState}
+use Rattle.cip_manager.specs.Opening.{open_turn}
+use Rattle.cip_manager.specs.Closing.{close_turn, triad_of, without_overdue, without_session}
+use Rattle.cip_manager.specs.Items.{item_turn}
+use Rattle.cip_manager.specs.Replies.{SUCCESS, o_to_t_id_in}
+
+-- a call of the manager: of `open`, `close`, `connected`, `expire` or `end_session`
+pub data Call : Type 0 where
+  Opens : (now session : ℕ) (bytes : List ℕ) → Call
+  Closes : (session : ℕ) (bytes : List ℕ) → Call
+  Receives : (now session id : ℕ) (bytes : List ℕ) → Call
+  Expires : (now : ℕ) → Call
+  Ends : (session : ℕ) → Call
+
+-- a manager, and the router that its connections lead to
+pub record State (M : Type 0) : Type 0 where
+  pub manager : ManagerState
+  pub router : M
+
+module _ {M : Type 0} (after : M → ℕ → List ℕ → M) (answer : M → ℕ → List ℕ → List ℕ) where
+  -- the state after a call
+  abbrev pub state_after_call : State M → Call → State M
+  state_after_call state (Opens now session bytes) =
+      record { manager = (open_turn state.manager now session bytes).manager; router = state.router }
+  state_after_call state (Closes session bytes) =
+      record { manager = (close_turn state.manager session bytes).manager; router = state.router }
+  state_after_call state (Receives now session id bytes) =
+      let turn = item_turn after answer state.manager.connections now session id bytes state.router in
+      record { manager = record state.manager { connections = turn.connections }; router = turn.router }
+  state_after_call state (Expires now) = record { manager = without_overdue state.manager now; router = state.router }
+  state_after_call state (Ends session) =
+      record { manager = without_session state.manager session; router = state.router }
+
+  -- the state after calls, one after the other
+  abbrev pub state_after : State M → List Call → State M
+  state_after state [] = state
+  state_after state (call ∷ calls) = state_after (state_after_call state call) calls
+
+  -- the IDs that the replies to calls of `open` give out, in their order
+  abbrev pub ids_of_call : State M → Call → List ℕ
+  ids_of_call state (Opens now session bytes) =
+      let reply = (open_turn state.manager now session bytes).reply in
+      (if general_status reply == SUCCESS then o_to_t_id_in reply ∷ [] else [])
+  ids_of_call state (Closes session bytes) = []
+  ids_of_call state (Receives now session id bytes) = []
+  ids_of_call state (Expires now) = []
+  ids_of_call state (Ends session) = []
+
+  abbrev pub ids_drawn : State M → List Call → List ℕ
+  ids_drawn state [] = []
+  ids_drawn state (call ∷ calls) = ids_of_call state call ++ ids_drawn (state_after_call state call) calls
+
+-- n, n + 1, n + 2 and so on
+abbrev pub CountsFrom : ℕ → List ℕ → Type 0
+CountsFrom n [] = ⊤
+CountsFrom n (id ∷ ids) = (id ≡ n) × CountsFrom (n + 1) ids
+
+-- the call comes from another session, or from none
+abbrev pub IsOfOther : ℕ → Call → Type 0
+IsOfOther session (Opens now other bytes) = other ≢ session
+IsOfOther session (Closes other bytes) = other ≢ session
+IsOfOther session (Receives now other id bytes) = other ≢ session
+IsOfOther session (Expires now) = ⊤
+IsOfOther session (Ends other) = other ≢ session
+
+-- the connections that a session opened
+abbrev pub of_session : ℕ → List Connection → List Connection
+of_session session connections = filter (is_of_session session) connections
+
+-- the connection is still open after the time-outs of a call
+abbrev pub is_open_after : Connection → Call → Bool
+is_open_after connection (Opens now session bytes) = true
+is_open_after connection (Closes session bytes) = true
+is_open_after connection (Receives now session id bytes) = true
+is_open_after connection (Expires now) = is_open_at now connection
+is_open_after connection (Ends session) = true
+
+abbrev pub outlives : List Call → Connection → Bool
+outlives calls connection = list_all (is_open_after connection) calls
+
+-- the data of a Forward_Close of this session name the connection
+abbrev pub is_closed_by : ℕ → Result Close LengthFault → Connection → Bool
+is_closed_by session (Ok request) connection = is_of_session_with session (triad_of request) connection
+is_closed_by session (Err fault) connection = false
+
+-- the call is for another session or another connection of it, and no time-out
+abbrev pub is_spared : Connection → Call → Bool
+is_spared connection (Opens now session bytes) = true
+is_spared connection (Closes session bytes) = not (is_closed_by session (close_of bytes) connection)
+is_spared connection (Receives now session id bytes) = not (is_named session id connection)
+is_spared connection (Expires now) = is_open_at now connection
+is_spared connection (Ends session) = not (is_of_session session connection)
+
+-- a connection and a later one: they have other IDs, which rise, and other triads
+pub record AreApart (earlier later : Connection) : Type 0 where
+  pub ids : earlier.o_to_t_id < later.o_to_t_id
+  pub triads : earlier.triad ≢ later.triad

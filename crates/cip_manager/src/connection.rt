@@ -1,0 +1,127 @@
+//! One open connection (Volume 1, Connection Manager).
+ghost use Rattle.std.specs.Prelude.{◌≡◌, ◌≤◌, length};
+ghost use Rattle.cip_manager.specs.Opening.{CanBeOpened, new_connection};
+ghost use Rattle.cip_manager.specs.Items.{view as reply_in, reply_of, connection_turn, turn_of_connection};
+ghost use Rattle.cip_manager.specs.Connection.{timeout_of, moment_after, is_named, is_of_session_with};
+
+use crate::manager::Answer;
+use crate::opening::Opening;
+use cip_class3::{Received, Target};
+use cip_message::CloseRequest;
+use cip_objects::Router;
+
+/// The least time from an opening to the deadline, in microseconds.
+const LEAST_FIRST_TIMEOUT: u64 = 10_000_000;
+
+/// The three numbers by which an originator names its connection.
+#[derive(Clone, Copy, Debug, PartialEq, Eq)]
+pub struct Triad {
+    pub connection_serial: u16,
+    pub originator_vendor: u16,
+    pub originator_serial: u32,
+}
+
+impl Triad {
+    ghost use Rattle.cip_manager.specs.Closing.{triad_of};
+    ghost use Rattle.cip_message.specs.Close.{view};
+
+    /// The connection that a Forward_Close names.
+    pub fn of(request: &CloseRequest<'_>) -> Triad
+        ensures { result ≡ triad_of (view request.now) }
+    {
+        Triad {
+            connection_serial: request.connection_serial,
+            originator_vendor: request.originator_vendor,
+            originator_serial: request.originator_serial,
+        }
+    }
+}
+
+/// An open connection, as its target has it.
+#[derive(Drop)]
+pub struct Connection {
+    /// The session that opened it.
+    pub session: u32,
+    /// The ID of items to the target, which was drawn for it.
+    pub o_to_t_id: u32,
+    /// The ID of items to the originator, which asked for it.
+    pub t_to_o_id: u32,
+    pub triad: Triad,
+    /// How long it stays open without an item, in microseconds.
+    pub timeout: u64,
+    /// The moment at which it ends, in microseconds.
+    pub deadline: u64,
+    /// Both sizes, and the count and reply that are held.
+    pub target: Target,
+}
+
+impl Connection {
+    /// The connection that an opening asks for, which holds nothing yet.
+    pub fn new(id: u32, now: u64, session: u32, asked: &Opening) -> Connection
+        requires { CanBeOpened asked.now }
+        ensures { result ≡ new_connection id now session asked.now }
+    {
+        let timeout = timeout_of(asked.o_to_t.rpi, asked.timeout_multiplier);
+        Connection {
+            session,
+            o_to_t_id: id,
+            t_to_o_id: asked.t_to_o_id,
+            triad: asked.triad,
+            timeout,
+            deadline: moment_after(now, timeout.max(LEAST_FIRST_TIMEOUT)),
+            target: Target::new(asked.o_to_t.size, asked.t_to_o.size),
+        }
+    }
+
+    /// Whether a session and an O->T ID name it.
+    pub fn is_named(&self, session: u32, id: u32) -> bool
+        ensures { result ≡ is_named session id self.now }
+    {
+        self.session == session && self.o_to_t_id == id
+    }
+
+    /// Whether a Forward_Close of a session with this triad means it.
+    pub fn is_closed_by(&self, session: u32, triad: Triad) -> bool
+        ensures { result ≡ is_of_session_with session triad self.now }
+    {
+        self.session == session && self.triad == triad
+    }
+
+    /// Gives an item to the target, at a moment. What is not dropped moves the deadline.
+    pub fn receive<R: Router>(&mut self, now: u64, item: &[u8], router: &mut R) -> Received
+        ensures { connection_turn result self.new router.new
+            ≡ turn_of_connection R.after R.answer self.old now item.now router.old }
+    {
+        let received = self.target.receive(router, item);
+        if received != Received::Dropped {
+            self.deadline = moment_after(now, self.timeout);
+        }
+        received
+    }
+
+    /// What answers the connection's last request.
+    pub fn answer(&self) -> Answer<'_>
+        ensures reply { reply_in result ≡ reply_of self.now }
+        ensures fits { length result.bytes.now ≤ 511 }
+    {
+        Answer {
+            id: self.t_to_o_id,
+            bytes: self.target.kept(),
+        }
+    }
+}
+
+/// How long a connection stays open without an item, in microseconds.
+fn timeout_of(rpi: u32, multiplier: u8) -> u64
+    requires { multiplier ≤ 7 }
+    ensures { result ≡ timeout_of rpi multiplier }
+{
+    u64::from(rpi) * 4 * 2u64.pow(u32::from(multiplier))
+}
+
+/// So long after a moment, at most the greatest moment.
+fn moment_after(now: u64, time: u64) -> u64
+    ensures { result ≡ moment_after now time }
+{
+    now.saturating_add(time)
+}

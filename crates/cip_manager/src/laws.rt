@@ -1,0 +1,43 @@
+//! What follows for every list of calls of the manager, over any router.
+//!
+//! The functions do nothing: each one's clauses are the law.
+ghost use Rattle.std.specs.Prelude.{◌≡◌, ℕ, ◌≤◌, ◌^◌, true, List, Some, filter, find, AllPairs};
+ghost use Rattle.std.specs.List.{list_all, AllByRecursion};
+ghost use Rattle.cip_message.specs.declared.key.Device.{Device};
+ghost use Rattle.cip_manager.specs.declared.connection.Connection.{Connection};
+ghost use Rattle.cip_manager.specs.Connection.{is_named};
+ghost use Rattle.cip_manager.specs.Manager.{no_connection};
+ghost use Rattle.cip_manager.specs.Runs.{Call, State, state_after, ids_drawn, CountsFrom, IsOfOther, of_session, outlives, is_spared, AreApart};
+
+use cip_objects::Router;
+
+/// Calls of other sessions, and time-outs, leave a session exactly those of its connections whose deadline no
+/// moment reached, each with its count, kept reply and deadline.
+pub fn sessions_apart<R: Router>()
+    ensures { (session : ℕ) (state : State R) (calls : List Call) → AllByRecursion (IsOfOther session) calls →
+        of_session session (state_after R.after R.answer state calls).manager.connections
+        ≡ filter (outlives calls) (of_session session state.manager.connections) }
+{}
+
+/// Calls for other sessions, and for other IDs and triads of the same session, leave a connection as it is found,
+/// with its count, kept reply and deadline, as long as no moment reaches its deadline.
+pub fn connections_apart<R: Router>()
+    ensures { (session id : ℕ) (connection : Connection) (state : State R) (calls : List Call) →
+        find (is_named session id) state.manager.connections ≡ Some connection →
+        list_all (is_spared connection) calls ≡ true →
+        find (is_named session id) (state_after R.after R.answer state calls).manager.connections ≡ Some connection }
+{}
+
+/// The IDs that are given out are the next ID, and so on by one: none comes again.
+pub fn ids_rise<R: Router>()
+    ensures { (state : State R) (calls : List Call) →
+        CountsFrom state.manager.next_id (ids_drawn R.after R.answer state calls) }
+{}
+
+/// Whatever the calls of a manager that had no connection, no two open connections have the same ID, nor the same
+/// triad. They stand in the order of their IDs.
+pub fn connections_differ<R: Router>()
+    ensures { (places first_id : ℕ) (device : Device) (router : R) (calls : List Call) →
+        AllPairs AreApart (state_after R.after R.answer
+        (record { manager = no_connection places first_id device; router = router }) calls).manager.connections }
+{}

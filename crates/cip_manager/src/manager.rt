@@ -1,0 +1,286 @@
+//! The open connections, and the calls that change them (Volume 1, Connection Manager).
+ghost use Rattle.std.specs.Prelude.{◌≡◌, ◌≢◌, ◌≤◌, ◌-◌, ◌<◌, ◌^◌, ◌&&◌, nat_lt, not, [], ◌∷◌, length, is_some, IfNone, IfSome, IfOk, OnOk};
+ghost use Rattle.std.specs.List.{list_any, position};
+ghost use Rattle.std.specs.Option.{option_map};
+ghost use Rattle.std.specs.Borrow.{sem};
+ghost use Rattle.std.specs.Io.BufRead.{Rests};
+ghost use Rattle.cip_manager.specs.Items.{view as reply_in, item_turn, is_taken, IsAt};
+ghost use Rattle.cip_manager.specs.Check.{demand, first_failure};
+ghost use Rattle.cip_manager.specs.Connection.{has_triad, is_named, is_of_session_with};
+ghost use Rattle.cip_manager.specs.Opening.{CanBeOpened};
+
+use crate::connection::{Connection, Triad};
+use crate::opening::{DOUBLE_OPEN, NO_MORE_CONNECTIONS, NO_SUCH_CONNECTION, Opening};
+use crate::reply::{
+    Service, write_close_success, write_failure, write_length_fault, write_open_success,
+};
+use cip_class3::Received;
+use cip_message::{CloseRequest, Device, OpenRequest};
+use cip_objects::{ReplyBuf, Router};
+use std::alloc::{AllocError, Global};
+use std::marker::Model;
+
+/// The most bytes that a reply to a Forward_Open or a Forward_Close has.
+pub const LONGEST_REPLY: usize = 30;
+
+/// What answers an item on a connection.
+#[derive(Clone, Copy, Debug)]
+pub struct Answer<'a> {
+    /// The T->O connection ID.
+    pub id: u32,
+    /// The sequence count and the reply.
+    pub bytes: &'a [u8],
+}
+
+/// The open connections of a device.
+#[derive(Drop)]
+pub struct Manager {
+    places: u16,
+    // Past the greatest ID once that was drawn.
+    next_id: u64,
+    device: Device,
+    connections: Vec<Connection>,
+}
+
+impl Model for Manager {
+    ghost use Rattle.cip_manager.specs.Manager.{ManagerState};
+
+    ghost Value = { ManagerState };
+
+    ghost use Rattle.cip_manager.specs.Room.{IsRoomy};
+
+    ghost view = { λ m. record {
+      places = m.places;
+      next_id = m.next_id;
+      device = m.device;
+      connections = m.connections.items;
+    } };
+
+    ghost invariant = { λ m. IsRoomy m.places m.next_id m.connections };
+}
+
+impl Manager {
+    ghost use Rattle.cip_manager.specs.Manager.{no_connection, turn};
+    ghost use Rattle.cip_manager.specs.Opening.{opening_check, opening_turn, open_turn, OpensNext};
+    ghost use Rattle.cip_manager.specs.Closing.{close_turn, closing_turn, without_overdue, without_session};
+    ghost use Rattle.cip_manager.specs.contracts.manager.Manager.{the_row};
+    ghost use Rattle.cip_objects.specs.Router.{general_status};
+    ghost use Rattle.cip_manager.specs.Replies.{SUCCESS};
+
+    /// A manager with no connection, whose first O->T ID is `first_id`. All its memory is taken here.
+    pub fn new(
+        alloc: Global,
+        places: u16,
+        first_id: u32,
+        device: Device,
+    ) -> Result<Manager, AllocError>
+        requires places_from { 1 ≤ places }
+        requires places_to { places ≤ 64 }
+        requires id { 1 ≤ first_id }
+        ensures { IfOk result (λ manager. manager ≡ no_connection places first_id device) }
+    {
+        Ok(Manager {
+            places,
+            next_id: u64::from(first_id),
+            device,
+            connections: Vec::with_capacity(alloc, usize::from(places))?,
+        })
+    }
+
+    /// How many places are free.
+    pub fn free(&self) -> u16
+        ensures { result ≡ self.now.places - length self.now.connections }
+    {
+        self.places - self.connections.len() as u16
+    }
+
+    /// Forward_Open: opens the connection that the data of a session's request ask for, at a moment, and leaves
+    /// the whole router reply in `reply`.
+    pub fn open(&mut self, now: u64, session: u32, data: &[u8], reply: &mut ReplyBuf)
+        ensures turn { turn self.new reply.new.items ≡ open_turn self.old now session «data».now }
+
+        // A refused open changes nothing, and draws no ID. Any other draws the next one, and opens one connection
+        // more, behind the others.
+        ensures refused { general_status reply.new.items ≢ SUCCESS → self.new ≡ self.old }
+        ensures opened { general_status reply.new.items ≡ SUCCESS → OpensNext self.old self.new reply.new.items }
+        ensures fits { length reply.new.items ≤ LONGEST_REPLY }
+    {
+        match OpenRequest::read(data) {
+            Ok(request) => self.open_as_asked(now, session, &Opening::of(&request), reply),
+            Err(fault) => write_length_fault(Service::ForwardOpen, fault, reply),
+        }
+    }
+
+    /// Forward_Close: ends the connection that the data of a session's request name, where that session has it,
+    /// and leaves the whole router reply in `reply`.
+    pub fn close(&mut self, session: u32, data: &[u8], reply: &mut ReplyBuf)
+        ensures turn { turn self.new reply.new.items ≡ close_turn self.old session «data».now }
+
+        // A refused close changes nothing.
+        ensures refused { general_status reply.new.items ≢ SUCCESS → self.new ≡ self.old }
+        ensures fits { length reply.new.items ≤ LONGEST_REPLY }
+    {
+        match CloseRequest::read(data) {
+            Ok(request) => self.close_named(session, Triad::of(&request), reply),
+            Err(fault) => write_length_fault(Service::ForwardClose, fault, reply),
+        }
+    }
+
+    /// Gives an item to the connection that a session and an O->T ID name, at a moment, and lends what answers it:
+    /// `None` where the session has no connection with that ID, or where the item is dropped.
+    ///
+    /// It ends no connection: `expire` with the same moment comes first.
+    #[tactic(auto, using(crate::proofs::ItemLemmas::answered_item))]
+    pub fn connected<R: Router>(
+        &mut self,
+        now: u64,
+        session: u32,
+        id: u32,
+        item: &[u8],
+        router: &mut R,
+    ) -> Option<Answer<'_>>
+        ensures* state { sem 𝓛 (Rests the_row self.entry (λ last.
+            (last ≡ record self.old {
+              connections =
+                  (item_turn R.after R.answer self.old.connections now session id item.now router.old).connections;
+            })
+            × IfNone result (last ≡ self.old))) }
+        // An item is answered exactly where the session has a connection with that ID, and the item a size that its
+        // target takes. What is not answered leaves the router as it was, and by `state` each connection too.
+        ensures taken { is_some result ≡ is_taken self.old.connections session id item.now }
+        ensures silent { IfNone result (router.new ≡ router.old) }
+        ensures answer { option_map reply_in result
+            ≡ (item_turn R.after R.answer self.old.connections now session id item.now router.old).reply }
+        ensures router { router.new
+            ≡ (item_turn R.after R.answer self.old.connections now session id item.now router.old).router }
+        ensures fits { IfSome result (λ answer. length answer.bytes.now ≤ 511) }
+    {
+        let place = receive(&mut self.connections, now, session, id, item, router)?;
+        Some(self.connections[place].answer())
+    }
+
+    /// Ends the connections whose deadline is at or before the moment.
+    pub fn expire(&mut self, now: u64)
+        ensures { self.new ≡ without_overdue self.old now }
+    {
+        self.connections
+            .retain(|connection| now < connection.deadline);
+    }
+
+    /// Ends the connections that a session opened.
+    pub fn end_session(&mut self, session: u32)
+        ensures { self.new ≡ without_session self.old session }
+    {
+        self.connections
+            .retain(|connection| connection.session != session);
+    }
+
+    fn close_named(&mut self, session: u32, triad: Triad, reply: &mut ReplyBuf)
+        ensures turn { turn self.new reply.new.items ≡ closing_turn self.old session triad }
+        ensures fits { length reply.new.items ≤ LONGEST_REPLY }
+    {
+        if !has_open(&self.connections, session, triad) {
+            write_failure(Service::ForwardClose, NO_SUCH_CONNECTION, triad, reply);
+            return;
+        }
+        self.connections
+            .retain(|connection| !connection.is_closed_by(session, triad));
+        write_close_success(triad, reply);
+    }
+
+    fn open_as_asked(&mut self, now: u64, session: u32, asked: &Opening, reply: &mut ReplyBuf)
+        ensures turn { turn self.new reply.new.items ≡ opening_turn self.old now session asked.now }
+        ensures refused { general_status reply.new.items ≢ SUCCESS → self.new ≡ self.old }
+        ensures opened { general_status reply.new.items ≡ SUCCESS → OpensNext self.old self.new reply.new.items }
+        ensures fits { length reply.new.items ≤ LONGEST_REPLY }
+    {
+        if let Err(extended) = self.check(asked) {
+            write_failure(Service::ForwardOpen, extended, asked.triad, reply);
+            return;
+        }
+        let id = self.next_id as u32;
+        self.next_id += 1;
+        self.connections
+            .push_reserved(Connection::new(id, now, session, asked));
+        write_open_success(id, asked, reply);
+    }
+
+    /// Why an opening is refused: the first check that fails.
+    fn check(&self, asked: &Opening) -> Result<(), u16>
+        ensures check { result ≡ opening_check self.now asked.now }
+        ensures can_be { OnOk result (CanBeOpened asked.now) }
+        ensures place { OnOk result (length self.now.connections < self.now.places) }
+        ensures id { OnOk result (self.now.next_id < 2 ^ 32) }
+    {
+        asked.check_path(&self.device)?;
+        asked.check_fields()?;
+        self.check_room(asked.triad)
+    }
+
+    /// The checks of what is open already.
+    fn check_room(&self, triad: Triad) -> Result<(), u16>
+        ensures check { result ≡ first_failure (
+            demand (not (list_any (has_triad triad) self.now.connections)) 0x0100
+            ∷ demand (nat_lt (length self.now.connections) self.now.places && nat_lt self.now.next_id (2 ^ 32)) 0x0113
+            ∷ []) }
+        ensures place { OnOk result (length self.now.connections < self.now.places) }
+        ensures id { OnOk result (self.now.next_id < 2 ^ 32) }
+    {
+        if is_open(&self.connections, triad) {
+            return Err(DOUBLE_OPEN);
+        }
+        if self.connections.len() >= usize::from(self.places)
+            || self.next_id > u64::from(u32::MAX)
+        {
+            return Err(NO_MORE_CONNECTIONS);
+        }
+        Ok(())
+    }
+}
+
+/// Whether a connection has this triad.
+fn is_open(connections: &[Connection], triad: Triad) -> bool
+    ensures { result ≡ list_any (has_triad triad) connections.now }
+{
+    connections
+        .iter()
+        .any(|connection| connection.triad == triad)
+}
+
+/// Whether a connection of this session has this triad.
+fn has_open(connections: &[Connection], session: u32, triad: Triad) -> bool
+    ensures { result ≡ list_any (is_of_session_with session triad) connections.now }
+{
+    connections
+        .iter()
+        .any(|connection| connection.is_closed_by(session, triad))
+}
+
+/// Where the connection is that a session and an O->T ID name.
+fn position(connections: &[Connection], session: u32, id: u32) -> Option<usize>
+    ensures { result ≡ position (is_named session id) connections.now }
+{
+    connections
+        .iter()
+        .position(|connection| connection.is_named(session, id))
+}
+
+/// Gives an item to the connection that it names: where that is, if it answers.
+fn receive<R: Router>(
+    connections: &mut [Connection],
+    now: u64,
+    session: u32,
+    id: u32,
+    item: &[u8],
+    router: &mut R,
+) -> Option<usize>
+    ensures at { IsAt result (item_turn R.after R.answer connections.old now session id item.now router.old)
+        connections.new router.new }
+    ensures silent { IfNone result ((connections.new ≡ connections.old) × (router.new ≡ router.old)) }
+{
+    let place = position(connections, session, id)?;
+    match connections[place].receive(now, item, router) {
+        Received::Dropped => None,
+        Received::Repeated | Received::Executed => Some(place),
+    }
+}
