@@ -17,7 +17,7 @@ use Rattle.cip_manager.specs.declared.reply.Service.TheVariants.{ForwardOpen}
 use Rattle.cip_manager.specs.declared.opening.Direction.{Direction}
 use Rattle.cip_manager.specs.declared.opening.Opening.{Opening}
 use Rattle.cip_objects.specs.declared.status.Status.TheVariants.{Success}
-use Rattle.cip_class3.specs.TargetRule.{nothing_held}
+use Rattle.cip_class3.specs.TargetRule.{target_at_opening}
 use Rattle.cip_manager.specs.Check.{demand, refusal_by, first_failure}
 use Rattle.cip_manager.specs.Connection.{has_triad, timeout_of, deadline_at_opening}
 use Rattle.cip_manager.specs.Manager.{ManagerState, Turn, turn}
@@ -31,15 +31,15 @@ direction_of rpi parameters =
 -- what a Forward_Open asks for
 abbrev pub opening_of : Open → Opening
 opening_of o = record {
-  t_to_o_id = o.t_o_id;
+  t_to_o_id = o.t_to_o_id;
   triad = record {
     connection_serial = o.connection_serial;
     originator_vendor = o.originator_vendor;
     originator_serial = o.originator_serial;
   };
-  timeout_multiplier = o.multiplier;
-  o_to_t = direction_of o.o_t_rpi o.o_t_parameters;
-  t_to_o = direction_of o.t_o_rpi o.t_o_parameters;
+  timeout_multiplier = o.timeout_multiplier;
+  o_to_t = direction_of o.o_to_t_rpi o.o_to_t_parameters;
+  t_to_o = direction_of o.t_to_o_rpi o.t_to_o_parameters;
   is_server = is_server_of o.transport;
   transport_class = class_of_transport o.transport;
   path = open_path_of o.path;
@@ -112,7 +112,7 @@ new_connection id now session asked =
       triad = asked.triad;
       timeout = timeout;
       deadline = deadline_at_opening now timeout;
-      target = nothing_held asked.o_to_t.size asked.t_to_o.size;
+      target = target_at_opening asked.o_to_t.size asked.t_to_o.size;
     }
 
 -- it is opened behind the others, and draws the next ID

@@ -1,12 +1,12 @@
 -- What answers a Forward_Open and a Forward_Close (Volume 1, Connection Manager): whole router replies.
 use Rattle.std.specs.Prelude.{ℕ, List, [], ◌∷◌, ◌++◌}
-use Rattle.cip_message.specs.Numbers.{le, number_at}
+use Rattle.cip_bytes.specs.Numbers.{le, number_at}
 use Rattle.cip_message.specs.Reply.{reply, reply_of_fields}
 use Rattle.cip_message.specs.declared.open.LengthFault.{LengthFault}
 use Rattle.cip_message.specs.declared.open.LengthFault.TheVariants.{Short, Long}
 use Rattle.cip_objects.specs.declared.status.Status.{Status}
 use Rattle.cip_objects.specs.declared.status.Status.TheVariants.{Success, ConnectionFailure, NotEnoughData, TooMuchData}
-use Rattle.cip_objects.specs.Router.{reply_service}
+use Rattle.cip_message.specs.Reply.{reply_service}
 use Rattle.cip_objects.specs.Status.{status_code}
 use Rattle.cip_manager.specs.declared.reply.Service.{Service}
 use Rattle.cip_manager.specs.declared.reply.Service.TheVariants.{ForwardOpen, ForwardClose}

@@ -88,15 +88,15 @@ impl Opening {
         ensures { result ≡ opening_of (view request.now) }
     {
         Opening {
-            t_to_o_id: request.t_o_id,
+            t_to_o_id: request.t_to_o_id,
             triad: Triad {
                 connection_serial: request.connection_serial,
                 originator_vendor: request.originator_vendor,
                 originator_serial: request.originator_serial,
             },
-            timeout_multiplier: request.multiplier,
-            o_to_t: Direction::of(request.o_t_rpi, request.o_t_parameters),
-            t_to_o: Direction::of(request.t_o_rpi, request.t_o_parameters),
+            timeout_multiplier: request.timeout_multiplier,
+            o_to_t: Direction::of(request.o_to_t_rpi, request.o_to_t_parameters),
+            t_to_o: Direction::of(request.t_to_o_rpi, request.t_to_o_parameters),
             is_server: request.transport.is_server(),
             transport_class: request.transport.class(),
             path: read_open_path(request.path),

@@ -1,13 +1,12 @@
 //! The router replies to Forward_Open and Forward_Close, written in place (Volume 1, Connection Manager).
 ghost use Rattle.std.specs.Prelude.{◌≡◌, ◌≤◌, ◌<◌, ◌+◌, [], ◌∷◌, ◌++◌, length};
 ghost use Rattle.arrayvec.specs.ArrayVec.{array_vec_len};
-ghost use Rattle.cip_message.specs.Numbers.{le};
 ghost use Rattle.cip_manager.specs.Opening.{open_success};
-ghost use Rattle.cip_objects.specs.Router.{reply_service};
 ghost use Rattle.cip_manager.specs.Replies.{service_code, close_success, reply_of_service, length_reply, failure_reply, triad_bytes};
 
 use crate::connection::Triad;
 use crate::opening::Opening;
+use cip_bytes::{append, append_u16, append_u32};
 use cip_message::{LengthFault, write_reply};
 use cip_objects::{ReplyBuf, Status};
 
@@ -19,13 +18,13 @@ pub enum Service {
 }
 
 impl Service {
-    /// The service of a reply to it, with bit 7.
-    fn reply_code(self) -> u8
-        ensures { result ≡ reply_service (service_code self) }
+    /// The service as the byte of a request. (Volume 1, Connection Manager.)
+    fn code(self) -> u8
+        ensures { result ≡ service_code self }
     {
         match self {
-            Service::ForwardOpen => 0xd4,
-            Service::ForwardClose => 0xce,
+            Service::ForwardOpen => 0x54,
+            Service::ForwardClose => 0x4e,
         }
     }
 }
@@ -36,7 +35,7 @@ fn begin(service: Service, status: Status, reply: &mut ReplyBuf)
     ensures len { array_vec_len reply.new ≡ 4 }
 {
     reply.clear();
-    let _ = write_reply(reply, service.reply_code(), status.code(), &[], &[]);
+    let _ = write_reply(reply, service.code(), status.code(), &[], &[]);
 }
 
 /// Leaves a reply that refuses with this extended status, and has no data yet.
@@ -46,25 +45,18 @@ fn begin_failure(service: Service, extended: u16, reply: &mut ReplyBuf)
 {
     let status = Status::ConnectionFailure.code();
     reply.clear();
-    let _ = write_reply(reply, service.reply_code(), status, &[extended], &[]);
+    let _ = write_reply(reply, service.code(), status, &[extended], &[]);
 }
 
-fn append(bytes: &[u8], reply: &mut ReplyBuf)
-    requires { array_vec_len reply.old + length bytes.now ≤ 512 }
-    ensures text { reply.new.items ≡ reply.old.items ++ bytes.now }
-    ensures len { array_vec_len reply.new ≡ array_vec_len reply.old + length bytes.now }
-{
-    let _ = reply.try_extend_from_slice(bytes);
-}
-
+/// Appends connection serial, originator vendor and originator serial.
 fn append_triad(triad: Triad, reply: &mut ReplyBuf)
     requires { array_vec_len reply.old + 8 ≤ 512 }
     ensures text { reply.new.items ≡ reply.old.items ++ triad_bytes triad }
     ensures len { array_vec_len reply.new ≡ array_vec_len reply.old + 8 }
 {
-    append(&triad.connection_serial.to_le_bytes(), reply);
-    append(&triad.originator_vendor.to_le_bytes(), reply);
-    append(&triad.originator_serial.to_le_bytes(), reply);
+    append_u16(reply, triad.connection_serial);
+    append_u16(reply, triad.originator_vendor);
+    append_u32(reply, triad.originator_serial);
 }
 
 /// The data of the request are too short or too long.
@@ -84,7 +76,7 @@ pub fn write_failure(service: Service, extended: u16, triad: Triad, reply: &mut 
 {
     begin_failure(service, extended, reply);
     append_triad(triad, reply);
-    append(&[0, 0], reply);
+    append(reply, &[0, 0]);
 }
 
 /// The connection was opened with this O->T ID.
@@ -92,12 +84,12 @@ pub fn write_open_success(id: u32, asked: &Opening, reply: &mut ReplyBuf)
     ensures { reply.new.items ≡ open_success id asked.now }
 {
     begin(Service::ForwardOpen, Status::Success, reply);
-    append(&id.to_le_bytes(), reply);
-    append(&asked.t_to_o_id.to_le_bytes(), reply);
+    append_u32(reply, id);
+    append_u32(reply, asked.t_to_o_id);
     append_triad(asked.triad, reply);
-    append(&asked.o_to_t.rpi.to_le_bytes(), reply);
-    append(&asked.t_to_o.rpi.to_le_bytes(), reply);
-    append(&[0, 0], reply);
+    append_u32(reply, asked.o_to_t.rpi);
+    append_u32(reply, asked.t_to_o.rpi);
+    append(reply, &[0, 0]);
 }
 
 /// The connection with this triad was closed.
@@ -106,5 +98,5 @@ pub fn write_close_success(triad: Triad, reply: &mut ReplyBuf)
 {
     begin(Service::ForwardClose, Status::Success, reply);
     append_triad(triad, reply);
-    append(&[0, 0], reply);
+    append(reply, &[0, 0]);
 }

@@ -1,7 +1,7 @@
 //! A router that counts what it executes.
 ghost use Rattle.std.specs.Prelude.{◌≡◌, ℕ, ◌+◌, ◌%◌, ◌^◌, [], ◌∷◌, ◌++◌, slice_index};
 ghost use Rattle.std.specs.Int.{to_le_bytes, w32};
-ghost use Rattle.cip_objects.specs.Router.{reply_service};
+ghost use Rattle.cip_message.specs.Reply.{reply_service};
 
 use cip_objects::{ReplyBuf, Router};
 
