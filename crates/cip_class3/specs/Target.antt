@@ -1,5 +1,5 @@
 -- What a contract sees of a `Target`.
-use Rattle.std.specs.Prelude.{◌≡◌, ℕ, ◌≤◌, Option, Some, None, List, length, drop}
+use Rattle.std.specs.Prelude.{◌≡◌, ℕ, ◌≤◌, Option, Some, None, List, length, take, drop}
 use Rattle.cip_class3.specs.Item.{LARGEST_SIZE}
 use Rattle.cip_class3.specs.TargetRule.{TargetState, Kept, kept_bytes}
 use Rattle.cip_class3.specs.declared.target.Target.TheInside.{Inside}
@@ -9,11 +9,12 @@ abbrev pub held_of : Option ℕ → List ℕ → Option Kept
 held_of None kept = None
 held_of (Some count) kept = Some (record { sequence_count = count; reply = drop 2 kept })
 
+-- the kept bytes stand at the front of the block
 abbrev pub target_state : Inside → TargetState
 target_state target = record {
   o_to_t_size = target.o_to_t_size;
   t_to_o_size = target.t_to_o_size;
-  held = held_of target.held target.kept.items;
+  held = held_of target.held (take target.length target.block);
 }
 
 pub record IsTarget (target : Inside) : Type 0 where
@@ -21,5 +22,6 @@ pub record IsTarget (target : Inside) : Type 0 where
   pub o_to_t_to : target.o_to_t_size ≤ LARGEST_SIZE
   pub t_to_o_from : 10 ≤ target.t_to_o_size
   pub t_to_o_to : target.t_to_o_size ≤ LARGEST_SIZE
-  pub fits : length target.kept.items ≤ target.t_to_o_size
-  pub kept : target.kept.items ≡ kept_bytes (held_of target.held target.kept.items)
+  pub block : length target.block ≡ LARGEST_SIZE
+  pub fits : target.length ≤ target.t_to_o_size
+  pub kept : take target.length target.block ≡ kept_bytes (held_of target.held (take target.length target.block))

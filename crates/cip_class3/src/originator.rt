@@ -1,6 +1,6 @@
 //! The originator's end of a class 3 connection.
 
-ghost use Rattle.std.specs.Prelude.{◌≡◌, ℕ, ◌≤◌, ◌+◌, Some, None, IfOk, IfErr, IfSome, OnOk, length, drop, ◌++◌};
+ghost use Rattle.std.specs.Prelude.{◌≡◌, ℕ, ◌≤◌, ◌+◌, Some, None, IfOk, IfErr, IfSome, OnOk, length};
 ghost use Rattle.std.specs.Option.{option_map};
 ghost use Rattle.std.specs.Borrow.{sem};
 ghost use Rattle.std.specs.Io.BufRead.{Rests};
@@ -8,7 +8,7 @@ ghost use Rattle.cip_message.specs.Reply.{reply_service};
 ghost use Rattle.cip_class3.specs.Item.{LARGEST_SIZE, item};
 ghost use Rattle.cip_class3.specs.OriginatorRule.{answers};
 
-use crate::item::{COUNT, SMALLEST_REPLY, SMALLEST_REQUEST};
+use crate::item::{COUNT, SMALLEST_REPLY, SMALLEST_REQUEST, write_item};
 use byteorder::{ByteOrder, LittleEndian};
 use cip_message::reply_service;
 use std::alloc::{AllocError, Global};
@@ -247,13 +247,4 @@ fn answers(item: &[u8], t_to_o_size: u16, sequence_count: u16, service: u8) -> b
         && item.len() <= t_to_o_size as usize
         && LittleEndian::read_u16(item) == sequence_count
         && item[COUNT] == reply_service(service)
-}
-
-/// Writes a count and a request to the front of the block.
-fn write_item(block: &mut [u8], sequence_count: u16, request: &[u8])
-    requires { length request.now + 2 ≤ length block.old }
-    ensures { block.new ≡ item sequence_count request.now ++ drop (length request.now + 2) block.old }
-{
-    LittleEndian::write_u16(block, sequence_count);
-    block[COUNT..COUNT + request.len()].copy_from_slice(request);
 }

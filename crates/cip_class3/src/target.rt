@@ -4,10 +4,9 @@ ghost use Rattle.std.specs.Prelude.{◌≡◌, ℕ, ◌≤◌, ◌-◌, ◌<◌,
 ghost use Rattle.cip_class3.specs.TargetRule.{kept_bytes};
 ghost use Rattle.cip_class3.specs.Item.{LARGEST_SIZE, message_of};
 
-use crate::item::{COUNT, LARGEST_SIZE, SMALLEST_REQUEST};
+use crate::item::{COUNT, LARGEST_SIZE, SMALLEST_REQUEST, write_item};
 use arrayvec::ArrayVec;
 use byteorder::{ByteOrder, LittleEndian};
-use cip_bytes::{append, append_u16};
 use cip_objects::{ReplyBuf, Router};
 use std::marker::Model;
 
@@ -29,8 +28,9 @@ pub struct Target {
     t_to_o_size: u16,
     /// The sequence count that is held.
     held: Option<u16>,
-    /// That count and its reply in one block.
-    kept: ArrayVec<u8, LARGEST_SIZE>,
+    /// How much of the block is kept: that count and its reply.
+    length: usize,
+    block: [u8; LARGEST_SIZE],
     /// Where the router writes, so that the kept bytes are written once and never moved.
     reply: ReplyBuf,
 }
@@ -65,7 +65,8 @@ impl Target {
             o_to_t_size,
             t_to_o_size,
             held: None,
-            kept: ArrayVec::new(),
+            length: 0,
+            block: [0; LARGEST_SIZE],
             reply: ArrayVec::new(),
         }
     }
@@ -95,9 +96,8 @@ impl Target {
         }
         let room = self.t_to_o_size as usize - COUNT;
         router.execute(&item[COUNT..], room, &mut self.reply);
-        self.kept.clear();
-        append_u16(&mut self.kept, sequence_count);
-        append(&mut self.kept, self.reply.as_slice());
+        write_item(&mut self.block, sequence_count, self.reply.as_slice());
+        self.length = COUNT + self.reply.len();
         self.held = Some(sequence_count);
         Received::Executed
     }
@@ -109,6 +109,6 @@ impl Target {
         ensures bytes { result.now ≡ kept_bytes self.now.held }
         ensures fits { length result.now ≤ self.now.t_to_o_size }
     {
-        self.kept.as_slice()
+        &self.block[..self.length]
     }
 }

@@ -1,6 +1,6 @@
 -- One spelling, one cut, and the frames that are shown of a stream in any pieces.
 use Rattle.std.proofs.Common.{◌≡◌, ℕ, ◌≤◌, inl, List, [], ◌∷◌, ◌++◌, length, take, drop, refl, sym, ap, subst, ◌∙◌, arith, append_assoc, append-nil, length-append}
-use Rattle.std.proofs.lemmas.List.{take-append-drop, take_at, drop_at, take_all}
+use Rattle.std.proofs.lemmas.List.{take-append-drop, take_at, take_all}
 use Rattle.std.specs.List.{flat_map, concat}
 use Rattle.cip_bytes.specs.Numbers.{number_at}
 use Rattle.cip_bytes.proofs.Joined.{same_front}

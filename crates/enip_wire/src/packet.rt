@@ -5,15 +5,18 @@
 //!            4           2         2         2      2               2      2
 //! ```
 
-ghost use Rattle.std.specs.Prelude.{◌≡◌, ◌↔◌, ◌≤◌, ◌<◌, ◌+◌, ◌-◌, ◌^◌, ◌++◌, [], ◌∷◌, length, map, drop, List, ℕ, Ok, Err, Some, None, MatchOption, IsOk, OnOk, OnErr, IsTrue, nat_lt, if◌then◌else◌};
+ghost use Rattle.std.specs.Prelude.{◌≡◌, ◌↔◌, ◌≤◌, ◌<◌, ◌+◌, ◌-◌, ◌^◌, ◌++◌, [], ◌∷◌, length, map, drop, List, ℕ, Ok};
+ghost use Rattle.std.specs.Prelude.{Err, Some, None, MatchOption, IsOk, OnOk, OnErr, IsTrue, nat_lt, if◌then◌else◌};
 ghost use Rattle.enip_wire.specs.declared.packet.CpfFault.{CpfFault};
 ghost use Rattle.std.specs.Iterator.{YieldsFirstBy, item_count};
 ghost use Rattle.std.specs.List.{flat_map};
 ghost use Rattle.arrayvec.specs.ArrayVec.{array_vec_len};
 ghost use Rattle.cip_bytes.specs.Numbers.{number_at};
 ghost use Rattle.cip_bytes.specs.Reading.{seen_by};
-ghost use Rattle.enip_wire.specs.Items.{Item, item as item_text, items, AreItems, IsShort, IsTrailing, item_of, item_at, size_at, after, items_of};
-ghost use Rattle.enip_wire.specs.Bodies.{IsRrBody, IsUnitBody, Faulty, IsNull, IsConnected, rr_text, unit_text, body_items_of, data_of, rr_body_of, unit_body_of};
+ghost use Rattle.enip_wire.specs.Items.{Item, item as item_text, items, AreItems, IsShort, IsTrailing, item_of};
+ghost use Rattle.enip_wire.specs.Items.{item_at, size_at, after, items_of};
+ghost use Rattle.enip_wire.specs.Bodies.{IsRrBody, IsUnitBody, Faulty, IsNull, IsConnected, rr_text, unit_text};
+ghost use Rattle.enip_wire.specs.Bodies.{body_items_of, data_of, rr_body_of, unit_body_of};
 
 use arrayvec::ArrayVec;
 use byteorder::{ByteOrder, LittleEndian};
@@ -173,7 +176,8 @@ fn read_items(text: &[u8]) -> Result<Items<'_>, CpfFault>
 pub fn rr_body(text: &[u8]) -> Result<&[u8], CpfFault>
     // What is read is spelled so, and what is spelled so is read.
     ensures spelled { (bytes : List ℕ) → (seen_by (λ lent. lent.now) result ≡ Ok bytes) ↔ IsRrBody text.now bytes }
-    ensures faulty { (fault : CpfFault) → (seen_by (λ lent. lent.now) result ≡ Err fault) ↔ Faulty IsNull 0xb2 text.now fault }
+    ensures faulty { (fault : CpfFault) →
+        (seen_by (λ lent. lent.now) result ≡ Err fault) ↔ Faulty IsNull 0xb2 text.now fault }
     ensures exact { seen_by (λ lent. lent.now) result ≡ rr_body_of text.now }
 {
     read_rr_body(text)
@@ -203,8 +207,12 @@ fn read_rr_body(text: &[u8]) -> Result<&[u8], CpfFault>
 /// As `rr_body`.
 pub fn unit_body(text: &[u8]) -> Result<(u32, &[u8]), CpfFault>
     // What is read is spelled so, and what is spelled so is read.
-    ensures spelled { (id : ℕ) (bytes : List ℕ) → (seen_by {B = ℕ × List ℕ} (λ found. (found.0, found.1.now)) result ≡ Ok (id, bytes)) ↔ IsUnitBody text.now id bytes }
-    ensures faulty { (fault : CpfFault) → (seen_by {B = ℕ × List ℕ} (λ found. (found.0, found.1.now)) result ≡ Err fault) ↔ Faulty IsConnected 0xb1 text.now fault }
+    ensures spelled { (id : ℕ) (bytes : List ℕ) →
+        (seen_by {B = ℕ × List ℕ} (λ found. (found.0, found.1.now)) result ≡ Ok (id, bytes))
+        ↔ IsUnitBody text.now id bytes }
+    ensures faulty { (fault : CpfFault) →
+        (seen_by {B = ℕ × List ℕ} (λ found. (found.0, found.1.now)) result ≡ Err fault)
+        ↔ Faulty IsConnected 0xb1 text.now fault }
     ensures exact { seen_by {B = ℕ × List ℕ} (λ found. (found.0, found.1.now)) result ≡ unit_body_of text.now }
 {
     read_unit_body(text)
@@ -255,7 +263,8 @@ fn data<'a>(items: &mut Items<'a>, kind: u16) -> Result<&'a [u8], CpfFault>
 #[inline(always)]
 fn first_item(text: &[u8]) -> Option<(ItemView<'_>, &[u8])>
     ensures { MatchOption result (length text.now < size_at text.now)
-        (λ x. (size_at text.now ≤ length text.now) × (item_of x.0 ≡ item_at text.now) × (x.1.now ≡ drop (size_at text.now) text.now)) }
+        (λ x. (size_at text.now ≤ length text.now) × (item_of x.0 ≡ item_at text.now)
+        × (x.1.now ≡ drop (size_at text.now) text.now)) }
 {
     if text.len() < ITEM_HEAD {
         return None;
