@@ -140,6 +140,7 @@ impl Originator {
         ensures allowed { OnOk result (submit_refusal self.old request.now ≡ None) }
         ensures lent { IfOk result (λ lent. lent.now ≡ item self.old.next request.now) }
         ensures fits { IfOk result (λ lent. length lent.now ≤ self.old.o_to_t_size) }
+        ensures within { IfOk result (λ lent. length lent.now ≤ LARGEST_SIZE) }
         ensures* after { sem 𝓛 (Rests the_row self.entry (λ new.
             IfErr result (λ _. new ≡ self.old) × IfOk result (λ _. new ≡ with_next_request self.old request.now))) }
     {
@@ -162,6 +163,7 @@ impl Originator {
     pub fn resend(&self) -> Option<&[u8]>
         ensures lent { option_map (λ lent. lent.now) result ≡ waiting_item self.now.phase }
         ensures fits { IfSome result (λ lent. length lent.now ≤ self.now.o_to_t_size) }
+        ensures within { IfSome result (λ lent. length lent.now ≤ LARGEST_SIZE) }
     {
         match self.progress {
             Progress::Waiting { length, .. } => Some(&self.block[..length]),

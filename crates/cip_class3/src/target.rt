@@ -108,6 +108,7 @@ impl Target {
     pub fn kept(&self) -> &[u8]
         ensures bytes { result.now ≡ kept_bytes self.now.held }
         ensures fits { length result.now ≤ self.now.t_to_o_size }
+        ensures within { length result.now ≤ LARGEST_SIZE }
     {
         &self.block[..self.length]
     }

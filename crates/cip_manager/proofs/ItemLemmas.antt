@@ -2,8 +2,8 @@
 use Rattle.std.proofs.Common.{◌≡◌, ℕ, List, [], ◌∷◌, Bool, true, false, cond, Option, Some, None, refl, ap, sym, ◌∙◌}
 use Rattle.std.specs.Prelude.{find, is_some}
 use Rattle.cip_class3.specs.declared.target.Received.TheVariants.{Dropped, Repeated}
-use Rattle.cip_class3.specs.Item.{count_of}
-use Rattle.cip_class3.specs.TargetRule.{TargetState, Outcome, outcome, target_step, executed, is_of_size, is_held}
+use Rattle.cip_class3.specs.Item.{sequence_count_of}
+use Rattle.cip_class3.specs.TargetRule.{TargetState, TargetStep, step_of, target_step, after_execution, is_of_size, is_held}
 use Rattle.cip_manager.specs.declared.connection.Connection.{Connection}
 use Rattle.cip_manager.specs.Connection.{is_named, is_answered, after_item, deadline_at_item}
 use Rattle.cip_manager.specs.Items.{with_first, Reply, turn_of_found, item_turn, is_taken_by, is_taken, IsAt}
@@ -21,7 +21,7 @@ with_first-same {X} test x (y ∷ ys) e = go (test y) (λ f. with_first-same tes
 
 module _ {M : Type 0} (after : M → ℕ → List ℕ → M) (answer : M → ℕ → List ℕ → List ℕ) where
   -- a target answers an item exactly if it has a size that it takes, and else nothing is changed
-  record Says (b : Bool) (target : TargetState) (router : M) (step : Outcome M) : Type 0 where
+  record Says (b : Bool) (target : TargetState) (router : M) (step : TargetStep M) : Type 0 where
     answered : is_answered step.received ≡ b
     same : b ≡ false → step.target ≡ target
     still : b ≡ false → step.router ≡ router
@@ -29,10 +29,10 @@ module _ {M : Type 0} (after : M → ℕ → List ℕ → M) (answer : M → ℕ
   target_step-says : (target : TargetState) (router : M) (bytes : List ℕ) → Says (is_of_size target bytes) target router (target_step after answer target router bytes)
   target_step-says target router bytes =
       elim (is_of_size target bytes) as (
-      λ b. Says b target router (cond b (cond (is_held target.held (count_of bytes)) (outcome Repeated target router) (executed after answer target router bytes)) (outcome Dropped target router))
+      λ b. Says b target router (cond b (cond (is_held target.held (sequence_count_of bytes)) (step_of Repeated target router) (after_execution after answer target router bytes)) (step_of Dropped target router))
       ) [
-        | true ↦ elim (is_held target.held (count_of bytes)) as (
-            λ h. Says true target router (cond h (outcome Repeated target router) (executed after answer target router bytes))
+        | true ↦ elim (is_held target.held (sequence_count_of bytes)) as (
+            λ h. Says true target router (cond h (step_of Repeated target router) (after_execution after answer target router bytes))
             ) [
               | true ↦ record { answered = refl; same = λ e. refl; still = λ e. refl }
               | false ↦ record { answered = refl; same = λ e. cc; still = λ e. cc }
@@ -63,7 +63,7 @@ module _ {M : Type 0} (after : M → ℕ → List ℕ → M) (answer : M → ℕ
       dropped true x e = cc
       dropped false x e = refl
 
-      same : (c : Connection) (step : Outcome M) → is_answered step.received ≡ false → step.target ≡ c.target → after_item now step.received step.target c ≡ c
+      same : (c : Connection) (step : TargetStep M) → is_answered step.received ≡ false → step.target ≡ c.target → after_item now step.received step.target c ≡ c
       same c step e t =
           ap (λ b. record c { deadline = cond b (deadline_at_item now c.timeout) c.deadline; target = step.target }) e
           ∙ ap (λ x. record c { target = x }) t
@@ -72,7 +72,7 @@ module _ {M : Type 0} (after : M → ℕ → List ℕ → M) (answer : M → ℕ
           → ((turn_of_found after answer cs now session id bytes router o).connections ≡ cs) × ((turn_of_found after answer cs now session id bytes router o).router ≡ router)
       go None f e = (refl, refl)
       go (Some c) f e =
-          let step : Outcome M = target_step after answer c.target router bytes in
+          let step : TargetStep M = target_step after answer c.target router bytes in
           let says : Says (is_of_size c.target bytes) c.target router step = target_step-says c.target router bytes in
           let not_answered : is_answered step.received ≡ false = dropped (is_answered step.received) _ e in
           let not_of_size : is_of_size c.target bytes ≡ false = sym says.answered ∙ not_answered in
