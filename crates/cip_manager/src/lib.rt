@@ -8,13 +8,13 @@
 //! Left out: connections of class 0 and 1, null and listen-only opens, multicast, and routes through ports.
 #![tactic(auto)]
 
-pub mod connection;
+mod connection;
 pub mod laws;
-pub mod manager;
-pub mod opening;
-pub mod reply;
+mod manager;
+mod opening;
+mod reply;
 
-pub use manager::{Answer, Manager};
+pub use manager::{Answer, LONGEST_REPLY, Manager};
 
 #[cfg(test)]
 mod tests;
