@@ -7,7 +7,7 @@ use Rattle.std.proofs.lemmas.List.Elements.{filter-append}
 use Rattle.cip_manager.specs.declared.connection.Connection.{Connection}
 use Rattle.cip_manager.specs.Connection.{is_of_session, is_named, is_open_at}
 use Rattle.cip_manager.specs.Opening.{new_connection}
-use Rattle.cip_manager.specs.Runs.{Call, Opens, Closes, Receives, Expires, Ends, State, state_after_call, state_after, IsOfOther, of_session, is_open_after, outlives, is_closed_by, is_spared}
+use Rattle.cip_manager.specs.Runs.{Call, Opens, Closes, Receives, Expires, Ends, State, state_after_call, state_after, IsOfOther, of_session, is_open_after, is_open_after_all, is_closed_by, is_spared}
 use Rattle.cip_manager.proofs.CallLemmas.{after_open, after_close, after_item_turn}
 use Rattle.cip_manager.proofs.ListLemmas.{filter-true, filter-filter, filter-swap, filter-implied, find-passes, find-append, find-filter, find-with_first, filter-with_first}
 
@@ -65,12 +65,12 @@ module _ {M : Type 0} (after : M → ℕ → List ℕ → M) (answer : M → ℕ
       filter-implied (is_of_session session) (λ c. not (is_of_session other c)) cs (λ c mine. ap not (of_session-other session other c differ mine)) ∙ sym (filter-true (of_session session cs))
 
   pub calls-of_other : (session : ℕ) (state : State M) (calls : List Call) → AllByRecursion (IsOfOther session) calls
-      → of_session session (state_after after answer state calls).manager.connections ≡ filter (outlives calls) (of_session session state.manager.connections)
+      → of_session session (state_after after answer state calls).manager.connections ≡ filter (is_open_after_all calls) (of_session session state.manager.connections)
   calls-of_other session state [] others = sym (filter-true (of_session session state.manager.connections))
   calls-of_other session state (call ∷ calls) others =
       calls-of_other session (state_after_call after answer state call) calls others.1
-      ∙ (ap (filter (outlives calls)) (call-of_other session state call others.0)
-      ∙ filter-filter (λ c. is_open_after c call) (outlives calls) (of_session session state.manager.connections))
+      ∙ (ap (filter (is_open_after_all calls)) (call-of_other session state call others.0)
+      ∙ filter-filter (λ c. is_open_after c call) (is_open_after_all calls) (of_session session state.manager.connections))
 
   -- one call that spares a connection leaves it where it is found
   call-is_spared : (session id : ℕ) (c : Connection) (state : State M) (call : Call) → find (is_named session id) state.manager.connections ≡ Some c → is_spared c call ≡ true

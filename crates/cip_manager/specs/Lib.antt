@@ -6,4 +6,5 @@ pub mod Manager
 pub mod Opening
 pub mod Replies
 pub mod Room
+pub mod Rows
 pub mod Runs

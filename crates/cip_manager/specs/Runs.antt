@@ -83,8 +83,8 @@ is_open_after connection (Receives now session id bytes) = true
 is_open_after connection (Expires now) = is_open_at now connection
 is_open_after connection (Ends session) = true
 
-abbrev pub outlives : List Call → Connection → Bool
-outlives calls connection = list_all (is_open_after connection) calls
+abbrev pub is_open_after_all : List Call → Connection → Bool
+is_open_after_all calls connection = list_all (is_open_after connection) calls
 
 -- the data of a Forward_Close of this session name the connection
 abbrev pub is_closed_by : ℕ → Result Close LengthFault → Connection → Bool

@@ -7,7 +7,7 @@ ghost use Rattle.cip_message.specs.declared.key.Device.{Device};
 ghost use Rattle.cip_manager.specs.declared.connection.Connection.{Connection};
 ghost use Rattle.cip_manager.specs.Connection.{is_named};
 ghost use Rattle.cip_manager.specs.Manager.{no_connection};
-ghost use Rattle.cip_manager.specs.Runs.{Call, State, state_after, ids_drawn, CountsFrom, IsOfOther, of_session, outlives, is_spared, AreApart};
+ghost use Rattle.cip_manager.specs.Runs.{Call, State, state_after, ids_drawn, CountsFrom, IsOfOther, of_session, is_open_after_all, is_spared, AreApart};
 
 use cip_objects::Router;
 
@@ -16,7 +16,7 @@ use cip_objects::Router;
 pub fn sessions_apart<R: Router>()
     ensures { (session : ℕ) (state : State R) (calls : List Call) → AllByRecursion (IsOfOther session) calls →
         of_session session (state_after R.after R.answer state calls).manager.connections
-        ≡ filter (outlives calls) (of_session session state.manager.connections) }
+        ≡ filter (is_open_after_all calls) (of_session session state.manager.connections) }
 {}
 
 /// Calls for other sessions, and for other IDs and triads of the same session, leave a connection as it is found,
