@@ -3,7 +3,7 @@ use Rattle.std.proofs.Common.{◌≡◌, ℕ, Bool, true, false, cond, nat_lt, L
 use Rattle.cip_objects.specs.declared.status.Status.{Status}
 use Rattle.cip_objects.specs.declared.status.Status.TheVariants.{Success, ReplyDataTooLarge}
 use Rattle.cip_objects.specs.Contents.{Contents}
-use Rattle.cip_objects.specs.Execution.{Outcome, outcome, performed, limited, reply_to, fitted, exec}
+use Rattle.cip_objects.specs.Execution.{Outcome, outcome, outcome_left, outcome_in_room, reply_to, fitted, exec}
 use Rattle.cip_objects.specs.Status.{status_code}
 
 -- the reply once its status was put in
@@ -26,7 +26,7 @@ same_ok o p e = cc
 
 -- the room was too small, or it was not
 went : (over : Bool) (m : Contents) (room : ℕ) (text : List ℕ) (o : Outcome) (new : Contents) (result : Result Status Status) (reply : List ℕ) → nat_lt room (length (reply_to text o.status o.content)) ≡ over → OnErr result (new ≡ m)
-    → performed new result reply ≡ cond over (Err ReplyDataTooLarge) (Ok (record { after = o.after; status = o.status; content = reply_to text Success [] ++ o.content }))
+    → outcome_left new result reply ≡ cond over (Err ReplyDataTooLarge) (Ok (record { after = o.after; status = o.status; content = reply_to text Success [] ++ o.content }))
     → IsExecuted m room text (Ok o) new result reply
 went true m room text o new (Ok status) reply over un e = absurd (cc)
 went true m room text o new (Err s) reply over un e = record {
@@ -41,7 +41,7 @@ went false m room text o new (Ok status) reply over un e =
       text_is = ap (λ x. set x.content 2 (status_code x.status)) same ∙ sym (ap (λ x. x.answer) (by_room false m room text o over));
     }
 
-is_executed : (m : Contents) (room : ℕ) (text : List ℕ) (r : Result Outcome Status) (new : Contents) (result : Result Status Status) (reply : List ℕ) → OnErr result (new ≡ m) → performed new result reply ≡ limited room (reply_to text Success []) r → IsExecuted m room text r new result reply
+is_executed : (m : Contents) (room : ℕ) (text : List ℕ) (r : Result Outcome Status) (new : Contents) (result : Result Status Status) (reply : List ℕ) → OnErr result (new ≡ m) → outcome_left new result reply ≡ outcome_in_room room (reply_to text Success []) r → IsExecuted m room text r new result reply
 is_executed m room text (Err s) new (Ok status) reply un e = absurd (cc)
 is_executed m room text (Err s) new (Err t) reply un e = record {
   state = un;
@@ -50,7 +50,7 @@ is_executed m room text (Err s) new (Err t) reply un e = record {
 is_executed m room text (Ok o) new result reply un e =
     went (nat_lt room (length (reply_to text o.status o.content))) m room text o new result reply refl un e
 
-pub executed : (m : Contents) (room : ℕ) (text : List ℕ) (new : Contents) (result : Result Status Status) (reply : List ℕ) → OnErr result (new ≡ m) → performed new result reply ≡ limited room (reply_to text Success []) (outcome m text) → (new ≡ (exec m room text).after) × (finished text result reply ≡ (exec m room text).answer)
+pub executed : (m : Contents) (room : ℕ) (text : List ℕ) (new : Contents) (result : Result Status Status) (reply : List ℕ) → OnErr result (new ≡ m) → outcome_left new result reply ≡ outcome_in_room room (reply_to text Success []) (outcome m text) → (new ≡ (exec m room text).after) × (finished text result reply ≡ (exec m room text).answer)
 unfolding exec
 executed m room text new result reply un e =
     let x = is_executed m room text (outcome m text) new result reply un e in

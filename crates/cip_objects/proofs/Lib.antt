@@ -8,7 +8,7 @@ pub mod Words
 pub mod Settable
 pub mod Executed
 pub mod Sound
-pub mod Keys
+pub mod ReadAfterSet
 pub mod Effects
 pub mod Offers
 pub mod CounterRun

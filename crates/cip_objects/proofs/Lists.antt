@@ -16,10 +16,10 @@ use Rattle.cip_objects.specs.declared.status.Status.{Status}
 use Rattle.cip_objects.specs.declared.status.Status.TheVariants.{Success, AttributeNotSupported, NotEnoughData, ReplyDataTooLarge}
 use Rattle.cip_objects.specs.Check.{demand, exactly}
 use Rattle.cip_objects.specs.Contents.{Contents, value_at}
-use Rattle.cip_objects.specs.Reading.{Answer, chosen, listed_as, listed, is_there, all_there, list_status, get_attribute_single, get_attribute_list}
+use Rattle.cip_objects.specs.ReadServices.{Answer, service_at, list_entry_of, list_entry, is_there, all_there, list_status, get_attribute_single, get_attribute_list}
 use Rattle.cip_objects.specs.Execution.{Outcome, reads, perform, outcome, Executed, fitted, exec, reply_to}
 use Rattle.cip_objects.specs.Laws.{Reads}
-use Rattle.cip_objects.specs.Lists.{IsGet, AreGets, joined, list_law}
+use Rattle.cip_objects.specs.Lists.{IsGet, AreGets, entries_of_replies, list_law}
 use Rattle.cip_objects.specs.Router.{general_status}
 use Rattle.cip_objects.specs.Service.{service_code}
 use Rattle.cip_objects.specs.Status.{status_code}
@@ -27,7 +27,7 @@ use Rattle.cip_objects.specs.Tables.{Shape, shape_at, services_of}
 use Rattle.cip_objects.proofs.Offers.{table, offered}
 use Rattle.cip_objects.proofs.Effects.{goes, after_check, chosen_code}
 use Rattle.cip_objects.proofs.Refuses.{Refuses, outcome_refuses}
-use Rattle.cip_objects.proofs.Settable.{sized}
+use Rattle.cip_objects.proofs.Settable.{exact_size}
 use Rattle.cip_objects.proofs.Sets.{get_makes}
 
 -- a service of code 0x03 is Get_Attribute_List
@@ -57,38 +57,38 @@ table_list false false false true false false x s e = absurd (cc)
 table_list false false false false z o x s e = absurd (cc)
 
 -- where a list can be got, so can one attribute
-list_offers : (shapes : List Shape) (class instance : ℕ) (s : Service) → chosen shapes class instance 0x03 ≡ Ok s
-    → chosen shapes class instance 0x0e ≡ Ok GetAttributeSingle
-unfolding chosen services_of
+list_offers : (shapes : List Shape) (class instance : ℕ) (s : Service) → service_at shapes class instance 0x03 ≡ Ok s
+    → service_at shapes class instance 0x0e ≡ Ok GetAttributeSingle
+unfolding service_at services_of
 list_offers shapes class instance s e =
     table_list (eqb class 1) (eqb class 4) (eqb class 6) (eqb class 100) (eqb instance 0) (eqb instance 1)
     (shape_at instance shapes) s e
 
 -- what a single get makes where the attribute isn't there
 get_misses : (m : Contents) (get path : List ℕ) (p : Path) (a : ℕ) → Reads get 0x0e path [] → path_of path ≡ Ok p
-    → chosen m.shapes p.class p.instance 0x0e ≡ Ok GetAttributeSingle → p.attribute ≡ Some a
+    → service_at m.shapes p.class p.instance 0x0e ≡ Ok GetAttributeSingle → p.attribute ≡ Some a
     → value_at m p.class p.instance a ≡ None → outcome m get ≡ Err AttributeNotSupported
 unfolding outcome get_attribute_single
 get_misses m get path p a e f g h v = rw (e, f, g, h, v) refl
 
 -- what a reply tells of one attribute
 record Tells (m : Contents) (p : Path) (a : ℕ) (reply : List ℕ) : Type 0 where
-  entry : le 2 a ++ (le 2 (general_status reply) ++ drop 4 reply) ≡ listed m p a
+  entry : le 2 a ++ (le 2 (general_status reply) ++ drop 4 reply) ≡ list_entry m p a
   there : eqb (general_status reply) 0x00 ≡ is_there m p a
 
 told_value : (m : Contents) (p : Path) (a : ℕ) (get value reply : List ℕ) → value_at m p.class p.instance a ≡ Some value
     → reply ≡ reply_to get Success value → Tells m p a reply
-unfolding listed
+unfolding list_entry
 told_value m p a get value reply v e = record {
-  entry = ap (λ r. le 2 a ++ (le 2 (general_status r) ++ drop 4 r)) e ∙ sym (ap (listed_as a) v);
+  entry = ap (λ r. le 2 a ++ (le 2 (general_status r) ++ drop 4 r)) e ∙ sym (ap (list_entry_of a) v);
   there = ap (λ r. eqb (general_status r) 0x00) e ∙ sym (ap is_some v);
 }
 
 told_missing : (m : Contents) (p : Path) (a : ℕ) (get reply : List ℕ) → value_at m p.class p.instance a ≡ None
     → reply ≡ reply_to get AttributeNotSupported [] → Tells m p a reply
-unfolding listed
+unfolding list_entry
 told_missing m p a get reply v e = record {
-  entry = ap (λ r. le 2 a ++ (le 2 (general_status r) ++ drop 4 r)) e ∙ sym (ap (listed_as a) v);
+  entry = ap (λ r. le 2 a ++ (le 2 (general_status r) ++ drop 4 r)) e ∙ sym (ap (list_entry_of a) v);
   there = ap (λ r. eqb (general_status r) 0x00) e ∙ sym (ap is_some v);
 }
 
@@ -113,20 +113,20 @@ unfolding exec
 get_refuses m room get e = ap (λ r. (fitted m room get r).answer) e
 
 -- the entry of an attribute that is there has its value
-length-listed : (m : Contents) (p : Path) (a : ℕ) (value : List ℕ) → value_at m p.class p.instance a ≡ Some value
-    → length (listed m p a) ≡ 4 + length value
-unfolding listed
-length-listed m p a value v = ap (λ o. length (listed_as a o)) v
+length-list_entry : (m : Contents) (p : Path) (a : ℕ) (value : List ℕ) → value_at m p.class p.instance a ≡ Some value
+    → length (list_entry m p a) ≡ 4 + length value
+unfolding list_entry
+length-list_entry m p a value v = ap (λ o. length (list_entry_of a o)) v
     ∙ (let e : suc (suc (suc (suc (length value)))) ≡ 4 + length value = omega arith in e)
 
 tells_of : (m : Contents) (room : ℕ) (p : Path) (a : ℕ) (get : List ℕ) (o : Option (List ℕ))
-    → value_at m p.class p.instance a ≡ o → chosen m.shapes p.class p.instance 0x0e ≡ Ok GetAttributeSingle
-    → IsGet p a get → length (listed m p a) ≤ room → Tells m p a (exec m room get).answer
+    → value_at m p.class p.instance a ≡ o → service_at m.shapes p.class p.instance 0x0e ≡ Ok GetAttributeSingle
+    → IsGet p a get → length (list_entry m p a) ≤ room → Tells m p a (exec m room get).answer
 tells_of m room p a get (Some value) v c g h =
     let q : Path = record { class = p.class; instance = p.instance; attribute = Some a; member = g.member } in
     told_value m p a get value (exec m room get).answer v
     (get_answers m room get value (get_makes m get g.path value q a g.reads g.names c refl v)
-    (omega (arith, length-listed m p a value v)))
+    (omega (arith, length-list_entry m p a value v)))
 tells_of m room p a get None v c g h =
     let q : Path = record { class = p.class; instance = p.instance; attribute = Some a; member = g.member } in
     told_missing m p a get (exec m room get).answer v
@@ -134,29 +134,29 @@ tells_of m room p a get None v c g h =
 
 -- what the single replies tell of all attributes
 record TellAll (m : Contents) (p : Path) (attributes : List ℕ) (replies : List (List ℕ)) : Type 0 where
-  entries : joined attributes replies ≡ flat_map (listed m p) attributes
+  entries : entries_of_replies attributes replies ≡ flat_map (list_entry m p) attributes
   there : list_all (λ reply. eqb (general_status reply) 0x00) replies ≡ all_there m p attributes
 
 regrouped : (a b c d : List ℕ) → a ++ (b ++ (c ++ d)) ≡ (a ++ (b ++ c)) ++ d
 regrouped a b c d = sym (simp append_assoc)
 
 tell_all : (m : Contents) (room : ℕ) (p : Path) (attributes : List ℕ) (gets : List (List ℕ))
-    → chosen m.shapes p.class p.instance 0x0e ≡ Ok GetAttributeSingle → AreGets p attributes gets
-    → length (flat_map (listed m p) attributes) ≤ room
+    → service_at m.shapes p.class p.instance 0x0e ≡ Ok GetAttributeSingle → AreGets p attributes gets
+    → length (flat_map (list_entry m p) attributes) ≤ room
     → TellAll m p attributes (map (λ get. (exec m room get).answer) gets)
 tell_all m room p [] [] c g h = record { entries = refl; there = refl }
 tell_all m room p [] (get ∷ gets) c g h = absurd g
 tell_all m room p (a ∷ attributes) [] c g h = absurd g
 tell_all m room p (a ∷ attributes) (get ∷ gets) c g h =
-    let n = length-append (listed m p a) (flat_map (listed m p) attributes) in
+    let n = length-append (list_entry m p a) (flat_map (list_entry m p) attributes) in
     let one = tells_of m room p a get (value_at m p.class p.instance a) refl c g.0 (omega arith) in
     let rest = tell_all m room p attributes gets c g.1 (omega arith) in
     let reply = (exec m room get).answer in
     let replies = map (λ x. (exec m room x).answer) gets in
     record {
-      entries = regrouped (le 2 a) (le 2 (general_status reply)) (drop 4 reply) (joined attributes replies)
-          ∙ ap (λ x. x ++ joined attributes replies) one.entry
-          ∙ ap (λ x. listed m p a ++ x) rest.entries;
+      entries = regrouped (le 2 a) (le 2 (general_status reply)) (drop 4 reply) (entries_of_replies attributes replies)
+          ∙ ap (λ x. x ++ entries_of_replies attributes replies) one.entry
+          ∙ ap (λ x. list_entry m p a ++ x) rest.entries;
       there = ap (λ t. t && list_all (λ x. eqb (general_status x) 0x00) replies) one.there
           ∙ ap (λ t. is_there m p a && t) rest.there;
     }
@@ -182,7 +182,7 @@ same_ok x y e = cc
 record Lists (m : Contents) (p : Path) (content : List ℕ) (o : Outcome) : Type 0 where
   size : length content ≡ 2 + 2 * little_number 2 content
   status : o.status ≡ list_status (all_there m p (words_of (drop 2 content)))
-  data_is : o.content ≡ le 2 (little_number 2 content) ++ flat_map (listed m p) (words_of (drop 2 content))
+  data_is : o.content ≡ le 2 (little_number 2 content) ++ flat_map (list_entry m p) (words_of (drop 2 content))
 
 lists : (m : Contents) (p : Path) (content : List ℕ) (a : Answer) → get_attribute_list m p content ≡ Ok a
     → Lists m p content (record { after = m; status = a.status; content = a.content })
@@ -192,7 +192,7 @@ lists m p content a e =
     let y = after_check (exactly (2 + 2 * little_number 2 content) content) _ a x.1 in
     let done = same_ok _ a y.1 in
     record {
-      size = sized (2 + 2 * little_number 2 content) content y.0;
+      size = exact_size (2 + 2 * little_number 2 content) content y.0;
       status = sym (ap (λ z. z.status) done);
       data_is = sym (ap (λ z. z.content) done);
     }
@@ -247,7 +247,7 @@ same_path q r e = cc
 
 -- what a list that was answered has
 record WasList (m : Contents) (p : Path) (content : List ℕ) (o : Outcome) : Type 0 where
-  offers : chosen m.shapes p.class p.instance 0x03 ≡ Ok GetAttributeList
+  offers : service_at m.shapes p.class p.instance 0x03 ≡ Ok GetAttributeList
   lists : Lists m p content o
 
 was_list : (m : Contents) (list path content : List ℕ) (p : Path) (o : Outcome) → Reads list 0x03 path content
@@ -264,8 +264,8 @@ was_list m list path content p o e f done =
     ∙ ap (λ r. perform m g.service p r.data) (sym q) ∙ ap (λ x. perform m g.service x g.request.data) (sym here)
     ∙ g.is_performed in
     record {
-      offers = ap (λ x. chosen m.shapes x.class x.instance 0x03) (sym here)
-          ∙ ap (λ r. chosen m.shapes g.path.class g.path.instance r.service) (sym q) ∙ g.is_chosen ∙ ap (λ k. Ok k) s;
+      offers = ap (λ x. service_at m.shapes x.class x.instance 0x03) (sym here)
+          ∙ ap (λ r. service_at m.shapes g.path.class g.path.instance r.service) (sym q) ∙ g.is_chosen ∙ ap (λ k. Ok k) s;
       lists = by_reads m p content o (get_attribute_list m p content) refl performed;
     }
 
@@ -280,9 +280,9 @@ list_is_gets m room list path content p gets e f g fine =
     let x = exec_answered m room list fine in
     let w = was_list m list path content p x.made e f x.is_made in
     let attributes = words_of (drop 2 content) in
-    let n = length-append (le 2 (little_number 2 content)) (flat_map (listed m p) attributes) in
+    let n = length-append (le 2 (little_number 2 content)) (flat_map (list_entry m p) attributes) in
     let size : length x.made.content ≡ length
-    (le 2 (little_number 2 content) ++ flat_map (listed m p) attributes) = ap length w.lists.data_is in
+    (le 2 (little_number 2 content) ++ flat_map (list_entry m p) attributes) = ap length w.lists.data_is in
     let fits = x.fits in
     let t = tell_all m room p attributes gets (list_offers m.shapes p.class p.instance GetAttributeList w.offers) g
     (omega arith) in
@@ -291,5 +291,5 @@ list_is_gets m room list path content p gets e f g fine =
     ∙ ap (λ c. reply_to list
     (list_status (list_all (λ reply. eqb (general_status reply) 0x00)
     (map (λ get. (exec m room get).answer) gets))) c)
-    (w.lists.data_is ∙ ap (λ k. le 2 k ++ flat_map (listed m p) attributes) (counted p content gets w.lists.size g)
+    (w.lists.data_is ∙ ap (λ k. le 2 k ++ flat_map (list_entry m p) attributes) (counted p content gets w.lists.size g)
     ∙ ap (λ k. le 2 (length gets) ++ k) (sym t.entries))

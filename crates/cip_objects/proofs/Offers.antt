@@ -5,7 +5,7 @@ use Rattle.cip_objects.specs.declared.service.Service.{Service}
 use Rattle.cip_objects.specs.declared.service.Service.TheVariants.{GetAttributesAll, GetAttributeList, GetAttributeSingle, SetAttributeSingle, Add, Clear}
 use Rattle.cip_objects.specs.declared.status.Status.{Status}
 use Rattle.cip_objects.specs.declared.status.Status.TheVariants.{PathDestinationUnknown, ServiceNotSupported}
-use Rattle.cip_objects.specs.Check.{◌>>=◌}
+use Rattle.cip_bytes.specs.Reading.{◌>>=◌}
 use Rattle.cip_objects.specs.Service.{service_in}
 use Rattle.cip_objects.specs.Tables.{Shape, assembly_services}
 

@@ -9,16 +9,17 @@ use Rattle.cip_objects.specs.declared.service.Service.{Service}
 use Rattle.cip_objects.specs.declared.service.Service.TheVariants.{GetMember}
 use Rattle.cip_objects.specs.declared.status.Status.{Status}
 use Rattle.cip_objects.specs.declared.status.Status.TheVariants.{Success, ReplyDataTooLarge}
-use Rattle.cip_objects.specs.Check.{◌>>=◌, ◌>>◌, exactly}
+use Rattle.cip_bytes.specs.Reading.{◌>>=◌, ◌>>◌}
+use Rattle.cip_objects.specs.Check.{exactly}
 use Rattle.cip_objects.specs.Contents.{Contents, bytes_at, with_value}
-use Rattle.cip_objects.specs.Reading.{Answer, answer, chosen, named_member, get_member}
-use Rattle.cip_objects.specs.Changing.{spliced}
+use Rattle.cip_objects.specs.ReadServices.{Answer, answer, service_at, named_member, get_member}
+use Rattle.cip_objects.specs.ChangeServices.{with_bytes_at}
 use Rattle.cip_objects.specs.Execution.{Outcome, reads, perform, outcome, Executed, fitted, exec, reply_to}
 use Rattle.cip_objects.specs.Laws.{Reads}
 use Rattle.cip_objects.specs.Members.{AreWhole, set_member_leaves_others_law}
 use Rattle.cip_objects.specs.Tables.{shape_at}
 use Rattle.cip_objects.proofs.Effects.{chosen_code}
-use Rattle.cip_objects.proofs.Keys.{value_at-same, value_at-other}
+use Rattle.cip_objects.proofs.ReadAfterSet.{value_at-same, value_at-other}
 use Rattle.cip_objects.proofs.Members.{Names, named, WasMember, was_member, fits_in, is_get_member}
 use Rattle.cip_objects.proofs.Sets.{exec_left}
 use Rattle.cip_objects.proofs.Spans.{IsAt, before, slice_before, slice_behind}
@@ -69,7 +70,7 @@ by_chosen m n room text q (Ok s) h e =
     ∙ ap (λ k. (fitted m room text (perform m k q [])).answer) (sym (h s refl))
 
 outcome_is : (m : Contents) (get path : List ℕ) (q : Path) → Reads get 0x18 path [] → path_of path ≡ Ok q
-    → outcome m get ≡ (chosen m.shapes q.class q.instance 0x18 >>= λ s. perform m s q [])
+    → outcome m get ≡ (service_at m.shapes q.class q.instance 0x18 >>= λ s. perform m s q [])
 unfolding outcome
 outcome_is m get path q e f = rw (e, f) refl
 
@@ -78,8 +79,8 @@ answers_alike : (m n : Contents) (room : ℕ) (get path : List ℕ) (q : Path) �
 unfolding exec
 answers_alike m n room get path q e f h =
     ap (λ r. (fitted n room get r).answer) (outcome_is n get path q e f)
-    ∙ ap (λ s. (fitted n room get (chosen s q.class q.instance 0x18 >>= λ k. perform n k q [])).answer) h.shapes
-    ∙ by_chosen m n room get q (chosen m.shapes q.class q.instance 0x18)
+    ∙ ap (λ s. (fitted n room get (service_at s q.class q.instance 0x18 >>= λ k. perform n k q [])).answer) h.shapes
+    ∙ by_chosen m n room get q (service_at m.shapes q.class q.instance 0x18)
     (λ s is. is_get_member s (chosen_code m.shapes q.class q.instance 0x18 s is)) (member_alike m n q h)
     ∙ ap (λ r. (fitted m room get r).answer) (sym (outcome_is m get path q e f))
 
@@ -107,7 +108,7 @@ same_some x y e = cc
 by_order : (less : Bool) (sizes old value : List ℕ) (j k : ℕ) (one written : Span) → IsAt sizes j one
     → IsAt sizes k written → length value ≡ written.size → written.offset + written.size ≤ length old → (j ≡ k → ⊥)
     → nat_lt j k ≡ less
-    → take one.size (drop one.offset (spliced old written.offset value)) ≡ take one.size (drop one.offset old)
+    → take one.size (drop one.offset (with_bytes_at old written.offset value)) ≡ take one.size (drop one.offset old)
 by_order true sizes old value j k one written a b size inside other less =
     let order : j < k = grind (arith, nat_tests) in
     let near = before sizes j k one written a b order in
@@ -122,11 +123,11 @@ same_place a b h k e = omega arith
 
 same_assembly : (m n : Contents) (value : List ℕ) (p q : Path) (written : Span) → AreWhole m → Names m.shapes p written
     → q.instance ≡ p.instance
-    → n ≡ with_value m 4 p.instance 3 (spliced (bytes_at m 4 p.instance 3) written.offset value)
+    → n ≡ with_value m 4 p.instance 3 (with_bytes_at (bytes_at m 4 p.instance 3) written.offset value)
     → length value ≡ written.size → (q.member ≡ p.member → ⊥) → AreAlike m n q
 same_assembly m n value p q written whole b here e size other =
     let old = bytes_at m 4 p.instance 3 in
-    let new = spliced old written.offset value in
+    let new = with_bytes_at old written.offset value in
     let read : bytes_at n 4 q.instance 3 ≡ new = ap (λ k. bytes_at k 4 q.instance 3) e
     ∙ ap (λ j. bytes_at (with_value m 4 p.instance 3 new) 4 j 3) here
     ∙ ap (λ o. unwrap_or o []) (value_at-same m 4 p.instance 3 new) in
@@ -155,7 +156,7 @@ by_assembly m n path value p q o whole w e other (inl same) =
     same_assembly m n value p q w.span whole (named m.shapes p w.span w.names) same.1 (e ∙ w.leaves) w.size
     (λ k. other (same.1, k))
 by_assembly m n path value p q o whole w e other (inr apart) =
-    other_assembly m n p.instance (spliced (bytes_at m 4 p.instance 3) w.span.offset value) q (e ∙ w.leaves) apart.0
+    other_assembly m n p.instance (with_bytes_at (bytes_at m 4 p.instance 3) w.span.offset value) q (e ∙ w.leaves) apart.0
 
 same_path : (q r : Path) → ◌≡◌ {A = Result Path PathFault} (Ok q) (Ok r) → q ≡ r
 same_path q r e = cc

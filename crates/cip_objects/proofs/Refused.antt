@@ -7,7 +7,7 @@ use Rattle.cip_objects.specs.declared.service.Service.TheVariants.{GetAttributes
 use Rattle.cip_objects.specs.declared.status.Status.{Status}
 use Rattle.cip_objects.specs.declared.status.Status.TheVariants.{ReplyDataTooLarge}
 use Rattle.cip_objects.specs.Contents.{Contents}
-use Rattle.cip_objects.specs.Reading.{get_attribute_single, get_attributes_all, get_attribute_list, get_member}
+use Rattle.cip_objects.specs.ReadServices.{get_attribute_single, get_attributes_all, get_attribute_list, get_member}
 use Rattle.cip_objects.specs.Execution.{Outcome, perform, outcome, Executed, fitted, exec, reply_to}
 use Rattle.cip_objects.specs.ExecutionLaws.{IsDone, IsDoneOutcome, outcome_done}
 use Rattle.cip_objects.specs.Laws.{refused_law, any_room_law}

@@ -12,11 +12,12 @@ use Rattle.cip_objects.specs.declared.service.Service.{Service}
 use Rattle.cip_objects.specs.declared.service.Service.TheVariants.{GetAttributesAll, GetAttributeList, GetAttributeSingle, SetAttributeSingle, GetMember, SetMember, Add, Clear}
 use Rattle.cip_objects.specs.declared.status.Status.{Status}
 use Rattle.cip_objects.specs.declared.status.Status.TheVariants.{NotEnoughData, TooMuchData, InvalidAttributeValue, InvalidParameter, AttributeNotSupported}
-use Rattle.cip_objects.specs.Check.{◌>>=◌, ◌>>◌, demand, exactly}
-use Rattle.cip_objects.specs.Contents.{Contents, value_at, number_at, with_value}
-use Rattle.cip_objects.specs.Reading.{Answer, is_data, chosen, named_member, get_attribute_single, get_attributes_all, get_attribute_list, get_member}
-use Rattle.cip_objects.specs.Changing.{Change, change, added, is_allowed, set_attribute_single, set_member, add, clear}
-use Rattle.cip_objects.specs.Execution.{reads, changes, perform, sized, formed, outcome}
+use Rattle.cip_bytes.specs.Reading.{◌>>=◌, ◌>>◌}
+use Rattle.cip_objects.specs.Check.{demand, exactly}
+use Rattle.cip_objects.specs.Contents.{Contents, value_at, udint_at, with_value}
+use Rattle.cip_objects.specs.ReadServices.{Answer, is_data, service_at, named_member, get_attribute_single, get_attributes_all, get_attribute_list, get_member}
+use Rattle.cip_objects.specs.ChangeServices.{Change, change, after_add, is_allowed, set_attribute_single, set_member, add, clear}
+use Rattle.cip_objects.specs.Execution.{reads, changes, perform, request_or_refusal, path_or_refusal, outcome}
 use Rattle.cip_objects.specs.Service.{service_in}
 use Rattle.cip_objects.specs.Status.{status_code}
 use Rattle.cip_objects.specs.Tables.{Shape, services_of, settable_size, member_at}
@@ -60,8 +61,8 @@ by_tests false false = tt
 exactly_refuses : (n : ℕ) (content : List ℕ) → Refuses (exactly n content)
 exactly_refuses n content = by_tests (nat_lt (length content) n) (nat_lt n (length content))
 
-chosen_refuses : (shapes : List Shape) (class instance code : ℕ) → Refuses (chosen shapes class instance code)
-unfolding chosen
+chosen_refuses : (shapes : List Shape) (class instance code : ℕ) → Refuses (service_at shapes class instance code)
+unfolding service_at
 chosen_refuses shapes class instance code =
     then (ok_or (services_of shapes class instance) _) _ (or_refuses _ _ refl) (λ offered. or_refuses (service_in code offered) _ refl)
 
@@ -105,9 +106,9 @@ set_member_refuses m path content =
 add_refuses : (m : Contents) (content : List ℕ) → Refuses (add m content)
 unfolding add
 add_refuses m content =
-    let total = number_at m 100 1 1 + little_number 4 content in
-    let fits = nat_le total (number_at m 100 1 2) in
-    after (exactly 4 content) _ (exactly_refuses 4 content) (after (demand fits InvalidParameter) (change (added m total) (le 4 total)) (demand_refuses fits InvalidParameter refl) tt)
+    let total = udint_at m 100 1 1 + little_number 4 content in
+    let fits = nat_le total (udint_at m 100 1 2) in
+    after (exactly 4 content) _ (exactly_refuses 4 content) (after (demand fits InvalidParameter) (change (after_add m total) (le 4 total)) (demand_refuses fits InvalidParameter refl) tt)
 
 clear_refuses : (m : Contents) (content : List ℕ) → Refuses (clear m content)
 unfolding clear
@@ -131,15 +132,15 @@ perform_refuses m SetMember path content = changes_refuses (set_member m path co
 perform_refuses m Add path content = changes_refuses (add m content) (add_refuses m content)
 perform_refuses m Clear path content = changes_refuses (clear m content) (clear_refuses m content)
 
-sized_refuses : (r : Result Request RequestFault) → Refuses (sized r)
+sized_refuses : (r : Result Request RequestFault) → Refuses (request_or_refusal r)
 sized_refuses (Ok q) = tt
 sized_refuses (Err f) = refl
 
-formed_refuses : (r : Result Path PathFault) → Refuses (formed r)
+formed_refuses : (r : Result Path PathFault) → Refuses (path_or_refusal r)
 formed_refuses (Ok p) = tt
 formed_refuses (Err f) = refl
 
 pub outcome_refuses : (m : Contents) (text : List ℕ) → Refuses (outcome m text)
 unfolding outcome
 outcome_refuses m text =
-    then (sized (request_of text)) _ (sized_refuses (request_of text)) (λ q. then (formed (path_of q.path)) _ (formed_refuses (path_of q.path)) (λ p. then (chosen m.shapes p.class p.instance q.service) _ (chosen_refuses m.shapes p.class p.instance q.service) (λ s. perform_refuses m s p q.data)))
+    then (request_or_refusal (request_of text)) _ (sized_refuses (request_of text)) (λ q. then (path_or_refusal (path_of q.path)) _ (formed_refuses (path_of q.path)) (λ p. then (service_at m.shapes p.class p.instance q.service) _ (chosen_refuses m.shapes p.class p.instance q.service) (λ s. perform_refuses m s p q.data)))

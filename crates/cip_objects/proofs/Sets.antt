@@ -11,8 +11,8 @@ use Rattle.cip_objects.specs.declared.service.Service.TheVariants.{GetAttributes
 use Rattle.cip_objects.specs.declared.status.Status.{Status}
 use Rattle.cip_objects.specs.declared.status.Status.TheVariants.{Success, ReplyDataTooLarge}
 use Rattle.cip_objects.specs.Contents.{Contents, value_at, with_value}
-use Rattle.cip_objects.specs.Reading.{chosen, get_attribute_single}
-use Rattle.cip_objects.specs.Changing.{set_attribute_single, set_member, add, clear}
+use Rattle.cip_objects.specs.ReadServices.{service_at, get_attribute_single}
+use Rattle.cip_objects.specs.ChangeServices.{set_attribute_single, set_member, add, clear}
 use Rattle.cip_objects.specs.Execution.{Outcome, perform, outcome, Executed, fitted, exec, reply_to}
 use Rattle.cip_objects.specs.ExecutionLaws.{exec_too_large}
 use Rattle.cip_objects.specs.Laws.{Reads, too_large_law, changes_fit_law, get_after_set_law, set_leaves_others_law}
@@ -21,7 +21,7 @@ use Rattle.cip_objects.specs.Service.{service_code}
 use Rattle.cip_objects.specs.Tables.{Shape, shape_at, services_of}
 use Rattle.cip_objects.proofs.Offers.{table, offered}
 use Rattle.cip_objects.proofs.Effects.{goes, set_effect, member_effect, add_effect, clear_effect, change_effect, chosen_code}
-use Rattle.cip_objects.proofs.Keys.{value_at-same, value_at-other}
+use Rattle.cip_objects.proofs.ReadAfterSet.{value_at-same, value_at-other}
 use Rattle.cip_objects.proofs.Refuses.{Refuses, no_success, outcome_refuses}
 
 pub too_large : too_large_law
@@ -63,7 +63,7 @@ record WasSet (m : Contents) (path value : List ℕ) (p : Path) (o : Outcome) : 
   attribute : ℕ
   named : p.attribute ≡ Some attribute
   is_path : path_of path ≡ Ok p
-  offers : chosen m.shapes p.class p.instance 0x10 ≡ Ok SetAttributeSingle
+  offers : service_at m.shapes p.class p.instance 0x10 ≡ Ok SetAttributeSingle
   leaves : o.after ≡ with_value m p.class p.instance attribute value
 
 same_request : (q r : Request) → ◌≡◌ {A = Result Request RequestFault} (Ok q) (Ok r) → q ≡ r
@@ -85,7 +85,7 @@ was_set m set path value o e done =
         attribute = x.attribute;
         named = x.named;
         is_path = ap (λ r. path_of r.path) (sym q) ∙ g.is_path;
-        offers = ap (λ r. chosen m.shapes g.path.class g.path.instance r.service) (sym q) ∙ g.is_chosen ∙ ap (λ k. Ok k) s;
+        offers = ap (λ r. service_at m.shapes g.path.class g.path.instance r.service) (sym q) ∙ g.is_chosen ∙ ap (λ k. Ok k) s;
         leaves = c.after ∙ x.leaves;
       },
     )
@@ -105,8 +105,8 @@ table_get false false false true false false x s e = absurd (cc)
 table_get false false false false z o x s e = absurd (cc)
 
 -- what can be set can be got
-offers_get : (shapes : List Shape) (class instance : ℕ) (s : Service) → chosen shapes class instance 0x10 ≡ Ok s → chosen shapes class instance 0x0e ≡ Ok GetAttributeSingle
-unfolding chosen services_of
+offers_get : (shapes : List Shape) (class instance : ℕ) (s : Service) → service_at shapes class instance 0x10 ≡ Ok s → service_at shapes class instance 0x0e ≡ Ok GetAttributeSingle
+unfolding service_at services_of
 offers_get shapes class instance s e =
     table_get (eqb class 1) (eqb class 4) (eqb class 6) (eqb class 100) (eqb instance 0) (eqb instance 1) (shape_at instance shapes) s e
 
@@ -125,7 +125,7 @@ succeeded m room text (Err s) h e = absurd (let bad : true ≡ false = sym (ap (
 succeeded m room text (Ok o) h e = by_fit (nat_lt room (length (reply_to text o.status o.content))) m text o e
 
 -- what a get makes where the attribute is there
-pub get_makes : (m : Contents) (get path value : List ℕ) (p : Path) (a : ℕ) → Reads get 0x0e path [] → path_of path ≡ Ok p → chosen m.shapes p.class p.instance 0x0e ≡ Ok GetAttributeSingle → p.attribute ≡ Some a → value_at m p.class p.instance a ≡ Some value → outcome m get ≡ Ok (record { after = m; status = Success; content = value })
+pub get_makes : (m : Contents) (get path value : List ℕ) (p : Path) (a : ℕ) → Reads get 0x0e path [] → path_of path ≡ Ok p → service_at m.shapes p.class p.instance 0x0e ≡ Ok GetAttributeSingle → p.attribute ≡ Some a → value_at m p.class p.instance a ≡ Some value → outcome m get ≡ Ok (record { after = m; status = Success; content = value })
 unfolding outcome get_attribute_single
 get_makes m get path value p a e f g h v = rw (e, f, g, h, v) refl
 

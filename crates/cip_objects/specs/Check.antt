@@ -3,16 +3,6 @@ use Rattle.std.specs.Prelude.{ℕ, Bool, true, false, nat_lt, if◌then◌else�
 use Rattle.cip_objects.specs.declared.status.Status.{Status}
 use Rattle.cip_objects.specs.declared.status.Status.TheVariants.{NotEnoughData, TooMuchData}
 
-infixl 10 ◌>>=◌
-abbrev pub ◌>>=◌ : {A B : Type 0} → Result A Status → (A → Result B Status) → Result B Status
-(Ok x) >>= f = f x
-(Err s) >>= f = Err s
-
-infixl 10 ◌>>◌
-abbrev pub ◌>>◌ : {A B : Type 0} → Result A Status → Result B Status → Result B Status
-(Ok x) >> r = r
-(Err s) >> r = Err s
-
 -- nothing, or the status where the test fails
 abbrev pub demand : Bool → Status → Result (Unit {0}) Status
 demand true status = Ok tt

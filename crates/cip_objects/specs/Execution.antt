@@ -10,11 +10,11 @@ use Rattle.cip_objects.specs.declared.service.Service.{Service}
 use Rattle.cip_objects.specs.declared.service.Service.TheVariants.{GetAttributesAll, GetAttributeList, GetAttributeSingle, SetAttributeSingle, GetMember, SetMember, Add, Clear}
 use Rattle.cip_objects.specs.declared.status.Status.{Status}
 use Rattle.cip_objects.specs.declared.status.Status.TheVariants.{Success, PathSizeInvalid, PathSegmentError, ReplyDataTooLarge}
-use Rattle.cip_objects.specs.Check.{◌>>=◌}
+use Rattle.cip_bytes.specs.Reading.{◌>>=◌}
 use Rattle.cip_objects.specs.Contents.{Contents}
-use Rattle.cip_objects.specs.Reading.{Answer, chosen, get_attribute_single, get_attributes_all, get_attribute_list, get_member}
-use Rattle.cip_objects.specs.Changing.{Change, set_attribute_single, set_member, add, clear}
-use Rattle.cip_objects.specs.Router.{reply_service}
+use Rattle.cip_objects.specs.ReadServices.{Answer, service_at, get_attribute_single, get_attributes_all, get_attribute_list, get_member}
+use Rattle.cip_objects.specs.ChangeServices.{Change, set_attribute_single, set_member, add, clear}
+use Rattle.cip_message.specs.Reply.{reply_service}
 use Rattle.cip_objects.specs.Status.{status_code}
 
 -- what an execution leaves, the general status, and the data of the reply
@@ -43,32 +43,32 @@ perform m Add path content = changes (add m content)
 perform m Clear path content = changes (clear m content)
 
 -- a request whose path goes past its end, and a path that is none
-abbrev pub sized : Result Request RequestFault → Result Request Status
-sized (Ok q) = Ok q
-sized (Err f) = Err PathSizeInvalid
+abbrev pub request_or_refusal : Result Request RequestFault → Result Request Status
+request_or_refusal (Ok q) = Ok q
+request_or_refusal (Err f) = Err PathSizeInvalid
 
-abbrev pub formed : Result Path PathFault → Result Path Status
-formed (Ok p) = Ok p
-formed (Err f) = Err PathSegmentError
+abbrev pub path_or_refusal : Result Path PathFault → Result Path Status
+path_or_refusal (Ok p) = Ok p
+path_or_refusal (Err f) = Err PathSegmentError
 
 -- an outcome whose data are written behind a front, where that fits into the room
-abbrev pub limited : ℕ → List ℕ → Result Outcome Status → Result Outcome Status
-limited room front (Ok o) =
+abbrev pub outcome_in_room : ℕ → List ℕ → Result Outcome Status → Result Outcome Status
+outcome_in_room room front (Ok o) =
     if nat_lt room (length (front ++ o.content)) then Err ReplyDataTooLarge
     else Ok (record { after = o.after; status = o.status; content = front ++ o.content })
-limited room front (Err s) = Err s
+outcome_in_room room front (Err s) = Err s
 
 -- what a call answered, and the contents and the text that it left
-abbrev pub performed : Contents → Result Status Status → List ℕ → Result Outcome Status
-performed after (Ok status) text = Ok (record { after = after; status = status; content = text })
-performed after (Err s) text = Err s
+abbrev pub outcome_left : Contents → Result Status Status → List ℕ → Result Outcome Status
+outcome_left after (Ok status) text = Ok (record { after = after; status = status; content = text })
+outcome_left after (Err s) text = Err s
 
 -- the outcome of a request, apart from the room for its reply: the first check that fails decides
 unfoldable pub outcome : Contents → List ℕ → Result Outcome Status
 outcome m text = do
-  request ← sized (request_of text)
-  path ← formed (path_of request.path)
-  service ← chosen m.shapes path.class path.instance request.service
+  request ← request_or_refusal (request_of text)
+  path ← path_or_refusal (path_of request.path)
+  service ← service_at m.shapes path.class path.instance request.service
   perform m service path request.data
 
 -- a reply of this status: the service of the request with bit 7, no additional words

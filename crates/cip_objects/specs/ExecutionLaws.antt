@@ -10,11 +10,12 @@ use Rattle.cip_objects.specs.declared.service.Service.{Service}
 use Rattle.cip_objects.specs.declared.service.Service.TheVariants.{GetAttributesAll, GetAttributeList, GetAttributeSingle, SetAttributeSingle, GetMember, SetMember, Add, Clear}
 use Rattle.cip_objects.specs.declared.status.Status.{Status}
 use Rattle.cip_objects.specs.declared.status.Status.TheVariants.{Success, AttributeListError, ReplyDataTooLarge}
-use Rattle.cip_objects.specs.Check.{◌>>=◌, ◌>>◌, demand, exactly}
+use Rattle.cip_bytes.specs.Reading.{◌>>=◌, ◌>>◌}
+use Rattle.cip_objects.specs.Check.{demand, exactly}
 use Rattle.cip_objects.specs.Contents.{Contents, value_at}
-use Rattle.cip_objects.specs.Reading.{Answer, chosen, named_member, get_attribute_single, get_attributes_all, get_attribute_list, get_member, list_status}
-use Rattle.cip_objects.specs.Changing.{Change, set_attribute_single, set_member, add, clear}
-use Rattle.cip_objects.specs.Execution.{Outcome, reads, changes, perform, sized, formed, outcome, reply_to, Executed, fitted, exec}
+use Rattle.cip_objects.specs.ReadServices.{Answer, service_at, named_member, get_attribute_single, get_attributes_all, get_attribute_list, get_member, list_status}
+use Rattle.cip_objects.specs.ChangeServices.{Change, set_attribute_single, set_member, add, clear}
+use Rattle.cip_objects.specs.Execution.{Outcome, reads, changes, perform, request_or_refusal, path_or_refusal, outcome, reply_to, Executed, fitted, exec}
 use Rattle.cip_objects.specs.Router.{general_status, IsReplyTo, REPLY_TOO_LARGE}
 use Rattle.cip_objects.specs.Status.{status_code}
 
@@ -84,7 +85,7 @@ outcome_then (Err s) f h = tt
 pub outcome_done : (m : Contents) (text : List ℕ) → IsDoneOutcome (outcome m text)
 unfolding outcome
 outcome_done m text =
-    outcome_then (sized (request_of text)) _ (λ q. outcome_then (formed (path_of q.path)) _ (λ p. outcome_then (chosen m.shapes p.class p.instance q.service) _ (λ s. perform_done m s p q.data)))
+    outcome_then (request_or_refusal (request_of text)) _ (λ q. outcome_then (path_or_refusal (path_of q.path)) _ (λ p. outcome_then (service_at m.shapes p.class p.instance q.service) _ (λ s. perform_done m s p q.data)))
 
 not_too_large : (status : Status) → IsDone status → status_code status ≡ REPLY_TOO_LARGE → ⊥
 not_too_large status h e = grind arith

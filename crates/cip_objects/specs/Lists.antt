@@ -7,7 +7,7 @@ use Rattle.cip_message.specs.PathReading.{path_of}
 use Rattle.cip_objects.specs.Contents.{Contents}
 use Rattle.cip_objects.specs.Execution.{reply_to, exec}
 use Rattle.cip_objects.specs.Laws.{Reads}
-use Rattle.cip_objects.specs.Reading.{list_status}
+use Rattle.cip_objects.specs.ReadServices.{list_status}
 use Rattle.cip_objects.specs.Router.{general_status}
 
 -- the text is a Get_Attribute_Single of this attribute of the instance that the path names
@@ -26,11 +26,11 @@ AreGets p (a ∷ attributes) [] = ⊥
 AreGets p (a ∷ attributes) (get ∷ gets) = IsGet p a get × AreGets p attributes gets
 
 -- each attribute's number, then the status and the data of its own reply
-abbrev pub joined : List ℕ → List (List ℕ) → List ℕ
-joined [] replies = []
-joined (a ∷ attributes) [] = []
-joined (a ∷ attributes) (reply ∷ replies) =
-    le 2 a ++ (le 2 (general_status reply) ++ (drop 4 reply ++ joined attributes replies))
+abbrev pub entries_of_replies : List ℕ → List (List ℕ) → List ℕ
+entries_of_replies [] replies = []
+entries_of_replies (a ∷ attributes) [] = []
+entries_of_replies (a ∷ attributes) (reply ∷ replies) =
+    le 2 a ++ (le 2 (general_status reply) ++ (drop 4 reply ++ entries_of_replies attributes replies))
 
 abbrev pub is_success : List ℕ → Bool
 is_success reply = general_status reply == 0x00
@@ -44,4 +44,4 @@ list_law =
     → (general_status (exec m room list).answer ≡ 0x00) ⊎ (general_status (exec m room list).answer ≡ 0x0a)
     → let replies = map (λ get. (exec m room get).answer) gets in
     (exec m room list).answer ≡ reply_to list (list_status (list_all is_success replies))
-    (le 2 (length gets) ++ joined (words_of (drop 2 content)) replies)
+    (le 2 (length gets) ++ entries_of_replies (words_of (drop 2 content)) replies)

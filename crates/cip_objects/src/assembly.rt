@@ -3,14 +3,14 @@ ghost use Rattle.std.specs.Prelude.{◌≡◌, ◌≤◌, ◌+◌, ◌-◌, ◌*
 ghost use Rattle.cip_objects.specs.Entries.{attribute_in, block_attributes, block_at, greatest_of};
 ghost use Rattle.cip_objects.specs.Places.{IsFirst};
 ghost use Rattle.cip_objects.specs.Tables.{span_of};
-ghost use Rattle.cip_objects.specs.Value.{value_bytes};
+ghost use Rattle.cip_objects.specs.Value.{value_bytes, IsShort};
 
 use crate::value::Value;
 use std::alloc::{AllocError, Global};
 use std::marker::Model;
 
 /// The most bytes of an assembly's data.
-pub(crate) const SIZE_LIMIT: usize = 480;
+pub(crate) const DATA_LIMIT: usize = 480;
 
 /// The most members of an assembly.
 pub(crate) const MEMBER_LIMIT: usize = 64;
@@ -52,8 +52,8 @@ impl Assembly {
         settable: bool,
         members: &[u16],
     ) -> Result<Assembly, AllocError>
-        requires few { length members.now ≤ 64 }
-        requires small { sum members.now ≤ 480 }
+        requires few { length members.now ≤ MEMBER_LIMIT }
+        requires small { sum members.now ≤ DATA_LIMIT }
         ensures { IfOk result (λ a. a ≡ record { instance = instance; settable = settable; members = members.now; content = replicate (sum members.now) 0 }) }
     {
         Ok(Assembly {
@@ -82,12 +82,12 @@ impl Assembly {
     /// The value of an attribute of the instance.
     pub(crate) fn attribute(&self, attribute: u16) -> Option<Value<'_>>
         ensures value { option_map value_bytes result ≡ attribute_in attribute (block_attributes self.now) }
-        ensures short { IfSome result (λ value. length (value_bytes value) ≤ 480) }
+        ensures short { IfSome result IsShort }
     {
         match attribute {
-            1 => Some(Value::Word(self.members.len() as u16)),
+            1 => Some(Value::Uint(self.members.len() as u16)),
             3 => Some(Value::Bytes(self.content.as_slice())),
-            4 => Some(Value::Word(self.content.len() as u16)),
+            4 => Some(Value::Uint(self.content.len() as u16)),
             _ => None,
         }
     }
@@ -135,7 +135,7 @@ impl Assembly {
 
 /// The bytes that members of these sizes have together.
 fn total(members: &[u16]) -> usize
-    requires { length members.now ≤ 64 }
+    requires { length members.now ≤ MEMBER_LIMIT }
     ensures { result ≡ sum members.now }
 {
     let mut all: usize = 0;
@@ -146,7 +146,7 @@ fn total(members: &[u16]) -> usize
 }
 
 /// The place of the first assembly of this instance number.
-pub(crate) fn place(assemblies: &[Assembly], instance: u32) -> Option<usize>
+pub(crate) fn position(assemblies: &[Assembly], instance: u32) -> Option<usize>
     ensures { MatchOption result (block_at instance assemblies.now ≡ None) (IsFirst assemblies.now instance) }
 {
     for (i, assembly) in assemblies.iter().enumerate() {

@@ -1,9 +1,10 @@
 //! What the objects are made from, and what is refused.
 ghost use Rattle.std.specs.Prelude.{◌≡◌, ◌≤◌, ◌+◌, ◌<◌, ◌==◌, ◌||◌, not, nat_lt, length, sum, Some, None};
 ghost use Rattle.std.specs.List.{list_any};
+ghost use Rattle.cip_objects.specs.Limits.{LONGEST_DATA};
 ghost use Rattle.cip_objects.specs.Configuration.{is_misnamed, is_missized, is_wrongly_split, is_misnumbered, instances};
 
-use crate::assembly::{MEMBER_LIMIT, SIZE_LIMIT};
+use crate::assembly::{DATA_LIMIT, MEMBER_LIMIT};
 use crate::identity::NAME_LIMIT;
 use std::alloc::{AllocError, AllocFailed};
 use thiserror::Error;
@@ -82,6 +83,7 @@ pub enum ConfigFault {
 }
 
 impl ConfigFault {
+    ghost use Rattle.cip_objects.specs.Limits.{LONGEST_DATA};
     ghost use Rattle.cip_objects.specs.Configuration.{config_fault_number};
 
     /// The number of the fault, by which it is printed.
@@ -113,6 +115,7 @@ impl<T: Drop> From<AllocFailed<T>> for ConfigFault {
 }
 
 impl Config {
+    ghost use Rattle.cip_objects.specs.Limits.{LONGEST_DATA};
     ghost use Rattle.cip_objects.specs.Configuration.{fault_of};
 
     /// The first check that fails, but for want of memory.
@@ -168,12 +171,12 @@ fn has_missized(assemblies: &[AssemblyConfig]) -> bool
 
 /// Whether members of these sizes have no byte together or too many.
 fn is_missized(members: &[u16]) -> bool
-    ensures { result ≡ (sum members.now == 0) || nat_lt 480 (sum members.now) }
+    ensures { result ≡ (sum members.now == 0) || nat_lt LONGEST_DATA (sum members.now) }
 {
     let mut all: usize = 0;
     for size in members {
         all += usize::from(*size);
-        if all > SIZE_LIMIT {
+        if all > DATA_LIMIT {
             return true;
         }
     }

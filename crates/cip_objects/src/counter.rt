@@ -1,7 +1,7 @@
 //! The counter, an object of the vendor's own (class 0x64).
-ghost use Rattle.std.specs.Prelude.{◌≡◌, ◌<◌, ◌^◌, option_map, IfSome, length, ◌≤◌};
+ghost use Rattle.std.specs.Prelude.{◌≡◌, ◌<◌, ◌^◌, option_map, IfSome};
 ghost use Rattle.cip_objects.specs.Entries.{attribute_in, counter_attributes};
-ghost use Rattle.cip_objects.specs.Value.{value_bytes};
+ghost use Rattle.cip_objects.specs.Value.{value_bytes, IsShort};
 
 use crate::value::Value;
 
@@ -32,12 +32,12 @@ impl Counter {
     /// The value of an attribute of the instance.
     pub(crate) fn attribute(self, attribute: u16) -> Option<Value<'static>>
         ensures value { option_map value_bytes result ≡ attribute_in attribute (counter_attributes (counter_values self)) }
-        ensures short { IfSome result (λ value. length (value_bytes value) ≤ 480) }
+        ensures short { IfSome result IsShort }
     {
         match attribute {
-            1 => Some(Value::Double(self.value)),
-            2 => Some(Value::Double(self.limit)),
-            3 => Some(Value::Double(self.additions)),
+            1 => Some(Value::Udint(self.value)),
+            2 => Some(Value::Udint(self.limit)),
+            3 => Some(Value::Udint(self.additions)),
             _ => None,
         }
     }

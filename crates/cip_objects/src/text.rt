@@ -3,11 +3,11 @@ ghost use Rattle.std.specs.Prelude.{◌≡◌, ◌≤◌, ◌++◌, [], ◌∷�
 ghost use Rattle.cip_objects.specs.Text.{Writes};
 
 use crate::Status;
-use crate::router::ReplyBuf;
+use crate::router::{REPLY_LIMIT, ReplyBuf};
 
 /// Appends bytes to a reply, where it then has at most `room` bytes.
 pub(crate) fn append(bytes: &[u8], room: usize, reply: &mut ReplyBuf) -> Result<(), Status>
-    requires { room ≤ 512 }
+    requires { room ≤ REPLY_LIMIT }
     ensures { Writes room (reply.old.items ++ bytes.now) result reply.new.items }
 {
     if room < reply.len() + bytes.len() {

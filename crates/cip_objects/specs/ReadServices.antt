@@ -9,15 +9,16 @@ use Rattle.cip_objects.specs.declared.assembly.Span.{Span}
 use Rattle.cip_objects.specs.declared.service.Service.{Service}
 use Rattle.cip_objects.specs.declared.status.Status.{Status}
 use Rattle.cip_objects.specs.declared.status.Status.TheVariants.{Success, PathDestinationUnknown, ServiceNotSupported, AttributeListError, AttributeNotSupported, InvalidMemberId, NotEnoughData, ReplyDataTooLarge}
-use Rattle.cip_objects.specs.Check.{◌>>=◌, ◌>>◌, demand, exactly}
+use Rattle.cip_bytes.specs.Reading.{◌>>=◌, ◌>>◌}
+use Rattle.cip_objects.specs.Check.{demand, exactly}
 use Rattle.cip_objects.specs.Contents.{Contents, value_at, bytes_at}
 use Rattle.cip_objects.specs.Service.{service_in}
 use Rattle.cip_objects.specs.Status.{status_code}
 use Rattle.cip_objects.specs.Tables.{Shape, services_of, member_at, ASSEMBLY}
 
 -- the service of this code, where the class and instance are there and have it
-unfoldable pub chosen : List Shape → ℕ → ℕ → ℕ → Result Service Status
-chosen shapes class instance code = do
+unfoldable pub service_at : List Shape → ℕ → ℕ → ℕ → Result Service Status
+service_at shapes class instance code = do
   offered ← ok_or (services_of shapes class instance) PathDestinationUnknown
   ok_or (service_in code offered) ServiceNotSupported
 
@@ -30,16 +31,16 @@ abbrev pub answer : Status → List ℕ → Result Answer Status
 answer status content = Ok (record { status = status; content = content })
 
 -- an answer whose data are written behind a front, where that fits into the room
-abbrev pub limited : ℕ → List ℕ → Result Answer Status → Result Answer Status
-limited room front (Ok a) =
+abbrev pub answer_in_room : ℕ → List ℕ → Result Answer Status → Result Answer Status
+answer_in_room room front (Ok a) =
     if nat_lt room (length (front ++ a.content)) then Err ReplyDataTooLarge
     else Ok (record { status = a.status; content = front ++ a.content })
-limited room front (Err s) = Err s
+answer_in_room room front (Err s) = Err s
 
 -- what a call answered, and the text that it left
-abbrev pub answered : Result Status Status → List ℕ → Result Answer Status
-answered (Ok status) text = Ok (record { status = status; content = text })
-answered (Err s) text = Err s
+abbrev pub answer_left : Result Status Status → List ℕ → Result Answer Status
+answer_left (Ok status) text = Ok (record { status = status; content = text })
+answer_left (Err s) text = Err s
 
 -- Get_Attribute_Single: the value of the attribute
 unfoldable pub get_attribute_single : Contents → Path → List ℕ → Result Answer Status
@@ -60,12 +61,12 @@ get_attributes_all m path content = do
   answer Success (flat_map (bytes_at m path.class path.instance) ALL_ATTRIBUTES)
 
 -- one attribute of a list: its number, its status, and its value where it is there
-abbrev pub listed_as : ℕ → Option (List ℕ) → List ℕ
-listed_as attribute None = le 2 attribute ++ le 2 (status_code AttributeNotSupported)
-listed_as attribute (Some value) = le 2 attribute ++ (le 2 (status_code Success) ++ value)
+abbrev pub list_entry_of : ℕ → Option (List ℕ) → List ℕ
+list_entry_of attribute None = le 2 attribute ++ le 2 (status_code AttributeNotSupported)
+list_entry_of attribute (Some value) = le 2 attribute ++ (le 2 (status_code Success) ++ value)
 
-unfoldable pub listed : Contents → Path → ℕ → List ℕ
-listed m path attribute = listed_as attribute (value_at m path.class path.instance attribute)
+unfoldable pub list_entry : Contents → Path → ℕ → List ℕ
+list_entry m path attribute = list_entry_of attribute (value_at m path.class path.instance attribute)
 
 abbrev pub is_there : Contents → Path → ℕ → Bool
 is_there m path attribute = is_some (value_at m path.class path.instance attribute)
@@ -84,7 +85,7 @@ unfoldable pub get_attribute_list : Contents → Path → List ℕ → Result An
 get_attribute_list m path content = do
   demand (nat_le 2 (length content)) NotEnoughData
   exactly (2 + 2 * little_number 2 content) content
-  answer (list_status (all_there m path (words_of (drop 2 content)))) (le 2 (little_number 2 content) ++ flat_map (listed m path) (words_of (drop 2 content)))
+  answer (list_status (all_there m path (words_of (drop 2 content)))) (le 2 (little_number 2 content) ++ flat_map (list_entry m path) (words_of (drop 2 content)))
 
 -- whether the attribute is the data of an assembly
 abbrev pub is_data : Option ℕ → Bool

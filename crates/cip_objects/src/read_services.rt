@@ -3,7 +3,7 @@ ghost use Rattle.std.specs.Prelude.{◌≡◌, ◌≤◌, ◌+◌, ◌++◌, len
 ghost use Rattle.std.specs.List.{flat_map};
 ghost use Rattle.cip_bytes.specs.Numbers.{words_of};
 ghost use Rattle.cip_objects.specs.Contents.{bytes_at};
-ghost use Rattle.cip_objects.specs.Reading.{answered, limited, get_attribute_single, get_attributes_all, get_attribute_list, get_member, named_member, listed, is_there, all_there, ALL_ATTRIBUTES};
+ghost use Rattle.cip_objects.specs.ReadServices.{answer_left, answer_in_room, get_attribute_single, get_attributes_all, get_attribute_list, get_member, named_member, list_entry, is_there, all_there, ALL_ATTRIBUTES};
 ghost use Rattle.cip_objects.specs.Tables.{shape_at};
 ghost use Rattle.cip_objects.specs.Text.{Writes};
 
@@ -11,14 +11,14 @@ use crate::Status;
 use crate::assembly::Span;
 use crate::check::exactly;
 use crate::objects::{ASSEMBLY, Objects};
-use crate::router::ReplyBuf;
+use crate::router::{REPLY_LIMIT, ReplyBuf};
 use crate::text::append;
 use byteorder::{ByteOrder, LittleEndian};
 use cip_message::Path;
 
 impl Objects {
     /// Get_Attribute_Single.
-    #[tactic(auto, unfolding(crate::specs::Reading::get_attribute_single))]
+    #[tactic(auto, unfolding(crate::specs::ReadServices::get_attribute_single))]
     pub(crate) fn get_attribute_single(
         &self,
         path: Path,
@@ -26,8 +26,8 @@ impl Objects {
         room: usize,
         reply: &mut ReplyBuf,
     ) -> Result<Status, Status>
-        requires { room ≤ 512 }
-        ensures { answered result reply.new.items ≡ limited room reply.old.items (get_attribute_single self.now path «data».now) }
+        requires { room ≤ REPLY_LIMIT }
+        ensures { answer_left result reply.new.items ≡ answer_in_room room reply.old.items (get_attribute_single self.now path «data».now) }
     {
         let attribute = path.attribute.ok_or(Status::AttributeNotSupported)?;
         let value = self
@@ -39,7 +39,7 @@ impl Objects {
     }
 
     /// Get_Attributes_All.
-    #[tactic(auto, unfolding(crate::specs::Reading::get_attributes_all))]
+    #[tactic(auto, unfolding(crate::specs::ReadServices::get_attributes_all))]
     pub(crate) fn get_attributes_all(
         &self,
         path: Path,
@@ -47,9 +47,9 @@ impl Objects {
         room: usize,
         reply: &mut ReplyBuf,
     ) -> Result<Status, Status>
-        requires room { room ≤ 512 }
+        requires room { room ≤ REPLY_LIMIT }
         requires fits { length reply.old.items ≤ room }
-        ensures { answered result reply.new.items ≡ limited room reply.old.items (get_attributes_all self.now path «data».now) }
+        ensures { answer_left result reply.new.items ≡ answer_in_room room reply.old.items (get_attributes_all self.now path «data».now) }
     {
         exactly(0, data)?;
         self.append_all(path, room, reply)?;
@@ -58,7 +58,7 @@ impl Objects {
 
     /// Appends the values of attributes 1 to 7.
     fn append_all(&self, path: Path, room: usize, reply: &mut ReplyBuf) -> Result<(), Status>
-        requires room { room ≤ 512 }
+        requires room { room ≤ REPLY_LIMIT }
         requires fits { length reply.old.items ≤ room }
         ensures { Writes room (reply.old.items ++ flat_map (bytes_at self.now path.class path.instance) ALL_ATTRIBUTES) result reply.new.items }
     {
@@ -76,7 +76,7 @@ impl Objects {
         room: usize,
         reply: &mut ReplyBuf,
     ) -> Result<(), Status>
-        requires room { room ≤ 512 }
+        requires room { room ≤ REPLY_LIMIT }
         requires fits { length reply.old.items ≤ room }
         ensures { Writes room (reply.old.items ++ bytes_at self.now path.class path.instance attribute) result reply.new.items }
     {
@@ -87,7 +87,7 @@ impl Objects {
     }
 
     /// Get_Attribute_List.
-    #[tactic(auto, unfolding(crate::specs::Reading::get_attribute_list))]
+    #[tactic(auto, unfolding(crate::specs::ReadServices::get_attribute_list))]
     pub(crate) fn get_attribute_list(
         &self,
         path: Path,
@@ -95,8 +95,8 @@ impl Objects {
         room: usize,
         reply: &mut ReplyBuf,
     ) -> Result<Status, Status>
-        requires { room ≤ 512 }
-        ensures { answered result reply.new.items ≡ limited room reply.old.items (get_attribute_list self.now path «data».now) }
+        requires { room ≤ REPLY_LIMIT }
+        ensures { answer_left result reply.new.items ≡ answer_in_room room reply.old.items (get_attribute_list self.now path «data».now) }
     {
         if data.len() < 2 {
             return Err(Status::NotEnoughData);
@@ -120,9 +120,9 @@ impl Objects {
         room: usize,
         reply: &mut ReplyBuf,
     ) -> Result<bool, Status>
-        requires room { room ≤ 512 }
+        requires room { room ≤ REPLY_LIMIT }
         requires fits { length reply.old.items ≤ room }
-        ensures text { Writes room (reply.old.items ++ flat_map (listed self.now path) (words_of list.now)) result reply.new.items }
+        ensures text { Writes room (reply.old.items ++ flat_map (list_entry self.now path) (words_of list.now)) result reply.new.items }
         ensures there { IfOk result (λ all. all ≡ all_there self.now path (words_of list.now)) }
     {
         let mut all = true;
@@ -135,7 +135,7 @@ impl Objects {
     }
 
     /// Appends one attribute of a list, and answers whether it is there.
-    #[tactic(auto, unfolding(crate::specs::Reading::listed))]
+    #[tactic(auto, unfolding(crate::specs::ReadServices::list_entry))]
     fn append_listed(
         &self,
         path: Path,
@@ -143,8 +143,8 @@ impl Objects {
         room: usize,
         reply: &mut ReplyBuf,
     ) -> Result<bool, Status>
-        requires { room ≤ 512 }
-        ensures text { Writes room (reply.old.items ++ listed self.now path attribute) result reply.new.items }
+        requires { room ≤ REPLY_LIMIT }
+        ensures text { Writes room (reply.old.items ++ list_entry self.now path attribute) result reply.new.items }
         ensures there { IfOk result (λ there. there ≡ is_there self.now path attribute) }
     {
         append(&attribute.to_le_bytes(), room, reply)?;
@@ -162,7 +162,7 @@ impl Objects {
     }
 
     /// Where the member lies that the path names.
-    #[tactic(auto, unfolding(crate::specs::Reading::named_member))]
+    #[tactic(auto, unfolding(crate::specs::ReadServices::named_member))]
     pub(crate) fn named_member(&self, path: Path) -> Result<Span, Status>
         ensures place { result ≡ named_member self.now.shapes path }
         ensures there { OnOk result (IsSome (shape_at path.instance self.now.shapes)) }
@@ -177,7 +177,7 @@ impl Objects {
     }
 
     /// Get_Member.
-    #[tactic(auto, unfolding(crate::specs::Reading::get_member))]
+    #[tactic(auto, unfolding(crate::specs::ReadServices::get_member))]
     pub(crate) fn get_member(
         &self,
         path: Path,
@@ -185,8 +185,8 @@ impl Objects {
         room: usize,
         reply: &mut ReplyBuf,
     ) -> Result<Status, Status>
-        requires { room ≤ 512 }
-        ensures { answered result reply.new.items ≡ limited room reply.old.items (get_member self.now path «data».now) }
+        requires { room ≤ REPLY_LIMIT }
+        ensures { answer_left result reply.new.items ≡ answer_in_room room reply.old.items (get_member self.now path «data».now) }
     {
         let span = self.named_member(path)?;
         exactly(0, data)?;

@@ -1,7 +1,7 @@
 //! The services that change (Volume 1, common services; Add and Clear are the counter's own).
 ghost use Rattle.std.specs.Prelude.{◌≡◌, ◌≤◌, ◌+◌, length, [], OnErr};
 ghost use Rattle.cip_bytes.specs.Numbers.{le};
-ghost use Rattle.cip_objects.specs.Changing.{changed, set_attribute_single, set_member, add, clear, limited_by};
+ghost use Rattle.cip_objects.specs.ChangeServices.{change_left, set_attribute_single, set_member, add, clear, limit_change};
 
 use crate::Status;
 use crate::check::exactly;
@@ -11,9 +11,9 @@ use cip_message::Path;
 
 impl Objects {
     /// Set_Attribute_Single.
-    #[tactic(auto, unfolding(crate::specs::Changing::set_attribute_single))]
+    #[tactic(auto, unfolding(crate::specs::ChangeServices::set_attribute_single))]
     pub(crate) fn set_attribute_single(&mut self, path: Path, data: &[u8]) -> Result<(), Status>
-        ensures changed { changed (λ _. []) self.new result ≡ set_attribute_single self.old path «data».now }
+        ensures change_left { change_left (λ _. []) self.new result ≡ set_attribute_single self.old path «data».now }
         ensures err { OnErr result (self.new ≡ self.old) }
     {
         let attribute = path.attribute.ok_or(Status::AttributeNotSupported)?;
@@ -33,7 +33,7 @@ impl Objects {
     /// Sets the counter's limit, where it isn't below the value.
     fn change_limit(&mut self, data: &[u8]) -> Result<(), Status>
         requires { length «data».now ≡ 4 }
-        ensures changed { changed (λ _. []) self.new result ≡ limited_by self.old «data».now }
+        ensures change_left { change_left (λ _. []) self.new result ≡ limit_change self.old «data».now }
         ensures err { OnErr result (self.new ≡ self.old) }
     {
         let limit = LittleEndian::read_u32(data);
@@ -45,9 +45,9 @@ impl Objects {
     }
 
     /// Set_Member.
-    #[tactic(auto, unfolding(crate::specs::Changing::set_member))]
+    #[tactic(auto, unfolding(crate::specs::ChangeServices::set_member))]
     pub(crate) fn set_member(&mut self, path: Path, data: &[u8]) -> Result<(), Status>
-        ensures changed { changed (λ _. []) self.new result ≡ set_member self.old path «data».now }
+        ensures change_left { change_left (λ _. []) self.new result ≡ set_member self.old path «data».now }
         ensures err { OnErr result (self.new ≡ self.old) }
     {
         let span = self.named_member(path)?;
@@ -59,9 +59,9 @@ impl Objects {
     }
 
     /// Add: answers the new value.
-    #[tactic(auto, unfolding(crate::specs::Changing::add))]
+    #[tactic(auto, unfolding(crate::specs::ChangeServices::add))]
     pub(crate) fn add(&mut self, data: &[u8]) -> Result<u32, Status>
-        ensures changed { changed (le 4) self.new result ≡ add self.old «data».now }
+        ensures change_left { change_left (le 4) self.new result ≡ add self.old «data».now }
         ensures err { OnErr result (self.new ≡ self.old) }
     {
         exactly(4, data)?;
@@ -77,9 +77,9 @@ impl Objects {
     }
 
     /// Clear: answers the old value.
-    #[tactic(auto, unfolding(crate::specs::Changing::clear))]
+    #[tactic(auto, unfolding(crate::specs::ChangeServices::clear))]
     pub(crate) fn clear(&mut self, data: &[u8]) -> Result<u32, Status>
-        ensures changed { changed (le 4) self.new result ≡ clear self.old «data».now }
+        ensures change_left { change_left (le 4) self.new result ≡ clear self.old «data».now }
         ensures err { OnErr result (self.new ≡ self.old) }
     {
         exactly(0, data)?;
