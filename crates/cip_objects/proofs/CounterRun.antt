@@ -5,6 +5,7 @@ use Rattle.std.proofs.lemmas.Bool.Decides.{nat_tests}
 use Rattle.std.proofs.lemmas.Bool.Decides.{eqb_tells}
 use Rattle.std.proofs.lemmas.List.{get_or-drop}
 use Rattle.byteorder.specs.Endian.{little_number}
+use Rattle.cip_bytes.specs.Reading.{◌>>=◌}
 use Rattle.cip_message.specs.declared.path.Path.{Path}
 use Rattle.cip_message.specs.declared.request.RequestFault.{RequestFault}
 use Rattle.cip_message.specs.declared.request.RequestFault.TheVariants.{PathSize}
@@ -13,16 +14,19 @@ use Rattle.cip_message.specs.PathReading.{path_of}
 use Rattle.cip_message.specs.Request.{Request, request_of}
 use Rattle.cip_objects.specs.declared.service.Service.{Service}
 use Rattle.cip_objects.specs.declared.service.Service.TheVariants.{GetAttributesAll, GetAttributeList, GetAttributeSingle, SetAttributeSingle, GetMember, SetMember, Add, Clear}
-use Rattle.cip_objects.specs.declared.status.Status.{Status}
-use Rattle.cip_objects.specs.declared.status.Status.TheVariants.{Success, ReplyDataTooLarge}
+use Rattle.cip_objects.specs.declared.status.Refusal.{Refusal}
+use Rattle.cip_objects.specs.declared.status.Completion.TheVariants.{Whole}
+use Rattle.cip_objects.specs.declared.status.Refusal.TheVariants.{ReplyDataTooLarge}
 use Rattle.cip_objects.specs.Contents.{Contents, with_value}
 use Rattle.cip_objects.specs.ReadServices.{service_at, get_attribute_single, get_attributes_all, get_attribute_list, get_member}
 use Rattle.cip_objects.specs.ChangeServices.{Change, after_add, is_allowed, set_attribute_single, set_member, add, clear}
-use Rattle.cip_objects.specs.Execution.{Outcome, perform, outcome, Executed, fitted, exec, reply_to, run}
+use Rattle.cip_objects.specs.Execution.{Outcome, perform, outcome, Executed, with_reply, or_refusal, exec, reply_to, run}
 use Rattle.cip_objects.specs.Run.{value_of, limit_of, additions_of, IsCounter, is_counter, to_counter, addition, sum_after, sum_since_cleared, number_of_additions, counter_law}
 use Rattle.cip_objects.specs.Router.{general_status}
-use Rattle.cip_objects.specs.Status.{status_code}
-use Rattle.cip_objects.proofs.Refuses.{Refuses, no_success, outcome_refuses}
+use Rattle.cip_objects.specs.Status.{status_code, completion_status, refusal_status}
+use Rattle.cip_objects.specs.ExecutionLaws.{reply_of_outcome}
+use Rattle.cip_objects.proofs.Executed.{answered_by}
+use Rattle.cip_objects.proofs.Refuses.{no_success}
 use Rattle.cip_objects.specs.Service.{service_code}
 use Rattle.cip_objects.specs.Tables.{Shape, shape_at, services_of}
 use Rattle.cip_objects.proofs.Offers.{table, offered}
@@ -85,7 +89,7 @@ pub record Effect (m : Contents) (text : List ℕ) (o : Outcome) : Type 0 where
   pub value : value_of o.after ≡ cond (clears_by text) 0 (value_of m + unwrap_or (added_by text) 0)
   pub additions : additions_of o.after ≡ (additions_of m + cond (is_some (added_by text)) 1 0) % 2 ^ 32
   pub counter : IsCounter o.after
-  pub done : (o.status ≡ Success) ⊎ ((added_by text ≡ None) × (clears_by text ≡ false))
+  pub done : (o.status ≡ Whole) ⊎ ((added_by text ≡ None) × (clears_by text ≡ false))
 
 to_other : (code : ℕ) (text : List ℕ) (q : Request) → request_of text ≡ Ok q → eqb q.service code ≡ false → to_counter code (request_of text) ≡ None
 to_other code text q e h = ap (to_counter code) e ∙ ap (λ t. cond (t && is_counter (path_of q.path)) (Some q.data) None) h
@@ -166,7 +170,7 @@ member_moves m text o q p c hc e na nc after x =
     hc
 
 -- an addition
-add_moves : (m : Contents) (text : List ℕ) (o : Outcome) (q : Request) (n : ℕ) → IsCounter m → to_counter 0x32 (request_of text) ≡ Some q.data → to_counter 0x33 (request_of text) ≡ None → n ≡ little_number 4 q.data → value_of m + n ≤ limit_of m → o.after ≡ after_add m (value_of m + n) → o.status ≡ Success → Effect m text o
+add_moves : (m : Contents) (text : List ℕ) (o : Outcome) (q : Request) (n : ℕ) → IsCounter m → to_counter 0x32 (request_of text) ≡ Some q.data → to_counter 0x33 (request_of text) ≡ None → n ≡ little_number 4 q.data → value_of m + n ≤ limit_of m → o.after ≡ after_add m (value_of m + n) → o.status ≡ Whole → Effect m text o
 add_moves m text o q n hc e nc is within leaves done =
     let total = value_of m + n in
     let fits : total < 2 ^ 32 = omega (arith, hc.limit) in
@@ -185,7 +189,7 @@ add_moves m text o q n hc e nc is within leaves done =
     }
 
 -- a clearing
-clear_moves : (m : Contents) (text : List ℕ) (o : Outcome) (q : Request) → IsCounter m → to_counter 0x33 (request_of text) ≡ Some q.data → to_counter 0x32 (request_of text) ≡ None → o.after ≡ with_value m 100 1 1 (le 4 0) → o.status ≡ Success → Effect m text o
+clear_moves : (m : Contents) (text : List ℕ) (o : Outcome) (q : Request) → IsCounter m → to_counter 0x33 (request_of text) ≡ Some q.data → to_counter 0x32 (request_of text) ≡ None → o.after ≡ with_value m 100 1 1 (le 4 0) → o.status ≡ Whole → Effect m text o
 clear_moves m text o q hc e na leaves done =
     let v : value_of o.after ≡ 0 = ap value_of leaves ∙ udint_at-set m 100 1 1 0 (omega arith) in
     let l : limit_of o.after ≡ limit_of m = ap limit_of leaves ∙ udint_at-other m 100 1 1 (le 4 0) 100 1 2 refl in
@@ -260,9 +264,9 @@ cond_none : (t : Bool) → ◌≡◌ {A = Option ℕ} (cond t None None) None
 cond_none true = refl
 cond_none false = refl
 
-told : (m : Contents) (text reply : List ℕ) (o : Outcome) → Effect m text o → general_status reply ≡ status_code o.status → (o.status ≡ Success) ⊎ ((added_by text ≡ None) × (clears_by text ≡ false)) → Stepped m text (record { after = o.after; answer = reply })
+told : (m : Contents) (text reply : List ℕ) (o : Outcome) → Effect m text o → general_status reply ≡ status_code (completion_status o.status) → (o.status ≡ Whole) ⊎ ((added_by text ≡ None) × (clears_by text ≡ false)) → Stepped m text (record { after = o.after; answer = reply })
 told m text reply o x g (inl done) =
-    let e : eqb (general_status reply) 0 ≡ true = ap (λ n. eqb n 0) (g ∙ ap status_code done) in
+    let e : eqb (general_status reply) 0 ≡ true = ap (λ n. eqb n 0) (g ∙ ap (λ c. status_code (completion_status c)) done) in
     record {
       value = x.value ∙ sym (ap (λ t. cond (t && clears_by text) 0 (value_of m + unwrap_or (cond t (added_by text) None) 0)) e);
       additions = x.additions ∙ sym (ap (λ t. (additions_of m + cond (is_some (cond t (added_by text) None)) 1 0) % 2 ^ 32) e);
@@ -276,17 +280,17 @@ told m text reply o x g (inr none) = record {
   counter = x.counter;
 }
 
-by_fit : (over : Bool) (m : Contents) (text : List ℕ) (o : Outcome) → IsCounter m → Effect m text o → Stepped m text (cond over (record { after = m; answer = reply_to text ReplyDataTooLarge [] }) (record { after = o.after; answer = reply_to text o.status o.content }))
-by_fit true m text o h x = silent m text (reply_to text ReplyDataTooLarge []) h refl
-by_fit false m text o h x = told m text (reply_to text o.status o.content) o x refl x.done
+by_fit : (over : Bool) (m : Contents) (text : List ℕ) (o : Outcome) → IsCounter m → Effect m text o → Stepped m text (or_refusal m text (answered_by over text o))
+by_fit true m text o h x = silent m text (reply_to text (refusal_status ReplyDataTooLarge) []) h refl
+by_fit false m text o h x = told m text (reply_of_outcome text o) o x refl x.done
 
-by_outcome : (m : Contents) (room : ℕ) (text : List ℕ) (r : Result Outcome Status) → IsCounter m → Refuses r → ((o : Outcome) → r ≡ Ok o → Effect m text o) → Stepped m text (fitted m room text r)
-by_outcome m room text (Err s) h e x = silent m text (reply_to text s []) h (no_success s e)
-by_outcome m room text (Ok o) h e x = by_fit (nat_lt room (length (reply_to text o.status o.content))) m text o h (x o refl)
+by_outcome : (m : Contents) (room : ℕ) (text : List ℕ) (r : Result Outcome Refusal) → IsCounter m → ((o : Outcome) → r ≡ Ok o → Effect m text o) → Stepped m text (or_refusal m text (r >>= with_reply room text))
+by_outcome m room text (Err s) h x = silent m text (reply_to text (refusal_status s) []) h (no_success s)
+by_outcome m room text (Ok o) h x = by_fit (nat_lt room (length (reply_of_outcome text o))) m text o h (x o refl)
 
 stepped : (m : Contents) (room : ℕ) (text : List ℕ) → IsCounter m → AreBytes text → Stepped m text (exec m room text)
 unfolding exec
-stepped m room text h b = by_outcome m room text (outcome m text) h (outcome_refuses m text) (λ o e. effect m text o h b e)
+stepped m room text h b = by_outcome m room text (outcome m text) h (λ o e. effect m text o h b e)
 
 twice : (a b c : ℕ) → ((a + b) % 2 ^ 32 + c) % 2 ^ 32 ≡ (a + (b + c)) % 2 ^ 32
 twice a b c = omega arith

@@ -10,8 +10,8 @@ use Rattle.cip_bytes.specs.Numbers.{le}
 use Rattle.cip_message.specs.PathReading.{path_of}
 use Rattle.cip_message.specs.Request.{Request, request_of}
 use Rattle.cip_objects.specs.declared.service.Service.{Service}
-use Rattle.cip_objects.specs.declared.status.Status.{Status}
-use Rattle.cip_objects.specs.declared.status.Status.TheVariants.{Success}
+use Rattle.cip_objects.specs.declared.status.Refusal.{Refusal}
+use Rattle.cip_objects.specs.declared.status.Completion.TheVariants.{Whole}
 use Rattle.cip_bytes.specs.Reading.{◌>>=◌, ◌>>◌}
 use Rattle.cip_objects.specs.Check.{demand, exactly}
 use Rattle.cip_objects.specs.Contents.{Contents, value_at, bytes_at, udint_at, with_value}
@@ -23,28 +23,28 @@ use Rattle.cip_objects.specs.Tables.{Shape, services_of, settable_size}
 use Rattle.cip_objects.proofs.Settable.{exact_size}
 
 -- what a check that held found
-pub record Found {A B : Type 0} (r : Result A Status) (f : A → Result B Status) (y : B) : Type 0 where
+pub record Found {A B : Type 0} (r : Result A Refusal) (f : A → Result B Refusal) (y : B) : Type 0 where
   pub value : A
   pub first : r ≡ Ok value
   pub rest : f value ≡ Ok y
 
-pub bound : {A B : Type 0} (r : Result A Status) (f : A → Result B Status) (y : B) → (r >>= f) ≡ Ok y → Found r f y
+pub bound : {A B : Type 0} (r : Result A Refusal) (f : A → Result B Refusal) (y : B) → (r >>= f) ≡ Ok y → Found r f y
 bound (Ok x) f y e = record { value = x; first = refl; rest = e }
 bound (Err s) f y e = absurd (cc)
 
-pub after_check : {B : Type 0} (r : Result (Unit {0}) Status) (s : Result B Status) (y : B) → (r >> s) ≡ Ok y → (r ≡ Ok tt) × (s ≡ Ok y)
+pub after_check : {B : Type 0} (r : Result (Unit {0}) Refusal) (s : Result B Refusal) (y : B) → (r >> s) ≡ Ok y → (r ≡ Ok tt) × (s ≡ Ok y)
 after_check (Ok x) s y e = (refl, e)
 after_check (Err t) s y e = absurd (cc)
 
-pub demanded : (b : Bool) (s : Status) → demand b s ≡ Ok tt → b ≡ true
+pub demanded : (b : Bool) (s : Refusal) → demand b s ≡ Ok tt → b ≡ true
 demanded true s e = refl
 demanded false s e = absurd (cc)
 
-pub found_some : {A : Type 0} (o : Option A) (s : Status) (x : A) → ok_or o s ≡ Ok x → o ≡ Some x
+pub found_some : {A : Type 0} (o : Option A) (s : Refusal) (x : A) → ok_or o s ≡ Ok x → o ≡ Some x
 found_some None s x e = absurd (cc)
 found_some (Some y) s x e = cc
 
-same_ok : {A : Type 0} (x y : A) → ◌≡◌ {A = Result A Status} (Ok x) (Ok y) → x ≡ y
+same_ok : {A : Type 0} (x y : A) → ◌≡◌ {A = Result A Refusal} (Ok x) (Ok y) → x ≡ y
 same_ok x y e = cc
 
 -- a set attribute: which it is, and what is known of its data
@@ -133,20 +133,20 @@ clear_effect m content c e =
     }
 
 -- a service that reads leaves all as it was
-pub read_effect : (m : Contents) (r : Result Answer Status) (o : Outcome) → reads m r ≡ Ok o → o.after ≡ m
+pub read_effect : (m : Contents) (r : Result Answer Refusal) (o : Outcome) → reads m r ≡ Ok o → o.after ≡ m
 read_effect m (Ok a) o e = sym (ap (λ z. z.after) (same_ok _ o e))
 read_effect m (Err s) o e = absurd (cc)
 
 -- a service that changes succeeds
-pub record Changes (r : Result Change Status) (o : Outcome) : Type 0 where
+pub record Changes (r : Result Change Refusal) (o : Outcome) : Type 0 where
   pub change : Change
   pub first : r ≡ Ok change
   pub after : o.after ≡ change.after
-  pub status : o.status ≡ Success
+  pub status : o.status ≡ Whole
   pub content : o.content ≡ change.content
 
-pub change_effect : (r : Result Change Status) (o : Outcome) → changes r ≡ Ok o → Changes r o
-change_effect (Ok c) o e = let done = same_ok (record { after = c.after; status = Success; content = c.content }) o e in
+pub change_effect : (r : Result Change Refusal) (o : Outcome) → changes r ≡ Ok o → Changes r o
+change_effect (Ok c) o e = let done = same_ok (record { after = c.after; status = Whole; content = c.content }) o e in
     record {
       change = c;
       first = refl;

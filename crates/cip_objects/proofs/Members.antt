@@ -9,7 +9,9 @@ use Rattle.cip_message.specs.Request.{Request}
 use Rattle.cip_objects.specs.declared.assembly.Span.{Span}
 use Rattle.cip_objects.specs.declared.service.Service.{Service}
 use Rattle.cip_objects.specs.declared.service.Service.TheVariants.{GetAttributesAll, GetAttributeList, GetAttributeSingle, SetAttributeSingle, GetMember, SetMember, Add, Clear}
-use Rattle.cip_objects.specs.declared.status.Status.TheVariants.{Success, AttributeNotSupported, InvalidMemberId}
+use Rattle.cip_objects.specs.declared.status.Status.TheVariants.{Success}
+use Rattle.cip_objects.specs.declared.status.Completion.TheVariants.{Whole}
+use Rattle.cip_objects.specs.declared.status.Refusal.TheVariants.{AttributeNotSupported, InvalidMemberId}
 use Rattle.cip_objects.specs.Check.{demand}
 use Rattle.cip_objects.specs.Contents.{Contents, bytes_at, with_value}
 use Rattle.cip_objects.specs.ReadServices.{service_at, is_data, named_member, get_member}
@@ -147,7 +149,7 @@ was_member m set path value o e done =
 member_makes : (m : Contents) (get path value : List ℕ) (p : Path) (span : Span) → Reads get 0x18 path []
     → path_of path ≡ Ok p → service_at m.shapes p.class p.instance 0x18 ≡ Ok GetMember → named_member m.shapes p ≡ Ok span
     → take span.size (drop span.offset (bytes_at m 4 p.instance 3)) ≡ value
-    → outcome m get ≡ Ok (record { after = m; status = Success; content = value })
+    → outcome m get ≡ Ok (record { after = m; status = Whole; content = value })
 unfolding outcome get_member
 member_makes m get path value p span e f g h v = rw (e, f, g, h, v) refl
 

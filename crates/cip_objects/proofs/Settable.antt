@@ -3,7 +3,7 @@ use Rattle.std.proofs.Common.{◌≡◌, ℕ, ◌+◌, List, [], length, ◌++�
 use Rattle.std.proofs.lemmas.Bool.Decides.{nat_tests}
 use Rattle.std.proofs.lemmas.List.{append-nil, drop_all}
 use Rattle.cip_message.specs.declared.path.Path.{Path}
-use Rattle.cip_objects.specs.declared.status.Status.TheVariants.{InvalidAttributeValue}
+use Rattle.cip_objects.specs.declared.status.Refusal.TheVariants.{InvalidAttributeValue}
 use Rattle.cip_bytes.specs.Reading.{◌>>◌}
 use Rattle.cip_objects.specs.Check.{demand, exactly}
 use Rattle.cip_objects.specs.Contents.{Contents, value_at, with_value}

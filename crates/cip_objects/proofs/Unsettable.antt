@@ -8,7 +8,7 @@ use Rattle.cip_bytes.specs.Numbers.{le}
 use Rattle.cip_objects.specs.declared.assembly.Span.{Span}
 use Rattle.cip_objects.specs.declared.service.Service.{Service}
 use Rattle.cip_objects.specs.declared.service.Service.TheVariants.{GetAttributesAll, GetAttributeList, GetAttributeSingle, SetAttributeSingle, GetMember, SetMember, Add, Clear}
-use Rattle.cip_objects.specs.declared.status.Status.{Status}
+use Rattle.cip_objects.specs.declared.status.Refusal.{Refusal}
 use Rattle.cip_objects.specs.Check.{exactly}
 use Rattle.cip_objects.specs.Contents.{Contents, value_at, bytes_at, udint_at, with_value}
 use Rattle.cip_objects.specs.ReadServices.{named_member, get_attribute_single, get_attributes_all, get_attribute_list, get_member}
@@ -19,7 +19,7 @@ use Rattle.cip_objects.specs.Tables.{Shape, settable_size}
 use Rattle.cip_objects.proofs.Effects.{goes, bound, after_check, found_some, set_effect, add_effect, clear_effect, read_effect, change_effect}
 use Rattle.cip_objects.proofs.ReadAfterSet.{value_at-other}
 use Rattle.cip_objects.proofs.Settable.{exact_size}
-use Rattle.cip_objects.proofs.Sets.{exec_left}
+use Rattle.cip_objects.proofs.Refuses.{exec_left}
 
 -- a set member: where it lies, and the new data of its assembly
 pub record Splices (m : Contents) (path : Path) (content : List ℕ) (c : Change) : Type 0 where
@@ -30,7 +30,7 @@ pub record Splices (m : Contents) (path : Path) (content : List ℕ) (c : Change
   pub size : length content ≡ span.size
   pub leaves : c.after ≡ with_value m 4 path.instance 3 (with_bytes_at (bytes_at m 4 path.instance 3) span.offset content)
 
-same_ok : {A : Type 0} (x y : A) → ◌≡◌ {A = Result A Status} (Ok x) (Ok y) → x ≡ y
+same_ok : {A : Type 0} (x y : A) → ◌≡◌ {A = Result A Refusal} (Ok x) (Ok y) → x ≡ y
 same_ok x y e = cc
 
 pub splices : (m : Contents) (path : Path) (content : List ℕ) (c : Change) → set_member m path content ≡ Ok c

@@ -24,7 +24,7 @@ use Rattle.cip_objects.proofs.Blocks.{eqb-other}
 use Rattle.cip_objects.proofs.Lookup.{value_at-contents_of}
 use Rattle.cip_objects.proofs.Members.{named, fits_in}
 use Rattle.cip_objects.proofs.Settable.{settable_data, settable_limit}
-use Rattle.cip_objects.proofs.Sets.{exec_left}
+use Rattle.cip_objects.proofs.Refuses.{exec_left}
 use Rattle.cip_objects.proofs.Shapes.{shape_at-contents}
 use Rattle.cip_objects.proofs.Spans.{length-with_bytes_at}
 use Rattle.cip_objects.proofs.Unsettable.{splices}

@@ -5,8 +5,8 @@ use Rattle.std.specs.Option.{ok_or}
 use Rattle.byteorder.specs.Endian.{little_number}
 use Rattle.cip_message.specs.declared.path.Path.{Path}
 use Rattle.cip_bytes.specs.Numbers.{le}
-use Rattle.cip_objects.specs.declared.status.Status.{Status}
-use Rattle.cip_objects.specs.declared.status.Status.TheVariants.{AttributeNotSupported, AttributeNotSettable, InvalidAttributeValue, InvalidParameter}
+use Rattle.cip_objects.specs.declared.status.Refusal.{Refusal}
+use Rattle.cip_objects.specs.declared.status.Refusal.TheVariants.{AttributeNotSupported, AttributeNotSettable, InvalidAttributeValue, InvalidParameter}
 use Rattle.cip_bytes.specs.Reading.{◌>>=◌, ◌>>◌}
 use Rattle.cip_objects.specs.Check.{demand, exactly}
 use Rattle.cip_objects.specs.Contents.{Contents, value_at, bytes_at, udint_at, with_value}
@@ -18,11 +18,11 @@ pub record Change : Type 0 where
   pub after : Contents
   pub content : List ℕ
 
-abbrev pub change : Contents → List ℕ → Result Change Status
+abbrev pub change : Contents → List ℕ → Result Change Refusal
 change after content = Ok (record { after = after; content = content })
 
 -- what a call answered, with the data that its answer stands for, and the contents that it left
-abbrev pub change_left : {A : Type 0} → (A → List ℕ) → Contents → Result A Status → Result Change Status
+abbrev pub change_left : {A : Type 0} → (A → List ℕ) → Contents → Result A Refusal → Result Change Refusal
 change_left bytes after (Ok x) = change after (bytes x)
 change_left bytes after (Err s) = Err s
 
@@ -31,13 +31,13 @@ abbrev pub is_allowed : Contents → ℕ → List ℕ → Bool
 is_allowed m class content = not (class == COUNTER) || nat_le (udint_at m COUNTER 1 1) (little_number 4 content)
 
 -- the counter's limit set, where that is allowed
-abbrev pub limit_change : Contents → List ℕ → Result Change Status
+abbrev pub limit_change : Contents → List ℕ → Result Change Refusal
 limit_change m content = do
   demand (is_allowed m COUNTER content) InvalidAttributeValue
   change (with_value m COUNTER 1 2 content) []
 
 -- Set_Attribute_Single: the attribute has these data from then on
-unfoldable pub set_attribute_single : Contents → Path → List ℕ → Result Change Status
+unfoldable pub set_attribute_single : Contents → Path → List ℕ → Result Change Refusal
 set_attribute_single m path content = do
   attribute ← ok_or path.attribute AttributeNotSupported
   value ← ok_or (value_at m path.class path.instance attribute) AttributeNotSupported
@@ -51,7 +51,7 @@ abbrev pub with_bytes_at : List ℕ → ℕ → List ℕ → List ℕ
 with_bytes_at old place bytes = take place old ++ (bytes ++ drop (place + length bytes) old)
 
 -- Set_Member: the member has these data from then on
-unfoldable pub set_member : Contents → Path → List ℕ → Result Change Status
+unfoldable pub set_member : Contents → Path → List ℕ → Result Change Refusal
 set_member m path content = do
   span ← named_member m.shapes path
   all ← ok_or (settable_size m.shapes ASSEMBLY path.instance 3) AttributeNotSettable
@@ -63,14 +63,14 @@ abbrev pub after_add : Contents → ℕ → Contents
 after_add m total = with_value (with_value m COUNTER 1 1 (le 4 total)) COUNTER 1 3 (le 4 ((udint_at m COUNTER 1 3 + 1) % 2 ^ 32))
 
 -- Add: the value grows by the number in the data, unless it came over the limit
-unfoldable pub add : Contents → List ℕ → Result Change Status
+unfoldable pub add : Contents → List ℕ → Result Change Refusal
 add m content = do
   exactly 4 content
   demand (nat_le (udint_at m COUNTER 1 1 + little_number 4 content) (udint_at m COUNTER 1 2)) InvalidParameter
   change (after_add m (udint_at m COUNTER 1 1 + little_number 4 content)) (le 4 (udint_at m COUNTER 1 1 + little_number 4 content))
 
 -- Clear: the value is 0, and the old one is answered
-unfoldable pub clear : Contents → List ℕ → Result Change Status
+unfoldable pub clear : Contents → List ℕ → Result Change Refusal
 clear m content = do
   exactly 0 content
   change (with_value m COUNTER 1 1 (le 4 0)) (le 4 (udint_at m COUNTER 1 1))

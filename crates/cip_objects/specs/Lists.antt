@@ -7,8 +7,9 @@ use Rattle.cip_message.specs.PathReading.{path_of}
 use Rattle.cip_objects.specs.Contents.{Contents}
 use Rattle.cip_objects.specs.Execution.{reply_to, exec}
 use Rattle.cip_objects.specs.Laws.{Reads}
-use Rattle.cip_objects.specs.ReadServices.{list_status}
+use Rattle.cip_objects.specs.ReadServices.{list_completion}
 use Rattle.cip_objects.specs.Router.{general_status}
+use Rattle.cip_objects.specs.Status.{completion_status}
 
 -- the text is a Get_Attribute_Single of this attribute of the instance that the path names
 pub record IsGet (p : Path) (attribute : ℕ) (text : List ℕ) : Type 0 where
@@ -43,5 +44,5 @@ list_law =
     → Reads list 0x03 path content → path_of path ≡ Ok p → AreGets p (words_of (drop 2 content)) gets
     → (general_status (exec m room list).answer ≡ 0x00) ⊎ (general_status (exec m room list).answer ≡ 0x0a)
     → let replies = map (λ get. (exec m room get).answer) gets in
-    (exec m room list).answer ≡ reply_to list (list_status (list_all is_success replies))
+    (exec m room list).answer ≡ reply_to list (completion_status (list_completion (list_all is_success replies)))
     (le 2 (length gets) ++ entries_of_replies (words_of (drop 2 content)) replies)

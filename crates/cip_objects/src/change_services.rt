@@ -3,25 +3,25 @@ ghost use Rattle.std.specs.Prelude.{◌≡◌, ◌≤◌, ◌+◌, length, [], O
 ghost use Rattle.cip_bytes.specs.Numbers.{le};
 ghost use Rattle.cip_objects.specs.ChangeServices.{change_left, set_attribute_single, set_member, add, clear, limit_change};
 
-use crate::Status;
 use crate::check::exactly;
 use crate::objects::{ASSEMBLY, Objects};
+use crate::status::Refusal;
 use byteorder::{ByteOrder, LittleEndian};
 use cip_message::Path;
 
 impl Objects {
     /// Set_Attribute_Single.
     #[tactic(auto, unfolding(crate::specs::ChangeServices::set_attribute_single))]
-    pub(crate) fn set_attribute_single(&mut self, path: Path, data: &[u8]) -> Result<(), Status>
+    pub(crate) fn set_attribute_single(&mut self, path: Path, data: &[u8]) -> Result<(), Refusal>
         ensures change_left { change_left (λ _. []) self.new result ≡ set_attribute_single self.old path «data».now }
         ensures err { OnErr result (self.new ≡ self.old) }
     {
-        let attribute = path.attribute.ok_or(Status::AttributeNotSupported)?;
+        let attribute = path.attribute.ok_or(Refusal::AttributeNotSupported)?;
         self.value(path.class, path.instance, attribute)
-            .ok_or(Status::AttributeNotSupported)?;
+            .ok_or(Refusal::AttributeNotSupported)?;
         let size = self
             .settable_size(path.class, path.instance, attribute)
-            .ok_or(Status::AttributeNotSettable)?;
+            .ok_or(Refusal::AttributeNotSettable)?;
         exactly(size, data)?;
         if path.class == ASSEMBLY {
             self.write_content(path.instance, 0, data);
@@ -31,14 +31,14 @@ impl Objects {
     }
 
     /// Sets the counter's limit, where it isn't below the value.
-    fn change_limit(&mut self, data: &[u8]) -> Result<(), Status>
+    fn change_limit(&mut self, data: &[u8]) -> Result<(), Refusal>
         requires { length «data».now ≡ 4 }
         ensures change_left { change_left (λ _. []) self.new result ≡ limit_change self.old «data».now }
         ensures err { OnErr result (self.new ≡ self.old) }
     {
         let limit = LittleEndian::read_u32(data);
         if limit < self.counter().value {
-            return Err(Status::InvalidAttributeValue);
+            return Err(Refusal::InvalidAttributeValue);
         }
         self.set_limit(limit);
         Ok(())
@@ -46,13 +46,13 @@ impl Objects {
 
     /// Set_Member.
     #[tactic(auto, unfolding(crate::specs::ChangeServices::set_member))]
-    pub(crate) fn set_member(&mut self, path: Path, data: &[u8]) -> Result<(), Status>
+    pub(crate) fn set_member(&mut self, path: Path, data: &[u8]) -> Result<(), Refusal>
         ensures change_left { change_left (λ _. []) self.new result ≡ set_member self.old path «data».now }
         ensures err { OnErr result (self.new ≡ self.old) }
     {
         let span = self.named_member(path)?;
         self.settable_size(ASSEMBLY, path.instance, 3)
-            .ok_or(Status::AttributeNotSettable)?;
+            .ok_or(Refusal::AttributeNotSettable)?;
         exactly(span.size, data)?;
         self.write_content(path.instance, span.offset, data);
         Ok(())
@@ -60,7 +60,7 @@ impl Objects {
 
     /// Add: answers the new value.
     #[tactic(auto, unfolding(crate::specs::ChangeServices::add))]
-    pub(crate) fn add(&mut self, data: &[u8]) -> Result<u32, Status>
+    pub(crate) fn add(&mut self, data: &[u8]) -> Result<u32, Refusal>
         ensures change_left { change_left (le 4) self.new result ≡ add self.old «data».now }
         ensures err { OnErr result (self.new ≡ self.old) }
     {
@@ -68,7 +68,7 @@ impl Objects {
         let counter = self.counter();
         let total = u64::from(counter.value) + u64::from(LittleEndian::read_u32(data));
         if u64::from(counter.limit) < total {
-            return Err(Status::InvalidParameter);
+            return Err(Refusal::InvalidParameter);
         }
         let value = total as u32;
         self.set_value(value);
@@ -78,7 +78,7 @@ impl Objects {
 
     /// Clear: answers the old value.
     #[tactic(auto, unfolding(crate::specs::ChangeServices::clear))]
-    pub(crate) fn clear(&mut self, data: &[u8]) -> Result<u32, Status>
+    pub(crate) fn clear(&mut self, data: &[u8]) -> Result<u32, Refusal>
         ensures change_left { change_left (le 4) self.new result ≡ clear self.old «data».now }
         ensures err { OnErr result (self.new ≡ self.old) }
     {

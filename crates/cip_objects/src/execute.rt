@@ -9,6 +9,7 @@ use crate::Status;
 use crate::objects::Objects;
 use crate::router::{REPLY_LIMIT, ReplyBuf, Router};
 use crate::service::Service;
+use crate::status::{Completion, Refusal};
 use crate::text::append;
 use cip_message::{Path, RequestView, read_path, reply_service};
 
@@ -21,7 +22,7 @@ impl Objects {
         data: &[u8],
         room: usize,
         reply: &mut ReplyBuf,
-    ) -> Result<Status, Status>
+    ) -> Result<Completion, Refusal>
         requires room_from { 8 ≤ room }
         requires room_to { room ≤ REPLY_LIMIT }
         requires head { length reply.old.items ≡ 4 }
@@ -34,22 +35,22 @@ impl Objects {
             Service::GetAttributeSingle => self.get_attribute_single(path, data, room, reply),
             Service::SetAttributeSingle => {
                 self.set_attribute_single(path, data)?;
-                Ok(Status::Success)
+                Ok(Completion::Whole)
             }
             Service::GetMember => self.get_member(path, data, room, reply),
             Service::SetMember => {
                 self.set_member(path, data)?;
-                Ok(Status::Success)
+                Ok(Completion::Whole)
             }
             Service::Add => {
                 let value = self.add(data)?;
                 append(&value.to_le_bytes(), room, reply)?;
-                Ok(Status::Success)
+                Ok(Completion::Whole)
             }
             Service::Clear => {
                 let value = self.clear(data)?;
                 append(&value.to_le_bytes(), room, reply)?;
-                Ok(Status::Success)
+                Ok(Completion::Whole)
             }
         }
     }
@@ -61,7 +62,7 @@ impl Objects {
         request: &[u8],
         room: usize,
         reply: &mut ReplyBuf,
-    ) -> Result<Status, Status>
+    ) -> Result<Completion, Refusal>
         requires room_from { 8 ≤ room }
         requires room_to { room ≤ REPLY_LIMIT }
         requires head { length reply.old.items ≡ 4 }
@@ -69,10 +70,10 @@ impl Objects {
         ensures err { OnErr result (self.new ≡ self.old) }
     {
         let Ok(view) = RequestView::read(request) else {
-            return Err(Status::PathSizeInvalid);
+            return Err(Refusal::PathSizeInvalid);
         };
         let Ok(path) = read_path(view.path) else {
-            return Err(Status::PathSegmentError);
+            return Err(Refusal::PathSegmentError);
         };
         let service = self.service_at(path.class, path.instance, view.service)?;
         self.perform(service, path, view.data, room, reply)
@@ -109,8 +110,8 @@ impl Router for Objects {
     fn execute(&mut self, request: &[u8], room: usize, reply: &mut ReplyBuf) {
         begin(request[0], Status::Success, reply);
         match self.perform_request(request, room, reply) {
-            Ok(status) => set_status(status, reply),
-            Err(status) => begin(request[0], status, reply),
+            Ok(completion) => set_status(completion.status(), reply),
+            Err(refusal) => begin(request[0], refusal.status(), reply),
         }
     }
 

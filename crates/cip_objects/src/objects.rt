@@ -13,7 +13,6 @@ ghost use Rattle.cip_objects.specs.Entries.{shape_of};
 ghost use Rattle.cip_objects.specs.Tables.{services_of, class_or_first, shape_at, settable_size, member_at};
 ghost use Rattle.cip_objects.specs.Value.{value_bytes, IsShort};
 
-use crate::Status;
 use crate::assembly::{Assembly, DATA_LIMIT, MEMBER_LIMIT, Span, greatest, position};
 use crate::class::class_attribute;
 use crate::config::{AssemblyConfig, Config, ConfigFault};
@@ -21,6 +20,7 @@ use crate::counter::Counter;
 use crate::identity::{Identity, NAME_LIMIT};
 use crate::router::{REPLY_LIMIT, ReplyBuf};
 use crate::service::Service;
+use crate::status::Refusal;
 use crate::value::Value;
 use arrayvec::ArrayVec;
 use cip_message::Device;
@@ -217,13 +217,13 @@ impl Objects {
 
     /// The service of this code that an instance has.
     #[tactic(auto, unfolding(crate::specs::ReadServices::service_at))]
-    pub(crate) fn service_at(&self, class: u16, instance: u32, code: u8) -> Result<Service, Status>
+    pub(crate) fn service_at(&self, class: u16, instance: u32, code: u8) -> Result<Service, Refusal>
         ensures { result ≡ service_at self.now.shapes class instance code }
     {
         let offered = self
             .services(class, instance)
-            .ok_or(Status::PathDestinationUnknown)?;
-        service_in(code, offered).ok_or(Status::ServiceNotSupported)
+            .ok_or(Refusal::PathDestinationUnknown)?;
+        service_in(code, offered).ok_or(Refusal::ServiceNotSupported)
     }
 
     /// The length of an attribute that can be set, `None` where it can't.

@@ -3,15 +3,16 @@ ghost use Rattle.std.specs.Prelude.{◌≡◌, ◌≤◌, ◌+◌, ◌++◌, len
 ghost use Rattle.std.specs.List.{flat_map};
 ghost use Rattle.cip_bytes.specs.Numbers.{words_of};
 ghost use Rattle.cip_objects.specs.Contents.{bytes_at};
-ghost use Rattle.cip_objects.specs.ReadServices.{answer_left, answer_in_room, get_attribute_single, get_attributes_all, get_attribute_list, get_member, named_member, list_entry, is_there, all_there, ALL_ATTRIBUTES};
+ghost use Rattle.cip_objects.specs.ReadServices.{get_attribute_single, get_attributes_all, get_attribute_list, get_member, named_member, list_entry, is_there, all_there, ALL_ATTRIBUTES};
+ghost use Rattle.cip_objects.specs.Execution.{reads, outcome_left, outcome_in_room};
 ghost use Rattle.cip_objects.specs.Tables.{shape_at};
 ghost use Rattle.cip_objects.specs.Text.{Writes};
 
-use crate::Status;
 use crate::assembly::Span;
 use crate::check::exactly;
 use crate::objects::{ASSEMBLY, Objects};
 use crate::router::{REPLY_LIMIT, ReplyBuf};
+use crate::status::{Completion, Refusal};
 use crate::text::append;
 use byteorder::{ByteOrder, LittleEndian};
 use cip_message::Path;
@@ -25,17 +26,17 @@ impl Objects {
         data: &[u8],
         room: usize,
         reply: &mut ReplyBuf,
-    ) -> Result<Status, Status>
+    ) -> Result<Completion, Refusal>
         requires { room ≤ REPLY_LIMIT }
-        ensures { answer_left result reply.new.items ≡ answer_in_room room reply.old.items (get_attribute_single self.now path «data».now) }
+        ensures { outcome_left self.now result reply.new.items ≡ outcome_in_room room reply.old.items (reads self.now (get_attribute_single self.now path «data».now)) }
     {
-        let attribute = path.attribute.ok_or(Status::AttributeNotSupported)?;
+        let attribute = path.attribute.ok_or(Refusal::AttributeNotSupported)?;
         let value = self
             .value(path.class, path.instance, attribute)
-            .ok_or(Status::AttributeNotSupported)?;
+            .ok_or(Refusal::AttributeNotSupported)?;
         exactly(0, data)?;
         value.append(room, reply)?;
-        Ok(Status::Success)
+        Ok(Completion::Whole)
     }
 
     /// Get_Attributes_All.
@@ -46,18 +47,18 @@ impl Objects {
         data: &[u8],
         room: usize,
         reply: &mut ReplyBuf,
-    ) -> Result<Status, Status>
+    ) -> Result<Completion, Refusal>
         requires room { room ≤ REPLY_LIMIT }
         requires fits { length reply.old.items ≤ room }
-        ensures { answer_left result reply.new.items ≡ answer_in_room room reply.old.items (get_attributes_all self.now path «data».now) }
+        ensures { outcome_left self.now result reply.new.items ≡ outcome_in_room room reply.old.items (reads self.now (get_attributes_all self.now path «data».now)) }
     {
         exactly(0, data)?;
         self.append_all(path, room, reply)?;
-        Ok(Status::Success)
+        Ok(Completion::Whole)
     }
 
     /// Appends the values of attributes 1 to 7.
-    fn append_all(&self, path: Path, room: usize, reply: &mut ReplyBuf) -> Result<(), Status>
+    fn append_all(&self, path: Path, room: usize, reply: &mut ReplyBuf) -> Result<(), Refusal>
         requires room { room ≤ REPLY_LIMIT }
         requires fits { length reply.old.items ≤ room }
         ensures { Writes room (reply.old.items ++ flat_map (bytes_at self.now path.class path.instance) ALL_ATTRIBUTES) result reply.new.items }
@@ -75,7 +76,7 @@ impl Objects {
         attribute: u16,
         room: usize,
         reply: &mut ReplyBuf,
-    ) -> Result<(), Status>
+    ) -> Result<(), Refusal>
         requires room { room ≤ REPLY_LIMIT }
         requires fits { length reply.old.items ≤ room }
         ensures { Writes room (reply.old.items ++ bytes_at self.now path.class path.instance attribute) result reply.new.items }
@@ -94,20 +95,20 @@ impl Objects {
         data: &[u8],
         room: usize,
         reply: &mut ReplyBuf,
-    ) -> Result<Status, Status>
+    ) -> Result<Completion, Refusal>
         requires { room ≤ REPLY_LIMIT }
-        ensures { answer_left result reply.new.items ≡ answer_in_room room reply.old.items (get_attribute_list self.now path «data».now) }
+        ensures { outcome_left self.now result reply.new.items ≡ outcome_in_room room reply.old.items (reads self.now (get_attribute_list self.now path «data».now)) }
     {
         if data.len() < 2 {
-            return Err(Status::NotEnoughData);
+            return Err(Refusal::NotEnoughData);
         }
         let count = LittleEndian::read_u16(data);
         exactly(2 + 2 * usize::from(count), data)?;
         append(&count.to_le_bytes(), room, reply)?;
         if self.append_list(path, &data[2..], room, reply)? {
-            Ok(Status::Success)
+            Ok(Completion::Whole)
         } else {
-            Ok(Status::AttributeListError)
+            Ok(Completion::Partial)
         }
     }
 
@@ -119,7 +120,7 @@ impl Objects {
         list: &[u8],
         room: usize,
         reply: &mut ReplyBuf,
-    ) -> Result<bool, Status>
+    ) -> Result<bool, Refusal>
         requires room { room ≤ REPLY_LIMIT }
         requires fits { length reply.old.items ≤ room }
         ensures text { Writes room (reply.old.items ++ flat_map (list_entry self.now path) (words_of list.now)) result reply.new.items }
@@ -142,7 +143,7 @@ impl Objects {
         attribute: u16,
         room: usize,
         reply: &mut ReplyBuf,
-    ) -> Result<bool, Status>
+    ) -> Result<bool, Refusal>
         requires { room ≤ REPLY_LIMIT }
         ensures text { Writes room (reply.old.items ++ list_entry self.now path attribute) result reply.new.items }
         ensures there { IfOk result (λ there. there ≡ is_there self.now path attribute) }
@@ -163,17 +164,17 @@ impl Objects {
 
     /// Where the member lies that the path names.
     #[tactic(auto, unfolding(crate::specs::ReadServices::named_member))]
-    pub(crate) fn named_member(&self, path: Path) -> Result<Span, Status>
+    pub(crate) fn named_member(&self, path: Path) -> Result<Span, Refusal>
         ensures place { result ≡ named_member self.now.shapes path }
         ensures there { OnOk result (IsSome (shape_at path.instance self.now.shapes)) }
         ensures inside { IfOk result (λ s. s.offset + s.size ≤ length (bytes_at self.now ASSEMBLY path.instance 3)) }
     {
         if path.attribute != Some(3) {
-            return Err(Status::AttributeNotSupported);
+            return Err(Refusal::AttributeNotSupported);
         }
-        let number = path.member.ok_or(Status::InvalidMemberId)?;
+        let number = path.member.ok_or(Refusal::InvalidMemberId)?;
         self.span(path.instance, number)
-            .ok_or(Status::InvalidMemberId)
+            .ok_or(Refusal::InvalidMemberId)
     }
 
     /// Get_Member.
@@ -184,14 +185,14 @@ impl Objects {
         data: &[u8],
         room: usize,
         reply: &mut ReplyBuf,
-    ) -> Result<Status, Status>
+    ) -> Result<Completion, Refusal>
         requires { room ≤ REPLY_LIMIT }
-        ensures { answer_left result reply.new.items ≡ answer_in_room room reply.old.items (get_member self.now path «data».now) }
+        ensures { outcome_left self.now result reply.new.items ≡ outcome_in_room room reply.old.items (reads self.now (get_member self.now path «data».now)) }
     {
         let span = self.named_member(path)?;
         exactly(0, data)?;
         let content = self.content(path.instance);
         append(&content[span.offset..span.offset + span.size], room, reply)?;
-        Ok(Status::Success)
+        Ok(Completion::Whole)
     }
 }

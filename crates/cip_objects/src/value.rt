@@ -2,8 +2,8 @@
 ghost use Rattle.std.specs.Prelude.{◌≡◌, ◌≤◌, ◌++◌};
 ghost use Rattle.cip_objects.specs.Text.{Writes};
 
-use crate::Status;
 use crate::router::{REPLY_LIMIT, ReplyBuf};
+use crate::status::Refusal;
 use crate::text::append;
 
 /// The value of one attribute, as its type has it (Volume 1, elementary data types).
@@ -27,7 +27,7 @@ impl Value<'_> {
     ghost use Rattle.cip_objects.specs.Value.{value_bytes};
 
     /// Appends the value's bytes to a reply, where it then has at most `room` bytes.
-    pub(crate) fn append(self, room: usize, reply: &mut ReplyBuf) -> Result<(), Status>
+    pub(crate) fn append(self, room: usize, reply: &mut ReplyBuf) -> Result<(), Refusal>
         requires { room ≤ REPLY_LIMIT }
         ensures { Writes room (reply.old.items ++ value_bytes self.entry) result reply.new.items }
     {

@@ -1,5 +1,5 @@
 use Rattle.std.proofs.Common.{ℕ, ◌≡◌, ◌∙◌, [], length, Ok, sym, ap, Some, option_map, subst, IfSome}
-use Rattle.cip_objects.specs.declared.status.Status.TheVariants.{InvalidAttributeValue}
+use Rattle.cip_objects.specs.declared.status.Refusal.TheVariants.{InvalidAttributeValue}
 use Rattle.cip_objects.specs.ChangeServices.{change, is_allowed}
 use Rattle.cip_bytes.specs.Reading.{◌>>◌}
 use Rattle.cip_objects.specs.Check.{demand, exactly}
