@@ -9,25 +9,31 @@ use crate::value::Value;
 use std::alloc::{AllocError, Global};
 use std::marker::Model;
 
-/// The most bytes of an assembly's data.
+/// The most bytes of an assembly's data (ours).
 pub(crate) const DATA_LIMIT: usize = 480;
 
-/// The most members of an assembly.
+/// The most members of an assembly (ours).
 pub(crate) const MEMBER_LIMIT: usize = 64;
 
 /// Where a member lies in the data, in bytes.
 #[derive(Clone, Copy, Debug)]
 pub(crate) struct Span {
+    /// Where it begins, from 0.
     pub(crate) offset: usize,
+    /// How many bytes it has.
     pub(crate) size: usize,
 }
 
 /// An instance of the Assembly object.
 #[derive(Debug, Drop)]
 pub(crate) struct Assembly {
+    /// The instance number, 1 to 65,535.
     instance: u16,
+    /// Whether the data can be set.
     settable: bool,
+    /// The sizes of the members in bytes, in the order in which they lie.
     members: Vec<u16>,
+    /// The data: the members, one after another.
     content: Vec<u8>,
 }
 
@@ -70,9 +76,11 @@ impl Assembly {
         ensures inside { IfSome result (λ s. s.offset + s.size ≤ length self.now.content) }
     {
         let number = usize::from(number);
+        // members are numbered from 1 (Assembly)
         if number == 0 || self.members.len() < number {
             return None;
         }
+        // and lie one after another (Assembly)
         Some(Span {
             offset: total(&self.members[..number - 1]),
             size: usize::from(self.members[number - 1]),

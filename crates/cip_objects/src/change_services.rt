@@ -16,9 +16,11 @@ impl Objects {
         ensures change_left { change_left (λ _. []) self.new result ≡ set_attribute_single self.old path «data».now }
         ensures err { OnErr result (self.new ≡ self.old) }
     {
+        // no such attribute: 0x14 (objects)
         let attribute = path.attribute.ok_or(Refusal::AttributeNotSupported)?;
         self.value(path.class, path.instance, attribute)
             .ok_or(Refusal::AttributeNotSupported)?;
+        // an attribute that can't be set: 0x0e, before its data are measured (objects)
         let size = self
             .settable_size(path.class, path.instance, attribute)
             .ok_or(Refusal::AttributeNotSettable)?;
@@ -37,6 +39,7 @@ impl Objects {
         ensures err { OnErr result (self.new ≡ self.old) }
     {
         let limit = LittleEndian::read_u32(data);
+        // the limit is never below the value: 0x09 (counter, ours)
         if limit < self.counter().value {
             return Err(Refusal::InvalidAttributeValue);
         }
@@ -51,6 +54,7 @@ impl Objects {
         ensures err { OnErr result (self.new ≡ self.old) }
     {
         let span = self.named_member(path)?;
+        // after the member, whether its assembly can be set: 0x0e (objects)
         self.settable_size(ASSEMBLY, path.instance, 3)
             .ok_or(Refusal::AttributeNotSettable)?;
         exactly(span.size, data)?;
@@ -67,6 +71,7 @@ impl Objects {
         exactly(4, data)?;
         let counter = self.counter();
         let total = u64::from(counter.value) + u64::from(LittleEndian::read_u32(data));
+        // the value never passes the limit: 0x20 (counter, ours)
         if u64::from(counter.limit) < total {
             return Err(Refusal::InvalidParameter);
         }
@@ -82,6 +87,7 @@ impl Objects {
         ensures change_left { change_left (le 4) self.new result ≡ clear self.old «data».now }
         ensures err { OnErr result (self.new ≡ self.old) }
     {
+        // the old value is answered (counter, ours)
         exactly(0, data)?;
         let counter = self.counter();
         self.set_value(0);

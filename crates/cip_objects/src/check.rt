@@ -8,6 +8,7 @@ use crate::status::Refusal;
 pub(crate) fn exactly(size: usize, content: &[u8]) -> Result<(), Refusal>
     ensures { result ≡ exactly size content.now }
 {
+    // not enough data: 0x13; too much: 0x15 (objects)
     if content.len() < size {
         return Err(Refusal::NotEnoughData);
     }

@@ -9,29 +9,29 @@ use crate::identity::NAME_LIMIT;
 use std::alloc::{AllocError, AllocFailed};
 use thiserror::Error;
 
-/// The most assemblies.
+/// The most assemblies (ours).
 const ASSEMBLY_LIMIT: usize = 16;
 
 /// What a device is configured to be.
 #[derive(Debug, Drop)]
 pub struct Config {
-    /// The vendor's number.
+    /// The vendor's number, 16 bits.
     pub vendor: u16,
-    /// The device type of the vendor's profile.
+    /// The device type, 16 bits: the number of its profile.
     pub device_type: u16,
-    /// The vendor's number of the product.
+    /// The vendor's number of the product, 16 bits.
     pub product_code: u16,
     /// The major revision, 1 to 127.
     pub major: u8,
-    /// The minor revision.
+    /// The minor revision, 8 bits.
     pub minor: u8,
-    /// The serial number.
+    /// The serial number, 32 bits.
     pub serial: u32,
     /// The product's name: at most 32 bytes, each 0x20 to 0x7e.
     pub name: String,
-    /// The status word of the Identity object.
+    /// The status word of the Identity object, 16 bits.
     pub status: u16,
-    /// The state of the Identity object.
+    /// The state of the Identity object, 8 bits.
     pub state: u8,
     /// The counter.
     pub counter: CounterConfig,
@@ -42,16 +42,16 @@ pub struct Config {
 /// What the counter begins with.
 #[derive(Clone, Copy, Debug)]
 pub struct CounterConfig {
-    /// The first value.
+    /// The first value, 32 bits.
     pub value: u32,
-    /// The limit, at least the first value.
+    /// The limit, 32 bits, at least the first value.
     pub limit: u32,
 }
 
 /// An assembly: 1 to 480 bytes, in at most 64 members.
 #[derive(Debug, Drop)]
 pub struct AssemblyConfig {
-    /// The instance number, not 0 and none but its own.
+    /// The instance number, 16 bits: not 0, and none but its own.
     pub instance: u16,
     /// Whether the data can be set.
     pub settable: bool,
@@ -123,6 +123,7 @@ impl Config {
     pub(crate) fn fault(&self) -> Option<ConfigFault>
         ensures { result ≡ fault_of self.now }
     {
+        // the first check that fails is told: 1 to 5 (configuration, ours)
         if is_misnamed(self.name.as_bytes()) {
             return Some(ConfigFault::Name);
         }
@@ -150,6 +151,7 @@ fn is_misnamed(name: &[u8]) -> bool
         return true;
     }
     for byte in name {
+        // printable ASCII
         if *byte < 0x20 || *byte > 0x7e {
             return true;
         }
@@ -200,6 +202,7 @@ fn has_double(assemblies: &[AssemblyConfig]) -> bool
     ensures { result ≡ is_misnumbered (instances assemblies.now) }
 {
     for (i, assembly) in assemblies.iter().enumerate() {
+        // instance 0 is the class itself (object model)
         if assembly.instance == 0 || stands(assembly.instance, &assemblies[i + 1..]) {
             return true;
         }

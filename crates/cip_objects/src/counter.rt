@@ -5,11 +5,14 @@ ghost use Rattle.cip_objects.specs.Value.{value_bytes, IsShort};
 
 use crate::value::Value;
 
-/// The one instance of the counter.
+/// The one instance of the counter (ours).
 #[derive(Clone, Copy, Debug)]
 pub(crate) struct Counter {
+    /// What was added since it was last cleared, at most `limit`.
     pub(crate) value: u32,
+    /// The most that `value` may come to.
     pub(crate) limit: u32,
+    /// How many additions were accepted, modulo 2^32.
     pub(crate) additions: u32,
 }
 

@@ -69,12 +69,15 @@ impl Objects {
         ensures outcome { outcome_left self.new result reply.new.items ≡ outcome_in_room room reply.old.items (outcome self.old request.now) }
         ensures err { OnErr result (self.new ≡ self.old) }
     {
+        // the path goes past the end of the request: 0x26 (objects)
         let Ok(view) = RequestView::read(request) else {
             return Err(Refusal::PathSizeInvalid);
         };
+        // the path is none: 0x04 (objects)
         let Ok(path) = read_path(view.path) else {
             return Err(Refusal::PathSegmentError);
         };
+        // class and instance, then the service: 0x05, 0x08 (objects)
         let service = self.service_at(path.class, path.instance, view.service)?;
         self.perform(service, path, view.data, room, reply)
     }

@@ -7,7 +7,7 @@ use crate::value::Value;
 use arrayvec::ArrayVec;
 use std::marker::Model;
 
-/// The most bytes of a product name.
+/// The most bytes of a product name (ours).
 pub(crate) const NAME_LIMIT: usize = 32;
 
 /// The one instance of the Identity object.
@@ -52,6 +52,7 @@ impl Identity {
             1 => Some(Value::Uint(self.vendor)),
             2 => Some(Value::Uint(self.device_type)),
             3 => Some(Value::Uint(self.product_code)),
+            // major, then minor revision (Identity)
             4 => Some(Value::Pair(self.major, self.minor)),
             5 => Some(Value::Uint(self.status)),
             6 => Some(Value::Udint(self.serial)),

@@ -128,12 +128,14 @@ impl Objects {
     }
 
     /// The value of an attribute, if there is one of this class, instance and number.
+    #[inline(always)]
     #[tactic(auto, using(crate::proofs::Lookup::reads))]
     pub(crate) fn value(&self, class: u16, instance: u32, attribute: u16) -> Option<Value<'_>>
         ensures value { option_map value_bytes result ≡ value_at self.now class instance attribute }
         ensures short { IfSome result IsShort }
     {
         let counter = self.counter;
+        // instance 0 is the class itself (object model)
         match class {
             IDENTITY => match instance {
                 0 => class_attribute(1, 1, 1, attribute),
@@ -209,6 +211,7 @@ impl Objects {
                 Some(_) => Some(&ASSEMBLY_SERVICES),
                 None => None,
             },
+            // its services are the manager's (objects)
             CONNECTION_MANAGER if instance == 1 => Some(&[]),
             COUNTER => class_or_first(instance, &COUNTER_SERVICES),
             _ => None,
@@ -220,9 +223,11 @@ impl Objects {
     pub(crate) fn service_at(&self, class: u16, instance: u32, code: u8) -> Result<Service, Refusal>
         ensures { result ≡ service_at self.now.shapes class instance code }
     {
+        // no such class or instance: 0x05 (objects)
         let offered = self
             .services(class, instance)
             .ok_or(Refusal::PathDestinationUnknown)?;
+        // the instance hasn't this service: 0x08 (objects)
         service_in(code, offered).ok_or(Refusal::ServiceNotSupported)
     }
 
@@ -233,6 +238,7 @@ impl Objects {
         ensures there { class ≡ ASSEMBLY → OnSome result (IsSome (shape_at instance self.now.shapes)) }
         ensures whole { class ≡ ASSEMBLY → IfSome result (λ n. n ≡ length (bytes_at self.now ASSEMBLY instance 3)) }
     {
+        // the data of an assembly that the configuration lets be set, and the counter's limit (objects)
         match class {
             ASSEMBLY if attribute == 3 => match self.assembly(instance) {
                 Some(assembly) if assembly.is_settable() => Some(assembly.size()),
@@ -252,15 +258,12 @@ impl Objects {
         self.assembly(instance)?.span(number)
     }
 
-    /// The data of an assembly.
+    /// The data of an assembly that is there.
     pub(crate) fn content(&self, instance: u32) -> &[u8]
         requires { IsSome (shape_at instance self.now.shapes) }
         ensures { result.now ≡ bytes_at self.now ASSEMBLY instance 3 }
     {
-        match self.assembly(instance) {
-            Some(assembly) => assembly.content(),
-            None => &[],
-        }
+        self.assembly(instance).unwrap().content()
     }
 
     /// The numbers of the counter.
@@ -273,15 +276,14 @@ impl Objects {
         counter
     }
 
-    /// Writes bytes from `offset` on into the data of an assembly.
+    /// Writes bytes from `offset` on into the data of an assembly that is there.
     pub(crate) fn write_content(&mut self, instance: u32, offset: usize, bytes: &[u8])
         requires there { IsSome (shape_at instance self.old.shapes) }
         requires inside { offset + length bytes.now ≤ length (bytes_at self.old ASSEMBLY instance 3) }
         ensures { self.new ≡ with_value self.old ASSEMBLY instance 3 (with_bytes_at (bytes_at self.old ASSEMBLY instance 3) offset bytes.now) }
     {
-        if let Some(at) = position(&self.assemblies, instance) {
-            self.assemblies[at].write(offset, bytes);
-        }
+        let at = position(&self.assemblies, instance).unwrap();
+        self.assemblies[at].write(offset, bytes);
     }
 
     /// Sets the counter's value.

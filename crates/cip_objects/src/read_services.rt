@@ -34,6 +34,7 @@ impl Objects {
         let value = self
             .value(path.class, path.instance, attribute)
             .ok_or(Refusal::AttributeNotSupported)?;
+        // a read takes no data (common services)
         exactly(0, data)?;
         value.append(room, reply)?;
         Ok(Completion::Whole)
@@ -63,6 +64,7 @@ impl Objects {
         requires fits { length reply.old.items ≤ room }
         ensures { Writes room (reply.old.items ++ flat_map (bytes_at self.now path.class path.instance) ALL_ATTRIBUTES) result reply.new.items }
     {
+        // this profile ends there (ours)
         for attribute in [1, 2, 3, 4, 5, 6, 7].iter() {
             self.append_value(path, *attribute, room, reply)?;
         }
@@ -99,12 +101,14 @@ impl Objects {
         requires { room ≤ REPLY_LIMIT }
         ensures { outcome_left self.now result reply.new.items ≡ outcome_in_room room reply.old.items (reads self.now (get_attribute_list self.now path «data».now)) }
     {
+        // the count and so many attribute numbers, two bytes each (common services)
         if data.len() < 2 {
             return Err(Refusal::NotEnoughData);
         }
         let count = LittleEndian::read_u16(data);
         exactly(2 + 2 * usize::from(count), data)?;
         append(&count.to_le_bytes(), room, reply)?;
+        // an unknown attribute is told in its place, and by the general status 0x0a (common services)
         if self.append_list(path, &data[2..], room, reply)? {
             Ok(Completion::Whole)
         } else {
@@ -156,6 +160,7 @@ impl Objects {
                 Ok(true)
             }
             None => {
+                // its status, attribute not supported, in two bytes (common services)
                 append(&[0x14, 0], room, reply)?;
                 Ok(false)
             }
@@ -169,9 +174,11 @@ impl Objects {
         ensures there { OnOk result (IsSome (shape_at path.instance self.now.shapes)) }
         ensures inside { IfOk result (λ s. s.offset + s.size ≤ length (bytes_at self.now ASSEMBLY path.instance 3)) }
     {
+        // only the data of an assembly, attribute 3, have members (Assembly)
         if path.attribute != Some(3) {
             return Err(Refusal::AttributeNotSupported);
         }
+        // no such member: 0x28 (objects)
         let number = path.member.ok_or(Refusal::InvalidMemberId)?;
         self.span(path.instance, number)
             .ok_or(Refusal::InvalidMemberId)

@@ -89,17 +89,29 @@ impl Completion {
 /// Why a request is refused: nothing is changed, and the reply has this status and no data.
 #[derive(Clone, Copy, PartialEq, Eq, Debug)]
 pub(crate) enum Refusal {
+    /// The path is no path.
     PathSegmentError,
+    /// No such class or instance.
     PathDestinationUnknown,
+    /// The instance has no such service.
     ServiceNotSupported,
+    /// The value isn't one that the attribute can have.
     InvalidAttributeValue,
+    /// The attribute can't be set.
     AttributeNotSettable,
+    /// The reply is longer than the room for it.
     ReplyDataTooLarge,
+    /// The service has too little data.
     NotEnoughData,
+    /// No such attribute.
     AttributeNotSupported,
+    /// The service has too much data.
     TooMuchData,
+    /// The parameter isn't one that the service can take.
     InvalidParameter,
+    /// The path goes past the end of the request.
     PathSizeInvalid,
+    /// No such member.
     InvalidMemberId,
 }
 

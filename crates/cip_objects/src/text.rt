@@ -10,6 +10,7 @@ pub(crate) fn append(bytes: &[u8], room: usize, reply: &mut ReplyBuf) -> Result<
     requires { room ≤ REPLY_LIMIT }
     ensures { Writes room (reply.old.items ++ bytes.now) result reply.new.items }
 {
+    // a reply is never over its room: 0x11 (objects)
     if room < reply.len() + bytes.len() {
         return Err(Refusal::ReplyDataTooLarge);
     }

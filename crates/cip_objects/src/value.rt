@@ -11,7 +11,7 @@ use crate::text::append;
 pub(crate) enum Value<'a> {
     /// USINT.
     Usint(u8),
-    /// Two USINT.
+    /// Two USINT: a revision.
     Pair(u8, u8),
     /// UINT or WORD.
     Uint(u16),
@@ -27,6 +27,7 @@ impl Value<'_> {
     ghost use Rattle.cip_objects.specs.Value.{value_bytes};
 
     /// Appends the value's bytes to a reply, where it then has at most `room` bytes.
+    #[inline(always)]
     pub(crate) fn append(self, room: usize, reply: &mut ReplyBuf) -> Result<(), Refusal>
         requires { room ≤ REPLY_LIMIT }
         ensures { Writes room (reply.old.items ++ value_bytes self.entry) result reply.new.items }
