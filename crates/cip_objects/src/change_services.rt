@@ -38,12 +38,10 @@ impl Objects {
         ensures change_left { change_left (λ _. []) self.new result ≡ limit_change self.old «data».now }
         ensures err { OnErr result (self.new ≡ self.old) }
     {
-        let limit = LittleEndian::read_u32(data);
-        // the limit is never below the value: 0x09 (counter, ours)
-        if limit < self.counter().value {
-            return Err(Refusal::InvalidAttributeValue);
-        }
-        self.set_limit(limit);
+        let counter = self
+            .counter()
+            .with_limit(LittleEndian::read_u32(data))?;
+        self.set_limit(counter.limit);
         Ok(())
     }
 
@@ -69,16 +67,10 @@ impl Objects {
         ensures err { OnErr result (self.new ≡ self.old) }
     {
         exactly(4, data)?;
-        let counter = self.counter();
-        let total = u64::from(counter.value) + u64::from(LittleEndian::read_u32(data));
-        // the value never passes the limit: 0x20 (counter, ours)
-        if u64::from(counter.limit) < total {
-            return Err(Refusal::InvalidParameter);
-        }
-        let value = total as u32;
-        self.set_value(value);
-        self.set_additions(counter.additions.wrapping_add(1));
-        Ok(value)
+        let counter = self.counter().add(LittleEndian::read_u32(data))?;
+        self.set_value(counter.value);
+        self.set_additions(counter.additions);
+        Ok(counter.value)
     }
 
     /// Clear: answers the old value.
@@ -90,7 +82,7 @@ impl Objects {
         // the old value is answered (counter, ours)
         exactly(0, data)?;
         let counter = self.counter();
-        self.set_value(0);
+        self.set_value(counter.clear().value);
         Ok(counter.value)
     }
 }
