@@ -17,7 +17,7 @@ use Rattle.cip_objects.specs.Check.{demand, exactly}
 use Rattle.cip_objects.specs.Contents.{Contents, value_at, bytes_at, udint_at, with_value}
 use Rattle.cip_objects.specs.ReadServices.{Answer, service_at, named_member}
 use Rattle.cip_objects.specs.ChangeServices.{Change, after_add, with_bytes_at, is_allowed, set_attribute_single, set_member, add, clear}
-use Rattle.cip_objects.specs.Execution.{Outcome, reads, changes, perform, request_or_refusal, path_or_refusal, outcome}
+use Rattle.cip_objects.specs.Execution.{Outcome, outcome_of_read, outcome_of_change, perform, request_or_refusal, path_or_refusal, outcome}
 use Rattle.cip_objects.specs.Service.{service_code, service_in}
 use Rattle.cip_objects.specs.Tables.{Shape, services_of, settable_size}
 use Rattle.cip_objects.proofs.Settable.{exact_size}
@@ -133,7 +133,7 @@ clear_effect m content c e =
     }
 
 -- a service that reads leaves all as it was
-pub read_effect : (m : Contents) (r : Result Answer Refusal) (o : Outcome) → reads m r ≡ Ok o → o.after ≡ m
+pub read_effect : (m : Contents) (r : Result Answer Refusal) (o : Outcome) → outcome_of_read m r ≡ Ok o → o.after ≡ m
 read_effect m (Ok a) o e = sym (ap (λ z. z.after) (same_ok _ o e))
 read_effect m (Err s) o e = absurd (cc)
 
@@ -145,7 +145,7 @@ pub record Changes (r : Result Change Refusal) (o : Outcome) : Type 0 where
   pub status : o.status ≡ Whole
   pub content : o.content ≡ change.content
 
-pub change_effect : (r : Result Change Refusal) (o : Outcome) → changes r ≡ Ok o → Changes r o
+pub change_effect : (r : Result Change Refusal) (o : Outcome) → outcome_of_change r ≡ Ok o → Changes r o
 change_effect (Ok c) o e = let done = same_ok (record { after = c.after; status = Whole; content = c.content }) o e in
     record {
       change = c;

@@ -19,7 +19,7 @@ use Rattle.cip_objects.specs.declared.status.Refusal.TheVariants.{AttributeNotSu
 use Rattle.cip_objects.specs.Check.{demand, exactly}
 use Rattle.cip_objects.specs.Contents.{Contents, value_at}
 use Rattle.cip_objects.specs.ReadServices.{Answer, service_at, list_entry_of, list_entry, is_there, all_there, list_completion, get_attribute_single, get_attribute_list}
-use Rattle.cip_objects.specs.Execution.{Outcome, reads, perform, outcome, with_reply, or_refusal, exec, reply_to}
+use Rattle.cip_objects.specs.Execution.{Outcome, outcome_of_read, perform, outcome, with_reply, or_refusal, exec, reply_to}
 use Rattle.cip_objects.specs.Laws.{Reads}
 use Rattle.cip_objects.specs.Lists.{IsGet, AreGets, entries_of_replies, list_law}
 use Rattle.cip_objects.specs.Router.{general_status}
@@ -185,7 +185,7 @@ lists m p content a e =
     }
 
 by_reads : (m : Contents) (p : Path) (content : List ℕ) (o : Outcome) (r : Result Answer Refusal)
-    → get_attribute_list m p content ≡ r → reads m r ≡ Ok o → Lists m p content o
+    → get_attribute_list m p content ≡ r → outcome_of_read m r ≡ Ok o → Lists m p content o
 by_reads m p content o (Ok a) e f = subst (Lists m p content) (same_ok _ o f) (lists m p content a e)
 by_reads m p content o (Err s) e f = absurd (cc)
 

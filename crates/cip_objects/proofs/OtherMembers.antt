@@ -14,7 +14,7 @@ use Rattle.cip_objects.specs.Check.{exactly}
 use Rattle.cip_objects.specs.Contents.{Contents, bytes_at, with_value}
 use Rattle.cip_objects.specs.ReadServices.{Answer, answer, service_at, named_member, get_member}
 use Rattle.cip_objects.specs.ChangeServices.{with_bytes_at}
-use Rattle.cip_objects.specs.Execution.{Outcome, reads, perform, outcome, with_reply, or_refusal, exec, reply_to}
+use Rattle.cip_objects.specs.Execution.{Outcome, outcome_of_read, perform, outcome, with_reply, or_refusal, exec, reply_to}
 use Rattle.cip_objects.specs.Laws.{Reads}
 use Rattle.cip_objects.specs.Members.{AreWhole, set_member_leaves_others_law}
 use Rattle.cip_objects.specs.Tables.{shape_at}
@@ -54,7 +54,7 @@ placed_alike true m n text a = refl
 placed_alike false m n text a = refl
 
 reads_alike : (m n : Contents) (room : ℕ) (text : List ℕ) (r : Result Answer Refusal)
-    → (or_refusal n text ((reads n r) >>= with_reply room text)).answer ≡ (or_refusal m text ((reads m r) >>= with_reply room text)).answer
+    → (or_refusal n text ((outcome_of_read n r) >>= with_reply room text)).answer ≡ (or_refusal m text ((outcome_of_read m r) >>= with_reply room text)).answer
 reads_alike m n room text (Ok a) = placed_alike (nat_lt room (length (reply_to text (completion_status a.status) a.content))) m n text a
 reads_alike m n room text (Err s) = refl
 
@@ -65,7 +65,7 @@ by_chosen : (m n : Contents) (room : ℕ) (text : List ℕ) (q : Path) (r : Resu
 by_chosen m n room text q (Err s) h e = refl
 by_chosen m n room text q (Ok s) h e =
     ap (λ k. (or_refusal n text ((perform n k q []) >>= with_reply room text)).answer) (h s refl)
-    ∙ ap (λ r. (or_refusal n text ((reads n r) >>= with_reply room text)).answer) e
+    ∙ ap (λ r. (or_refusal n text ((outcome_of_read n r) >>= with_reply room text)).answer) e
     ∙ reads_alike m n room text (get_member m q [])
     ∙ ap (λ k. (or_refusal m text ((perform m k q []) >>= with_reply room text)).answer) (sym (h s refl))
 

@@ -27,23 +27,23 @@ pub record Outcome : Type 0 where
   pub content : List ℕ
 
 -- a service that reads leaves all as it was
-abbrev pub reads : Contents → Result Answer Refusal → Result Outcome Refusal
-reads m (Ok a) = Ok (record { after = m; status = a.status; content = a.content })
-reads m (Err s) = Err s
+abbrev pub outcome_of_read : Contents → Result Answer Refusal → Result Outcome Refusal
+outcome_of_read m (Ok a) = Ok (record { after = m; status = a.status; content = a.content })
+outcome_of_read m (Err s) = Err s
 
-abbrev pub changes : Result Change Refusal → Result Outcome Refusal
-changes (Ok c) = Ok (record { after = c.after; status = Whole; content = c.content })
-changes (Err s) = Err s
+abbrev pub outcome_of_change : Result Change Refusal → Result Outcome Refusal
+outcome_of_change (Ok c) = Ok (record { after = c.after; status = Whole; content = c.content })
+outcome_of_change (Err s) = Err s
 
 abbrev pub perform : Contents → Service → Path → List ℕ → Result Outcome Refusal
-perform m GetAttributesAll path content = reads m (get_attributes_all m path content)
-perform m GetAttributeList path content = reads m (get_attribute_list m path content)
-perform m GetAttributeSingle path content = reads m (get_attribute_single m path content)
-perform m SetAttributeSingle path content = changes (set_attribute_single m path content)
-perform m GetMember path content = reads m (get_member m path content)
-perform m SetMember path content = changes (set_member m path content)
-perform m Add path content = changes (add m content)
-perform m Clear path content = changes (clear m content)
+perform m GetAttributesAll path content = outcome_of_read m (get_attributes_all m path content)
+perform m GetAttributeList path content = outcome_of_read m (get_attribute_list m path content)
+perform m GetAttributeSingle path content = outcome_of_read m (get_attribute_single m path content)
+perform m SetAttributeSingle path content = outcome_of_change (set_attribute_single m path content)
+perform m GetMember path content = outcome_of_read m (get_member m path content)
+perform m SetMember path content = outcome_of_change (set_member m path content)
+perform m Add path content = outcome_of_change (add m content)
+perform m Clear path content = outcome_of_change (clear m content)
 
 -- a request whose path goes past its end, and a path that is none
 abbrev pub request_or_refusal : Result Request RequestFault → Result Request Refusal

@@ -1,5 +1,6 @@
 //! An assembly: members that lie one after another in its data (Volume 1, class 0x04).
-ghost use Rattle.std.specs.Prelude.{◌≡◌, ◌≤◌, ◌+◌, ◌-◌, ◌*◌, ◌<◌, length, sum, take, drop, slice_index, option_map, option_copied, ◌++◌, IfOk, IfSome, replicate, MatchOption};
+ghost use Rattle.std.specs.Prelude.{◌≡◌, ◌≤◌, ◌+◌, ◌-◌, ◌*◌, ◌<◌, length, sum, take, drop, slice_index, option_map};
+ghost use Rattle.std.specs.Prelude.{option_copied, ◌++◌, IfOk, IfSome, replicate, MatchOption};
 ghost use Rattle.cip_objects.specs.Entries.{attribute_in, block_attributes, block_at, greatest_of};
 ghost use Rattle.cip_objects.specs.Places.{IsFirst};
 ghost use Rattle.cip_objects.specs.Tables.{span_of};
@@ -43,7 +44,12 @@ impl Model for Assembly {
 
     ghost Value = { Block };
 
-    ghost view = { λ a. record { instance = a.instance; settable = a.settable; members = a.members.items; content = a.content.items } };
+    ghost view = { λ a. record {
+      instance = a.instance;
+      settable = a.settable;
+      members = a.members.items;
+      content = a.content.items;
+    } };
 
     ghost use Rattle.cip_objects.specs.Assembly.{IsWhole};
 
@@ -60,7 +66,13 @@ impl Assembly {
     ) -> Result<Assembly, AllocError>
         requires few { length members.now ≤ MEMBER_LIMIT }
         requires small { sum members.now ≤ DATA_LIMIT }
-        ensures { IfOk result (λ a. a ≡ record { instance = instance; settable = settable; members = members.now; content = replicate (sum members.now) 0 }) }
+        ensures { IfOk result (λ a. a
+            ≡ record {
+              instance = instance;
+              settable = settable;
+              members = members.now;
+              content = replicate (sum members.now) 0;
+            }) }
     {
         Ok(Assembly {
             instance,

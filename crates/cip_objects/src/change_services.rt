@@ -1,7 +1,8 @@
 //! The services that change (Volume 1, common services; Add and Clear are the counter's own).
 ghost use Rattle.std.specs.Prelude.{◌≡◌, ◌≤◌, ◌+◌, length, [], OnErr};
 ghost use Rattle.cip_bytes.specs.Numbers.{le};
-ghost use Rattle.cip_objects.specs.ChangeServices.{change_left, set_attribute_single, set_member, add, clear, limit_change};
+ghost use Rattle.cip_objects.specs.ChangeServices.{change_left, set_attribute_single, set_member, add, clear};
+ghost use Rattle.cip_objects.specs.ChangeServices.{limit_change};
 
 use crate::check::exactly;
 use crate::objects::{ASSEMBLY, Objects};
@@ -38,9 +39,7 @@ impl Objects {
         ensures change_left { change_left (λ _. []) self.new result ≡ limit_change self.old «data».now }
         ensures err { OnErr result (self.new ≡ self.old) }
     {
-        let counter = self
-            .counter()
-            .with_limit(LittleEndian::read_u32(data))?;
+        let counter = self.counter().with_limit(LittleEndian::read_u32(data))?;
         self.set_limit(counter.limit);
         Ok(())
     }

@@ -2,7 +2,8 @@
 ghost use Rattle.std.specs.Prelude.{◌≡◌, ◌≤◌, ◌+◌, ◌<◌, ◌==◌, ◌||◌, not, nat_lt, length, sum, Some, None};
 ghost use Rattle.std.specs.List.{list_any};
 ghost use Rattle.cip_objects.specs.Limits.{LONGEST_DATA};
-ghost use Rattle.cip_objects.specs.Configuration.{is_misnamed, is_missized, is_wrongly_split, is_misnumbered, instances};
+ghost use Rattle.cip_objects.specs.Configuration.{is_misnamed, is_missized, is_wrongly_split, is_misnumbered};
+ghost use Rattle.cip_objects.specs.Configuration.{instances};
 
 use crate::assembly::{DATA_LIMIT, MEMBER_LIMIT};
 use crate::identity::NAME_LIMIT;

@@ -40,7 +40,8 @@ impl Counter {
     ///
     /// `InvalidParameter` where the value would pass the limit.
     pub(crate) fn add(self, amount: u32) -> Result<Counter, Refusal>
-        ensures ok { IfOk result (λ counter. counter ≡ record self { value = self.value + amount; additions = (self.additions + 1) % 2 ^ 32 }) }
+        ensures ok { IfOk result (λ counter. counter
+            ≡ record self { value = self.value + amount; additions = (self.additions + 1) % 2 ^ 32 }) }
         ensures within { IfOk result (λ counter. counter.value ≤ counter.limit) }
         ensures over { OnErr result (self.limit < self.value + amount) }
         ensures refused { IfErr result (λ refusal. refusal ≡ InvalidParameter) }
@@ -91,7 +92,8 @@ impl Counter {
 
     /// The value of an attribute of the instance.
     pub(crate) fn attribute(self, attribute: u16) -> Option<Value<'static>>
-        ensures value { option_map value_bytes result ≡ attribute_in attribute (counter_attributes (counter_values self)) }
+        ensures value { option_map value_bytes result
+            ≡ attribute_in attribute (counter_attributes (counter_values self)) }
         ensures short { IfSome result IsShort }
     {
         match attribute {

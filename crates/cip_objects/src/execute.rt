@@ -26,7 +26,8 @@ impl Objects {
         requires room_from { 8 ≤ room }
         requires room_to { room ≤ REPLY_LIMIT }
         requires head { length reply.old.items ≡ 4 }
-        ensures outcome { outcome_left self.new result reply.new.items ≡ outcome_in_room room reply.old.items (perform self.old service path «data».now) }
+        ensures outcome { outcome_left self.new result reply.new.items
+            ≡ outcome_in_room room reply.old.items (perform self.old service path «data».now) }
         ensures err { OnErr result (self.new ≡ self.old) }
     {
         match service {
@@ -66,7 +67,8 @@ impl Objects {
         requires room_from { 8 ≤ room }
         requires room_to { room ≤ REPLY_LIMIT }
         requires head { length reply.old.items ≡ 4 }
-        ensures outcome { outcome_left self.new result reply.new.items ≡ outcome_in_room room reply.old.items (outcome self.old request.now) }
+        ensures outcome { outcome_left self.new result reply.new.items
+            ≡ outcome_in_room room reply.old.items (outcome self.old request.now) }
         ensures err { OnErr result (self.new ≡ self.old) }
     {
         // the path goes past the end of the request: 0x26 (objects)

@@ -1,5 +1,6 @@
 //! The objects: what a caller sees as one map, held as typed structs.
-ghost use Rattle.std.specs.Prelude.{◌≡◌, ◌≤◌, ◌+◌, ◌<◌, length, option_map, option_copied, sum, map, IsSome, IfSome, OnSome, IfOk, IfErr};
+ghost use Rattle.std.specs.Prelude.{◌≡◌, ◌≤◌, ◌+◌, ◌<◌, length, option_map, option_copied, sum, map, IsSome, IfSome};
+ghost use Rattle.std.specs.Prelude.{OnSome, IfOk, IfErr};
 ghost use Rattle.std.specs.List.{All};
 ghost use Rattle.cip_objects.specs.Configuration.{fault_of, contents_of_config, block_of};
 ghost use Rattle.byteorder.specs.Endian.{little_bytes};
@@ -280,7 +281,9 @@ impl Objects {
     pub(crate) fn write_content(&mut self, instance: u32, offset: usize, bytes: &[u8])
         requires there { IsSome (shape_at instance self.old.shapes) }
         requires inside { offset + length bytes.now ≤ length (bytes_at self.old ASSEMBLY instance 3) }
-        ensures { self.new ≡ with_value self.old ASSEMBLY instance 3 (with_bytes_at (bytes_at self.old ASSEMBLY instance 3) offset bytes.now) }
+        ensures { self.new
+            ≡ with_value self.old ASSEMBLY instance 3 (with_bytes_at
+            (bytes_at self.old ASSEMBLY instance 3) offset bytes.now) }
     {
         let at = position(&self.assemblies, instance).unwrap();
         self.assemblies[at].write(offset, bytes);

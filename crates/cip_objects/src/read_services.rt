@@ -3,8 +3,10 @@ ghost use Rattle.std.specs.Prelude.{◌≡◌, ◌≤◌, ◌+◌, ◌++◌, len
 ghost use Rattle.std.specs.List.{flat_map};
 ghost use Rattle.cip_bytes.specs.Numbers.{words_of};
 ghost use Rattle.cip_objects.specs.Contents.{bytes_at};
-ghost use Rattle.cip_objects.specs.ReadServices.{get_attribute_single, get_attributes_all, get_attribute_list, get_member, named_member, list_entry, is_there, all_there, ALL_ATTRIBUTES};
-ghost use Rattle.cip_objects.specs.Execution.{reads, outcome_left, outcome_in_room};
+ghost use Rattle.cip_objects.specs.ReadServices.{get_attribute_single, get_attributes_all, get_attribute_list};
+ghost use Rattle.cip_objects.specs.ReadServices.{get_member, named_member, list_entry, is_there, all_there};
+ghost use Rattle.cip_objects.specs.ReadServices.{ALL_ATTRIBUTES};
+ghost use Rattle.cip_objects.specs.Execution.{outcome_of_read, outcome_left, outcome_in_room};
 ghost use Rattle.cip_objects.specs.Tables.{shape_at};
 ghost use Rattle.cip_objects.specs.Text.{Writes};
 
@@ -28,7 +30,9 @@ impl Objects {
         reply: &mut ReplyBuf,
     ) -> Result<Completion, Refusal>
         requires { room ≤ REPLY_LIMIT }
-        ensures { outcome_left self.now result reply.new.items ≡ outcome_in_room room reply.old.items (reads self.now (get_attribute_single self.now path «data».now)) }
+        ensures { outcome_left self.now result reply.new.items
+            ≡ outcome_in_room room reply.old.items (outcome_of_read self.now
+            (get_attribute_single self.now path «data».now)) }
     {
         let attribute = path.attribute.ok_or(Refusal::AttributeNotSupported)?;
         let value = self
@@ -51,7 +55,9 @@ impl Objects {
     ) -> Result<Completion, Refusal>
         requires room { room ≤ REPLY_LIMIT }
         requires fits { length reply.old.items ≤ room }
-        ensures { outcome_left self.now result reply.new.items ≡ outcome_in_room room reply.old.items (reads self.now (get_attributes_all self.now path «data».now)) }
+        ensures { outcome_left self.now result reply.new.items
+            ≡ outcome_in_room room reply.old.items (outcome_of_read self.now
+            (get_attributes_all self.now path «data».now)) }
     {
         exactly(0, data)?;
         self.append_all(path, room, reply)?;
@@ -62,7 +68,8 @@ impl Objects {
     fn append_all(&self, path: Path, room: usize, reply: &mut ReplyBuf) -> Result<(), Refusal>
         requires room { room ≤ REPLY_LIMIT }
         requires fits { length reply.old.items ≤ room }
-        ensures { Writes room (reply.old.items ++ flat_map (bytes_at self.now path.class path.instance) ALL_ATTRIBUTES) result reply.new.items }
+        ensures { Writes room (reply.old.items ++ flat_map (bytes_at self.now path.class path.instance) ALL_ATTRIBUTES)
+            result reply.new.items }
     {
         // this profile ends there (ours)
         for attribute in [1, 2, 3, 4, 5, 6, 7].iter() {
@@ -81,7 +88,8 @@ impl Objects {
     ) -> Result<(), Refusal>
         requires room { room ≤ REPLY_LIMIT }
         requires fits { length reply.old.items ≤ room }
-        ensures { Writes room (reply.old.items ++ bytes_at self.now path.class path.instance attribute) result reply.new.items }
+        ensures { Writes room (reply.old.items ++ bytes_at self.now path.class path.instance attribute)
+            result reply.new.items }
     {
         match self.value(path.class, path.instance, attribute) {
             Some(value) => value.append(room, reply),
@@ -99,7 +107,9 @@ impl Objects {
         reply: &mut ReplyBuf,
     ) -> Result<Completion, Refusal>
         requires { room ≤ REPLY_LIMIT }
-        ensures { outcome_left self.now result reply.new.items ≡ outcome_in_room room reply.old.items (reads self.now (get_attribute_list self.now path «data».now)) }
+        ensures { outcome_left self.now result reply.new.items
+            ≡ outcome_in_room room reply.old.items (outcome_of_read self.now
+            (get_attribute_list self.now path «data».now)) }
     {
         // the count and so many attribute numbers, two bytes each (common services)
         if data.len() < 2 {
@@ -127,7 +137,8 @@ impl Objects {
     ) -> Result<bool, Refusal>
         requires room { room ≤ REPLY_LIMIT }
         requires fits { length reply.old.items ≤ room }
-        ensures text { Writes room (reply.old.items ++ flat_map (list_entry self.now path) (words_of list.now)) result reply.new.items }
+        ensures text { Writes room (reply.old.items ++ flat_map (list_entry self.now path) (words_of list.now))
+            result reply.new.items }
         ensures there { IfOk result (λ all. all ≡ all_there self.now path (words_of list.now)) }
     {
         let mut all = true;
@@ -194,7 +205,8 @@ impl Objects {
         reply: &mut ReplyBuf,
     ) -> Result<Completion, Refusal>
         requires { room ≤ REPLY_LIMIT }
-        ensures { outcome_left self.now result reply.new.items ≡ outcome_in_room room reply.old.items (reads self.now (get_member self.now path «data».now)) }
+        ensures { outcome_left self.now result reply.new.items
+            ≡ outcome_in_room room reply.old.items (outcome_of_read self.now (get_member self.now path «data».now)) }
     {
         let span = self.named_member(path)?;
         exactly(0, data)?;
