@@ -5,6 +5,7 @@ use Rattle.std.proofs.lemmas.Bool.Decides.{nat_tests}
 use Rattle.std.proofs.lemmas.Bool.Decides.{eqb_tells}
 use Rattle.std.proofs.lemmas.List.{get_or-drop}
 use Rattle.byteorder.specs.Endian.{little_number}
+use Rattle.cip_bytes.specs.Reading.{◌>>=◌}
 use Rattle.cip_message.specs.declared.path.Path.{Path}
 use Rattle.cip_message.specs.declared.request.RequestFault.{RequestFault}
 use Rattle.cip_message.specs.declared.request.RequestFault.TheVariants.{PathSize}
@@ -13,21 +14,24 @@ use Rattle.cip_message.specs.PathReading.{path_of}
 use Rattle.cip_message.specs.Request.{Request, request_of}
 use Rattle.cip_objects.specs.declared.service.Service.{Service}
 use Rattle.cip_objects.specs.declared.service.Service.TheVariants.{GetAttributesAll, GetAttributeList, GetAttributeSingle, SetAttributeSingle, GetMember, SetMember, Add, Clear}
-use Rattle.cip_objects.specs.declared.status.Status.{Status}
-use Rattle.cip_objects.specs.declared.status.Status.TheVariants.{Success, ReplyDataTooLarge}
+use Rattle.cip_objects.specs.declared.status.Refusal.{Refusal}
+use Rattle.cip_objects.specs.declared.status.Completion.TheVariants.{Whole}
+use Rattle.cip_objects.specs.declared.status.Refusal.TheVariants.{ReplyDataTooLarge}
 use Rattle.cip_objects.specs.Contents.{Contents, with_value}
-use Rattle.cip_objects.specs.Reading.{chosen, get_attribute_single, get_attributes_all, get_attribute_list, get_member}
-use Rattle.cip_objects.specs.Changing.{Change, added, is_allowed, set_attribute_single, set_member, add, clear}
-use Rattle.cip_objects.specs.Execution.{Outcome, perform, outcome, Executed, fitted, exec, reply_to, run}
+use Rattle.cip_objects.specs.ReadServices.{service_at, get_attribute_single, get_attributes_all, get_attribute_list, get_member}
+use Rattle.cip_objects.specs.ChangeServices.{Change, after_add, is_allowed, set_attribute_single, set_member, add, clear}
+use Rattle.cip_objects.specs.Execution.{Outcome, perform, outcome, Executed, with_reply, or_refusal, exec, reply_to, run}
 use Rattle.cip_objects.specs.Run.{value_of, limit_of, additions_of, IsCounter, is_counter, to_counter, addition, sum_after, sum_since_cleared, number_of_additions, counter_law}
 use Rattle.cip_objects.specs.Router.{general_status}
-use Rattle.cip_objects.specs.Status.{status_code}
-use Rattle.cip_objects.proofs.Refuses.{Refuses, no_success, outcome_refuses}
+use Rattle.cip_objects.specs.Status.{status_code, completion_status, refusal_status}
+use Rattle.cip_objects.specs.ExecutionLaws.{reply_of_outcome}
+use Rattle.cip_objects.proofs.Executed.{answered_by}
+use Rattle.cip_objects.proofs.Refuses.{no_success}
 use Rattle.cip_objects.specs.Service.{service_code}
 use Rattle.cip_objects.specs.Tables.{Shape, shape_at, services_of}
 use Rattle.cip_objects.proofs.Offers.{table, offered}
 use Rattle.cip_objects.proofs.Effects.{goes, set_effect, Sets, member_effect, SetsMember, add_effect, clear_effect, read_effect, change_effect, chosen_code}
-use Rattle.cip_objects.proofs.Keys.{number_at-same, number_at-other, number_at-set}
+use Rattle.cip_objects.proofs.ReadAfterSet.{udint_at-same, udint_at-other, udint_at-set}
 use Rattle.cip_objects.proofs.Settable.{settable_limit}
 
 table_add : (b1 b4 b6 b100 z o : Bool) (x : Option Shape) (s : Service) → offered 0x32 (table b1 b4 b6 b100 z o x) ≡ Ok s → (b100 ≡ true) × (o ≡ true)
@@ -62,14 +66,14 @@ equal : (a b : ℕ) → eqb a b ≡ true → a ≡ b
 equal a b e = grind (arith, nat_tests)
 
 -- only the counter's instance can be added to or cleared
-add_place : (shapes : List Shape) (class instance : ℕ) (s : Service) → chosen shapes class instance 0x32 ≡ Ok s → (class ≡ 100) × (instance ≡ 1)
-unfolding chosen services_of
+add_place : (shapes : List Shape) (class instance : ℕ) (s : Service) → service_at shapes class instance 0x32 ≡ Ok s → (class ≡ 100) × (instance ≡ 1)
+unfolding service_at services_of
 add_place shapes class instance s e =
     let t = table_add (eqb class 1) (eqb class 4) (eqb class 6) (eqb class 100) (eqb instance 0) (eqb instance 1) (shape_at instance shapes) s e in
     (equal class 100 t.0, equal instance 1 t.1)
 
-clear_place : (shapes : List Shape) (class instance : ℕ) (s : Service) → chosen shapes class instance 0x33 ≡ Ok s → (class ≡ 100) × (instance ≡ 1)
-unfolding chosen services_of
+clear_place : (shapes : List Shape) (class instance : ℕ) (s : Service) → service_at shapes class instance 0x33 ≡ Ok s → (class ≡ 100) × (instance ≡ 1)
+unfolding service_at services_of
 clear_place shapes class instance s e =
     let t = table_clear (eqb class 1) (eqb class 4) (eqb class 6) (eqb class 100) (eqb instance 0) (eqb instance 1) (shape_at instance shapes) s e in
     (equal class 100 t.0, equal instance 1 t.1)
@@ -85,7 +89,7 @@ pub record Effect (m : Contents) (text : List ℕ) (o : Outcome) : Type 0 where
   pub value : value_of o.after ≡ cond (clears_by text) 0 (value_of m + unwrap_or (added_by text) 0)
   pub additions : additions_of o.after ≡ (additions_of m + cond (is_some (added_by text)) 1 0) % 2 ^ 32
   pub counter : IsCounter o.after
-  pub done : (o.status ≡ Success) ⊎ ((added_by text ≡ None) × (clears_by text ≡ false))
+  pub done : (o.status ≡ Whole) ⊎ ((added_by text ≡ None) × (clears_by text ≡ false))
 
 to_other : (code : ℕ) (text : List ℕ) (q : Request) → request_of text ≡ Ok q → eqb q.service code ≡ false → to_counter code (request_of text) ≡ None
 to_other code text q e h = ap (to_counter code) e ∙ ap (λ t. cond (t && is_counter (path_of q.path)) (Some q.data) None) h
@@ -142,16 +146,16 @@ set_moves : (m : Contents) (text : List ℕ) (o : Outcome) (q : Request) (p : Pa
 set_moves m text o q p c hc hb e na nc after x (inl four) =
     let other = λ (b : ℕ). ap (λ n. eqb 100 n && (eqb 1 p.instance && eqb b x.attribute)) four.1 in
     unmoved m text o q e na nc
-    (ap value_of (after ∙ x.leaves) ∙ number_at-other m p.class p.instance x.attribute q.data 100 1 1 (other 1))
-    (ap limit_of (after ∙ x.leaves) ∙ number_at-other m p.class p.instance x.attribute q.data 100 1 2 (other 2))
-    (ap additions_of (after ∙ x.leaves) ∙ number_at-other m p.class p.instance x.attribute q.data 100 1 3 (other 3))
+    (ap value_of (after ∙ x.leaves) ∙ udint_at-other m p.class p.instance x.attribute q.data 100 1 1 (other 1))
+    (ap limit_of (after ∙ x.leaves) ∙ udint_at-other m p.class p.instance x.attribute q.data 100 1 2 (other 2))
+    (ap additions_of (after ∙ x.leaves) ∙ udint_at-other m p.class p.instance x.attribute q.data 100 1 3 (other 3))
     hc
 set_moves m text o q p c hc hb e na nc after x (inr more) =
     let l = settable_limit m.shapes p.class p.instance x.attribute x.size x.can more.1 in
     let leaves : o.after ≡ with_value m 100 1 2 q.data = after ∙ x.leaves ∙ ap (λ k. with_value m k p.instance x.attribute q.data) l.of_counter ∙ ap (λ k. with_value m 100 k x.attribute q.data) l.of_instance ∙ ap (λ k. with_value m 100 1 k q.data) l.is_limit in
-    let v = ap value_of leaves ∙ number_at-other m 100 1 2 q.data 100 1 1 refl in
-    let a = ap additions_of leaves ∙ number_at-other m 100 1 2 q.data 100 1 3 refl in
-    let limit : limit_of o.after ≡ little_number 4 q.data = ap limit_of leaves ∙ number_at-same m 100 1 2 q.data in
+    let v = ap value_of leaves ∙ udint_at-other m 100 1 2 q.data 100 1 1 refl in
+    let a = ap additions_of leaves ∙ udint_at-other m 100 1 2 q.data 100 1 3 refl in
+    let limit : limit_of o.after ≡ little_number 4 q.data = ap limit_of leaves ∙ udint_at-same m 100 1 2 q.data in
     let allowed = allowed_limit m q.data (sym (ap (λ k. is_allowed m k q.data) l.of_counter) ∙ x.allowed) in
     quiet m text o (to_other 0x32 text q e na) (to_other 0x33 text q e nc) v a hc.additions
     (record { within = rw (v, limit) allowed; limit = rw limit (little_fits q.data hb); additions = rw a hc.additions })
@@ -160,22 +164,22 @@ set_moves m text o q p c hc hb e na nc after x (inr more) =
 member_moves : (m : Contents) (text : List ℕ) (o : Outcome) (q : Request) (p : Path) (c : Change) → IsCounter m → request_of text ≡ Ok q → eqb q.service 0x32 ≡ false → eqb q.service 0x33 ≡ false → o.after ≡ c.after → SetsMember m p c → Effect m text o
 member_moves m text o q p c hc e na nc after x =
     unmoved m text o q e na nc
-    (ap value_of (after ∙ x.leaves) ∙ number_at-other m 4 p.instance 3 x.value 100 1 1 refl)
-    (ap limit_of (after ∙ x.leaves) ∙ number_at-other m 4 p.instance 3 x.value 100 1 2 refl)
-    (ap additions_of (after ∙ x.leaves) ∙ number_at-other m 4 p.instance 3 x.value 100 1 3 refl)
+    (ap value_of (after ∙ x.leaves) ∙ udint_at-other m 4 p.instance 3 x.value 100 1 1 refl)
+    (ap limit_of (after ∙ x.leaves) ∙ udint_at-other m 4 p.instance 3 x.value 100 1 2 refl)
+    (ap additions_of (after ∙ x.leaves) ∙ udint_at-other m 4 p.instance 3 x.value 100 1 3 refl)
     hc
 
 -- an addition
-add_moves : (m : Contents) (text : List ℕ) (o : Outcome) (q : Request) (n : ℕ) → IsCounter m → to_counter 0x32 (request_of text) ≡ Some q.data → to_counter 0x33 (request_of text) ≡ None → n ≡ little_number 4 q.data → value_of m + n ≤ limit_of m → o.after ≡ added m (value_of m + n) → o.status ≡ Success → Effect m text o
+add_moves : (m : Contents) (text : List ℕ) (o : Outcome) (q : Request) (n : ℕ) → IsCounter m → to_counter 0x32 (request_of text) ≡ Some q.data → to_counter 0x33 (request_of text) ≡ None → n ≡ little_number 4 q.data → value_of m + n ≤ limit_of m → o.after ≡ after_add m (value_of m + n) → o.status ≡ Whole → Effect m text o
 add_moves m text o q n hc e nc is within leaves done =
     let total = value_of m + n in
     let fits : total < 2 ^ 32 = omega (arith, hc.limit) in
     let first = with_value m 100 1 1 (le 4 total) in
     let count = (additions_of m + 1) % 2 ^ 32 in
-    let v : value_of o.after ≡ total = ap value_of leaves ∙ number_at-other first 100 1 3 (le 4 count) 100 1 1 refl ∙ number_at-set m 100 1 1 total fits in
-    let l : limit_of o.after ≡ limit_of m = ap limit_of leaves ∙ number_at-other first 100 1 3 (le 4 count) 100 1 2 refl ∙ number_at-other m 100 1 1 (le 4 total) 100 1 2 refl in
+    let v : value_of o.after ≡ total = ap value_of leaves ∙ udint_at-other first 100 1 3 (le 4 count) 100 1 1 refl ∙ udint_at-set m 100 1 1 total fits in
+    let l : limit_of o.after ≡ limit_of m = ap limit_of leaves ∙ udint_at-other first 100 1 3 (le 4 count) 100 1 2 refl ∙ udint_at-other m 100 1 1 (le 4 total) 100 1 2 refl in
     let small_count : count < 2 ^ 32 = omega arith in
-    let a : additions_of o.after ≡ count = ap additions_of leaves ∙ number_at-set first 100 1 3 count small_count in
+    let a : additions_of o.after ≡ count = ap additions_of leaves ∙ udint_at-set first 100 1 3 count small_count in
     let by : added_by text ≡ Some n = ap (option_map (little_number 4)) e ∙ ap (λ k. Some k) (sym is) in
     record {
       value = v ∙ ap (λ k. value_of m + unwrap_or k 0) (sym by) ∙ ap (λ k. cond (is_some k) 0 (value_of m + unwrap_or (added_by text) 0)) (sym nc);
@@ -185,11 +189,11 @@ add_moves m text o q n hc e nc is within leaves done =
     }
 
 -- a clearing
-clear_moves : (m : Contents) (text : List ℕ) (o : Outcome) (q : Request) → IsCounter m → to_counter 0x33 (request_of text) ≡ Some q.data → to_counter 0x32 (request_of text) ≡ None → o.after ≡ with_value m 100 1 1 (le 4 0) → o.status ≡ Success → Effect m text o
+clear_moves : (m : Contents) (text : List ℕ) (o : Outcome) (q : Request) → IsCounter m → to_counter 0x33 (request_of text) ≡ Some q.data → to_counter 0x32 (request_of text) ≡ None → o.after ≡ with_value m 100 1 1 (le 4 0) → o.status ≡ Whole → Effect m text o
 clear_moves m text o q hc e na leaves done =
-    let v : value_of o.after ≡ 0 = ap value_of leaves ∙ number_at-set m 100 1 1 0 (omega arith) in
-    let l : limit_of o.after ≡ limit_of m = ap limit_of leaves ∙ number_at-other m 100 1 1 (le 4 0) 100 1 2 refl in
-    let a : additions_of o.after ≡ additions_of m = ap additions_of leaves ∙ number_at-other m 100 1 1 (le 4 0) 100 1 3 refl in
+    let v : value_of o.after ≡ 0 = ap value_of leaves ∙ udint_at-set m 100 1 1 0 (omega arith) in
+    let l : limit_of o.after ≡ limit_of m = ap limit_of leaves ∙ udint_at-other m 100 1 1 (le 4 0) 100 1 2 refl in
+    let a : additions_of o.after ≡ additions_of m = ap additions_of leaves ∙ udint_at-other m 100 1 1 (le 4 0) 100 1 3 refl in
     record {
       value = v ∙ ap (λ k. cond (is_some k) 0 (value_of m + unwrap_or (added_by text) 0)) (sym e);
       additions = a ∙ small (additions_of m) hc.additions ∙ sym (ap (λ x. (additions_of m + cond (is_some (option_map (little_number 4) x)) 1 0) % 2 ^ 32) na);
@@ -206,7 +210,7 @@ not_code s q code e h = ap (λ n. eqb n code) (sym e) ∙ h
 is_code : (s q code : ℕ) → s ≡ q → eqb s code ≡ true → eqb q code ≡ true
 is_code s q code e h = ap (λ n. eqb n code) (sym e) ∙ h
 
-by_service : (m : Contents) (text : List ℕ) (o : Outcome) (q : Request) (p : Path) (s : Service) → IsCounter m → AreBytes q.data → request_of text ≡ Ok q → path_of q.path ≡ Ok p → chosen m.shapes p.class p.instance q.service ≡ Ok s → service_code s ≡ q.service → perform m s p q.data ≡ Ok o → Effect m text o
+by_service : (m : Contents) (text : List ℕ) (o : Outcome) (q : Request) (p : Path) (s : Service) → IsCounter m → AreBytes q.data → request_of text ≡ Ok q → path_of q.path ≡ Ok p → service_at m.shapes p.class p.instance q.service ≡ Ok s → service_code s ≡ q.service → perform m s p q.data ≡ Ok o → Effect m text o
 by_service m text o q p GetAttributesAll hc hb e f ch code done =
     still m text o q hc e (not_code 0x01 q.service 0x32 code refl) (not_code 0x01 q.service 0x33 code refl) (read_effect m (get_attributes_all m p q.data) o done)
 by_service m text o q p GetAttributeList hc hb e f ch code done =
@@ -224,12 +228,12 @@ by_service m text o q p SetMember hc hb e f ch code done =
 by_service m text o q p Add hc hb e f ch code done =
     let c = change_effect (add m q.data) o done in
     let x = add_effect m q.data c.change c.first in
-    let at = add_place m.shapes p.class p.instance Add (subst (λ k. chosen m.shapes p.class p.instance k ≡ Ok Add) (sym code) ch) in
+    let at = add_place m.shapes p.class p.instance Add (subst (λ k. service_at m.shapes p.class p.instance k ≡ Ok Add) (sym code) ch) in
     add_moves m text o q (little_number 4 q.data) hc (to_it 0x32 text q p e f (is_code 0x32 q.service 0x32 code refl) at.0 at.1) (to_other 0x33 text q e (not_code 0x32 q.service 0x33 code refl)) refl x.within (c.after ∙ x.leaves) c.status
 by_service m text o q p Clear hc hb e f ch code done =
     let c = change_effect (clear m q.data) o done in
     let x = clear_effect m q.data c.change c.first in
-    let at = clear_place m.shapes p.class p.instance Clear (subst (λ k. chosen m.shapes p.class p.instance k ≡ Ok Clear) (sym code) ch) in
+    let at = clear_place m.shapes p.class p.instance Clear (subst (λ k. service_at m.shapes p.class p.instance k ≡ Ok Clear) (sym code) ch) in
     clear_moves m text o q hc (to_it 0x33 text q p e f (is_code 0x33 q.service 0x33 code refl) at.0 at.1) (to_other 0x32 text q e (not_code 0x33 q.service 0x32 code refl)) (c.after ∙ x.leaves) c.status
 
 pub effect : (m : Contents) (text : List ℕ) (o : Outcome) → IsCounter m → AreBytes text → outcome m text ≡ Ok o → Effect m text o
@@ -260,9 +264,9 @@ cond_none : (t : Bool) → ◌≡◌ {A = Option ℕ} (cond t None None) None
 cond_none true = refl
 cond_none false = refl
 
-told : (m : Contents) (text reply : List ℕ) (o : Outcome) → Effect m text o → general_status reply ≡ status_code o.status → (o.status ≡ Success) ⊎ ((added_by text ≡ None) × (clears_by text ≡ false)) → Stepped m text (record { after = o.after; answer = reply })
+told : (m : Contents) (text reply : List ℕ) (o : Outcome) → Effect m text o → general_status reply ≡ status_code (completion_status o.status) → (o.status ≡ Whole) ⊎ ((added_by text ≡ None) × (clears_by text ≡ false)) → Stepped m text (record { after = o.after; answer = reply })
 told m text reply o x g (inl done) =
-    let e : eqb (general_status reply) 0 ≡ true = ap (λ n. eqb n 0) (g ∙ ap status_code done) in
+    let e : eqb (general_status reply) 0 ≡ true = ap (λ n. eqb n 0) (g ∙ ap (λ c. status_code (completion_status c)) done) in
     record {
       value = x.value ∙ sym (ap (λ t. cond (t && clears_by text) 0 (value_of m + unwrap_or (cond t (added_by text) None) 0)) e);
       additions = x.additions ∙ sym (ap (λ t. (additions_of m + cond (is_some (cond t (added_by text) None)) 1 0) % 2 ^ 32) e);
@@ -276,17 +280,17 @@ told m text reply o x g (inr none) = record {
   counter = x.counter;
 }
 
-by_fit : (over : Bool) (m : Contents) (text : List ℕ) (o : Outcome) → IsCounter m → Effect m text o → Stepped m text (cond over (record { after = m; answer = reply_to text ReplyDataTooLarge [] }) (record { after = o.after; answer = reply_to text o.status o.content }))
-by_fit true m text o h x = silent m text (reply_to text ReplyDataTooLarge []) h refl
-by_fit false m text o h x = told m text (reply_to text o.status o.content) o x refl x.done
+by_fit : (over : Bool) (m : Contents) (text : List ℕ) (o : Outcome) → IsCounter m → Effect m text o → Stepped m text (or_refusal m text (answered_by over text o))
+by_fit true m text o h x = silent m text (reply_to text (refusal_status ReplyDataTooLarge) []) h refl
+by_fit false m text o h x = told m text (reply_of_outcome text o) o x refl x.done
 
-by_outcome : (m : Contents) (room : ℕ) (text : List ℕ) (r : Result Outcome Status) → IsCounter m → Refuses r → ((o : Outcome) → r ≡ Ok o → Effect m text o) → Stepped m text (fitted m room text r)
-by_outcome m room text (Err s) h e x = silent m text (reply_to text s []) h (no_success s e)
-by_outcome m room text (Ok o) h e x = by_fit (nat_lt room (length (reply_to text o.status o.content))) m text o h (x o refl)
+by_outcome : (m : Contents) (room : ℕ) (text : List ℕ) (r : Result Outcome Refusal) → IsCounter m → ((o : Outcome) → r ≡ Ok o → Effect m text o) → Stepped m text (or_refusal m text (r >>= with_reply room text))
+by_outcome m room text (Err s) h x = silent m text (reply_to text (refusal_status s) []) h (no_success s)
+by_outcome m room text (Ok o) h x = by_fit (nat_lt room (length (reply_of_outcome text o))) m text o h (x o refl)
 
 stepped : (m : Contents) (room : ℕ) (text : List ℕ) → IsCounter m → AreBytes text → Stepped m text (exec m room text)
 unfolding exec
-stepped m room text h b = by_outcome m room text (outcome m text) h (outcome_refuses m text) (λ o e. effect m text o h b e)
+stepped m room text h b = by_outcome m room text (outcome m text) h (λ o e. effect m text o h b e)
 
 twice : (a b c : ℕ) → ((a + b) % 2 ^ 32 + c) % 2 ^ 32 ≡ (a + (b + c)) % 2 ^ 32
 twice a b c = omega arith

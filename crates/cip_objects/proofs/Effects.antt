@@ -10,40 +10,41 @@ use Rattle.cip_bytes.specs.Numbers.{le}
 use Rattle.cip_message.specs.PathReading.{path_of}
 use Rattle.cip_message.specs.Request.{Request, request_of}
 use Rattle.cip_objects.specs.declared.service.Service.{Service}
-use Rattle.cip_objects.specs.declared.status.Status.{Status}
-use Rattle.cip_objects.specs.declared.status.Status.TheVariants.{Success}
-use Rattle.cip_objects.specs.Check.{◌>>=◌, ◌>>◌, demand, exactly}
-use Rattle.cip_objects.specs.Contents.{Contents, value_at, bytes_at, number_at, with_value}
-use Rattle.cip_objects.specs.Reading.{Answer, chosen, named_member}
-use Rattle.cip_objects.specs.Changing.{Change, added, spliced, is_allowed, set_attribute_single, set_member, add, clear}
-use Rattle.cip_objects.specs.Execution.{Outcome, reads, changes, perform, sized, formed, outcome}
+use Rattle.cip_objects.specs.declared.status.Refusal.{Refusal}
+use Rattle.cip_objects.specs.declared.status.Completion.TheVariants.{Whole}
+use Rattle.cip_bytes.specs.Reading.{◌>>=◌, ◌>>◌}
+use Rattle.cip_objects.specs.Check.{demand, exactly}
+use Rattle.cip_objects.specs.Contents.{Contents, value_at, bytes_at, udint_at, with_value}
+use Rattle.cip_objects.specs.ReadServices.{Answer, service_at, named_member}
+use Rattle.cip_objects.specs.ChangeServices.{Change, after_add, with_bytes_at, is_allowed, set_attribute_single, set_member, add, clear}
+use Rattle.cip_objects.specs.Execution.{Outcome, outcome_of_read, outcome_of_change, perform, request_or_refusal, path_or_refusal, outcome}
 use Rattle.cip_objects.specs.Service.{service_code, service_in}
 use Rattle.cip_objects.specs.Tables.{Shape, services_of, settable_size}
-use Rattle.cip_objects.proofs.Settable.{sized as has_size}
+use Rattle.cip_objects.proofs.Settable.{exact_size}
 
 -- what a check that held found
-pub record Found {A B : Type 0} (r : Result A Status) (f : A → Result B Status) (y : B) : Type 0 where
+pub record Found {A B : Type 0} (r : Result A Refusal) (f : A → Result B Refusal) (y : B) : Type 0 where
   pub value : A
   pub first : r ≡ Ok value
   pub rest : f value ≡ Ok y
 
-pub bound : {A B : Type 0} (r : Result A Status) (f : A → Result B Status) (y : B) → (r >>= f) ≡ Ok y → Found r f y
+pub bound : {A B : Type 0} (r : Result A Refusal) (f : A → Result B Refusal) (y : B) → (r >>= f) ≡ Ok y → Found r f y
 bound (Ok x) f y e = record { value = x; first = refl; rest = e }
 bound (Err s) f y e = absurd (cc)
 
-pub after_check : {B : Type 0} (r : Result (Unit {0}) Status) (s : Result B Status) (y : B) → (r >> s) ≡ Ok y → (r ≡ Ok tt) × (s ≡ Ok y)
+pub after_check : {B : Type 0} (r : Result (Unit {0}) Refusal) (s : Result B Refusal) (y : B) → (r >> s) ≡ Ok y → (r ≡ Ok tt) × (s ≡ Ok y)
 after_check (Ok x) s y e = (refl, e)
 after_check (Err t) s y e = absurd (cc)
 
-pub demanded : (b : Bool) (s : Status) → demand b s ≡ Ok tt → b ≡ true
+pub demanded : (b : Bool) (s : Refusal) → demand b s ≡ Ok tt → b ≡ true
 demanded true s e = refl
 demanded false s e = absurd (cc)
 
-pub found_some : {A : Type 0} (o : Option A) (s : Status) (x : A) → ok_or o s ≡ Ok x → o ≡ Some x
+pub found_some : {A : Type 0} (o : Option A) (s : Refusal) (x : A) → ok_or o s ≡ Ok x → o ≡ Some x
 found_some None s x e = absurd (cc)
 found_some (Some y) s x e = cc
 
-same_ok : {A : Type 0} (x y : A) → ◌≡◌ {A = Result A Status} (Ok x) (Ok y) → x ≡ y
+same_ok : {A : Type 0} (x y : A) → ◌≡◌ {A = Result A Refusal} (Ok x) (Ok y) → x ≡ y
 same_ok x y e = cc
 
 -- a set attribute: which it is, and what is known of its data
@@ -71,7 +72,7 @@ set_effect m path content c e =
       size = n.value;
       named = found_some path.attribute _ a.value a.first;
       can = found_some _ _ n.value n.first;
-      fits = has_size n.value content x.0;
+      fits = exact_size n.value content x.0;
       allowed = demanded (is_allowed m path.class content) _ w.0;
       leaves = sym (ap (λ z. z.after) done);
       answers = sym (ap (λ z. z.content) done);
@@ -91,16 +92,16 @@ member_effect m path content c e =
     let x = after_check (exactly s.value.size content) _ c n.rest in
     let done = same_ok _ c x.1 in
     record {
-      value = spliced (bytes_at m 4 path.instance 3) s.value.offset content;
+      value = with_bytes_at (bytes_at m 4 path.instance 3) s.value.offset content;
       leaves = sym (ap (λ z. z.after) done);
       answers = sym (ap (λ z. z.content) done);
     }
 
 -- an addition
 pub record Adds (m : Contents) (content : List ℕ) (c : Change) : Type 0 where
-  pub within : number_at m 100 1 1 + little_number 4 content ≤ number_at m 100 1 2
-  pub leaves : c.after ≡ added m (number_at m 100 1 1 + little_number 4 content)
-  pub answers : c.content ≡ le 4 (number_at m 100 1 1 + little_number 4 content)
+  pub within : udint_at m 100 1 1 + little_number 4 content ≤ udint_at m 100 1 2
+  pub leaves : c.after ≡ after_add m (udint_at m 100 1 1 + little_number 4 content)
+  pub answers : c.content ≡ le 4 (udint_at m 100 1 1 + little_number 4 content)
 
 at_most : (a b : ℕ) → nat_le a b ≡ true → a ≤ b
 at_most a b e = grind (arith, nat_tests)
@@ -109,7 +110,7 @@ pub add_effect : (m : Contents) (content : List ℕ) (c : Change) → add m cont
 unfolding add
 add_effect m content c e =
     let x = after_check (exactly 4 content) _ c e in
-    let w = after_check (demand (nat_le (number_at m 100 1 1 + little_number 4 content) (number_at m 100 1 2)) _) _ c x.1 in
+    let w = after_check (demand (nat_le (udint_at m 100 1 1 + little_number 4 content) (udint_at m 100 1 2)) _) _ c x.1 in
     let done = same_ok _ c w.1 in
     record {
       within = at_most _ _ (demanded _ _ w.0);
@@ -119,7 +120,7 @@ add_effect m content c e =
 
 pub record Clears (m : Contents) (c : Change) : Type 0 where
   pub leaves : c.after ≡ with_value m 100 1 1 (le 4 0)
-  pub answers : c.content ≡ le 4 (number_at m 100 1 1)
+  pub answers : c.content ≡ le 4 (udint_at m 100 1 1)
 
 pub clear_effect : (m : Contents) (content : List ℕ) (c : Change) → clear m content ≡ Ok c → Clears m c
 unfolding clear
@@ -132,20 +133,20 @@ clear_effect m content c e =
     }
 
 -- a service that reads leaves all as it was
-pub read_effect : (m : Contents) (r : Result Answer Status) (o : Outcome) → reads m r ≡ Ok o → o.after ≡ m
+pub read_effect : (m : Contents) (r : Result Answer Refusal) (o : Outcome) → outcome_of_read m r ≡ Ok o → o.after ≡ m
 read_effect m (Ok a) o e = sym (ap (λ z. z.after) (same_ok _ o e))
 read_effect m (Err s) o e = absurd (cc)
 
 -- a service that changes succeeds
-pub record Changes (r : Result Change Status) (o : Outcome) : Type 0 where
+pub record Changes (r : Result Change Refusal) (o : Outcome) : Type 0 where
   pub change : Change
   pub first : r ≡ Ok change
   pub after : o.after ≡ change.after
-  pub status : o.status ≡ Success
+  pub status : o.status ≡ Whole
   pub content : o.content ≡ change.content
 
-pub change_effect : (r : Result Change Status) (o : Outcome) → changes r ≡ Ok o → Changes r o
-change_effect (Ok c) o e = let done = same_ok (record { after = c.after; status = Success; content = c.content }) o e in
+pub change_effect : (r : Result Change Refusal) (o : Outcome) → outcome_of_change r ≡ Ok o → Changes r o
+change_effect (Ok c) o e = let done = same_ok (record { after = c.after; status = Whole; content = c.content }) o e in
     record {
       change = c;
       first = refl;
@@ -162,23 +163,23 @@ pub record Goes (m : Contents) (text : List ℕ) (o : Outcome) : Type 0 where
   pub service : Service
   pub is_request : request_of text ≡ Ok request
   pub is_path : path_of request.path ≡ Ok path
-  pub is_chosen : chosen m.shapes path.class path.instance request.service ≡ Ok service
+  pub is_chosen : service_at m.shapes path.class path.instance request.service ≡ Ok service
   pub is_performed : perform m service path request.data ≡ Ok o
 
-sized_ok : (r : Result Request RequestFault) (q : Request) → sized r ≡ Ok q → r ≡ Ok q
+sized_ok : (r : Result Request RequestFault) (q : Request) → request_or_refusal r ≡ Ok q → r ≡ Ok q
 sized_ok (Ok p) q e = ap (λ x. Ok x) (same_ok p q e)
 sized_ok (Err f) q e = absurd (cc)
 
-formed_ok : (r : Result Path PathFault) (p : Path) → formed r ≡ Ok p → r ≡ Ok p
+formed_ok : (r : Result Path PathFault) (p : Path) → path_or_refusal r ≡ Ok p → r ≡ Ok p
 formed_ok (Ok x) p e = ap (λ x. Ok x) (same_ok x p e)
 formed_ok (Err f) p e = absurd (cc)
 
 pub goes : (m : Contents) (text : List ℕ) (o : Outcome) → outcome m text ≡ Ok o → Goes m text o
 unfolding outcome
 goes m text o e =
-    let q = bound (sized (request_of text)) _ o e in
-    let p = bound (formed (path_of q.value.path)) _ o q.rest in
-    let s = bound (chosen m.shapes p.value.class p.value.instance q.value.service) _ o p.rest in
+    let q = bound (request_or_refusal (request_of text)) _ o e in
+    let p = bound (path_or_refusal (path_of q.value.path)) _ o q.rest in
+    let s = bound (service_at m.shapes p.value.class p.value.instance q.value.service) _ o p.rest in
     record {
       request = q.value;
       path = p.value;
@@ -201,8 +202,8 @@ in_list code [] s e = absurd (cc)
 in_list code (x ∷ xs) s e = in_cons (eqb (service_code x) code) code x (service_in code xs) s refl (in_list code xs s) e
 
 -- the service that was chosen has the code of the request
-pub chosen_code : (shapes : List Shape) (class instance code : ℕ) (s : Service) → chosen shapes class instance code ≡ Ok s → service_code s ≡ code
-unfolding chosen
+pub chosen_code : (shapes : List Shape) (class instance code : ℕ) (s : Service) → service_at shapes class instance code ≡ Ok s → service_code s ≡ code
+unfolding service_at
 chosen_code shapes class instance code s e =
     let offered = bound (ok_or (services_of shapes class instance) _) _ s e in
     in_list code offered.value s (found_some (service_in code offered.value) _ s offered.rest)

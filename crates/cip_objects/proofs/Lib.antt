@@ -7,12 +7,12 @@ pub mod Numbers
 pub mod Words
 pub mod Settable
 pub mod Executed
+pub mod Refuses
 pub mod Sound
-pub mod Keys
+pub mod ReadAfterSet
 pub mod Effects
 pub mod Offers
 pub mod CounterRun
-pub mod Refuses
 pub mod Sets
 pub mod Refused
 pub mod Unsettable

@@ -4,6 +4,7 @@ use Rattle.std.proofs.lemmas.Bool.Decides.{nat_tests}
 use Rattle.std.proofs.lemmas.List.{length-append, append_assoc, length-drop}
 use Rattle.std.specs.List.{list_all}
 use Rattle.byteorder.specs.Endian.{little_number}
+use Rattle.cip_bytes.specs.Reading.{◌>>=◌}
 use Rattle.cip_message.specs.declared.path.Path.{Path}
 use Rattle.cip_message.specs.declared.path.PathFault.{PathFault}
 use Rattle.cip_message.specs.declared.request.RequestFault.{RequestFault}
@@ -12,23 +13,24 @@ use Rattle.cip_message.specs.PathReading.{path_of}
 use Rattle.cip_message.specs.Request.{Request}
 use Rattle.cip_objects.specs.declared.service.Service.{Service}
 use Rattle.cip_objects.specs.declared.service.Service.TheVariants.{GetAttributesAll, GetAttributeList, GetAttributeSingle, SetAttributeSingle, GetMember, SetMember, Add, Clear}
-use Rattle.cip_objects.specs.declared.status.Status.{Status}
-use Rattle.cip_objects.specs.declared.status.Status.TheVariants.{Success, AttributeNotSupported, NotEnoughData, ReplyDataTooLarge}
+use Rattle.cip_objects.specs.declared.status.Refusal.{Refusal}
+use Rattle.cip_objects.specs.declared.status.Status.TheVariants.{Success}
+use Rattle.cip_objects.specs.declared.status.Refusal.TheVariants.{AttributeNotSupported, NotEnoughData}
 use Rattle.cip_objects.specs.Check.{demand, exactly}
 use Rattle.cip_objects.specs.Contents.{Contents, value_at}
-use Rattle.cip_objects.specs.Reading.{Answer, chosen, listed_as, listed, is_there, all_there, list_status, get_attribute_single, get_attribute_list}
-use Rattle.cip_objects.specs.Execution.{Outcome, reads, perform, outcome, Executed, fitted, exec, reply_to}
+use Rattle.cip_objects.specs.ReadServices.{Answer, service_at, list_entry_of, list_entry, is_there, all_there, list_completion, get_attribute_single, get_attribute_list}
+use Rattle.cip_objects.specs.Execution.{Outcome, outcome_of_read, perform, outcome, with_reply, or_refusal, exec, reply_to}
 use Rattle.cip_objects.specs.Laws.{Reads}
-use Rattle.cip_objects.specs.Lists.{IsGet, AreGets, joined, list_law}
+use Rattle.cip_objects.specs.Lists.{IsGet, AreGets, entries_of_replies, list_law}
 use Rattle.cip_objects.specs.Router.{general_status}
 use Rattle.cip_objects.specs.Service.{service_code}
-use Rattle.cip_objects.specs.Status.{status_code}
+use Rattle.cip_objects.specs.Status.{completion_status, refusal_status}
 use Rattle.cip_objects.specs.Tables.{Shape, shape_at, services_of}
 use Rattle.cip_objects.proofs.Offers.{table, offered}
 use Rattle.cip_objects.proofs.Effects.{goes, after_check, chosen_code}
-use Rattle.cip_objects.proofs.Refuses.{Refuses, outcome_refuses}
-use Rattle.cip_objects.proofs.Settable.{sized}
-use Rattle.cip_objects.proofs.Sets.{get_makes}
+use Rattle.cip_objects.proofs.Refuses.{exec_outcome}
+use Rattle.cip_objects.proofs.Settable.{exact_size}
+use Rattle.cip_objects.proofs.Sets.{get_makes, got}
 
 -- a service of code 0x03 is Get_Attribute_List
 is_list : (s : Service) → service_code s ≡ 0x03 → s ≡ GetAttributeList
@@ -57,76 +59,61 @@ table_list false false false true false false x s e = absurd (cc)
 table_list false false false false z o x s e = absurd (cc)
 
 -- where a list can be got, so can one attribute
-list_offers : (shapes : List Shape) (class instance : ℕ) (s : Service) → chosen shapes class instance 0x03 ≡ Ok s
-    → chosen shapes class instance 0x0e ≡ Ok GetAttributeSingle
-unfolding chosen services_of
+list_offers : (shapes : List Shape) (class instance : ℕ) (s : Service) → service_at shapes class instance 0x03 ≡ Ok s
+    → service_at shapes class instance 0x0e ≡ Ok GetAttributeSingle
+unfolding service_at services_of
 list_offers shapes class instance s e =
     table_list (eqb class 1) (eqb class 4) (eqb class 6) (eqb class 100) (eqb instance 0) (eqb instance 1)
     (shape_at instance shapes) s e
 
 -- what a single get makes where the attribute isn't there
 get_misses : (m : Contents) (get path : List ℕ) (p : Path) (a : ℕ) → Reads get 0x0e path [] → path_of path ≡ Ok p
-    → chosen m.shapes p.class p.instance 0x0e ≡ Ok GetAttributeSingle → p.attribute ≡ Some a
+    → service_at m.shapes p.class p.instance 0x0e ≡ Ok GetAttributeSingle → p.attribute ≡ Some a
     → value_at m p.class p.instance a ≡ None → outcome m get ≡ Err AttributeNotSupported
 unfolding outcome get_attribute_single
 get_misses m get path p a e f g h v = rw (e, f, g, h, v) refl
 
 -- what a reply tells of one attribute
 record Tells (m : Contents) (p : Path) (a : ℕ) (reply : List ℕ) : Type 0 where
-  entry : le 2 a ++ (le 2 (general_status reply) ++ drop 4 reply) ≡ listed m p a
+  entry : le 2 a ++ (le 2 (general_status reply) ++ drop 4 reply) ≡ list_entry m p a
   there : eqb (general_status reply) 0x00 ≡ is_there m p a
 
 told_value : (m : Contents) (p : Path) (a : ℕ) (get value reply : List ℕ) → value_at m p.class p.instance a ≡ Some value
     → reply ≡ reply_to get Success value → Tells m p a reply
-unfolding listed
+unfolding list_entry
 told_value m p a get value reply v e = record {
-  entry = ap (λ r. le 2 a ++ (le 2 (general_status r) ++ drop 4 r)) e ∙ sym (ap (listed_as a) v);
+  entry = ap (λ r. le 2 a ++ (le 2 (general_status r) ++ drop 4 r)) e ∙ sym (ap (list_entry_of a) v);
   there = ap (λ r. eqb (general_status r) 0x00) e ∙ sym (ap is_some v);
 }
 
 told_missing : (m : Contents) (p : Path) (a : ℕ) (get reply : List ℕ) → value_at m p.class p.instance a ≡ None
-    → reply ≡ reply_to get AttributeNotSupported [] → Tells m p a reply
-unfolding listed
+    → reply ≡ reply_to get (refusal_status AttributeNotSupported) [] → Tells m p a reply
+unfolding list_entry
 told_missing m p a get reply v e = record {
-  entry = ap (λ r. le 2 a ++ (le 2 (general_status r) ++ drop 4 r)) e ∙ sym (ap (listed_as a) v);
+  entry = ap (λ r. le 2 a ++ (le 2 (general_status r) ++ drop 4 r)) e ∙ sym (ap (list_entry_of a) v);
   there = ap (λ r. eqb (general_status r) 0x00) e ∙ sym (ap is_some v);
 }
 
-by_fit : (over : Bool) (m : Contents) (room : ℕ) (get value : List ℕ)
-    → nat_lt room (suc (suc (suc (suc (length value))))) ≡ over → 4 + length value ≤ room
-    → (cond {A = Executed} over (record { after = m; answer = reply_to get ReplyDataTooLarge [] })
-    (record { after = m; answer = reply_to get Success value })).answer ≡ reply_to get Success value
-by_fit true m room get value e h = absurd (grind (arith, nat_tests))
-by_fit false m room get value e h = refl
-
-get_answers : (m : Contents) (room : ℕ) (get value : List ℕ)
-    → outcome m get ≡ Ok (record { after = m; status = Success; content = value }) → 4 + length value ≤ room
-    → (exec m room get).answer ≡ reply_to get Success value
-unfolding exec
-get_answers m room get value e h =
-    ap (λ r. (fitted m room get r).answer) e
-    ∙ by_fit (nat_lt room (suc (suc (suc (suc (length value)))))) m room get value refl h
-
 get_refuses : (m : Contents) (room : ℕ) (get : List ℕ) → outcome m get ≡ Err AttributeNotSupported
-    → (exec m room get).answer ≡ reply_to get AttributeNotSupported []
+    → (exec m room get).answer ≡ reply_to get (refusal_status AttributeNotSupported) []
 unfolding exec
-get_refuses m room get e = ap (λ r. (fitted m room get r).answer) e
+get_refuses m room get e = ap (λ r. (or_refusal m get (r >>= with_reply room get)).answer) e
 
 -- the entry of an attribute that is there has its value
-length-listed : (m : Contents) (p : Path) (a : ℕ) (value : List ℕ) → value_at m p.class p.instance a ≡ Some value
-    → length (listed m p a) ≡ 4 + length value
-unfolding listed
-length-listed m p a value v = ap (λ o. length (listed_as a o)) v
+length-list_entry : (m : Contents) (p : Path) (a : ℕ) (value : List ℕ) → value_at m p.class p.instance a ≡ Some value
+    → length (list_entry m p a) ≡ 4 + length value
+unfolding list_entry
+length-list_entry m p a value v = ap (λ o. length (list_entry_of a o)) v
     ∙ (let e : suc (suc (suc (suc (length value)))) ≡ 4 + length value = omega arith in e)
 
 tells_of : (m : Contents) (room : ℕ) (p : Path) (a : ℕ) (get : List ℕ) (o : Option (List ℕ))
-    → value_at m p.class p.instance a ≡ o → chosen m.shapes p.class p.instance 0x0e ≡ Ok GetAttributeSingle
-    → IsGet p a get → length (listed m p a) ≤ room → Tells m p a (exec m room get).answer
+    → value_at m p.class p.instance a ≡ o → service_at m.shapes p.class p.instance 0x0e ≡ Ok GetAttributeSingle
+    → IsGet p a get → length (list_entry m p a) ≤ room → Tells m p a (exec m room get).answer
 tells_of m room p a get (Some value) v c g h =
     let q : Path = record { class = p.class; instance = p.instance; attribute = Some a; member = g.member } in
     told_value m p a get value (exec m room get).answer v
-    (get_answers m room get value (get_makes m get g.path value q a g.reads g.names c refl v)
-    (omega (arith, length-listed m p a value v)))
+    (got m room get value (get_makes m get g.path value q a g.reads g.names c refl v)
+    (omega (arith, length-list_entry m p a value v)))
 tells_of m room p a get None v c g h =
     let q : Path = record { class = p.class; instance = p.instance; attribute = Some a; member = g.member } in
     told_missing m p a get (exec m room get).answer v
@@ -134,29 +121,29 @@ tells_of m room p a get None v c g h =
 
 -- what the single replies tell of all attributes
 record TellAll (m : Contents) (p : Path) (attributes : List ℕ) (replies : List (List ℕ)) : Type 0 where
-  entries : joined attributes replies ≡ flat_map (listed m p) attributes
+  entries : entries_of_replies attributes replies ≡ flat_map (list_entry m p) attributes
   there : list_all (λ reply. eqb (general_status reply) 0x00) replies ≡ all_there m p attributes
 
 regrouped : (a b c d : List ℕ) → a ++ (b ++ (c ++ d)) ≡ (a ++ (b ++ c)) ++ d
 regrouped a b c d = sym (simp append_assoc)
 
 tell_all : (m : Contents) (room : ℕ) (p : Path) (attributes : List ℕ) (gets : List (List ℕ))
-    → chosen m.shapes p.class p.instance 0x0e ≡ Ok GetAttributeSingle → AreGets p attributes gets
-    → length (flat_map (listed m p) attributes) ≤ room
+    → service_at m.shapes p.class p.instance 0x0e ≡ Ok GetAttributeSingle → AreGets p attributes gets
+    → length (flat_map (list_entry m p) attributes) ≤ room
     → TellAll m p attributes (map (λ get. (exec m room get).answer) gets)
 tell_all m room p [] [] c g h = record { entries = refl; there = refl }
 tell_all m room p [] (get ∷ gets) c g h = absurd g
 tell_all m room p (a ∷ attributes) [] c g h = absurd g
 tell_all m room p (a ∷ attributes) (get ∷ gets) c g h =
-    let n = length-append (listed m p a) (flat_map (listed m p) attributes) in
+    let n = length-append (list_entry m p a) (flat_map (list_entry m p) attributes) in
     let one = tells_of m room p a get (value_at m p.class p.instance a) refl c g.0 (omega arith) in
     let rest = tell_all m room p attributes gets c g.1 (omega arith) in
     let reply = (exec m room get).answer in
     let replies = map (λ x. (exec m room x).answer) gets in
     record {
-      entries = regrouped (le 2 a) (le 2 (general_status reply)) (drop 4 reply) (joined attributes replies)
-          ∙ ap (λ x. x ++ joined attributes replies) one.entry
-          ∙ ap (λ x. listed m p a ++ x) rest.entries;
+      entries = regrouped (le 2 a) (le 2 (general_status reply)) (drop 4 reply) (entries_of_replies attributes replies)
+          ∙ ap (λ x. x ++ entries_of_replies attributes replies) one.entry
+          ∙ ap (λ x. list_entry m p a ++ x) rest.entries;
       there = ap (λ t. t && list_all (λ x. eqb (general_status x) 0x00) replies) one.there
           ∙ ap (λ t. is_there m p a && t) rest.there;
     }
@@ -175,14 +162,14 @@ length-gets p [] (get ∷ gets) g = absurd g
 length-gets p (a ∷ attributes) [] g = absurd g
 length-gets p (a ∷ attributes) (get ∷ gets) g = ap suc (length-gets p attributes gets g.1)
 
-same_ok : {A : Type 0} (x y : A) → ◌≡◌ {A = Result A Status} (Ok x) (Ok y) → x ≡ y
+same_ok : {A : Type 0} (x y : A) → ◌≡◌ {A = Result A Refusal} (Ok x) (Ok y) → x ≡ y
 same_ok x y e = cc
 
 -- a list that was got
 record Lists (m : Contents) (p : Path) (content : List ℕ) (o : Outcome) : Type 0 where
   size : length content ≡ 2 + 2 * little_number 2 content
-  status : o.status ≡ list_status (all_there m p (words_of (drop 2 content)))
-  data_is : o.content ≡ le 2 (little_number 2 content) ++ flat_map (listed m p) (words_of (drop 2 content))
+  status : o.status ≡ list_completion (all_there m p (words_of (drop 2 content)))
+  data_is : o.content ≡ le 2 (little_number 2 content) ++ flat_map (list_entry m p) (words_of (drop 2 content))
 
 lists : (m : Contents) (p : Path) (content : List ℕ) (a : Answer) → get_attribute_list m p content ≡ Ok a
     → Lists m p content (record { after = m; status = a.status; content = a.content })
@@ -192,52 +179,15 @@ lists m p content a e =
     let y = after_check (exactly (2 + 2 * little_number 2 content) content) _ a x.1 in
     let done = same_ok _ a y.1 in
     record {
-      size = sized (2 + 2 * little_number 2 content) content y.0;
+      size = exact_size (2 + 2 * little_number 2 content) content y.0;
       status = sym (ap (λ z. z.status) done);
       data_is = sym (ap (λ z. z.content) done);
     }
 
-by_reads : (m : Contents) (p : Path) (content : List ℕ) (o : Outcome) (r : Result Answer Status)
-    → get_attribute_list m p content ≡ r → reads m r ≡ Ok o → Lists m p content o
+by_reads : (m : Contents) (p : Path) (content : List ℕ) (o : Outcome) (r : Result Answer Refusal)
+    → get_attribute_list m p content ≡ r → outcome_of_read m r ≡ Ok o → Lists m p content o
 by_reads m p content o (Ok a) e f = subst (Lists m p content) (same_ok _ o f) (lists m p content a e)
 by_reads m p content o (Err s) e f = absurd (cc)
-
--- a reply that isn't refused is that of an outcome, and fits
-record Answered (room : ℕ) (text : List ℕ) (r : Result Outcome Status) (x : List ℕ) : Type 0 where
-  made : Outcome
-  is_made : r ≡ Ok made
-  fits : length (reply_to text made.status made.content) ≤ room
-  is_reply : x ≡ reply_to text made.status made.content
-
-abbrev IsFine : ℕ → Type 0
-IsFine n = (n ≡ 0x00) ⊎ (n ≡ 0x0a)
-
-placed_answered : (over : Bool) (m : Contents) (room : ℕ) (text : List ℕ) (o : Outcome)
-    → nat_lt room (length (reply_to text o.status o.content)) ≡ over
-    → IsFine (general_status
-    (cond {A = Executed} over (record { after = m; answer = reply_to text ReplyDataTooLarge [] })
-    (record { after = o.after; answer = reply_to text o.status o.content })).answer) → Answered room text (Ok o)
-    (cond {A = Executed} over (record { after = m; answer = reply_to text ReplyDataTooLarge [] })
-    (record { after = o.after; answer = reply_to text o.status o.content })).answer
-placed_answered true m room text o e (inl f) = absurd (omega arith)
-placed_answered true m room text o e (inr f) = absurd (omega arith)
-placed_answered false m room text o e f = record
-    { made = o; is_made = refl; fits = grind (arith, nat_tests); is_reply = refl }
-
-not_fine : (n : ℕ) → (eqb n 0x00 || eqb n 0x0a) ≡ false → IsFine n → ⊥
-not_fine n h (inl e) = grind (arith, nat_tests)
-not_fine n h (inr e) = grind (arith, nat_tests)
-
-fitted_answered : (m : Contents) (room : ℕ) (text : List ℕ) (r : Result Outcome Status) → Refuses r
-    → IsFine (general_status (fitted m room text r).answer) → Answered room text r (fitted m room text r).answer
-fitted_answered m room text (Err s) h f = absurd (not_fine (status_code s) h f)
-fitted_answered m room text (Ok o) h f = placed_answered
-    (nat_lt room (length (reply_to text o.status o.content))) m room text o refl f
-
-exec_answered : (m : Contents) (room : ℕ) (text : List ℕ) → IsFine (general_status (exec m room text).answer)
-    → Answered room text (outcome m text) (exec m room text).answer
-unfolding exec
-exec_answered m room text f = fitted_answered m room text (outcome m text) (outcome_refuses m text) f
 
 same_request : (q r : Request) → ◌≡◌ {A = Result Request RequestFault} (Ok q) (Ok r) → q ≡ r
 same_request q r e = cc
@@ -247,7 +197,7 @@ same_path q r e = cc
 
 -- what a list that was answered has
 record WasList (m : Contents) (p : Path) (content : List ℕ) (o : Outcome) : Type 0 where
-  offers : chosen m.shapes p.class p.instance 0x03 ≡ Ok GetAttributeList
+  offers : service_at m.shapes p.class p.instance 0x03 ≡ Ok GetAttributeList
   lists : Lists m p content o
 
 was_list : (m : Contents) (list path content : List ℕ) (p : Path) (o : Outcome) → Reads list 0x03 path content
@@ -264,8 +214,8 @@ was_list m list path content p o e f done =
     ∙ ap (λ r. perform m g.service p r.data) (sym q) ∙ ap (λ x. perform m g.service x g.request.data) (sym here)
     ∙ g.is_performed in
     record {
-      offers = ap (λ x. chosen m.shapes x.class x.instance 0x03) (sym here)
-          ∙ ap (λ r. chosen m.shapes g.path.class g.path.instance r.service) (sym q) ∙ g.is_chosen ∙ ap (λ k. Ok k) s;
+      offers = ap (λ x. service_at m.shapes x.class x.instance 0x03) (sym here)
+          ∙ ap (λ r. service_at m.shapes g.path.class g.path.instance r.service) (sym q) ∙ g.is_chosen ∙ ap (λ k. Ok k) s;
       lists = by_reads m p content o (get_attribute_list m p content) refl performed;
     }
 
@@ -277,19 +227,19 @@ counted p content gets e g =
 
 pub list_is_gets : list_law
 list_is_gets m room list path content p gets e f g fine =
-    let x = exec_answered m room list fine in
+    let x = exec_outcome m room list fine in
     let w = was_list m list path content p x.made e f x.is_made in
     let attributes = words_of (drop 2 content) in
-    let n = length-append (le 2 (little_number 2 content)) (flat_map (listed m p) attributes) in
+    let n = length-append (le 2 (little_number 2 content)) (flat_map (list_entry m p) attributes) in
     let size : length x.made.content ≡ length
-    (le 2 (little_number 2 content) ++ flat_map (listed m p) attributes) = ap length w.lists.data_is in
+    (le 2 (little_number 2 content) ++ flat_map (list_entry m p) attributes) = ap length w.lists.data_is in
     let fits = x.fits in
     let t = tell_all m room p attributes gets (list_offers m.shapes p.class p.instance GetAttributeList w.offers) g
     (omega arith) in
-    x.is_reply
-    ∙ ap (λ s. reply_to list s x.made.content) (w.lists.status ∙ ap list_status (sym t.there))
+    x.answer
+    ∙ ap (λ s. reply_to list (completion_status s) x.made.content) (w.lists.status ∙ ap list_completion (sym t.there))
     ∙ ap (λ c. reply_to list
-    (list_status (list_all (λ reply. eqb (general_status reply) 0x00)
-    (map (λ get. (exec m room get).answer) gets))) c)
-    (w.lists.data_is ∙ ap (λ k. le 2 k ++ flat_map (listed m p) attributes) (counted p content gets w.lists.size g)
+    (completion_status (list_completion (list_all (λ reply. eqb (general_status reply) 0x00)
+    (map (λ get. (exec m room get).answer) gets)))) c)
+    (w.lists.data_is ∙ ap (λ k. le 2 k ++ flat_map (list_entry m p) attributes) (counted p content gets w.lists.size g)
     ∙ ap (λ k. le 2 (length gets) ++ k) (sym t.entries))

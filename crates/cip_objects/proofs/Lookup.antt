@@ -1,17 +1,36 @@
 -- The object map read by class, instance and attribute.
+use Rattle.std.specs.Prelude.{◌==◌, if◌then◌else◌}
 use Rattle.std.proofs.Common.{◌≡◌, ℕ, ◌<◌, eqb, Bool, true, false, cond, ◌&&◌, List, [], ◌∷◌, length, Option, Some, None, refl, sym, ap, ◌∙◌, arith, flat_map, sum}
 use Rattle.byteorder.specs.Endian.{little_bytes}
-use Rattle.std.specs.Option.{option_or}
+use Rattle.std.specs.Option.{option_or, option_and_then}
 use Rattle.std.proofs.lemmas.Bool.Decides.{nat_tests}
 use Rattle.std.proofs.lemmas.Bool.{eqb-true}
 use Rattle.std.specs.FinMap.{find, get-from_entries}
 use Rattle.cip_objects.specs.ObjectMap.{Key, key, key_cmp}
-use Rattle.cip_objects.specs.Tables.{ASSEMBLY}
+use Rattle.cip_objects.specs.Tables.{IDENTITY, ASSEMBLY, COUNTER}
 use Rattle.cip_objects.specs.Contents.{value_at}
 use Rattle.cip_objects.specs.Entries.{IdentityValues, Block, CounterValues, Entries, entries_at, attribute_in, class_attributes, identity_attributes, block_attributes, counter_attributes, block_at, greatest_of, entries_of, contents_of, NoneIsClass}
-use Rattle.cip_objects.specs.Lookup.{block_value, lookup}
 use Rattle.cip_objects.proofs.Blocks.{first_at}
 use Rattle.cip_objects.proofs.Map.{find_append, find_at, key_total}
+
+-- the contents as a reader of the objects meets them: by class, then instance, then attribute
+abbrev pub class_or_instance : ℕ → Option (List ℕ) → Option (List ℕ) → Option (List ℕ)
+class_or_instance instance of_class of_instance =
+    if instance == 0 then of_class else (if instance == 1 then of_instance else None)
+
+abbrev pub block_value : ℕ → Option Block → Option (List ℕ)
+block_value attribute b = option_and_then (λ x. attribute_in attribute (block_attributes x)) b
+
+abbrev pub lookup : IdentityValues → List Block → CounterValues → ℕ → ℕ → ℕ → Option (List ℕ)
+lookup d bs c class instance attribute =
+    if class == IDENTITY then
+    class_or_instance instance (attribute_in attribute (class_attributes 1 1 1)) (attribute_in attribute (identity_attributes d))
+    else (if class == ASSEMBLY then
+    (if instance == 0 then attribute_in attribute (class_attributes 2 (greatest_of bs) (length bs))
+    else block_value attribute (block_at instance bs))
+    else (if class == COUNTER then
+    class_or_instance instance (attribute_in attribute (class_attributes 1 1 1)) (attribute_in attribute (counter_attributes c))
+    else None))
 
 abbrev pub blocks_of : List Block → Entries
 blocks_of bs = flat_map (λ b. entries_at ASSEMBLY b.instance (block_attributes b)) bs

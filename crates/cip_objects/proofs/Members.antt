@@ -9,11 +9,13 @@ use Rattle.cip_message.specs.Request.{Request}
 use Rattle.cip_objects.specs.declared.assembly.Span.{Span}
 use Rattle.cip_objects.specs.declared.service.Service.{Service}
 use Rattle.cip_objects.specs.declared.service.Service.TheVariants.{GetAttributesAll, GetAttributeList, GetAttributeSingle, SetAttributeSingle, GetMember, SetMember, Add, Clear}
-use Rattle.cip_objects.specs.declared.status.Status.TheVariants.{Success, AttributeNotSupported, InvalidMemberId}
+use Rattle.cip_objects.specs.declared.status.Status.TheVariants.{Success}
+use Rattle.cip_objects.specs.declared.status.Completion.TheVariants.{Whole}
+use Rattle.cip_objects.specs.declared.status.Refusal.TheVariants.{AttributeNotSupported, InvalidMemberId}
 use Rattle.cip_objects.specs.Check.{demand}
 use Rattle.cip_objects.specs.Contents.{Contents, bytes_at, with_value}
-use Rattle.cip_objects.specs.Reading.{chosen, is_data, named_member, get_member}
-use Rattle.cip_objects.specs.Changing.{spliced, set_member}
+use Rattle.cip_objects.specs.ReadServices.{service_at, is_data, named_member, get_member}
+use Rattle.cip_objects.specs.ChangeServices.{with_bytes_at, set_member}
 use Rattle.cip_objects.specs.Execution.{Outcome, perform, outcome, exec}
 use Rattle.cip_objects.specs.Laws.{Reads}
 use Rattle.cip_objects.specs.Members.{AreWhole, member_after_set_law}
@@ -21,7 +23,7 @@ use Rattle.cip_objects.specs.Service.{service_code}
 use Rattle.cip_objects.specs.Tables.{Shape, shape_at, span_in, member_at, services_of}
 use Rattle.cip_objects.proofs.Offers.{table, offered}
 use Rattle.cip_objects.proofs.Effects.{goes, bound, after_check, found_some, change_effect, chosen_code}
-use Rattle.cip_objects.proofs.Keys.{value_at-same}
+use Rattle.cip_objects.proofs.ReadAfterSet.{value_at-same}
 use Rattle.cip_objects.proofs.Sets.{went_well, got}
 use Rattle.cip_objects.proofs.Spans.{IsAt, member_at_place, inside, slice_same}
 use Rattle.cip_objects.proofs.Unsettable.{splices}
@@ -96,9 +98,9 @@ table_member false false false true false false x s e = absurd (cc)
 table_member false false false false z o x s e = absurd (cc)
 
 -- what has members that can be set has members that can be got
-member_offers : (shapes : List Shape) (class instance : ℕ) (s : Service) → chosen shapes class instance 0x19 ≡ Ok s
-    → chosen shapes class instance 0x18 ≡ Ok GetMember
-unfolding chosen services_of
+member_offers : (shapes : List Shape) (class instance : ℕ) (s : Service) → service_at shapes class instance 0x19 ≡ Ok s
+    → service_at shapes class instance 0x18 ≡ Ok GetMember
+unfolding service_at services_of
 member_offers shapes class instance s e =
     table_member (eqb class 1) (eqb class 4) (eqb class 6) (eqb class 100) (eqb instance 0) (eqb instance 1)
     (shape_at instance shapes) s e
@@ -106,11 +108,11 @@ member_offers shapes class instance s e =
 -- what a set of a member that went well has done
 pub record WasMember (m : Contents) (path value : List ℕ) (p : Path) (o : Outcome) : Type 0 where
   pub is_path : path_of path ≡ Ok p
-  pub offers : chosen m.shapes p.class p.instance 0x19 ≡ Ok SetMember
+  pub offers : service_at m.shapes p.class p.instance 0x19 ≡ Ok SetMember
   pub span : Span
   pub names : named_member m.shapes p ≡ Ok span
   pub size : length value ≡ span.size
-  pub leaves : o.after ≡ with_value m 4 p.instance 3 (spliced (bytes_at m 4 p.instance 3) span.offset value)
+  pub leaves : o.after ≡ with_value m 4 p.instance 3 (with_bytes_at (bytes_at m 4 p.instance 3) span.offset value)
 
 same_request : (q r : Request) → ◌≡◌ {A = Result Request RequestFault} (Ok q) (Ok r) → q ≡ r
 same_request q r e = cc
@@ -134,7 +136,7 @@ was_member m set path value o e done =
       g.path,
       record {
         is_path = ap (λ r. path_of r.path) (sym q) ∙ g.is_path;
-        offers = ap (λ r. chosen m.shapes g.path.class g.path.instance r.service) (sym q) ∙ g.is_chosen
+        offers = ap (λ r. service_at m.shapes g.path.class g.path.instance r.service) (sym q) ∙ g.is_chosen
             ∙ ap (λ k. Ok k) s;
         span = x.span;
         names = x.names;
@@ -145,9 +147,9 @@ was_member m set path value o e done =
 
 -- what a get of a member makes
 member_makes : (m : Contents) (get path value : List ℕ) (p : Path) (span : Span) → Reads get 0x18 path []
-    → path_of path ≡ Ok p → chosen m.shapes p.class p.instance 0x18 ≡ Ok GetMember → named_member m.shapes p ≡ Ok span
+    → path_of path ≡ Ok p → service_at m.shapes p.class p.instance 0x18 ≡ Ok GetMember → named_member m.shapes p ≡ Ok span
     → take span.size (drop span.offset (bytes_at m 4 p.instance 3)) ≡ value
-    → outcome m get ≡ Ok (record { after = m; status = Success; content = value })
+    → outcome m get ≡ Ok (record { after = m; status = Whole; content = value })
 unfolding outcome get_member
 member_makes m get path value p span e f g h v = rw (e, f, g, h, v) refl
 
@@ -157,7 +159,7 @@ pub fits_in : (m : Contents) (p : Path) (span : Span) → AreWhole m → Names m
 fits_in m p span whole n = omega
     (arith, whole p.instance n.shape n.is_shape, inside n.shape.members (n.number - 1) span n.lies)
 
-spliced_read : (old value : List ℕ) (span : Span) (new : List ℕ) → new ≡ spliced old span.offset value
+spliced_read : (old value : List ℕ) (span : Span) (new : List ℕ) → new ≡ with_bytes_at old span.offset value
     → length value ≡ span.size → span.offset + span.size ≤ length old → take span.size (drop span.offset new) ≡ value
 spliced_read old value span new e size h =
     ap (λ n. take n (drop span.offset new)) (sym size)
@@ -170,7 +172,7 @@ member_after_set m room later set get path value whole e f s fits =
     let w = was_member m set path value x.0 e x.1 in
     let p = w.0 in
     let old = bytes_at m 4 p.instance 3 in
-    let new = spliced old w.1.span.offset value in
+    let new = with_bytes_at old w.1.span.offset value in
     let n = with_value m 4 p.instance 3 new in
     let read : bytes_at n 4 p.instance 3 ≡ new = ap (λ o. unwrap_or o []) (value_at-same m 4 p.instance 3 new) in
     let slice = spliced_read old value w.1.span (bytes_at n 4 p.instance 3) read w.1.size

@@ -4,7 +4,7 @@ use Rattle.std.proofs.Math.Nat.{div-one, mod-eq_of_lt}
 use Rattle.byteorder.specs.Endian.{little_bytes, little_number}
 use Rattle.byteorder.specs.Numbers.{little_from-bytes}
 use Rattle.cip_objects.specs.Tables.{COUNTER}
-use Rattle.cip_objects.specs.Contents.{Contents, bytes_at, number_at}
+use Rattle.cip_objects.specs.Contents.{Contents, bytes_at, udint_at}
 use Rattle.cip_objects.specs.Entries.{IdentityValues, Block, CounterValues, contents_of, NoneIsClass, attribute_in, counter_attributes}
 use Rattle.cip_objects.specs.Run.{IsCounter}
 use Rattle.cip_objects.proofs.Lookup.{value_at-contents_of}
@@ -14,8 +14,8 @@ pub number-bytes : (v : ℕ) → v < 2 ^ 32 → little_number 4 (little_bytes 4 
 number-bytes v h = little_from-bytes 4 0 v [] ∙ ap (λ x. x % 256 ^ 4) (div-one v) ∙ mod-eq_of_lt (omega arith)
 
 -- the numbers of the counter, as the contents have them
-pub counter_read : (d : IdentityValues) (bs : List Block) (c : CounterValues) (m : Contents) (a v : ℕ) → contents_of d bs c ≡ m → NoneIsClass bs → v < 2 ^ 32 → attribute_in a (counter_attributes c) ≡ Some (little_bytes 4 v) → v ≡ number_at m COUNTER 1 a
-unfolding number_at
+pub counter_read : (d : IdentityValues) (bs : List Block) (c : CounterValues) (m : Contents) (a v : ℕ) → contents_of d bs c ≡ m → NoneIsClass bs → v < 2 ^ 32 → attribute_in a (counter_attributes c) ≡ Some (little_bytes 4 v) → v ≡ udint_at m COUNTER 1 a
+unfolding udint_at
 counter_read d bs c m a v is h small e =
     sym (number-bytes v small)
     ∙ ap (little_number 4) (sym (ap (λ o. unwrap_or o []) (value_at-contents_of d bs c h COUNTER 1 a ∙ e)))

@@ -3,9 +3,9 @@ use Rattle.std.proofs.Common.{ℕ, Bool, cond, List, [], ◌∷◌, Option, Some
 use Rattle.std.specs.Option.{ok_or}
 use Rattle.cip_objects.specs.declared.service.Service.{Service}
 use Rattle.cip_objects.specs.declared.service.Service.TheVariants.{GetAttributesAll, GetAttributeList, GetAttributeSingle, SetAttributeSingle, Add, Clear}
-use Rattle.cip_objects.specs.declared.status.Status.{Status}
-use Rattle.cip_objects.specs.declared.status.Status.TheVariants.{PathDestinationUnknown, ServiceNotSupported}
-use Rattle.cip_objects.specs.Check.{◌>>=◌}
+use Rattle.cip_objects.specs.declared.status.Refusal.{Refusal}
+use Rattle.cip_objects.specs.declared.status.Refusal.TheVariants.{PathDestinationUnknown, ServiceNotSupported}
+use Rattle.cip_bytes.specs.Reading.{◌>>=◌}
 use Rattle.cip_objects.specs.Service.{service_in}
 use Rattle.cip_objects.specs.Tables.{Shape, assembly_services}
 
@@ -22,5 +22,5 @@ table b1 b4 b6 b100 z o x =
     (cond b100 (single z o (GetAttributeList ∷ GetAttributeSingle ∷ SetAttributeSingle ∷ Add ∷ Clear ∷ [])) None)))
 
 -- the service of this code among them
-abbrev pub offered : ℕ → Option (List Service) → Result Service Status
+abbrev pub offered : ℕ → Option (List Service) → Result Service Refusal
 offered code services = ok_or services PathDestinationUnknown >>= λ s. ok_or (service_in code s) ServiceNotSupported

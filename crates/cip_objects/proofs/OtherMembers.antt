@@ -7,20 +7,23 @@ use Rattle.cip_message.specs.PathReading.{path_of}
 use Rattle.cip_objects.specs.declared.assembly.Span.{Span}
 use Rattle.cip_objects.specs.declared.service.Service.{Service}
 use Rattle.cip_objects.specs.declared.service.Service.TheVariants.{GetMember}
-use Rattle.cip_objects.specs.declared.status.Status.{Status}
-use Rattle.cip_objects.specs.declared.status.Status.TheVariants.{Success, ReplyDataTooLarge}
-use Rattle.cip_objects.specs.Check.{◌>>=◌, ◌>>◌, exactly}
+use Rattle.cip_objects.specs.declared.status.Refusal.{Refusal}
+use Rattle.cip_objects.specs.declared.status.Completion.TheVariants.{Whole}
+use Rattle.cip_bytes.specs.Reading.{◌>>=◌, ◌>>◌}
+use Rattle.cip_objects.specs.Check.{exactly}
 use Rattle.cip_objects.specs.Contents.{Contents, bytes_at, with_value}
-use Rattle.cip_objects.specs.Reading.{Answer, answer, chosen, named_member, get_member}
-use Rattle.cip_objects.specs.Changing.{spliced}
-use Rattle.cip_objects.specs.Execution.{Outcome, reads, perform, outcome, Executed, fitted, exec, reply_to}
+use Rattle.cip_objects.specs.ReadServices.{Answer, answer, service_at, named_member, get_member}
+use Rattle.cip_objects.specs.ChangeServices.{with_bytes_at}
+use Rattle.cip_objects.specs.Execution.{Outcome, outcome_of_read, perform, outcome, with_reply, or_refusal, exec, reply_to}
 use Rattle.cip_objects.specs.Laws.{Reads}
 use Rattle.cip_objects.specs.Members.{AreWhole, set_member_leaves_others_law}
 use Rattle.cip_objects.specs.Tables.{shape_at}
+use Rattle.cip_objects.specs.Status.{completion_status}
+use Rattle.cip_objects.proofs.Executed.{answered_by}
 use Rattle.cip_objects.proofs.Effects.{chosen_code}
-use Rattle.cip_objects.proofs.Keys.{value_at-same, value_at-other}
+use Rattle.cip_objects.proofs.ReadAfterSet.{value_at-same, value_at-other}
 use Rattle.cip_objects.proofs.Members.{Names, named, WasMember, was_member, fits_in, is_get_member}
-use Rattle.cip_objects.proofs.Sets.{exec_left}
+use Rattle.cip_objects.proofs.Refuses.{exec_left}
 use Rattle.cip_objects.proofs.Spans.{IsAt, before, slice_before, slice_behind}
 
 -- two contents with the same tables in which the members that the path names are the same
@@ -30,46 +33,44 @@ record AreAlike (m n : Contents) (q : Path) : Type 0 where
       → take span.size (drop span.offset (bytes_at n 4 q.instance 3)) ≡ take span.size
       (drop span.offset (bytes_at m 4 q.instance 3))
 
-by_span : (r : Result Span Status) (x y : List ℕ)
+by_span : (r : Result Span Refusal) (x y : List ℕ)
     → ((span : Span) → r ≡ Ok span → take span.size (drop span.offset x) ≡ take span.size (drop span.offset y))
-    → (r >>= λ (span : Span). exactly 0 [] >> answer Success (take span.size (drop span.offset x))) ≡
-    (r >>= λ (span : Span). exactly 0 [] >> answer Success (take span.size (drop span.offset y)))
-by_span (Ok span) x y h = ap (λ v. answer Success v) (h span refl)
+    → (r >>= λ (span : Span). exactly 0 [] >> answer Whole (take span.size (drop span.offset x))) ≡
+    (r >>= λ (span : Span). exactly 0 [] >> answer Whole (take span.size (drop span.offset y)))
+by_span (Ok span) x y h = ap (λ v. answer Whole v) (h span refl)
 by_span (Err s) x y h = refl
 
 member_alike : (m n : Contents) (q : Path) → AreAlike m n q → get_member n q [] ≡ get_member m q []
 unfolding get_member
 member_alike m n q h =
-    ap (λ s. named_member s q >>= λ (span : Span). exactly 0 [] >> answer Success
+    ap (λ s. named_member s q >>= λ (span : Span). exactly 0 [] >> answer Whole
     (take span.size (drop span.offset (bytes_at n 4 q.instance 3)))) h.shapes
     ∙ by_span (named_member m.shapes q) (bytes_at n 4 q.instance 3) (bytes_at m 4 q.instance 3) h.slices
 
 placed_alike : (over : Bool) (m n : Contents) (text : List ℕ) (a : Answer)
-    → (cond {A = Executed} over (record { after = n; answer = reply_to text ReplyDataTooLarge [] })
-    (record { after = n; answer = reply_to text a.status a.content })).answer ≡
-    (cond {A = Executed} over (record { after = m; answer = reply_to text ReplyDataTooLarge [] })
-    (record { after = m; answer = reply_to text a.status a.content })).answer
+    → (or_refusal n text (answered_by over text (record { after = n; status = a.status; content = a.content }))).answer ≡
+    (or_refusal m text (answered_by over text (record { after = m; status = a.status; content = a.content }))).answer
 placed_alike true m n text a = refl
 placed_alike false m n text a = refl
 
-reads_alike : (m n : Contents) (room : ℕ) (text : List ℕ) (r : Result Answer Status)
-    → (fitted n room text (reads n r)).answer ≡ (fitted m room text (reads m r)).answer
-reads_alike m n room text (Ok a) = placed_alike (nat_lt room (length (reply_to text a.status a.content))) m n text a
+reads_alike : (m n : Contents) (room : ℕ) (text : List ℕ) (r : Result Answer Refusal)
+    → (or_refusal n text ((outcome_of_read n r) >>= with_reply room text)).answer ≡ (or_refusal m text ((outcome_of_read m r) >>= with_reply room text)).answer
+reads_alike m n room text (Ok a) = placed_alike (nat_lt room (length (reply_to text (completion_status a.status) a.content))) m n text a
 reads_alike m n room text (Err s) = refl
 
-by_chosen : (m n : Contents) (room : ℕ) (text : List ℕ) (q : Path) (r : Result Service Status)
+by_chosen : (m n : Contents) (room : ℕ) (text : List ℕ) (q : Path) (r : Result Service Refusal)
     → ((s : Service) → r ≡ Ok s → s ≡ GetMember) → get_member n q [] ≡ get_member m q []
-    → (fitted n room text (r >>= λ s. perform n s q [])).answer ≡
-    (fitted m room text (r >>= λ s. perform m s q [])).answer
+    → (or_refusal n text ((r >>= λ s. perform n s q []) >>= with_reply room text)).answer ≡
+    (or_refusal m text ((r >>= λ s. perform m s q []) >>= with_reply room text)).answer
 by_chosen m n room text q (Err s) h e = refl
 by_chosen m n room text q (Ok s) h e =
-    ap (λ k. (fitted n room text (perform n k q [])).answer) (h s refl)
-    ∙ ap (λ r. (fitted n room text (reads n r)).answer) e
+    ap (λ k. (or_refusal n text ((perform n k q []) >>= with_reply room text)).answer) (h s refl)
+    ∙ ap (λ r. (or_refusal n text ((outcome_of_read n r) >>= with_reply room text)).answer) e
     ∙ reads_alike m n room text (get_member m q [])
-    ∙ ap (λ k. (fitted m room text (perform m k q [])).answer) (sym (h s refl))
+    ∙ ap (λ k. (or_refusal m text ((perform m k q []) >>= with_reply room text)).answer) (sym (h s refl))
 
 outcome_is : (m : Contents) (get path : List ℕ) (q : Path) → Reads get 0x18 path [] → path_of path ≡ Ok q
-    → outcome m get ≡ (chosen m.shapes q.class q.instance 0x18 >>= λ s. perform m s q [])
+    → outcome m get ≡ (service_at m.shapes q.class q.instance 0x18 >>= λ s. perform m s q [])
 unfolding outcome
 outcome_is m get path q e f = rw (e, f) refl
 
@@ -77,11 +78,11 @@ answers_alike : (m n : Contents) (room : ℕ) (get path : List ℕ) (q : Path) �
     → path_of path ≡ Ok q → AreAlike m n q → (exec n room get).answer ≡ (exec m room get).answer
 unfolding exec
 answers_alike m n room get path q e f h =
-    ap (λ r. (fitted n room get r).answer) (outcome_is n get path q e f)
-    ∙ ap (λ s. (fitted n room get (chosen s q.class q.instance 0x18 >>= λ k. perform n k q [])).answer) h.shapes
-    ∙ by_chosen m n room get q (chosen m.shapes q.class q.instance 0x18)
+    ap (λ r. (or_refusal n get (r >>= with_reply room get)).answer) (outcome_is n get path q e f)
+    ∙ ap (λ s. (or_refusal n get ((service_at s q.class q.instance 0x18 >>= λ k. perform n k q []) >>= with_reply room get)).answer) h.shapes
+    ∙ by_chosen m n room get q (service_at m.shapes q.class q.instance 0x18)
     (λ s is. is_get_member s (chosen_code m.shapes q.class q.instance 0x18 s is)) (member_alike m n q h)
-    ∙ ap (λ r. (fitted m room get r).answer) (sym (outcome_is m get path q e f))
+    ∙ ap (λ r. (or_refusal m get (r >>= with_reply room get)).answer) (sym (outcome_is m get path q e f))
 
 alike : (m n : Contents) (q : Path) → n ≡ m → AreAlike m n q
 alike m n q e = record {
@@ -107,7 +108,7 @@ same_some x y e = cc
 by_order : (less : Bool) (sizes old value : List ℕ) (j k : ℕ) (one written : Span) → IsAt sizes j one
     → IsAt sizes k written → length value ≡ written.size → written.offset + written.size ≤ length old → (j ≡ k → ⊥)
     → nat_lt j k ≡ less
-    → take one.size (drop one.offset (spliced old written.offset value)) ≡ take one.size (drop one.offset old)
+    → take one.size (drop one.offset (with_bytes_at old written.offset value)) ≡ take one.size (drop one.offset old)
 by_order true sizes old value j k one written a b size inside other less =
     let order : j < k = grind (arith, nat_tests) in
     let near = before sizes j k one written a b order in
@@ -122,11 +123,11 @@ same_place a b h k e = omega arith
 
 same_assembly : (m n : Contents) (value : List ℕ) (p q : Path) (written : Span) → AreWhole m → Names m.shapes p written
     → q.instance ≡ p.instance
-    → n ≡ with_value m 4 p.instance 3 (spliced (bytes_at m 4 p.instance 3) written.offset value)
+    → n ≡ with_value m 4 p.instance 3 (with_bytes_at (bytes_at m 4 p.instance 3) written.offset value)
     → length value ≡ written.size → (q.member ≡ p.member → ⊥) → AreAlike m n q
 same_assembly m n value p q written whole b here e size other =
     let old = bytes_at m 4 p.instance 3 in
-    let new = spliced old written.offset value in
+    let new = with_bytes_at old written.offset value in
     let read : bytes_at n 4 q.instance 3 ≡ new = ap (λ k. bytes_at k 4 q.instance 3) e
     ∙ ap (λ j. bytes_at (with_value m 4 p.instance 3 new) 4 j 3) here
     ∙ ap (λ o. unwrap_or o []) (value_at-same m 4 p.instance 3 new) in
@@ -155,7 +156,7 @@ by_assembly m n path value p q o whole w e other (inl same) =
     same_assembly m n value p q w.span whole (named m.shapes p w.span w.names) same.1 (e ∙ w.leaves) w.size
     (λ k. other (same.1, k))
 by_assembly m n path value p q o whole w e other (inr apart) =
-    other_assembly m n p.instance (spliced (bytes_at m 4 p.instance 3) w.span.offset value) q (e ∙ w.leaves) apart.0
+    other_assembly m n p.instance (with_bytes_at (bytes_at m 4 p.instance 3) w.span.offset value) q (e ∙ w.leaves) apart.0
 
 same_path : (q r : Path) → ◌≡◌ {A = Result Path PathFault} (Ok q) (Ok r) → q ≡ r
 same_path q r e = cc

@@ -1,6 +1,7 @@
 -- Sets and gets.
 use Rattle.std.proofs.Common.{◌≡◌, ℕ, ◌+◌, ◌≤◌, ◌⊎◌, inl, inr, eqb, Bool, true, false, cond, ◌&&◌, nat_lt, List, [], ◌∷◌, length, Option, Some, None, Result, Ok, Err, refl, sym, ap, ◌∙◌, arith, suc}
 use Rattle.std.proofs.lemmas.Bool.Decides.{nat_tests}
+use Rattle.cip_bytes.specs.Reading.{◌>>=◌}
 use Rattle.cip_message.specs.declared.path.Path.{Path}
 use Rattle.cip_message.specs.declared.path.PathFault.{PathFault}
 use Rattle.cip_message.specs.declared.request.RequestFault.{RequestFault}
@@ -8,21 +9,23 @@ use Rattle.cip_message.specs.PathReading.{path_of}
 use Rattle.cip_message.specs.Request.{Request}
 use Rattle.cip_objects.specs.declared.service.Service.{Service}
 use Rattle.cip_objects.specs.declared.service.Service.TheVariants.{GetAttributesAll, GetAttributeList, GetAttributeSingle, SetAttributeSingle, GetMember, SetMember, Add, Clear}
-use Rattle.cip_objects.specs.declared.status.Status.{Status}
-use Rattle.cip_objects.specs.declared.status.Status.TheVariants.{Success, ReplyDataTooLarge}
+use Rattle.cip_objects.specs.declared.status.Refusal.{Refusal}
+use Rattle.cip_objects.specs.declared.status.Status.TheVariants.{Success}
+use Rattle.cip_objects.specs.declared.status.Completion.TheVariants.{Whole}
 use Rattle.cip_objects.specs.Contents.{Contents, value_at, with_value}
-use Rattle.cip_objects.specs.Reading.{chosen, get_attribute_single}
-use Rattle.cip_objects.specs.Changing.{set_attribute_single, set_member, add, clear}
-use Rattle.cip_objects.specs.Execution.{Outcome, perform, outcome, Executed, fitted, exec, reply_to}
+use Rattle.cip_objects.specs.ReadServices.{service_at, get_attribute_single}
+use Rattle.cip_objects.specs.ChangeServices.{set_attribute_single, set_member, add, clear}
+use Rattle.cip_objects.specs.Execution.{Outcome, perform, outcome, with_reply, or_refusal, exec, reply_to}
 use Rattle.cip_objects.specs.ExecutionLaws.{exec_too_large}
 use Rattle.cip_objects.specs.Laws.{Reads, too_large_law, changes_fit_law, get_after_set_law, set_leaves_others_law}
 use Rattle.cip_objects.specs.Router.{general_status}
 use Rattle.cip_objects.specs.Service.{service_code}
 use Rattle.cip_objects.specs.Tables.{Shape, shape_at, services_of}
 use Rattle.cip_objects.proofs.Offers.{table, offered}
+use Rattle.cip_objects.proofs.Executed.{answered_by}
 use Rattle.cip_objects.proofs.Effects.{goes, set_effect, member_effect, add_effect, clear_effect, change_effect, chosen_code}
-use Rattle.cip_objects.proofs.Keys.{value_at-same, value_at-other}
-use Rattle.cip_objects.proofs.Refuses.{Refuses, no_success, outcome_refuses}
+use Rattle.cip_objects.proofs.ReadAfterSet.{value_at-same, value_at-other}
+use Rattle.cip_objects.proofs.Refuses.{exec_outcome, exec_left}
 
 pub too_large : too_large_law
 too_large m room text e = exec_too_large m room text e
@@ -63,7 +66,7 @@ record WasSet (m : Contents) (path value : List ℕ) (p : Path) (o : Outcome) : 
   attribute : ℕ
   named : p.attribute ≡ Some attribute
   is_path : path_of path ≡ Ok p
-  offers : chosen m.shapes p.class p.instance 0x10 ≡ Ok SetAttributeSingle
+  offers : service_at m.shapes p.class p.instance 0x10 ≡ Ok SetAttributeSingle
   leaves : o.after ≡ with_value m p.class p.instance attribute value
 
 same_request : (q r : Request) → ◌≡◌ {A = Result Request RequestFault} (Ok q) (Ok r) → q ≡ r
@@ -85,7 +88,7 @@ was_set m set path value o e done =
         attribute = x.attribute;
         named = x.named;
         is_path = ap (λ r. path_of r.path) (sym q) ∙ g.is_path;
-        offers = ap (λ r. chosen m.shapes g.path.class g.path.instance r.service) (sym q) ∙ g.is_chosen ∙ ap (λ k. Ok k) s;
+        offers = ap (λ r. service_at m.shapes g.path.class g.path.instance r.service) (sym q) ∙ g.is_chosen ∙ ap (λ k. Ok k) s;
         leaves = c.after ∙ x.leaves;
       },
     )
@@ -105,47 +108,36 @@ table_get false false false true false false x s e = absurd (cc)
 table_get false false false false z o x s e = absurd (cc)
 
 -- what can be set can be got
-offers_get : (shapes : List Shape) (class instance : ℕ) (s : Service) → chosen shapes class instance 0x10 ≡ Ok s → chosen shapes class instance 0x0e ≡ Ok GetAttributeSingle
-unfolding chosen services_of
+offers_get : (shapes : List Shape) (class instance : ℕ) (s : Service) → service_at shapes class instance 0x10 ≡ Ok s → service_at shapes class instance 0x0e ≡ Ok GetAttributeSingle
+unfolding service_at services_of
 offers_get shapes class instance s e =
     table_get (eqb class 1) (eqb class 4) (eqb class 6) (eqb class 100) (eqb instance 0) (eqb instance 1) (shape_at instance shapes) s e
 
--- an outcome that was answered with success
-record Succeeded (m : Contents) (r : Result Outcome Status) (x : Executed) : Type 0 where
-  made : Outcome
-  is_made : r ≡ Ok made
-  after : x.after ≡ made.after
-
-by_fit : (over : Bool) (m : Contents) (text : List ℕ) (o : Outcome) → general_status (cond {A = Executed} over (record { after = m; answer = reply_to text ReplyDataTooLarge [] }) (record { after = o.after; answer = reply_to text o.status o.content })).answer ≡ 0 → Succeeded m (Ok o) (cond {A = Executed} over (record { after = m; answer = reply_to text ReplyDataTooLarge [] }) (record { after = o.after; answer = reply_to text o.status o.content }))
-by_fit true m text o e = absurd (omega arith)
-by_fit false m text o e = record { made = o; is_made = refl; after = refl }
-
-succeeded : (m : Contents) (room : ℕ) (text : List ℕ) (r : Result Outcome Status) → Refuses r → general_status (fitted m room text r).answer ≡ 0 → Succeeded m r (fitted m room text r)
-succeeded m room text (Err s) h e = absurd (let bad : true ≡ false = sym (ap (λ n. eqb n 0) e) ∙ no_success s h in cc)
-succeeded m room text (Ok o) h e = by_fit (nat_lt room (length (reply_to text o.status o.content))) m text o e
-
 -- what a get makes where the attribute is there
-pub get_makes : (m : Contents) (get path value : List ℕ) (p : Path) (a : ℕ) → Reads get 0x0e path [] → path_of path ≡ Ok p → chosen m.shapes p.class p.instance 0x0e ≡ Ok GetAttributeSingle → p.attribute ≡ Some a → value_at m p.class p.instance a ≡ Some value → outcome m get ≡ Ok (record { after = m; status = Success; content = value })
+pub get_makes : (m : Contents) (get path value : List ℕ) (p : Path) (a : ℕ) → Reads get 0x0e path [] → path_of path ≡ Ok p → service_at m.shapes p.class p.instance 0x0e ≡ Ok GetAttributeSingle → p.attribute ≡ Some a → value_at m p.class p.instance a ≡ Some value → outcome m get ≡ Ok (record { after = m; status = Whole; content = value })
 unfolding outcome get_attribute_single
 get_makes m get path value p a e f g h v = rw (e, f, g, h, v) refl
 
 not_over : (later n : ℕ) → 4 + n ≤ later → nat_lt later (suc (suc (suc (suc n)))) ≡ false
 not_over later n h = grind (arith, nat_tests)
 
-fits_later : (m : Contents) (later : ℕ) (get value : List ℕ) → 4 + length value ≤ later → (fitted m later get (Ok (record { after = m; status = Success; content = value }))).answer ≡ reply_to get Success value
+fits_later : (m : Contents) (later : ℕ) (get value : List ℕ) → 4 + length value ≤ later
+    → (or_refusal m get (with_reply later get (record { after = m; status = Whole; content = value }))).answer
+    ≡ reply_to get Success value
 fits_later m later get value h =
-    ap (λ t. (cond {A = Executed} t (record { after = m; answer = reply_to get ReplyDataTooLarge [] }) (record { after = m; answer = reply_to get Success value })).answer) (not_over later (length value) h)
+    ap (λ t. (or_refusal m get (answered_by t get (record { after = m; status = Whole; content = value }))).answer)
+    (not_over later (length value) h)
 
-pub got : (m : Contents) (later : ℕ) (get value : List ℕ) → outcome m get ≡ Ok (record { after = m; status = Success; content = value }) → 4 + length value ≤ later → (exec m later get).answer ≡ reply_to get Success value
+pub got : (m : Contents) (later : ℕ) (get value : List ℕ)
+    → outcome m get ≡ Ok (record { after = m; status = Whole; content = value }) → 4 + length value ≤ later
+    → (exec m later get).answer ≡ reply_to get Success value
 unfolding exec
-got m later get value e h = ap (λ r. (fitted m later get r).answer) e ∙ fits_later m later get value h
+got m later get value e h =
+    ap (λ r. (or_refusal m get (r >>= with_reply later get)).answer) e ∙ fits_later m later get value h
 
 -- a reply that says success is that of an outcome, which was left
 pub went_well : (m : Contents) (room : ℕ) (text : List ℕ) → general_status (exec m room text).answer ≡ 0 → (o : Outcome) × (outcome m text ≡ Ok o) × ((exec m room text).after ≡ o.after)
-unfolding exec
-went_well m room text s =
-    let x = succeeded m room text (outcome m text) (outcome_refuses m text) s in
-    (x.made, x.is_made, x.after)
+went_well m room text s = let p = exec_outcome m room text (inl s) in (p.made, p.is_made, p.after)
 
 pub get_after_set : get_after_set_law
 get_after_set m room later set get path value e f s fits =
@@ -156,19 +148,6 @@ get_after_set m room later set get path value e f s fits =
     let made = get_makes n get path value p w.1.attribute f w.1.is_path (offers_get m.shapes p.class p.instance SetAttributeSingle w.1.offers) w.1.named (value_at-same m p.class p.instance w.1.attribute value) in
     ap (λ k. (exec m room set).answer ∷ (exec k later get).answer ∷ []) (x.2 ∙ w.1.leaves)
     ∙ ap (λ r. (exec m room set).answer ∷ r ∷ []) (got n later get value made fits)
-
-either_room : (over : Bool) (m : Contents) (text : List ℕ) (o : Outcome) → ◌⊎◌ ((cond {A = Executed} over (record { after = m; answer = reply_to text ReplyDataTooLarge [] }) (record { after = o.after; answer = reply_to text o.status o.content })).after ≡ m) ((p : Outcome) × (◌≡◌ {A = Result Outcome Status} (Ok o) (Ok p)) × ((cond {A = Executed} over (record { after = m; answer = reply_to text ReplyDataTooLarge [] }) (record { after = o.after; answer = reply_to text o.status o.content })).after ≡ p.after))
-either_room true m text o = inl refl
-either_room false m text o = inr (o, refl, refl)
-
--- an execution leaves the contents, or what its outcome left
-left : (m : Contents) (room : ℕ) (text : List ℕ) (r : Result Outcome Status) → ((fitted m room text r).after ≡ m) ⊎ ((o : Outcome) × (r ≡ Ok o) × ((fitted m room text r).after ≡ o.after))
-left m room text (Err s) = inl refl
-left m room text (Ok o) = either_room (nat_lt room (length (reply_to text o.status o.content))) m text o
-
-pub exec_left : (m : Contents) (room : ℕ) (text : List ℕ) → ((exec m room text).after ≡ m) ⊎ ((o : Outcome) × (outcome m text ≡ Ok o) × ((exec m room text).after ≡ o.after))
-unfolding exec
-exec_left m room text = left m room text (outcome m text)
 
 other_key : (d c j i b a : ℕ) → ((d ≡ c) × (j ≡ i) × (b ≡ a) → ⊥) → eqb d c && (eqb j i && eqb b a) ≡ false
 other_key d c j i b a h = grind (arith, nat_tests)

@@ -52,11 +52,11 @@ sound c e =
     let number = none_cond (is_misnumbered (instances c.assemblies.items)) _ _ split.1 in
     let limit = none_cond (nat_lt c.counter.limit c.counter.value) _ _ number.1 in
     let named = or_false (nat_lt 32 (length (string_bytes c.name))) _ name.0 in
-    let sized = or_false (nat_lt 16 (length c.assemblies.items)) (list_any is_missized c.assemblies.items) size.0 in
+    let exact_size = or_false (nat_lt 16 (length c.assemblies.items)) (list_any is_missized c.assemblies.items) size.0 in
     record {
       name = at_most 32 (length (string_bytes c.name)) named.0;
-      few = at_most 16 (length c.assemblies.items) sized.0;
-      small = λ k d h. at_most 480 (sum (get_or c.assemblies.items k d).members.items) (or_false _ _ (none_any is_missized c.assemblies.items sized.1 k d h)).1;
+      few = at_most 16 (length c.assemblies.items) exact_size.0;
+      small = λ k d h. at_most 480 (sum (get_or c.assemblies.items k d).members.items) (or_false _ _ (none_any is_missized c.assemblies.items exact_size.1 k d h)).1;
       split = λ k d h. at_most 64 (length (get_or c.assemblies.items k d).members.items) (or_false _ _ (none_any is_wrongly_split c.assemblies.items split.0 k d h)).0;
       numbered = numbers c.assemblies.items number.0;
       counter = at_most c.counter.limit c.counter.value limit.0;

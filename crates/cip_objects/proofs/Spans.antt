@@ -5,7 +5,7 @@ use Rattle.std.proofs.lemmas.List.{length-append, length-take-le, length-drop, a
 use Rattle.std.proofs.lemmas.List.Sums.{sum_by_more, sum_by-take-le}
 use Rattle.std.proofs.lemmas.Slice.{drop-append-drop}
 use Rattle.cip_objects.specs.declared.assembly.Span.{Span}
-use Rattle.cip_objects.specs.Changing.{spliced}
+use Rattle.cip_objects.specs.ChangeServices.{with_bytes_at}
 use Rattle.cip_objects.specs.Tables.{span_of}
 
 -- the members before a place and the one at it
@@ -67,9 +67,9 @@ pub before : (sizes : List ℕ) (j k : ℕ) (first second : Span) → IsAt sizes
     → first.offset + first.size ≤ second.offset
 before sizes j k first second a b h = omega (arith, a.ends, b.begins, sum_grows sizes (j + 1) k (omega arith))
 
-pub length-spliced : (old bytes : List ℕ) (k : ℕ) → k + length bytes ≤ length old
-    → length (spliced old k bytes) ≡ length old
-length-spliced old bytes k h =
+pub length-with_bytes_at : (old bytes : List ℕ) (k : ℕ) → k + length bytes ≤ length old
+    → length (with_bytes_at old k bytes) ≡ length old
+length-with_bytes_at old bytes k h =
     omega (
       arith,
       length-append (take k old) (bytes ++ drop (k + length bytes) old),
@@ -81,7 +81,7 @@ length-spliced old bytes k h =
 
 -- what was written is read
 pub slice_same : (old bytes : List ℕ) (k : ℕ) → k + length bytes ≤ length old
-    → take (length bytes) (drop k (spliced old k bytes)) ≡ bytes
+    → take (length bytes) (drop k (with_bytes_at old k bytes)) ≡ bytes
 slice_same old bytes k h =
     ap (take (length bytes))
     (drop_at (take k old) (bytes ++ drop (k + length bytes) old) k (length-take-le k old (omega arith)))
@@ -89,16 +89,16 @@ slice_same old bytes k h =
 
 -- what lies before it is as it was
 pub slice_before : (old bytes : List ℕ) (k place size : ℕ) → k + length bytes ≤ length old → place + size ≤ k
-    → take size (drop place (spliced old k bytes)) ≡ take size (drop place old)
+    → take size (drop place (with_bytes_at old k bytes)) ≡ take size (drop place old)
 slice_before old bytes k place size h near =
-    sym (drop-take place size (spliced old k bytes))
+    sym (drop-take place size (with_bytes_at old k bytes))
     ∙ ap (drop place) (take-append-le (place + size) (take k old) (bytes ++ drop (k + length bytes) old)
     (omega (arith, length-take-le k old (omega arith))) ∙ take-take (place + size) k old near)
     ∙ drop-take place size old
 
 -- and so is what lies behind it
 pub slice_behind : (old bytes : List ℕ) (k place : ℕ) → k + length bytes ≤ length old → k + length bytes ≤ place
-    → drop place (spliced old k bytes) ≡ drop place old
+    → drop place (with_bytes_at old k bytes) ≡ drop place old
 slice_behind old bytes k place h far =
     ap (drop place) (sym (append_assoc (take k old) bytes (drop (k + length bytes) old)))
     ∙ drop-append-drop (k + length bytes) old (take k old ++ bytes) place far

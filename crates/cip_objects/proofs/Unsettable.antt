@@ -8,18 +8,18 @@ use Rattle.cip_bytes.specs.Numbers.{le}
 use Rattle.cip_objects.specs.declared.assembly.Span.{Span}
 use Rattle.cip_objects.specs.declared.service.Service.{Service}
 use Rattle.cip_objects.specs.declared.service.Service.TheVariants.{GetAttributesAll, GetAttributeList, GetAttributeSingle, SetAttributeSingle, GetMember, SetMember, Add, Clear}
-use Rattle.cip_objects.specs.declared.status.Status.{Status}
+use Rattle.cip_objects.specs.declared.status.Refusal.{Refusal}
 use Rattle.cip_objects.specs.Check.{exactly}
-use Rattle.cip_objects.specs.Contents.{Contents, value_at, bytes_at, number_at, with_value}
-use Rattle.cip_objects.specs.Reading.{named_member, get_attribute_single, get_attributes_all, get_attribute_list, get_member}
-use Rattle.cip_objects.specs.Changing.{Change, added, spliced, set_attribute_single, set_member, add, clear}
+use Rattle.cip_objects.specs.Contents.{Contents, value_at, bytes_at, udint_at, with_value}
+use Rattle.cip_objects.specs.ReadServices.{named_member, get_attribute_single, get_attributes_all, get_attribute_list, get_member}
+use Rattle.cip_objects.specs.ChangeServices.{Change, after_add, with_bytes_at, set_attribute_single, set_member, add, clear}
 use Rattle.cip_objects.specs.Execution.{Outcome, perform, outcome, exec, run}
 use Rattle.cip_objects.specs.Laws.{unsettable_law}
 use Rattle.cip_objects.specs.Tables.{Shape, settable_size}
 use Rattle.cip_objects.proofs.Effects.{goes, bound, after_check, found_some, set_effect, add_effect, clear_effect, read_effect, change_effect}
-use Rattle.cip_objects.proofs.Keys.{value_at-other}
-use Rattle.cip_objects.proofs.Settable.{sized}
-use Rattle.cip_objects.proofs.Sets.{exec_left}
+use Rattle.cip_objects.proofs.ReadAfterSet.{value_at-other}
+use Rattle.cip_objects.proofs.Settable.{exact_size}
+use Rattle.cip_objects.proofs.Refuses.{exec_left}
 
 -- a set member: where it lies, and the new data of its assembly
 pub record Splices (m : Contents) (path : Path) (content : List ℕ) (c : Change) : Type 0 where
@@ -28,9 +28,9 @@ pub record Splices (m : Contents) (path : Path) (content : List ℕ) (c : Change
   pub names : named_member m.shapes path ≡ Ok span
   pub can : settable_size m.shapes 4 path.instance 3 ≡ Some all
   pub size : length content ≡ span.size
-  pub leaves : c.after ≡ with_value m 4 path.instance 3 (spliced (bytes_at m 4 path.instance 3) span.offset content)
+  pub leaves : c.after ≡ with_value m 4 path.instance 3 (with_bytes_at (bytes_at m 4 path.instance 3) span.offset content)
 
-same_ok : {A : Type 0} (x y : A) → ◌≡◌ {A = Result A Status} (Ok x) (Ok y) → x ≡ y
+same_ok : {A : Type 0} (x y : A) → ◌≡◌ {A = Result A Refusal} (Ok x) (Ok y) → x ≡ y
 same_ok x y e = cc
 
 pub splices : (m : Contents) (path : Path) (content : List ℕ) (c : Change) → set_member m path content ≡ Ok c
@@ -45,7 +45,7 @@ splices m path content c e =
       all = n.value;
       names = s.first;
       can = found_some _ _ n.value n.first;
-      size = sized s.value.size content x.0;
+      size = exact_size s.value.size content x.0;
       leaves = sym (ap (λ z. z.after) (same_ok _ c x.1));
     }
 
@@ -81,10 +81,10 @@ not_settable shapes c i a n d j b can stuck k =
     ∙ ap (λ x. settable_size shapes c x b) k.1 ∙ ap (λ x. settable_size shapes c i x) k.2 in
     cc
 
-add_kept : (m n : Contents) (total d j b : ℕ) → n ≡ added m total → IsKept m.shapes d j b → Keeps m n d j b
+add_kept : (m n : Contents) (total d j b : ℕ) → n ≡ after_add m total → IsKept m.shapes d j b → Keeps m n d j b
 add_kept m n total d j b e h =
     let first = with_value m 100 1 1 (le 4 total) in
-    let more = le 4 ((number_at m 100 1 3 + 1) % 2 ^ 32) in
+    let more = le 4 ((udint_at m 100 1 3 + 1) % 2 ^ 32) in
     record {
       shapes = ap (λ x. x.shapes) e;
       value = ap (λ x. value_at x d j b) e
@@ -115,7 +115,7 @@ perform_kept m SetMember path content o d j b e h =
 perform_kept m Add path content o d j b e h =
     let c = change_effect (add m content) o e in
     let x = add_effect m content c.change c.first in
-    add_kept m o.after (number_at m 100 1 1 + little_number 4 content) d j b (c.after ∙ x.leaves) h
+    add_kept m o.after (udint_at m 100 1 1 + little_number 4 content) d j b (c.after ∙ x.leaves) h
 perform_kept m Clear path content o d j b e h =
     let c = change_effect (clear m content) o e in
     let x = clear_effect m content c.change c.first in

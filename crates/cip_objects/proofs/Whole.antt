@@ -9,24 +9,24 @@ use Rattle.cip_bytes.specs.Numbers.{le}
 use Rattle.cip_objects.specs.declared.config.AssemblyConfig.{AssemblyConfig}
 use Rattle.cip_objects.specs.declared.service.Service.{Service}
 use Rattle.cip_objects.specs.declared.service.Service.TheVariants.{GetAttributesAll, GetAttributeList, GetAttributeSingle, SetAttributeSingle, GetMember, SetMember, Add, Clear}
-use Rattle.cip_objects.specs.Changing.{Change, spliced, set_attribute_single, set_member, add, clear}
+use Rattle.cip_objects.specs.ChangeServices.{Change, with_bytes_at, set_attribute_single, set_member, add, clear}
 use Rattle.cip_objects.specs.Configuration.{block_of}
-use Rattle.cip_objects.specs.Contents.{Contents, bytes_at, number_at, with_value}
+use Rattle.cip_objects.specs.Contents.{Contents, bytes_at, udint_at, with_value}
 use Rattle.cip_objects.specs.Entries.{IdentityValues, Block, CounterValues, attribute_in, class_attributes, block_at, greatest_of, shape_of, contents_of, NoneIsClass}
 use Rattle.cip_objects.specs.Execution.{Outcome, perform, outcome, exec}
-use Rattle.cip_objects.specs.Lookup.{block_value}
+use Rattle.cip_objects.proofs.Lookup.{block_value}
 use Rattle.cip_objects.specs.Members.{AreWhole, whole_law}
-use Rattle.cip_objects.specs.Reading.{get_attribute_single, get_attributes_all, get_attribute_list, get_member}
+use Rattle.cip_objects.specs.ReadServices.{get_attribute_single, get_attributes_all, get_attribute_list, get_member}
 use Rattle.cip_objects.specs.Tables.{Shape, shape_at, size_if_settable, settable_size}
 use Rattle.cip_objects.proofs.Effects.{goes, Sets, set_effect, add_effect, clear_effect, read_effect, change_effect}
-use Rattle.cip_objects.proofs.Keys.{value_at-same, value_at-other}
+use Rattle.cip_objects.proofs.ReadAfterSet.{value_at-same, value_at-other}
 use Rattle.cip_objects.proofs.Blocks.{eqb-other}
 use Rattle.cip_objects.proofs.Lookup.{value_at-contents_of}
 use Rattle.cip_objects.proofs.Members.{named, fits_in}
 use Rattle.cip_objects.proofs.Settable.{settable_data, settable_limit}
-use Rattle.cip_objects.proofs.Sets.{exec_left}
+use Rattle.cip_objects.proofs.Refuses.{exec_left}
 use Rattle.cip_objects.proofs.Shapes.{shape_at-contents}
-use Rattle.cip_objects.proofs.Spans.{length-spliced}
+use Rattle.cip_objects.proofs.Spans.{length-with_bytes_at}
 use Rattle.cip_objects.proofs.Unsettable.{splices}
 
 same_some : {A : Type 0} (x y : A) → ◌≡◌ {A = Option A} (Some x) (Some y) → x ≡ y
@@ -109,14 +109,14 @@ perform_whole m SetMember path content o h e =
     let x = splices m path content c.change c.first in
     let old = bytes_at m 4 path.instance 3 in
     let fits = fits_in m path x.span h (named m.shapes path x.span x.names) in
-    data_whole m o.after path.instance (spliced old x.span.offset content) (c.after ∙ x.leaves)
-    (λ s g. length-spliced old content x.span.offset (omega (arith, x.size)) ∙ h path.instance s g) h
+    data_whole m o.after path.instance (with_bytes_at old x.span.offset content) (c.after ∙ x.leaves)
+    (λ s g. length-with_bytes_at old content x.span.offset (omega (arith, x.size)) ∙ h path.instance s g) h
 perform_whole m Add path content o h e =
     let c = change_effect (add m content) o e in
     let x = add_effect m content c.change c.first in
-    let total = number_at m 100 1 1 + little_number 4 content in
+    let total = udint_at m 100 1 1 + little_number 4 content in
     let first = with_value m 100 1 1 (le 4 total) in
-    counter_whole first o.after 3 (le 4 ((number_at m 100 1 3 + 1) % 2 ^ 32)) (c.after ∙ x.leaves)
+    counter_whole first o.after 3 (le 4 ((udint_at m 100 1 3 + 1) % 2 ^ 32)) (c.after ∙ x.leaves)
     (counter_whole m first 1 (le 4 total) refl h)
 perform_whole m Clear path content o h e =
     let c = change_effect (clear m content) o e in

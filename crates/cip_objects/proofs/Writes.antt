@@ -10,8 +10,8 @@ use Rattle.cip_objects.specs.Contents.{Contents, with_value, bytes_at}
 use Rattle.cip_objects.specs.Places.{IsFirst}
 use Rattle.cip_objects.specs.Entries.{IdentityValues, Block, CounterValues, Entries, entries_at, attribute_in, class_attributes, identity_attributes, block_attributes, counter_attributes, block_at, greatest_of, entries_of, contents_of, shape_of, device_of, NoneIsClass}
 use Rattle.cip_objects.proofs.Blocks.{eqb-other, first_at}
-use Rattle.cip_objects.specs.Lookup.{block_value}
-use Rattle.cip_objects.specs.Changing.{spliced}
+use Rattle.cip_objects.proofs.Lookup.{block_value}
+use Rattle.cip_objects.specs.ChangeServices.{with_bytes_at}
 use Rattle.cip_objects.proofs.Lookup.{blocks_of, value_at-contents_of}
 use Rattle.cip_objects.proofs.Map.{find_append, Updates, Absent, insert_updates, updates_front, updates_back, absent_at, updates_at}
 
@@ -190,13 +190,13 @@ content_read d bs c m i k e is h f =
     ∙ ap (λ o. unwrap_or (block_value 3 o) []) (first_at bs i k e f)
 
 -- the contents once the first assembly of a number has other data
-pub content_set : (d : IdentityValues) (bs : List Block) (c : CounterValues) (m : Contents) (i k : ℕ) (b : Block) (new : Block) (offset : ℕ) (bytes : List ℕ) → contents_of d bs c ≡ m → NoneIsClass bs → IsFirst bs i k → b ≡ get_or bs k b → new ≡ record b { content = spliced b.content offset bytes } → contents_of d (set bs k new) c ≡ with_value m ASSEMBLY i 3 (spliced (bytes_at m ASSEMBLY i 3) offset bytes)
+pub content_set : (d : IdentityValues) (bs : List Block) (c : CounterValues) (m : Contents) (i k : ℕ) (b : Block) (new : Block) (offset : ℕ) (bytes : List ℕ) → contents_of d bs c ≡ m → NoneIsClass bs → IsFirst bs i k → b ≡ get_or bs k b → new ≡ record b { content = with_bytes_at b.content offset bytes } → contents_of d (set bs k new) c ≡ with_value m ASSEMBLY i 3 (with_bytes_at (bytes_at m ASSEMBLY i 3) offset bytes)
 content_set d bs c m i k b new offset bytes is h f here e =
-    ap (λ x. contents_of d (set bs k x) c) (e ∙ ap (λ (x : Block). record x { content = spliced b.content offset bytes }) here)
-    ∙ ap (λ l. contents_of d l c) (set-content bs k (spliced b.content offset bytes) b)
-    ∙ content_written d bs c i k (spliced b.content offset bytes) b h f
-    ∙ ap (λ x. with_value x ASSEMBLY i 3 (spliced b.content offset bytes)) is
-    ∙ ap (λ x. with_value m ASSEMBLY i 3 (spliced x offset bytes)) (ap (λ x. x.content) here ∙ sym (content_read d bs c m i k b is h f))
+    ap (λ x. contents_of d (set bs k x) c) (e ∙ ap (λ (x : Block). record x { content = with_bytes_at b.content offset bytes }) here)
+    ∙ ap (λ l. contents_of d l c) (set-content bs k (with_bytes_at b.content offset bytes) b)
+    ∙ content_written d bs c i k (with_bytes_at b.content offset bytes) b h f
+    ∙ ap (λ x. with_value x ASSEMBLY i 3 (with_bytes_at b.content offset bytes)) is
+    ∙ ap (λ x. with_value m ASSEMBLY i 3 (with_bytes_at x offset bytes)) (ap (λ x. x.content) here ∙ sym (content_read d bs c m i k b is h f))
 
 pub numbered_set : (bs : List Block) (k : ℕ) (b new : Block) (v : List ℕ) → NoneIsClass bs → b ≡ get_or bs k b → new ≡ record b { content = v } → NoneIsClass (set bs k new)
 numbered_set bs k b new v h here e =

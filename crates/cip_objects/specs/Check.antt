@@ -1,24 +1,14 @@
--- A check answers what it found, or the status with which it fails; the first that fails decides.
+-- A check answers what it found, or the refusal with which it fails; the first that fails decides.
 use Rattle.std.specs.Prelude.{ℕ, Bool, true, false, nat_lt, if◌then◌else◌, List, length, Result, Ok, Err}
-use Rattle.cip_objects.specs.declared.status.Status.{Status}
-use Rattle.cip_objects.specs.declared.status.Status.TheVariants.{NotEnoughData, TooMuchData}
+use Rattle.cip_objects.specs.declared.status.Refusal.{Refusal}
+use Rattle.cip_objects.specs.declared.status.Refusal.TheVariants.{NotEnoughData, TooMuchData}
 
-infixl 10 ◌>>=◌
-abbrev pub ◌>>=◌ : {A B : Type 0} → Result A Status → (A → Result B Status) → Result B Status
-(Ok x) >>= f = f x
-(Err s) >>= f = Err s
-
-infixl 10 ◌>>◌
-abbrev pub ◌>>◌ : {A B : Type 0} → Result A Status → Result B Status → Result B Status
-(Ok x) >> r = r
-(Err s) >> r = Err s
-
--- nothing, or the status where the test fails
-abbrev pub demand : Bool → Status → Result (Unit {0}) Status
-demand true status = Ok tt
-demand false status = Err status
+-- nothing, or the refusal where the test fails
+abbrev pub demand : Bool → Refusal → Result (Unit {0}) Refusal
+demand true refusal = Ok tt
+demand false refusal = Err refusal
 
 -- the data of a service that takes exactly this many bytes
-abbrev pub exactly : ℕ → List ℕ → Result (Unit {0}) Status
+abbrev pub exactly : ℕ → List ℕ → Result (Unit {0}) Refusal
 exactly size content =
     if nat_lt (length content) size then Err NotEnoughData else (if nat_lt size (length content) then Err TooMuchData else Ok tt)

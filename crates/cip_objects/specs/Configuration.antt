@@ -6,6 +6,7 @@ use Rattle.cip_objects.specs.declared.config.Config.{Config}
 use Rattle.cip_objects.specs.declared.config.AssemblyConfig.{AssemblyConfig}
 use Rattle.cip_objects.specs.declared.config.ConfigFault.{ConfigFault}
 use Rattle.cip_objects.specs.declared.config.ConfigFault.TheVariants.{Name, Size, Members, DoubleInstance, Limit, Memory}
+use Rattle.cip_objects.specs.Limits.{LONGEST_DATA}
 use Rattle.cip_objects.specs.Contents.{Contents}
 use Rattle.cip_objects.specs.Entries.{IdentityValues, Block, CounterValues, contents_of}
 
@@ -24,7 +25,7 @@ is_misnamed name = nat_lt 32 (length name) || list_any (λ byte. nat_lt byte 0x2
 
 -- an assembly of 0 or over 480 bytes
 abbrev pub is_missized : AssemblyConfig → Bool
-is_missized a = (sum a.members.items == 0) || nat_lt 480 (sum a.members.items)
+is_missized a = (sum a.members.items == 0) || nat_lt LONGEST_DATA (sum a.members.items)
 
 -- an assembly of over 64 members, or with one of 0 bytes
 abbrev pub is_wrongly_split : AssemblyConfig → Bool
@@ -71,5 +72,5 @@ abbrev pub counter_of : Config → CounterValues
 counter_of c = record { value = c.counter.value; limit = c.counter.limit; additions = 0 }
 
 -- the contents of a configuration
-unfoldable pub configured : Config → Contents
-configured c = contents_of (identity_of c) (map block_of c.assemblies.items) (counter_of c)
+unfoldable pub contents_of_config : Config → Contents
+contents_of_config c = contents_of (identity_of c) (map block_of c.assemblies.items) (counter_of c)

@@ -23,8 +23,8 @@ abbrev pub bytes_at : Contents → ℕ → ℕ → ℕ → List ℕ
 bytes_at m class instance attribute = unwrap_or (value_at m class instance attribute) []
 
 -- its number, where it is one of four bytes
-unfoldable pub number_at : Contents → ℕ → ℕ → ℕ → ℕ
-number_at m class instance attribute = little_number 4 (bytes_at m class instance attribute)
+unfoldable pub udint_at : Contents → ℕ → ℕ → ℕ → ℕ
+udint_at m class instance attribute = little_number 4 (bytes_at m class instance attribute)
 
 -- the contents with that value at that key, all else as before
 abbrev pub with_value : Contents → ℕ → ℕ → ℕ → List ℕ → Contents

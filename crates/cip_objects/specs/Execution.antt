@@ -9,66 +9,73 @@ use Rattle.cip_message.specs.Reply.{reply, reply_of_fields}
 use Rattle.cip_objects.specs.declared.service.Service.{Service}
 use Rattle.cip_objects.specs.declared.service.Service.TheVariants.{GetAttributesAll, GetAttributeList, GetAttributeSingle, SetAttributeSingle, GetMember, SetMember, Add, Clear}
 use Rattle.cip_objects.specs.declared.status.Status.{Status}
-use Rattle.cip_objects.specs.declared.status.Status.TheVariants.{Success, PathSizeInvalid, PathSegmentError, ReplyDataTooLarge}
-use Rattle.cip_objects.specs.Check.{◌>>=◌}
+use Rattle.cip_objects.specs.declared.status.Completion.{Completion}
+use Rattle.cip_objects.specs.declared.status.Completion.TheVariants.{Whole}
+use Rattle.cip_objects.specs.declared.status.Refusal.{Refusal}
+use Rattle.cip_objects.specs.declared.status.Refusal.TheVariants.{PathSizeInvalid, PathSegmentError, ReplyDataTooLarge}
+use Rattle.cip_bytes.specs.Reading.{◌>>=◌}
 use Rattle.cip_objects.specs.Contents.{Contents}
-use Rattle.cip_objects.specs.Reading.{Answer, chosen, get_attribute_single, get_attributes_all, get_attribute_list, get_member}
-use Rattle.cip_objects.specs.Changing.{Change, set_attribute_single, set_member, add, clear}
-use Rattle.cip_objects.specs.Router.{reply_service}
-use Rattle.cip_objects.specs.Status.{status_code}
+use Rattle.cip_objects.specs.ReadServices.{Answer, service_at, get_attribute_single, get_attributes_all, get_attribute_list, get_member}
+use Rattle.cip_objects.specs.ChangeServices.{Change, set_attribute_single, set_member, add, clear}
+use Rattle.cip_message.specs.Reply.{reply_service}
+use Rattle.cip_objects.specs.Status.{status_code, completion_status, refusal_status}
 
--- what an execution leaves, the general status, and the data of the reply
+-- what an execution leaves, how much it has done, and the data of the reply
 pub record Outcome : Type 0 where
   pub after : Contents
-  pub status : Status
+  pub status : Completion
   pub content : List ℕ
 
 -- a service that reads leaves all as it was
-abbrev pub reads : Contents → Result Answer Status → Result Outcome Status
-reads m (Ok a) = Ok (record { after = m; status = a.status; content = a.content })
-reads m (Err s) = Err s
+abbrev pub outcome_of_read : Contents → Result Answer Refusal → Result Outcome Refusal
+outcome_of_read m (Ok a) = Ok (record { after = m; status = a.status; content = a.content })
+outcome_of_read m (Err s) = Err s
 
-abbrev pub changes : Result Change Status → Result Outcome Status
-changes (Ok c) = Ok (record { after = c.after; status = Success; content = c.content })
-changes (Err s) = Err s
+abbrev pub outcome_of_change : Result Change Refusal → Result Outcome Refusal
+outcome_of_change (Ok c) = Ok (record { after = c.after; status = Whole; content = c.content })
+outcome_of_change (Err s) = Err s
 
-abbrev pub perform : Contents → Service → Path → List ℕ → Result Outcome Status
-perform m GetAttributesAll path content = reads m (get_attributes_all m path content)
-perform m GetAttributeList path content = reads m (get_attribute_list m path content)
-perform m GetAttributeSingle path content = reads m (get_attribute_single m path content)
-perform m SetAttributeSingle path content = changes (set_attribute_single m path content)
-perform m GetMember path content = reads m (get_member m path content)
-perform m SetMember path content = changes (set_member m path content)
-perform m Add path content = changes (add m content)
-perform m Clear path content = changes (clear m content)
+abbrev pub perform : Contents → Service → Path → List ℕ → Result Outcome Refusal
+perform m GetAttributesAll path content = outcome_of_read m (get_attributes_all m path content)
+perform m GetAttributeList path content = outcome_of_read m (get_attribute_list m path content)
+perform m GetAttributeSingle path content = outcome_of_read m (get_attribute_single m path content)
+perform m SetAttributeSingle path content = outcome_of_change (set_attribute_single m path content)
+perform m GetMember path content = outcome_of_read m (get_member m path content)
+perform m SetMember path content = outcome_of_change (set_member m path content)
+perform m Add path content = outcome_of_change (add m content)
+perform m Clear path content = outcome_of_change (clear m content)
 
 -- a request whose path goes past its end, and a path that is none
-abbrev pub sized : Result Request RequestFault → Result Request Status
-sized (Ok q) = Ok q
-sized (Err f) = Err PathSizeInvalid
+abbrev pub request_or_refusal : Result Request RequestFault → Result Request Refusal
+request_or_refusal (Ok q) = Ok q
+request_or_refusal (Err f) = Err PathSizeInvalid
 
-abbrev pub formed : Result Path PathFault → Result Path Status
-formed (Ok p) = Ok p
-formed (Err f) = Err PathSegmentError
+abbrev pub path_or_refusal : Result Path PathFault → Result Path Refusal
+path_or_refusal (Ok p) = Ok p
+path_or_refusal (Err f) = Err PathSegmentError
+
+-- a text that has no more bytes than the room
+abbrev pub in_room : ℕ → List ℕ → Result (List ℕ) Refusal
+in_room room text = if nat_lt room (length text) then Err ReplyDataTooLarge else Ok text
 
 -- an outcome whose data are written behind a front, where that fits into the room
-abbrev pub limited : ℕ → List ℕ → Result Outcome Status → Result Outcome Status
-limited room front (Ok o) =
-    if nat_lt room (length (front ++ o.content)) then Err ReplyDataTooLarge
-    else Ok (record { after = o.after; status = o.status; content = front ++ o.content })
-limited room front (Err s) = Err s
+abbrev pub outcome_in_room : ℕ → List ℕ → Result Outcome Refusal → Result Outcome Refusal
+outcome_in_room room front r = do
+  o ← r
+  text ← in_room room (front ++ o.content)
+  Ok (record { after = o.after; status = o.status; content = text })
 
 -- what a call answered, and the contents and the text that it left
-abbrev pub performed : Contents → Result Status Status → List ℕ → Result Outcome Status
-performed after (Ok status) text = Ok (record { after = after; status = status; content = text })
-performed after (Err s) text = Err s
+abbrev pub outcome_left : Contents → Result Completion Refusal → List ℕ → Result Outcome Refusal
+outcome_left after (Ok completion) text = Ok (record { after = after; status = completion; content = text })
+outcome_left after (Err s) text = Err s
 
 -- the outcome of a request, apart from the room for its reply: the first check that fails decides
-unfoldable pub outcome : Contents → List ℕ → Result Outcome Status
+unfoldable pub outcome : Contents → List ℕ → Result Outcome Refusal
 outcome m text = do
-  request ← sized (request_of text)
-  path ← formed (path_of request.path)
-  service ← chosen m.shapes path.class path.instance request.service
+  request ← request_or_refusal (request_of text)
+  path ← path_or_refusal (path_of request.path)
+  service ← service_at m.shapes path.class path.instance request.service
   perform m service path request.data
 
 -- a reply of this status: the service of the request with bit 7, no additional words
@@ -80,16 +87,20 @@ pub record Executed : Type 0 where
   pub after : Contents
   pub answer : List ℕ
 
--- a check that failed changes nothing, and neither does a reply that is over the room
-abbrev pub fitted : Contents → ℕ → List ℕ → Result Outcome Status → Executed
-fitted m room text (Err s) = record { after = m; answer = reply_to text s [] }
-fitted m room text (Ok o) =
-    if nat_lt room (length (reply_to text o.status o.content)) then record { after = m; answer = reply_to text ReplyDataTooLarge [] }
-    else record { after = o.after; answer = reply_to text o.status o.content }
+-- an outcome with its reply, where that fits into the room
+abbrev pub with_reply : ℕ → List ℕ → Outcome → Result Executed Refusal
+with_reply room text o = do
+  answer ← in_room room (reply_to text (completion_status o.status) o.content)
+  Ok (record { after = o.after; answer = answer })
 
--- the execution of a request, with so much room for its reply
+-- a request that is refused changes nothing, and its reply has no data
+abbrev pub or_refusal : Contents → List ℕ → Result Executed Refusal → Executed
+or_refusal m text (Ok executed) = executed
+or_refusal m text (Err s) = record { after = m; answer = reply_to text (refusal_status s) [] }
+
+-- the execution of a request, with so much room for its reply: the room is the last check
 unfoldable pub exec : Contents → ℕ → List ℕ → Executed
-exec m room text = fitted m room text (outcome m text)
+exec m room text = or_refusal m text (outcome m text >>= with_reply room text)
 
 -- the map after these requests, each a room and a text, from left to right, and their replies
 pub record Ran : Type 0 where

@@ -9,6 +9,7 @@ use Rattle.cip_objects.specs.declared.status.Status.TheVariants.{Success}
 use Rattle.cip_objects.specs.Contents.{Contents, value_at}
 use Rattle.cip_objects.specs.Execution.{Outcome, perform, reply_to, exec, run}
 use Rattle.cip_objects.specs.Router.{general_status, REPLY_TOO_LARGE}
+use Rattle.cip_objects.specs.Status.{completion_status}
 use Rattle.cip_objects.specs.Tables.{settable_size, COUNTER}
 
 -- the text is a request of this service, with this path and these data
@@ -37,7 +38,7 @@ abbrev pub changes_fit_law : Type 0
 changes_fit_law =
     (m : Contents) (service : Service) (path : Path) (content text : List ℕ) (o : Outcome) (room : ℕ)
     → IsChanging service → perform m service path content ≡ Ok o → 8 ≤ room
-    → length (reply_to text o.status o.content) ≤ room
+    → length (reply_to text (completion_status o.status) o.content) ≤ room
 
 -- what a get answers after a set that succeeded is what was set
 abbrev pub get_after_set_law : Type 0

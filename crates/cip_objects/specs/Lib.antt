@@ -1,6 +1,7 @@
 pub mod Router
 pub mod Status
 pub mod Service
+pub mod Limits
 pub mod Value
 pub mod ObjectMap
 pub mod Tables
@@ -10,15 +11,14 @@ pub mod Counter
 pub mod Places
 pub mod Check
 pub mod Text
-pub mod Reading
-pub mod Changing
+pub mod ReadServices
+pub mod ChangeServices
 pub mod Execution
 pub mod ExecutionLaws
 pub mod Configuration
 pub mod Run
 pub mod Laws
 pub mod Rows
-pub mod Lookup
 pub mod Objects
 pub mod Assembly
 pub mod Lists

@@ -7,8 +7,9 @@ use Rattle.cip_message.specs.PathReading.{path_of}
 use Rattle.cip_objects.specs.Contents.{Contents}
 use Rattle.cip_objects.specs.Execution.{reply_to, exec}
 use Rattle.cip_objects.specs.Laws.{Reads}
-use Rattle.cip_objects.specs.Reading.{list_status}
+use Rattle.cip_objects.specs.ReadServices.{list_completion}
 use Rattle.cip_objects.specs.Router.{general_status}
+use Rattle.cip_objects.specs.Status.{completion_status}
 
 -- the text is a Get_Attribute_Single of this attribute of the instance that the path names
 pub record IsGet (p : Path) (attribute : ℕ) (text : List ℕ) : Type 0 where
@@ -26,11 +27,11 @@ AreGets p (a ∷ attributes) [] = ⊥
 AreGets p (a ∷ attributes) (get ∷ gets) = IsGet p a get × AreGets p attributes gets
 
 -- each attribute's number, then the status and the data of its own reply
-abbrev pub joined : List ℕ → List (List ℕ) → List ℕ
-joined [] replies = []
-joined (a ∷ attributes) [] = []
-joined (a ∷ attributes) (reply ∷ replies) =
-    le 2 a ++ (le 2 (general_status reply) ++ (drop 4 reply ++ joined attributes replies))
+abbrev pub entries_of_replies : List ℕ → List (List ℕ) → List ℕ
+entries_of_replies [] replies = []
+entries_of_replies (a ∷ attributes) [] = []
+entries_of_replies (a ∷ attributes) (reply ∷ replies) =
+    le 2 a ++ (le 2 (general_status reply) ++ (drop 4 reply ++ entries_of_replies attributes replies))
 
 abbrev pub is_success : List ℕ → Bool
 is_success reply = general_status reply == 0x00
@@ -43,5 +44,5 @@ list_law =
     → Reads list 0x03 path content → path_of path ≡ Ok p → AreGets p (words_of (drop 2 content)) gets
     → (general_status (exec m room list).answer ≡ 0x00) ⊎ (general_status (exec m room list).answer ≡ 0x0a)
     → let replies = map (λ get. (exec m room get).answer) gets in
-    (exec m room list).answer ≡ reply_to list (list_status (list_all is_success replies))
-    (le 2 (length gets) ++ joined (words_of (drop 2 content)) replies)
+    (exec m room list).answer ≡ reply_to list (completion_status (list_completion (list_all is_success replies)))
+    (le 2 (length gets) ++ entries_of_replies (words_of (drop 2 content)) replies)

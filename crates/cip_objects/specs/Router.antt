@@ -1,9 +1,7 @@
 -- What every reply of a router has (Volume 1, Message Router response format).
-use Rattle.std.specs.Prelude.{◌≡◌, ℕ, ◌+◌, ◌≤◌, nat_lt, if◌then◌else◌, List, length, slice_index}
-
+use Rattle.std.specs.Prelude.{◌≡◌, ℕ, ◌≤◌, List, length, slice_index}
 -- the service of the reply to a request of this service: bit 7 is set
-abbrev pub reply_service : ℕ → ℕ
-reply_service service = if nat_lt service 128 then service + 128 else service
+pub use Rattle.cip_message.specs.Reply.{reply_service}
 
 -- the general status of a reply: service, a reserved byte, the status, the size of the additional status
 abbrev pub general_status : List ℕ → ℕ

@@ -1,7 +1,7 @@
 -- Worked rows: members of 1, 2 and 1 bytes, instance numbers, services and statuses.
 use Rattle.std.specs.Prelude.{◌≡◌, [], ◌∷◌, Some, None, true, false, refl}
 use Rattle.cip_objects.specs.declared.service.Service.TheVariants.{SetMember}
-use Rattle.cip_objects.specs.Changing.{spliced}
+use Rattle.cip_objects.specs.ChangeServices.{with_bytes_at}
 use Rattle.cip_objects.specs.Configuration.{is_misnumbered}
 use Rattle.cip_objects.specs.Service.{service_in}
 use Rattle.cip_objects.specs.Tables.{span_of, assembly_services}
@@ -17,7 +17,7 @@ pub no_member_zero : span_of (1 ∷ 2 ∷ 1 ∷ []) 0 ≡ None
 no_member_zero = refl
 
 -- setting it replaces the two bytes in the middle
-pub set_second_member : spliced (0 ∷ 0 ∷ 0 ∷ 0 ∷ []) 1 (0xaa ∷ 0xbb ∷ []) ≡ 0 ∷ 0xaa ∷ 0xbb ∷ 0 ∷ []
+pub set_second_member : with_bytes_at (0 ∷ 0 ∷ 0 ∷ 0 ∷ []) 1 (0xaa ∷ 0xbb ∷ []) ≡ 0 ∷ 0xaa ∷ 0xbb ∷ 0 ∷ []
 set_second_member = refl
 
 -- an assembly has Set_Member, and no Add

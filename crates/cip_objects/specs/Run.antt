@@ -7,19 +7,19 @@ use Rattle.cip_message.specs.declared.request.RequestFault.{RequestFault}
 use Rattle.cip_bytes.specs.Numbers.{AreBytes}
 use Rattle.cip_message.specs.PathReading.{path_of}
 use Rattle.cip_message.specs.Request.{Request, request_of}
-use Rattle.cip_objects.specs.Contents.{Contents, number_at}
+use Rattle.cip_objects.specs.Contents.{Contents, udint_at}
 use Rattle.cip_objects.specs.Execution.{run, Ran}
 use Rattle.cip_objects.specs.Router.{general_status}
 use Rattle.cip_objects.specs.Tables.{COUNTER}
 
 abbrev pub value_of : Contents → ℕ
-value_of m = number_at m COUNTER 1 1
+value_of m = udint_at m COUNTER 1 1
 
 abbrev pub limit_of : Contents → ℕ
-limit_of m = number_at m COUNTER 1 2
+limit_of m = udint_at m COUNTER 1 2
 
 abbrev pub additions_of : Contents → ℕ
-additions_of m = number_at m COUNTER 1 3
+additions_of m = udint_at m COUNTER 1 3
 
 -- the value is not over the limit, and the numbers are of 32 bits
 pub record IsCounter (m : Contents) : Type 0 where

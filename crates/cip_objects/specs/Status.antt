@@ -1,6 +1,10 @@
 -- The general status of a router reply as its byte (Volume 1, general status codes).
 use Rattle.std.specs.Prelude.{ℕ}
 use Rattle.cip_objects.specs.declared.status.Status.{Status}
+use Rattle.cip_objects.specs.declared.status.Completion.{Completion}
+use Rattle.cip_objects.specs.declared.status.Completion.TheVariants.{Whole, Partial}
+use Rattle.cip_objects.specs.declared.status.Refusal.{Refusal}
+use Rattle.cip_objects.specs.declared.status.Refusal.TheVariants as refusals
 use Rattle.cip_objects.specs.declared.status.Status.TheVariants.{Success, ConnectionFailure, PathSegmentError, PathDestinationUnknown, ServiceNotSupported, InvalidAttributeValue, AttributeListError, AttributeNotSettable, ReplyDataTooLarge, NotEnoughData, AttributeNotSupported, TooMuchData, InvalidParameter, PathSizeInvalid, InvalidMemberId}
 
 abbrev pub status_code : Status → ℕ
@@ -19,3 +23,23 @@ status_code TooMuchData = 0x15
 status_code InvalidParameter = 0x20
 status_code PathSizeInvalid = 0x26
 status_code InvalidMemberId = 0x28
+
+-- a service that is done says success, or that an attribute of a list couldn't be read
+abbrev pub completion_status : Completion → Status
+completion_status Whole = Success
+completion_status Partial = AttributeListError
+
+-- a refusal says neither
+abbrev pub refusal_status : Refusal → Status
+refusal_status refusals.PathSegmentError = PathSegmentError
+refusal_status refusals.PathDestinationUnknown = PathDestinationUnknown
+refusal_status refusals.ServiceNotSupported = ServiceNotSupported
+refusal_status refusals.InvalidAttributeValue = InvalidAttributeValue
+refusal_status refusals.AttributeNotSettable = AttributeNotSettable
+refusal_status refusals.ReplyDataTooLarge = ReplyDataTooLarge
+refusal_status refusals.NotEnoughData = NotEnoughData
+refusal_status refusals.AttributeNotSupported = AttributeNotSupported
+refusal_status refusals.TooMuchData = TooMuchData
+refusal_status refusals.InvalidParameter = InvalidParameter
+refusal_status refusals.PathSizeInvalid = PathSizeInvalid
+refusal_status refusals.InvalidMemberId = InvalidMemberId

@@ -1,13 +1,18 @@
 -- The bytes of an attribute's value (Volume 1, elementary data types).
-use Rattle.std.specs.Prelude.{ℕ, List, [], ◌∷◌}
+use Rattle.std.specs.Prelude.{ℕ, ◌≤◌, List, [], ◌∷◌, length}
 use Rattle.byteorder.specs.Endian.{little_bytes}
+use Rattle.cip_objects.specs.Limits.{LONGEST_DATA}
 use Rattle.cip_objects.specs.declared.value.Value.{Value}
-use Rattle.cip_objects.specs.declared.value.Value.TheVariants.{Byte, Pair, Word, Double, Text, Bytes}
+use Rattle.cip_objects.specs.declared.value.Value.TheVariants.{Usint, Pair, Uint, Udint, Text, Bytes}
 
 abbrev pub value_bytes : Value → List ℕ
-value_bytes (Byte v) = v ∷ []
+value_bytes (Usint v) = v ∷ []
 value_bytes (Pair a b) = a ∷ b ∷ []
-value_bytes (Word v) = little_bytes 2 v
-value_bytes (Double v) = little_bytes 4 v
+value_bytes (Uint v) = little_bytes 2 v
+value_bytes (Udint v) = little_bytes 4 v
 value_bytes (Text size t) = size ∷ t.now
 value_bytes (Bytes t) = t.now
+
+-- a value that isn't longer than the data of an assembly can be
+abbrev pub IsShort : Value → Type 0
+IsShort v = length (value_bytes v) ≤ LONGEST_DATA

@@ -1,33 +1,40 @@
 //! An assembly: members that lie one after another in its data (Volume 1, class 0x04).
-ghost use Rattle.std.specs.Prelude.{◌≡◌, ◌≤◌, ◌+◌, ◌-◌, ◌*◌, ◌<◌, length, sum, take, drop, slice_index, option_map, option_copied, ◌++◌, IfOk, IfSome, replicate, MatchOption};
+ghost use Rattle.std.specs.Prelude.{◌≡◌, ◌≤◌, ◌+◌, ◌-◌, ◌*◌, ◌<◌, length, sum, take, drop, slice_index, option_map};
+ghost use Rattle.std.specs.Prelude.{option_copied, ◌++◌, IfOk, IfSome, replicate, MatchOption};
 ghost use Rattle.cip_objects.specs.Entries.{attribute_in, block_attributes, block_at, greatest_of};
 ghost use Rattle.cip_objects.specs.Places.{IsFirst};
 ghost use Rattle.cip_objects.specs.Tables.{span_of};
-ghost use Rattle.cip_objects.specs.Value.{value_bytes};
+ghost use Rattle.cip_objects.specs.Value.{value_bytes, IsShort};
 
 use crate::value::Value;
 use std::alloc::{AllocError, Global};
 use std::marker::Model;
 
-/// The most bytes of an assembly's data.
-pub(crate) const SIZE_LIMIT: usize = 480;
+/// The most bytes of an assembly's data (ours).
+pub(crate) const DATA_LIMIT: usize = 480;
 
-/// The most members of an assembly.
+/// The most members of an assembly (ours).
 pub(crate) const MEMBER_LIMIT: usize = 64;
 
 /// Where a member lies in the data, in bytes.
 #[derive(Clone, Copy, Debug)]
 pub(crate) struct Span {
+    /// Where it begins, from 0.
     pub(crate) offset: usize,
+    /// How many bytes it has.
     pub(crate) size: usize,
 }
 
 /// An instance of the Assembly object.
 #[derive(Debug, Drop)]
 pub(crate) struct Assembly {
+    /// The instance number, 1 to 65,535.
     instance: u16,
+    /// Whether the data can be set.
     settable: bool,
+    /// The sizes of the members in bytes, in the order in which they lie.
     members: Vec<u16>,
+    /// The data: the members, one after another.
     content: Vec<u8>,
 }
 
@@ -37,7 +44,12 @@ impl Model for Assembly {
 
     ghost Value = { Block };
 
-    ghost view = { λ a. record { instance = a.instance; settable = a.settable; members = a.members.items; content = a.content.items } };
+    ghost view = { λ a. record {
+      instance = a.instance;
+      settable = a.settable;
+      members = a.members.items;
+      content = a.content.items;
+    } };
 
     ghost use Rattle.cip_objects.specs.Assembly.{IsWhole};
 
@@ -52,9 +64,15 @@ impl Assembly {
         settable: bool,
         members: &[u16],
     ) -> Result<Assembly, AllocError>
-        requires few { length members.now ≤ 64 }
-        requires small { sum members.now ≤ 480 }
-        ensures { IfOk result (λ a. a ≡ record { instance = instance; settable = settable; members = members.now; content = replicate (sum members.now) 0 }) }
+        requires few { length members.now ≤ MEMBER_LIMIT }
+        requires small { sum members.now ≤ DATA_LIMIT }
+        ensures { IfOk result (λ a. a
+            ≡ record {
+              instance = instance;
+              settable = settable;
+              members = members.now;
+              content = replicate (sum members.now) 0;
+            }) }
     {
         Ok(Assembly {
             instance,
@@ -70,9 +88,11 @@ impl Assembly {
         ensures inside { IfSome result (λ s. s.offset + s.size ≤ length self.now.content) }
     {
         let number = usize::from(number);
+        // members are numbered from 1 (Assembly)
         if number == 0 || self.members.len() < number {
             return None;
         }
+        // and lie one after another (Assembly)
         Some(Span {
             offset: total(&self.members[..number - 1]),
             size: usize::from(self.members[number - 1]),
@@ -82,12 +102,12 @@ impl Assembly {
     /// The value of an attribute of the instance.
     pub(crate) fn attribute(&self, attribute: u16) -> Option<Value<'_>>
         ensures value { option_map value_bytes result ≡ attribute_in attribute (block_attributes self.now) }
-        ensures short { IfSome result (λ value. length (value_bytes value) ≤ 480) }
+        ensures short { IfSome result IsShort }
     {
         match attribute {
-            1 => Some(Value::Word(self.members.len() as u16)),
+            1 => Some(Value::Uint(self.members.len() as u16)),
             3 => Some(Value::Bytes(self.content.as_slice())),
-            4 => Some(Value::Word(self.content.len() as u16)),
+            4 => Some(Value::Uint(self.content.len() as u16)),
             _ => None,
         }
     }
@@ -135,7 +155,7 @@ impl Assembly {
 
 /// The bytes that members of these sizes have together.
 fn total(members: &[u16]) -> usize
-    requires { length members.now ≤ 64 }
+    requires { length members.now ≤ MEMBER_LIMIT }
     ensures { result ≡ sum members.now }
 {
     let mut all: usize = 0;
@@ -146,7 +166,7 @@ fn total(members: &[u16]) -> usize
 }
 
 /// The place of the first assembly of this instance number.
-pub(crate) fn place(assemblies: &[Assembly], instance: u32) -> Option<usize>
+pub(crate) fn position(assemblies: &[Assembly], instance: u32) -> Option<usize>
     ensures { MatchOption result (block_at instance assemblies.now ≡ None) (IsFirst assemblies.now instance) }
 {
     for (i, assembly) in assemblies.iter().enumerate() {

@@ -2,17 +2,18 @@
 ghost use Rattle.std.specs.Prelude.{◌≡◌};
 ghost use Rattle.cip_objects.specs.Check.{exactly};
 
-use crate::Status;
+use crate::status::Refusal;
 
 /// Whether a service's data have exactly this many bytes.
-pub(crate) fn exactly(size: usize, content: &[u8]) -> Result<(), Status>
+pub(crate) fn exactly(size: usize, content: &[u8]) -> Result<(), Refusal>
     ensures { result ≡ exactly size content.now }
 {
+    // not enough data: 0x13; too much: 0x15 (objects)
     if content.len() < size {
-        return Err(Status::NotEnoughData);
+        return Err(Refusal::NotEnoughData);
     }
     if size < content.len() {
-        return Err(Status::TooMuchData);
+        return Err(Refusal::TooMuchData);
     }
     Ok(())
 }

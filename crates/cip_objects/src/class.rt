@@ -1,7 +1,7 @@
 //! The attributes that a class has as such, at instance 0.
-ghost use Rattle.std.specs.Prelude.{◌≡◌, option_map, IfSome, length, ◌≤◌};
+ghost use Rattle.std.specs.Prelude.{◌≡◌, option_map, IfSome};
 ghost use Rattle.cip_objects.specs.Entries.{attribute_in, class_attributes};
-ghost use Rattle.cip_objects.specs.Value.{value_bytes};
+ghost use Rattle.cip_objects.specs.Value.{value_bytes, IsShort};
 
 use crate::value::Value;
 
@@ -13,12 +13,12 @@ pub(crate) fn class_attribute(
     attribute: u16,
 ) -> Option<Value<'static>>
     ensures value { option_map value_bytes result ≡ attribute_in attribute (class_attributes revision greatest number) }
-    ensures short { IfSome result (λ value. length (value_bytes value) ≤ 480) }
+    ensures short { IfSome result IsShort }
 {
     match attribute {
-        1 => Some(Value::Word(revision)),
-        2 => Some(Value::Word(greatest)),
-        3 => Some(Value::Word(number)),
+        1 => Some(Value::Uint(revision)),
+        2 => Some(Value::Uint(greatest)),
+        3 => Some(Value::Uint(number)),
         _ => None,
     }
 }

@@ -1,36 +1,38 @@
 //! What the objects are made from, and what is refused.
 ghost use Rattle.std.specs.Prelude.{◌≡◌, ◌≤◌, ◌+◌, ◌<◌, ◌==◌, ◌||◌, not, nat_lt, length, sum, Some, None};
 ghost use Rattle.std.specs.List.{list_any};
-ghost use Rattle.cip_objects.specs.Configuration.{is_misnamed, is_missized, is_wrongly_split, is_misnumbered, instances};
+ghost use Rattle.cip_objects.specs.Limits.{LONGEST_DATA};
+ghost use Rattle.cip_objects.specs.Configuration.{is_misnamed, is_missized, is_wrongly_split, is_misnumbered};
+ghost use Rattle.cip_objects.specs.Configuration.{instances};
 
-use crate::assembly::{MEMBER_LIMIT, SIZE_LIMIT};
+use crate::assembly::{DATA_LIMIT, MEMBER_LIMIT};
 use crate::identity::NAME_LIMIT;
 use std::alloc::{AllocError, AllocFailed};
 use thiserror::Error;
 
-/// The most assemblies.
+/// The most assemblies (ours).
 const ASSEMBLY_LIMIT: usize = 16;
 
 /// What a device is configured to be.
 #[derive(Debug, Drop)]
 pub struct Config {
-    /// The vendor's number.
+    /// The vendor's number, 16 bits.
     pub vendor: u16,
-    /// The device type of the vendor's profile.
+    /// The device type, 16 bits: the number of its profile.
     pub device_type: u16,
-    /// The vendor's number of the product.
+    /// The vendor's number of the product, 16 bits.
     pub product_code: u16,
     /// The major revision, 1 to 127.
     pub major: u8,
-    /// The minor revision.
+    /// The minor revision, 8 bits.
     pub minor: u8,
-    /// The serial number.
+    /// The serial number, 32 bits.
     pub serial: u32,
     /// The product's name: at most 32 bytes, each 0x20 to 0x7e.
     pub name: String,
-    /// The status word of the Identity object.
+    /// The status word of the Identity object, 16 bits.
     pub status: u16,
-    /// The state of the Identity object.
+    /// The state of the Identity object, 8 bits.
     pub state: u8,
     /// The counter.
     pub counter: CounterConfig,
@@ -41,16 +43,16 @@ pub struct Config {
 /// What the counter begins with.
 #[derive(Clone, Copy, Debug)]
 pub struct CounterConfig {
-    /// The first value.
+    /// The first value, 32 bits.
     pub value: u32,
-    /// The limit, at least the first value.
+    /// The limit, 32 bits, at least the first value.
     pub limit: u32,
 }
 
 /// An assembly: 1 to 480 bytes, in at most 64 members.
 #[derive(Debug, Drop)]
 pub struct AssemblyConfig {
-    /// The instance number, not 0 and none but its own.
+    /// The instance number, 16 bits: not 0, and none but its own.
     pub instance: u16,
     /// Whether the data can be set.
     pub settable: bool,
@@ -82,6 +84,7 @@ pub enum ConfigFault {
 }
 
 impl ConfigFault {
+    ghost use Rattle.cip_objects.specs.Limits.{LONGEST_DATA};
     ghost use Rattle.cip_objects.specs.Configuration.{config_fault_number};
 
     /// The number of the fault, by which it is printed.
@@ -113,6 +116,7 @@ impl<T: Drop> From<AllocFailed<T>> for ConfigFault {
 }
 
 impl Config {
+    ghost use Rattle.cip_objects.specs.Limits.{LONGEST_DATA};
     ghost use Rattle.cip_objects.specs.Configuration.{fault_of};
 
     /// The first check that fails, but for want of memory.
@@ -120,6 +124,7 @@ impl Config {
     pub(crate) fn fault(&self) -> Option<ConfigFault>
         ensures { result ≡ fault_of self.now }
     {
+        // the first check that fails is told: 1 to 5 (configuration, ours)
         if is_misnamed(self.name.as_bytes()) {
             return Some(ConfigFault::Name);
         }
@@ -147,6 +152,7 @@ fn is_misnamed(name: &[u8]) -> bool
         return true;
     }
     for byte in name {
+        // printable ASCII
         if *byte < 0x20 || *byte > 0x7e {
             return true;
         }
@@ -168,12 +174,12 @@ fn has_missized(assemblies: &[AssemblyConfig]) -> bool
 
 /// Whether members of these sizes have no byte together or too many.
 fn is_missized(members: &[u16]) -> bool
-    ensures { result ≡ (sum members.now == 0) || nat_lt 480 (sum members.now) }
+    ensures { result ≡ (sum members.now == 0) || nat_lt LONGEST_DATA (sum members.now) }
 {
     let mut all: usize = 0;
     for size in members {
         all += usize::from(*size);
-        if all > SIZE_LIMIT {
+        if all > DATA_LIMIT {
             return true;
         }
     }
@@ -197,6 +203,7 @@ fn has_double(assemblies: &[AssemblyConfig]) -> bool
     ensures { result ≡ is_misnumbered (instances assemblies.now) }
 {
     for (i, assembly) in assemblies.iter().enumerate() {
+        // instance 0 is the class itself (object model)
         if assembly.instance == 0 || stands(assembly.instance, &assemblies[i + 1..]) {
             return true;
         }

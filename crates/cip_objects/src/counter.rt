@@ -1,15 +1,20 @@
 //! The counter, an object of the vendor's own (class 0x64).
-ghost use Rattle.std.specs.Prelude.{◌≡◌, ◌<◌, ◌^◌, option_map, IfSome, length, ◌≤◌};
+ghost use Rattle.std.specs.Prelude.{◌≡◌, ◌≤◌, ◌<◌, ◌+◌, ◌%◌, ◌^◌, option_map, IfSome, IfOk, IfErr, OnOk, OnErr};
 ghost use Rattle.cip_objects.specs.Entries.{attribute_in, counter_attributes};
-ghost use Rattle.cip_objects.specs.Value.{value_bytes};
+ghost use Rattle.cip_objects.specs.Value.{value_bytes, IsShort};
+ghost use Rattle.cip_objects.specs.declared.status.Refusal.TheVariants.{InvalidParameter, InvalidAttributeValue};
 
+use crate::status::Refusal;
 use crate::value::Value;
 
-/// The one instance of the counter.
+/// The one instance of the counter (ours).
 #[derive(Clone, Copy, Debug)]
 pub(crate) struct Counter {
+    /// What was added since it was last cleared, at most `limit`.
     pub(crate) value: u32,
+    /// The most that `value` may come to.
     pub(crate) limit: u32,
+    /// How many additions were accepted, modulo 2^32.
     pub(crate) additions: u32,
 }
 
@@ -29,15 +34,72 @@ impl Counter {
         }
     }
 
+    /// The counter once it is added to, and that is counted.
+    ///
+    /// # Errors
+    ///
+    /// `InvalidParameter` where the value would pass the limit.
+    pub(crate) fn add(self, amount: u32) -> Result<Counter, Refusal>
+        ensures ok { IfOk result (λ counter. counter
+            ≡ record self { value = self.value + amount; additions = (self.additions + 1) % 2 ^ 32 }) }
+        ensures within { IfOk result (λ counter. counter.value ≤ counter.limit) }
+        ensures over { OnErr result (self.limit < self.value + amount) }
+        ensures refused { IfErr result (λ refusal. refusal ≡ InvalidParameter) }
+    {
+        // the value never passes the limit: 0x20 (counter, ours)
+        match self.value.checked_add(amount) {
+            Some(value) if value <= self.limit => Ok(Counter {
+                value,
+                limit: self.limit,
+                additions: self.additions.wrapping_add(1),
+            }),
+            _ => Err(Refusal::InvalidParameter),
+        }
+    }
+
+    /// The counter once it is cleared.
+    pub(crate) fn clear(self) -> Counter
+        ensures { result ≡ record self { value = 0 } }
+    {
+        Counter {
+            value: 0,
+            limit: self.limit,
+            additions: self.additions,
+        }
+    }
+
+    /// The counter with another limit.
+    ///
+    /// # Errors
+    ///
+    /// `InvalidAttributeValue` where the limit would be below the value.
+    pub(crate) fn with_limit(self, limit: u32) -> Result<Counter, Refusal>
+        ensures ok { IfOk result (λ counter. counter ≡ record self { limit = limit }) }
+        ensures within { OnOk result (self.value ≤ limit) }
+        ensures below { OnErr result (limit < self.value) }
+        ensures refused { IfErr result (λ refusal. refusal ≡ InvalidAttributeValue) }
+    {
+        // the limit is never below the value: 0x09 (counter, ours)
+        if limit < self.value {
+            return Err(Refusal::InvalidAttributeValue);
+        }
+        Ok(Counter {
+            value: self.value,
+            limit,
+            additions: self.additions,
+        })
+    }
+
     /// The value of an attribute of the instance.
     pub(crate) fn attribute(self, attribute: u16) -> Option<Value<'static>>
-        ensures value { option_map value_bytes result ≡ attribute_in attribute (counter_attributes (counter_values self)) }
-        ensures short { IfSome result (λ value. length (value_bytes value) ≤ 480) }
+        ensures value { option_map value_bytes result
+            ≡ attribute_in attribute (counter_attributes (counter_values self)) }
+        ensures short { IfSome result IsShort }
     {
         match attribute {
-            1 => Some(Value::Double(self.value)),
-            2 => Some(Value::Double(self.limit)),
-            3 => Some(Value::Double(self.additions)),
+            1 => Some(Value::Udint(self.value)),
+            2 => Some(Value::Udint(self.limit)),
+            3 => Some(Value::Udint(self.additions)),
             _ => None,
         }
     }

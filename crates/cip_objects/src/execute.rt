@@ -1,16 +1,17 @@
 //! Execution of router requests (Volume 1, Message Router).
 ghost use Rattle.std.specs.Prelude.{◌≡◌, ◌≤◌, [], length, OnErr, slice_set};
 ghost use Rattle.cip_message.specs.Reply.{reply as spelled, reply_of_fields};
-ghost use Rattle.cip_objects.specs.Execution.{performed, limited, perform, outcome, exec};
-ghost use Rattle.cip_objects.specs.Router.{reply_service};
+ghost use Rattle.cip_objects.specs.Execution.{outcome_left, outcome_in_room, perform, outcome, exec};
+ghost use Rattle.cip_message.specs.Reply.{reply_service};
 ghost use Rattle.cip_objects.specs.Status.{status_code};
 
 use crate::Status;
 use crate::objects::Objects;
-use crate::router::{ReplyBuf, Router};
+use crate::router::{REPLY_LIMIT, ReplyBuf, Router};
 use crate::service::Service;
+use crate::status::{Completion, Refusal};
 use crate::text::append;
-use cip_message::{Path, RequestView, read_path};
+use cip_message::{Path, RequestView, read_path, reply_service};
 
 impl Objects {
     /// Performs a service that the instance has, and appends the data of its reply.
@@ -21,11 +22,12 @@ impl Objects {
         data: &[u8],
         room: usize,
         reply: &mut ReplyBuf,
-    ) -> Result<Status, Status>
+    ) -> Result<Completion, Refusal>
         requires room_from { 8 ≤ room }
-        requires room_to { room ≤ 512 }
+        requires room_to { room ≤ REPLY_LIMIT }
         requires head { length reply.old.items ≡ 4 }
-        ensures outcome { performed self.new result reply.new.items ≡ limited room reply.old.items (perform self.old service path «data».now) }
+        ensures outcome { outcome_left self.new result reply.new.items
+            ≡ outcome_in_room room reply.old.items (perform self.old service path «data».now) }
         ensures err { OnErr result (self.new ≡ self.old) }
     {
         match service {
@@ -34,47 +36,51 @@ impl Objects {
             Service::GetAttributeSingle => self.get_attribute_single(path, data, room, reply),
             Service::SetAttributeSingle => {
                 self.set_attribute_single(path, data)?;
-                Ok(Status::Success)
+                Ok(Completion::Whole)
             }
             Service::GetMember => self.get_member(path, data, room, reply),
             Service::SetMember => {
                 self.set_member(path, data)?;
-                Ok(Status::Success)
+                Ok(Completion::Whole)
             }
             Service::Add => {
                 let value = self.add(data)?;
                 append(&value.to_le_bytes(), room, reply)?;
-                Ok(Status::Success)
+                Ok(Completion::Whole)
             }
             Service::Clear => {
                 let value = self.clear(data)?;
                 append(&value.to_le_bytes(), room, reply)?;
-                Ok(Status::Success)
+                Ok(Completion::Whole)
             }
         }
     }
 
     /// Reads a request and performs it: the first check that fails is answered.
     #[tactic(auto, unfolding(crate::specs::Execution::outcome))]
-    fn requested(
+    fn perform_request(
         &mut self,
         request: &[u8],
         room: usize,
         reply: &mut ReplyBuf,
-    ) -> Result<Status, Status>
+    ) -> Result<Completion, Refusal>
         requires room_from { 8 ≤ room }
-        requires room_to { room ≤ 512 }
+        requires room_to { room ≤ REPLY_LIMIT }
         requires head { length reply.old.items ≡ 4 }
-        ensures outcome { performed self.new result reply.new.items ≡ limited room reply.old.items (outcome self.old request.now) }
+        ensures outcome { outcome_left self.new result reply.new.items
+            ≡ outcome_in_room room reply.old.items (outcome self.old request.now) }
         ensures err { OnErr result (self.new ≡ self.old) }
     {
+        // the path goes past the end of the request: 0x26 (objects)
         let Ok(view) = RequestView::read(request) else {
-            return Err(Status::PathSizeInvalid);
+            return Err(Refusal::PathSizeInvalid);
         };
+        // the path is none: 0x04 (objects)
         let Ok(path) = read_path(view.path) else {
-            return Err(Status::PathSegmentError);
+            return Err(Refusal::PathSegmentError);
         };
-        let service = self.chosen(path.class, path.instance, view.service)?;
+        // class and instance, then the service: 0x05, 0x08 (objects)
+        let service = self.service_at(path.class, path.instance, view.service)?;
         self.perform(service, path, view.data, room, reply)
     }
 }
@@ -83,13 +89,8 @@ impl Objects {
 fn begin(service: u8, status: Status, reply: &mut ReplyBuf)
     ensures { reply.new.items ≡ spelled (reply_of_fields (reply_service service) (status_code status) [] []) }
 {
-    let service = if service < 0x80 {
-        service + 0x80
-    } else {
-        service
-    };
     reply.clear();
-    reply.push(service);
+    reply.push(reply_service(service));
     reply.push(0);
     reply.push(status.code());
     reply.push(0);
@@ -113,9 +114,9 @@ impl Router for Objects {
     /// The map and the reply of the definition `exec`. Takes no memory.
     fn execute(&mut self, request: &[u8], room: usize, reply: &mut ReplyBuf) {
         begin(request[0], Status::Success, reply);
-        match self.requested(request, room, reply) {
-            Ok(status) => set_status(status, reply),
-            Err(status) => begin(request[0], status, reply),
+        match self.perform_request(request, room, reply) {
+            Ok(completion) => set_status(completion.status(), reply),
+            Err(refusal) => begin(request[0], refusal.status(), reply),
         }
     }
 

@@ -1,13 +1,13 @@
 //! The Identity object (Volume 1, class 0x01).
-ghost use Rattle.std.specs.Prelude.{◌≡◌, ◌≤◌, length, option_map, IfSome};
+ghost use Rattle.std.specs.Prelude.{◌≡◌, option_map, IfSome};
 ghost use Rattle.cip_objects.specs.Entries.{attribute_in, identity_attributes};
-ghost use Rattle.cip_objects.specs.Value.{value_bytes};
+ghost use Rattle.cip_objects.specs.Value.{value_bytes, IsShort};
 
 use crate::value::Value;
 use arrayvec::ArrayVec;
 use std::marker::Model;
 
-/// The most bytes of a product name.
+/// The most bytes of a product name (ours).
 pub(crate) const NAME_LIMIT: usize = 32;
 
 /// The one instance of the Identity object.
@@ -20,7 +20,7 @@ pub(crate) struct Identity {
     pub(crate) minor: u8,
     pub(crate) status: u16,
     pub(crate) serial: u32,
-    pub(crate) name: ArrayVec<u8, 32>,
+    pub(crate) name: ArrayVec<u8, NAME_LIMIT>,
     pub(crate) state: u8,
 }
 
@@ -46,17 +46,18 @@ impl Identity {
     /// The value of an attribute of the instance.
     pub(crate) fn attribute(&self, attribute: u16) -> Option<Value<'_>>
         ensures value { option_map value_bytes result ≡ attribute_in attribute (identity_attributes self.now) }
-        ensures short { IfSome result (λ value. length (value_bytes value) ≤ 480) }
+        ensures short { IfSome result IsShort }
     {
         match attribute {
-            1 => Some(Value::Word(self.vendor)),
-            2 => Some(Value::Word(self.device_type)),
-            3 => Some(Value::Word(self.product_code)),
+            1 => Some(Value::Uint(self.vendor)),
+            2 => Some(Value::Uint(self.device_type)),
+            3 => Some(Value::Uint(self.product_code)),
+            // major, then minor revision (Identity)
             4 => Some(Value::Pair(self.major, self.minor)),
-            5 => Some(Value::Word(self.status)),
-            6 => Some(Value::Double(self.serial)),
+            5 => Some(Value::Uint(self.status)),
+            6 => Some(Value::Udint(self.serial)),
             7 => Some(Value::Text(self.name.len() as u8, self.name.as_slice())),
-            8 => Some(Value::Byte(self.state)),
+            8 => Some(Value::Usint(self.state)),
             _ => None,
         }
     }

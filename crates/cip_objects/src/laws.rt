@@ -1,6 +1,7 @@
 //! What executions promise, as laws over the definitions: each function has the law as its clause, and no body.
 
-ghost use Rattle.cip_objects.specs.Laws.{too_large_law, refused_law, any_room_law, changes_fit_law, get_after_set_law, set_leaves_others_law, unsettable_law};
+ghost use Rattle.cip_objects.specs.Laws.{too_large_law, refused_law, any_room_law, changes_fit_law};
+ghost use Rattle.cip_objects.specs.Laws.{get_after_set_law, set_leaves_others_law, unsettable_law};
 ghost use Rattle.cip_objects.specs.Lists.{list_law};
 ghost use Rattle.cip_objects.specs.Members.{member_after_set_law, set_member_leaves_others_law, whole_law};
 ghost use Rattle.cip_objects.specs.Run.{counter_law};

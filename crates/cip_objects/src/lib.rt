@@ -10,7 +10,7 @@
 #![tactic(auto)]
 
 mod assembly;
-mod changing;
+mod change_services;
 mod check;
 mod class;
 mod config;
@@ -19,8 +19,8 @@ mod execute;
 mod identity;
 pub mod laws;
 mod objects;
-mod reading;
-pub mod router;
+mod read_services;
+mod router;
 mod service;
 mod status;
 mod text;
@@ -28,7 +28,7 @@ mod value;
 
 pub use config::{AssemblyConfig, Config, ConfigFault, CounterConfig};
 pub use objects::Objects;
-pub use router::{ReplyBuf, Router};
+pub use router::{REPLY_LIMIT, ReplyBuf, Router};
 pub use status::Status;
 
 #[cfg(test)]

@@ -1,26 +1,27 @@
 //! The objects: what a caller sees as one map, held as typed structs.
-ghost use Rattle.std.specs.Prelude.{◌≡◌, ◌≤◌, ◌+◌, ◌<◌, length, option_map, option_copied, sum, map, IsSome, IfSome, OnSome, IfOk, IfErr};
+ghost use Rattle.std.specs.Prelude.{◌≡◌, ◌≤◌, ◌+◌, ◌<◌, length, option_map, option_copied, sum, map, IsSome, IfSome};
+ghost use Rattle.std.specs.Prelude.{OnSome, IfOk, IfErr};
 ghost use Rattle.std.specs.List.{All};
-ghost use Rattle.cip_objects.specs.Configuration.{fault_of, configured, block_of};
+ghost use Rattle.cip_objects.specs.Configuration.{fault_of, contents_of_config, block_of};
 ghost use Rattle.byteorder.specs.Endian.{little_bytes};
-ghost use Rattle.cip_objects.specs.Contents.{value_at, bytes_at, number_at, with_value};
-ghost use Rattle.cip_objects.specs.Changing.{spliced};
-ghost use Rattle.cip_objects.specs.Reading.{chosen};
+ghost use Rattle.cip_objects.specs.Contents.{value_at, bytes_at, udint_at, with_value};
+ghost use Rattle.cip_objects.specs.ChangeServices.{with_bytes_at};
+ghost use Rattle.cip_objects.specs.ReadServices.{service_at};
 ghost use Rattle.cip_objects.specs.Members.{AreWhole};
 ghost use Rattle.cip_objects.specs.Run.{IsCounter};
 ghost use Rattle.cip_objects.specs.Service.{service_in};
 ghost use Rattle.cip_objects.specs.Entries.{shape_of};
 ghost use Rattle.cip_objects.specs.Tables.{services_of, class_or_first, shape_at, settable_size, member_at};
-ghost use Rattle.cip_objects.specs.Value.{value_bytes};
+ghost use Rattle.cip_objects.specs.Value.{value_bytes, IsShort};
 
-use crate::Status;
-use crate::assembly::{Assembly, Span, greatest, place};
+use crate::assembly::{Assembly, DATA_LIMIT, MEMBER_LIMIT, Span, greatest, position};
 use crate::class::class_attribute;
 use crate::config::{AssemblyConfig, Config, ConfigFault};
 use crate::counter::Counter;
-use crate::identity::Identity;
-use crate::router::ReplyBuf;
+use crate::identity::{Identity, NAME_LIMIT};
+use crate::router::{REPLY_LIMIT, ReplyBuf};
 use crate::service::Service;
+use crate::status::Refusal;
 use crate::value::Value;
 use arrayvec::ArrayVec;
 use cip_message::Device;
@@ -103,7 +104,7 @@ impl Objects {
     pub fn new(alloc: Global, config: &Config) -> Result<Objects, ConfigFault>
         ensures refused { IfSome (fault_of config.now) (λ fault. result ≡ Err fault) }
         ensures allowed { fault_of config.now ≡ None → IfErr result (λ fault. fault ≡ ConfigFault.Memory) }
-        ensures made { IfOk result (λ objects. objects ≡ configured config.now) }
+        ensures made { IfOk result (λ objects. objects ≡ contents_of_config config.now) }
         ensures counter { IfOk result IsCounter }
         ensures whole { IfOk result AreWhole }
     {
@@ -128,12 +129,14 @@ impl Objects {
     }
 
     /// The value of an attribute, if there is one of this class, instance and number.
+    #[inline(always)]
     #[tactic(auto, using(crate::proofs::Lookup::reads))]
     pub(crate) fn value(&self, class: u16, instance: u32, attribute: u16) -> Option<Value<'_>>
         ensures value { option_map value_bytes result ≡ value_at self.now class instance attribute }
-        ensures short { IfSome result (λ value. length (value_bytes value) ≤ 480) }
+        ensures short { IfSome result IsShort }
     {
         let counter = self.counter;
+        // instance 0 is the class itself (object model)
         match class {
             IDENTITY => match instance {
                 0 => class_attribute(1, 1, 1, attribute),
@@ -147,7 +150,7 @@ impl Objects {
                 attribute,
             ),
             ASSEMBLY => {
-                let at = place(&self.assemblies, instance)?;
+                let at = position(&self.assemblies, instance)?;
                 self.assemblies[at].attribute(attribute)
             }
             COUNTER => match instance {
@@ -179,7 +182,7 @@ impl Objects {
     {
         let value = self.value(class, instance, attribute)?;
         let mut bytes = ReplyBuf::new();
-        match value.append(512, &mut bytes) {
+        match value.append(REPLY_LIMIT, &mut bytes) {
             Ok(()) => Some(bytes),
             Err(_) => None,
         }
@@ -191,7 +194,7 @@ impl Objects {
         ensures content { IfSome result (λ a. a.now.content ≡ bytes_at self.now ASSEMBLY instance 3) }
     {
         let assemblies = self.assemblies.as_slice();
-        match place(assemblies, instance) {
+        match position(assemblies, instance) {
             Some(at) => Some(&assemblies[at]),
             None => None,
         }
@@ -209,6 +212,7 @@ impl Objects {
                 Some(_) => Some(&ASSEMBLY_SERVICES),
                 None => None,
             },
+            // its services are the manager's (objects)
             CONNECTION_MANAGER if instance == 1 => Some(&[]),
             COUNTER => class_or_first(instance, &COUNTER_SERVICES),
             _ => None,
@@ -216,14 +220,16 @@ impl Objects {
     }
 
     /// The service of this code that an instance has.
-    #[tactic(auto, unfolding(crate::specs::Reading::chosen))]
-    pub(crate) fn chosen(&self, class: u16, instance: u32, code: u8) -> Result<Service, Status>
-        ensures { result ≡ chosen self.now.shapes class instance code }
+    #[tactic(auto, unfolding(crate::specs::ReadServices::service_at))]
+    pub(crate) fn service_at(&self, class: u16, instance: u32, code: u8) -> Result<Service, Refusal>
+        ensures { result ≡ service_at self.now.shapes class instance code }
     {
+        // no such class or instance: 0x05 (objects)
         let offered = self
             .services(class, instance)
-            .ok_or(Status::PathDestinationUnknown)?;
-        service_in(code, offered).ok_or(Status::ServiceNotSupported)
+            .ok_or(Refusal::PathDestinationUnknown)?;
+        // the instance hasn't this service: 0x08 (objects)
+        service_in(code, offered).ok_or(Refusal::ServiceNotSupported)
     }
 
     /// The length of an attribute that can be set, `None` where it can't.
@@ -233,6 +239,7 @@ impl Objects {
         ensures there { class ≡ ASSEMBLY → OnSome result (IsSome (shape_at instance self.now.shapes)) }
         ensures whole { class ≡ ASSEMBLY → IfSome result (λ n. n ≡ length (bytes_at self.now ASSEMBLY instance 3)) }
     {
+        // the data of an assembly that the configuration lets be set, and the counter's limit (objects)
         match class {
             ASSEMBLY if attribute == 3 => match self.assembly(instance) {
                 Some(assembly) if assembly.is_settable() => Some(assembly.size()),
@@ -252,36 +259,34 @@ impl Objects {
         self.assembly(instance)?.span(number)
     }
 
-    /// The data of an assembly.
+    /// The data of an assembly that is there.
     pub(crate) fn content(&self, instance: u32) -> &[u8]
         requires { IsSome (shape_at instance self.now.shapes) }
         ensures { result.now ≡ bytes_at self.now ASSEMBLY instance 3 }
     {
-        match self.assembly(instance) {
-            Some(assembly) => assembly.content(),
-            None => &[],
-        }
+        self.assembly(instance).unwrap().content()
     }
 
     /// The numbers of the counter.
     pub(crate) fn counter(&self) -> Counter
-        ensures value { result.value ≡ number_at self.now COUNTER 1 1 }
-        ensures limit { result.limit ≡ number_at self.now COUNTER 1 2 }
-        ensures additions { result.additions ≡ number_at self.now COUNTER 1 3 }
+        ensures value { result.value ≡ udint_at self.now COUNTER 1 1 }
+        ensures limit { result.limit ≡ udint_at self.now COUNTER 1 2 }
+        ensures additions { result.additions ≡ udint_at self.now COUNTER 1 3 }
     {
         let counter = self.counter;
         counter
     }
 
-    /// Writes bytes from `offset` on into the data of an assembly.
+    /// Writes bytes from `offset` on into the data of an assembly that is there.
     pub(crate) fn write_content(&mut self, instance: u32, offset: usize, bytes: &[u8])
         requires there { IsSome (shape_at instance self.old.shapes) }
         requires inside { offset + length bytes.now ≤ length (bytes_at self.old ASSEMBLY instance 3) }
-        ensures { self.new ≡ with_value self.old ASSEMBLY instance 3 (spliced (bytes_at self.old ASSEMBLY instance 3) offset bytes.now) }
+        ensures { self.new
+            ≡ with_value self.old ASSEMBLY instance 3 (with_bytes_at
+            (bytes_at self.old ASSEMBLY instance 3) offset bytes.now) }
     {
-        if let Some(at) = place(&self.assemblies, instance) {
-            self.assemblies[at].write(offset, bytes);
-        }
+        let at = position(&self.assemblies, instance).unwrap();
+        self.assemblies[at].write(offset, bytes);
     }
 
     /// Sets the counter's value.
@@ -330,8 +335,8 @@ fn service_in(code: u8, services: &[Service]) -> Option<Service>
 }
 
 /// A product name.
-fn name_of(text: &[u8]) -> ArrayVec<u8, 32>
-    requires { length text.now ≤ 32 }
+fn name_of(text: &[u8]) -> ArrayVec<u8, NAME_LIMIT>
+    requires { length text.now ≤ NAME_LIMIT }
     ensures { result.items ≡ text.now }
 {
     let mut name = ArrayVec::new();
@@ -341,8 +346,8 @@ fn name_of(text: &[u8]) -> ArrayVec<u8, 32>
 
 /// The assemblies of a configuration.
 fn assemblies_of(alloc: Global, configs: &[AssemblyConfig]) -> Result<Vec<Assembly>, AllocError>
-    requires few { All (λ a. length a.members.items ≤ 64) configs.now }
-    requires small { All (λ a. sum a.members.items ≤ 480) configs.now }
+    requires few { All (λ a. length a.members.items ≤ MEMBER_LIMIT) configs.now }
+    requires small { All (λ a. sum a.members.items ≤ DATA_LIMIT) configs.now }
     ensures { IfOk result (λ v. v.items ≡ map block_of configs.now) }
 {
     let mut assemblies = Vec::with_capacity(alloc, configs.len())?;

@@ -4,8 +4,11 @@ ghost use Rattle.cip_objects.specs.Router.{general_status, IsReplyTo, REPLY_TOO_
 
 use arrayvec::ArrayVec;
 
-/// The bytes of one router reply: at most 512.
-pub type ReplyBuf = ArrayVec<u8, 512>;
+/// The most bytes of a router reply (ours).
+pub const REPLY_LIMIT: usize = 512;
+
+/// The bytes of one router reply: at most `REPLY_LIMIT`.
+pub type ReplyBuf = ArrayVec<u8, REPLY_LIMIT>;
 
 /// What executes router requests (Volume 1, Message Router).
 ///
@@ -19,11 +22,11 @@ pub trait Router {
 
     /// Executes a request of at least 2 bytes, and leaves its reply in `reply`, whose old content is dropped.
     ///
-    /// The reply has at most `room` bytes, 8 to 512.
+    /// The reply has at most `room` bytes, 8 to `REPLY_LIMIT`.
     fn execute(&mut self, request: &[u8], room: usize, reply: &mut ReplyBuf)
         requires request { 2 ≤ length request.now }
         requires room_from { 8 ≤ room }
-        requires room_to { room ≤ 512 }
+        requires room_to { room ≤ REPLY_LIMIT }
         ensures state { self.new ≡ after self.old room request.now }
         ensures reply { reply.new.items ≡ answer self.old room request.now }
         ensures fits { length reply.new.items ≤ room };

@@ -4,13 +4,21 @@ ghost use Rattle.std.specs.Prelude.{◌≡◌};
 /// A service that some instance of the objects has (Volume 1, common services; Add and Clear are the counter's own).
 #[derive(Clone, Copy, PartialEq, Eq, Debug)]
 pub(crate) enum Service {
+    /// The attributes 1 to 7, joined.
     GetAttributesAll,
+    /// A list of attributes, each with its status.
     GetAttributeList,
+    /// One attribute.
     GetAttributeSingle,
+    /// Sets one attribute.
     SetAttributeSingle,
+    /// One member of the data of an assembly.
     GetMember,
+    /// Sets one member of the data of an assembly.
     SetMember,
+    /// Adds to the counter.
     Add,
+    /// Sets the counter to 0.
     Clear,
 }
 

@@ -223,7 +223,8 @@ fn greatest_device(rt: HostRuntime) -> Result<(), Fail> {
         // all of Identity
         (
             b"\x01\x02\x20\x01\x24\x01",
-            b"\x81\x00\x00\x00\xff\xff\xff\xff\xff\xff\x7f\xff\xff\xff\xff\xff\xff\xff\x20ABCDEFGHIJKLMNOPQRSTUVWXYZabcdef",
+            b"\x81\x00\x00\x00\xff\xff\xff\xff\xff\xff\x7f\xff\xff\xff\xff\xff\xff\xff\
+                \x20ABCDEFGHIJKLMNOPQRSTUVWXYZabcdef",
         ),
         // the name
         (

@@ -2,19 +2,20 @@
 ghost use Rattle.std.specs.Prelude.{◌≡◌, ◌≤◌, ◌++◌, [], ◌∷◌};
 ghost use Rattle.cip_objects.specs.Text.{Writes};
 
-use crate::Status;
-use crate::router::ReplyBuf;
+use crate::router::{REPLY_LIMIT, ReplyBuf};
+use crate::status::Refusal;
 
 /// Appends bytes to a reply, where it then has at most `room` bytes.
-pub(crate) fn append(bytes: &[u8], room: usize, reply: &mut ReplyBuf) -> Result<(), Status>
-    requires { room ≤ 512 }
+pub(crate) fn append(bytes: &[u8], room: usize, reply: &mut ReplyBuf) -> Result<(), Refusal>
+    requires { room ≤ REPLY_LIMIT }
     ensures { Writes room (reply.old.items ++ bytes.now) result reply.new.items }
 {
+    // a reply is never over its room: 0x11 (objects)
     if room < reply.len() + bytes.len() {
-        return Err(Status::ReplyDataTooLarge);
+        return Err(Refusal::ReplyDataTooLarge);
     }
     match reply.try_extend_from_slice(bytes) {
         Ok(()) => Ok(()),
-        Err(_) => Err(Status::ReplyDataTooLarge),
+        Err(_) => Err(Refusal::ReplyDataTooLarge),
     }
 }

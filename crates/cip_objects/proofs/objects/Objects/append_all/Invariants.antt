@@ -1,7 +1,7 @@
 use Rattle.std.proofs.Common.{◌≡◌, ◌≤◌, ◌++◌, length, drop}
 use Rattle.std.specs.List.{flat_map}
 use Rattle.cip_objects.specs.Contents.{bytes_at}
-use Rattle.cip_objects.specs.Reading.{ALL_ATTRIBUTES}
+use Rattle.cip_objects.specs.ReadServices.{ALL_ATTRIBUTES}
 use Rattle.cip_objects.proofs.objects.Objects.append_all.Given as goal
 
 abbrev pub invariant-loop-attribute : goal.invariant-loop-attribute

@@ -3,7 +3,7 @@ use Rattle.byteorder.specs.Endian.{little_number}
 use Rattle.std.proofs.lemmas.List.{take_rest, length-drop, append-nil}
 use Rattle.std.specs.List.{flat_map}
 use Rattle.cip_bytes.specs.Numbers.{words_of}
-use Rattle.cip_objects.specs.Reading.{listed, all_there}
+use Rattle.cip_objects.specs.ReadServices.{list_entry, all_there}
 use Rattle.cip_objects.proofs.Words.{words_step, words_end}
 use Rattle.cip_objects.proofs.objects.Objects.append_list.Goals as goal
 use Rattle.cip_objects.proofs.objects.Objects.append_list.Goals.{then-all, else-all}
@@ -21,7 +21,7 @@ both false x e = refl
 pub loop-i-preserved : goal.loop-i-preserved
 loop-i-preserved c =
     let xs = c.args.list.now in
-    let entry = listed c.args.self.now c.args.path in
+    let entry = list_entry c.args.self.now c.args.path in
     let later = words_of (drop (2 * (c.loop-i.i + 1)) xs) in
     let read : c.read_u16-attribute.result ≡ little_number 2 (drop (2 * c.loop-i.i) xs) = rw (take_rest xs (2 * c.loop-i.i)) at c.read_u16-attribute.ensures in
     let e : words_of (drop (2 * c.loop-i.i) xs) ≡ c.read_u16-attribute.result ∷ later = words_step c.loop-i.i xs (omega arith) ∙ ap (λ n. n ∷ later) (sym read) in
@@ -42,7 +42,7 @@ pub returns-clause-text : goal.returns-clause-text
 returns-clause-text c =
     let xs = c.args.list.now in
     let e = words_end (drop (2 * c.loop-i.i) xs) (omega (arith, length-drop (2 * c.loop-i.i) xs)) in
-    let whole = sym (append-nil c.loop-i.reply.items) ∙ ap (λ w. c.loop-i.reply.items ++ flat_map (listed c.args.self.now c.args.path) w) (sym e) ∙ c.loop-i.invariant.text in
+    let whole = sym (append-nil c.loop-i.reply.items) ∙ ap (λ w. c.loop-i.reply.items ++ flat_map (list_entry c.args.self.now c.args.path) w) (sym e) ∙ c.loop-i.invariant.text in
     (rw (← whole) c.loop-i.invariant.fits, whole)
 
 pub returns-clause-there : goal.returns-clause-there

@@ -1,6 +1,6 @@
 use Rattle.std.proofs.Common.{◌≡◌, sym, ap, ◌∙◌, arith, length, map}
 use Rattle.std.proofs.lemmas.List.{length-map}
-use Rattle.cip_objects.specs.Configuration.{configured, block_of, identity_of, counter_of}
+use Rattle.cip_objects.specs.Configuration.{contents_of_config, block_of, identity_of, counter_of}
 use Rattle.cip_objects.specs.Counter.{counter_values}
 use Rattle.cip_objects.specs.Entries.{contents_of}
 use Rattle.std.specs.String.{string_bytes}
@@ -37,7 +37,7 @@ invariant_of-result c =
     }
 
 pub returns-clause-made : goal.returns-clause-made
-unfolding configured
+unfolding contents_of_config
 returns-clause-made c =
     let config = c.args.config.now in
     let items : c.in_ok-assemblies_of.field-0.items ≡ map block_of config.assemblies.items = c.in_ok-assemblies_of.ensures ∙ ap (map block_of) c.deref.ensures.value in

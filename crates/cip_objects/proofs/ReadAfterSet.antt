@@ -4,7 +4,7 @@ use Rattle.std.proofs.lemmas.Bool.Decides.{nat_tests}
 use Rattle.std.specs.FinMap.{get-insert}
 use Rattle.byteorder.specs.Endian.{little_bytes, little_number}
 use Rattle.cip_objects.specs.ObjectMap.{key}
-use Rattle.cip_objects.specs.Contents.{Contents, value_at, number_at, with_value}
+use Rattle.cip_objects.specs.Contents.{Contents, value_at, udint_at, with_value}
 use Rattle.cip_objects.proofs.Map.{key_total, tied}
 use Rattle.cip_objects.proofs.Numbers.{number-bytes}
 
@@ -24,14 +24,14 @@ value_at-same m c i a v = value_at-with_value m c i a v c i a ∙ ap (λ t. cond
 pub value_at-other : (m : Contents) (c i a : ℕ) (v : List ℕ) (d j b : ℕ) → eqb d c && (eqb j i && eqb b a) ≡ false → value_at (with_value m c i a v) d j b ≡ value_at m d j b
 value_at-other m c i a v d j b h = value_at-with_value m c i a v d j b ∙ ap (λ t. cond t (Some v) (value_at m d j b)) h
 
-pub number_at-same : (m : Contents) (c i a : ℕ) (v : List ℕ) → number_at (with_value m c i a v) c i a ≡ little_number 4 v
-unfolding number_at
-number_at-same m c i a v = ap (λ o. little_number 4 (unwrap_or o [])) (value_at-same m c i a v)
+pub udint_at-same : (m : Contents) (c i a : ℕ) (v : List ℕ) → udint_at (with_value m c i a v) c i a ≡ little_number 4 v
+unfolding udint_at
+udint_at-same m c i a v = ap (λ o. little_number 4 (unwrap_or o [])) (value_at-same m c i a v)
 
-pub number_at-other : (m : Contents) (c i a : ℕ) (v : List ℕ) (d j b : ℕ) → eqb d c && (eqb j i && eqb b a) ≡ false → number_at (with_value m c i a v) d j b ≡ number_at m d j b
-unfolding number_at
-number_at-other m c i a v d j b h = ap (λ o. little_number 4 (unwrap_or o [])) (value_at-other m c i a v d j b h)
+pub udint_at-other : (m : Contents) (c i a : ℕ) (v : List ℕ) (d j b : ℕ) → eqb d c && (eqb j i && eqb b a) ≡ false → udint_at (with_value m c i a v) d j b ≡ udint_at m d j b
+unfolding udint_at
+udint_at-other m c i a v d j b h = ap (λ o. little_number 4 (unwrap_or o [])) (value_at-other m c i a v d j b h)
 
 -- a number that was set is read again
-pub number_at-set : (m : Contents) (c i a n : ℕ) → n < 2 ^ 32 → number_at (with_value m c i a (little_bytes 4 n)) c i a ≡ n
-number_at-set m c i a n h = number_at-same m c i a (little_bytes 4 n) ∙ number-bytes n h
+pub udint_at-set : (m : Contents) (c i a n : ℕ) → n < 2 ^ 32 → udint_at (with_value m c i a (little_bytes 4 n)) c i a ≡ n
+udint_at-set m c i a n h = udint_at-same m c i a (little_bytes 4 n) ∙ number-bytes n h

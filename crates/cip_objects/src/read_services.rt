@@ -3,65 +3,75 @@ ghost use Rattle.std.specs.Prelude.{◌≡◌, ◌≤◌, ◌+◌, ◌++◌, len
 ghost use Rattle.std.specs.List.{flat_map};
 ghost use Rattle.cip_bytes.specs.Numbers.{words_of};
 ghost use Rattle.cip_objects.specs.Contents.{bytes_at};
-ghost use Rattle.cip_objects.specs.Reading.{answered, limited, get_attribute_single, get_attributes_all, get_attribute_list, get_member, named_member, listed, is_there, all_there, ALL_ATTRIBUTES};
+ghost use Rattle.cip_objects.specs.ReadServices.{get_attribute_single, get_attributes_all, get_attribute_list};
+ghost use Rattle.cip_objects.specs.ReadServices.{get_member, named_member, list_entry, is_there, all_there};
+ghost use Rattle.cip_objects.specs.ReadServices.{ALL_ATTRIBUTES};
+ghost use Rattle.cip_objects.specs.Execution.{outcome_of_read, outcome_left, outcome_in_room};
 ghost use Rattle.cip_objects.specs.Tables.{shape_at};
 ghost use Rattle.cip_objects.specs.Text.{Writes};
 
-use crate::Status;
 use crate::assembly::Span;
 use crate::check::exactly;
 use crate::objects::{ASSEMBLY, Objects};
-use crate::router::ReplyBuf;
+use crate::router::{REPLY_LIMIT, ReplyBuf};
+use crate::status::{Completion, Refusal};
 use crate::text::append;
 use byteorder::{ByteOrder, LittleEndian};
 use cip_message::Path;
 
 impl Objects {
     /// Get_Attribute_Single.
-    #[tactic(auto, unfolding(crate::specs::Reading::get_attribute_single))]
+    #[tactic(auto, unfolding(crate::specs::ReadServices::get_attribute_single))]
     pub(crate) fn get_attribute_single(
         &self,
         path: Path,
         data: &[u8],
         room: usize,
         reply: &mut ReplyBuf,
-    ) -> Result<Status, Status>
-        requires { room ≤ 512 }
-        ensures { answered result reply.new.items ≡ limited room reply.old.items (get_attribute_single self.now path «data».now) }
+    ) -> Result<Completion, Refusal>
+        requires { room ≤ REPLY_LIMIT }
+        ensures { outcome_left self.now result reply.new.items
+            ≡ outcome_in_room room reply.old.items (outcome_of_read self.now
+            (get_attribute_single self.now path «data».now)) }
     {
-        let attribute = path.attribute.ok_or(Status::AttributeNotSupported)?;
+        let attribute = path.attribute.ok_or(Refusal::AttributeNotSupported)?;
         let value = self
             .value(path.class, path.instance, attribute)
-            .ok_or(Status::AttributeNotSupported)?;
+            .ok_or(Refusal::AttributeNotSupported)?;
+        // a read takes no data (common services)
         exactly(0, data)?;
         value.append(room, reply)?;
-        Ok(Status::Success)
+        Ok(Completion::Whole)
     }
 
     /// Get_Attributes_All.
-    #[tactic(auto, unfolding(crate::specs::Reading::get_attributes_all))]
+    #[tactic(auto, unfolding(crate::specs::ReadServices::get_attributes_all))]
     pub(crate) fn get_attributes_all(
         &self,
         path: Path,
         data: &[u8],
         room: usize,
         reply: &mut ReplyBuf,
-    ) -> Result<Status, Status>
-        requires room { room ≤ 512 }
+    ) -> Result<Completion, Refusal>
+        requires room { room ≤ REPLY_LIMIT }
         requires fits { length reply.old.items ≤ room }
-        ensures { answered result reply.new.items ≡ limited room reply.old.items (get_attributes_all self.now path «data».now) }
+        ensures { outcome_left self.now result reply.new.items
+            ≡ outcome_in_room room reply.old.items (outcome_of_read self.now
+            (get_attributes_all self.now path «data».now)) }
     {
         exactly(0, data)?;
         self.append_all(path, room, reply)?;
-        Ok(Status::Success)
+        Ok(Completion::Whole)
     }
 
     /// Appends the values of attributes 1 to 7.
-    fn append_all(&self, path: Path, room: usize, reply: &mut ReplyBuf) -> Result<(), Status>
-        requires room { room ≤ 512 }
+    fn append_all(&self, path: Path, room: usize, reply: &mut ReplyBuf) -> Result<(), Refusal>
+        requires room { room ≤ REPLY_LIMIT }
         requires fits { length reply.old.items ≤ room }
-        ensures { Writes room (reply.old.items ++ flat_map (bytes_at self.now path.class path.instance) ALL_ATTRIBUTES) result reply.new.items }
+        ensures { Writes room (reply.old.items ++ flat_map (bytes_at self.now path.class path.instance) ALL_ATTRIBUTES)
+            result reply.new.items }
     {
+        // this profile ends there (ours)
         for attribute in [1, 2, 3, 4, 5, 6, 7].iter() {
             self.append_value(path, *attribute, room, reply)?;
         }
@@ -75,10 +85,11 @@ impl Objects {
         attribute: u16,
         room: usize,
         reply: &mut ReplyBuf,
-    ) -> Result<(), Status>
-        requires room { room ≤ 512 }
+    ) -> Result<(), Refusal>
+        requires room { room ≤ REPLY_LIMIT }
         requires fits { length reply.old.items ≤ room }
-        ensures { Writes room (reply.old.items ++ bytes_at self.now path.class path.instance attribute) result reply.new.items }
+        ensures { Writes room (reply.old.items ++ bytes_at self.now path.class path.instance attribute)
+            result reply.new.items }
     {
         match self.value(path.class, path.instance, attribute) {
             Some(value) => value.append(room, reply),
@@ -87,27 +98,31 @@ impl Objects {
     }
 
     /// Get_Attribute_List.
-    #[tactic(auto, unfolding(crate::specs::Reading::get_attribute_list))]
+    #[tactic(auto, unfolding(crate::specs::ReadServices::get_attribute_list))]
     pub(crate) fn get_attribute_list(
         &self,
         path: Path,
         data: &[u8],
         room: usize,
         reply: &mut ReplyBuf,
-    ) -> Result<Status, Status>
-        requires { room ≤ 512 }
-        ensures { answered result reply.new.items ≡ limited room reply.old.items (get_attribute_list self.now path «data».now) }
+    ) -> Result<Completion, Refusal>
+        requires { room ≤ REPLY_LIMIT }
+        ensures { outcome_left self.now result reply.new.items
+            ≡ outcome_in_room room reply.old.items (outcome_of_read self.now
+            (get_attribute_list self.now path «data».now)) }
     {
+        // the count and so many attribute numbers, two bytes each (common services)
         if data.len() < 2 {
-            return Err(Status::NotEnoughData);
+            return Err(Refusal::NotEnoughData);
         }
         let count = LittleEndian::read_u16(data);
         exactly(2 + 2 * usize::from(count), data)?;
         append(&count.to_le_bytes(), room, reply)?;
+        // an unknown attribute is told in its place, and by the general status 0x0a (common services)
         if self.append_list(path, &data[2..], room, reply)? {
-            Ok(Status::Success)
+            Ok(Completion::Whole)
         } else {
-            Ok(Status::AttributeListError)
+            Ok(Completion::Partial)
         }
     }
 
@@ -119,10 +134,11 @@ impl Objects {
         list: &[u8],
         room: usize,
         reply: &mut ReplyBuf,
-    ) -> Result<bool, Status>
-        requires room { room ≤ 512 }
+    ) -> Result<bool, Refusal>
+        requires room { room ≤ REPLY_LIMIT }
         requires fits { length reply.old.items ≤ room }
-        ensures text { Writes room (reply.old.items ++ flat_map (listed self.now path) (words_of list.now)) result reply.new.items }
+        ensures text { Writes room (reply.old.items ++ flat_map (list_entry self.now path) (words_of list.now))
+            result reply.new.items }
         ensures there { IfOk result (λ all. all ≡ all_there self.now path (words_of list.now)) }
     {
         let mut all = true;
@@ -135,16 +151,16 @@ impl Objects {
     }
 
     /// Appends one attribute of a list, and answers whether it is there.
-    #[tactic(auto, unfolding(crate::specs::Reading::listed))]
+    #[tactic(auto, unfolding(crate::specs::ReadServices::list_entry))]
     fn append_listed(
         &self,
         path: Path,
         attribute: u16,
         room: usize,
         reply: &mut ReplyBuf,
-    ) -> Result<bool, Status>
-        requires { room ≤ 512 }
-        ensures text { Writes room (reply.old.items ++ listed self.now path attribute) result reply.new.items }
+    ) -> Result<bool, Refusal>
+        requires { room ≤ REPLY_LIMIT }
+        ensures text { Writes room (reply.old.items ++ list_entry self.now path attribute) result reply.new.items }
         ensures there { IfOk result (λ there. there ≡ is_there self.now path attribute) }
     {
         append(&attribute.to_le_bytes(), room, reply)?;
@@ -155,6 +171,7 @@ impl Objects {
                 Ok(true)
             }
             None => {
+                // its status, attribute not supported, in two bytes (common services)
                 append(&[0x14, 0], room, reply)?;
                 Ok(false)
             }
@@ -162,36 +179,39 @@ impl Objects {
     }
 
     /// Where the member lies that the path names.
-    #[tactic(auto, unfolding(crate::specs::Reading::named_member))]
-    pub(crate) fn named_member(&self, path: Path) -> Result<Span, Status>
+    #[tactic(auto, unfolding(crate::specs::ReadServices::named_member))]
+    pub(crate) fn named_member(&self, path: Path) -> Result<Span, Refusal>
         ensures place { result ≡ named_member self.now.shapes path }
         ensures there { OnOk result (IsSome (shape_at path.instance self.now.shapes)) }
         ensures inside { IfOk result (λ s. s.offset + s.size ≤ length (bytes_at self.now ASSEMBLY path.instance 3)) }
     {
+        // only the data of an assembly, attribute 3, have members (Assembly)
         if path.attribute != Some(3) {
-            return Err(Status::AttributeNotSupported);
+            return Err(Refusal::AttributeNotSupported);
         }
-        let number = path.member.ok_or(Status::InvalidMemberId)?;
+        // no such member: 0x28 (objects)
+        let number = path.member.ok_or(Refusal::InvalidMemberId)?;
         self.span(path.instance, number)
-            .ok_or(Status::InvalidMemberId)
+            .ok_or(Refusal::InvalidMemberId)
     }
 
     /// Get_Member.
-    #[tactic(auto, unfolding(crate::specs::Reading::get_member))]
+    #[tactic(auto, unfolding(crate::specs::ReadServices::get_member))]
     pub(crate) fn get_member(
         &self,
         path: Path,
         data: &[u8],
         room: usize,
         reply: &mut ReplyBuf,
-    ) -> Result<Status, Status>
-        requires { room ≤ 512 }
-        ensures { answered result reply.new.items ≡ limited room reply.old.items (get_member self.now path «data».now) }
+    ) -> Result<Completion, Refusal>
+        requires { room ≤ REPLY_LIMIT }
+        ensures { outcome_left self.now result reply.new.items
+            ≡ outcome_in_room room reply.old.items (outcome_of_read self.now (get_member self.now path «data».now)) }
     {
         let span = self.named_member(path)?;
         exactly(0, data)?;
         let content = self.content(path.instance);
         append(&content[span.offset..span.offset + span.size], room, reply)?;
-        Ok(Status::Success)
+        Ok(Completion::Whole)
     }
 }

@@ -5,11 +5,12 @@ use Rattle.std.specs.Option.{ok_or}
 use Rattle.byteorder.specs.Endian.{little_number}
 use Rattle.cip_message.specs.declared.path.Path.{Path}
 use Rattle.cip_bytes.specs.Numbers.{le}
-use Rattle.cip_objects.specs.declared.status.Status.{Status}
-use Rattle.cip_objects.specs.declared.status.Status.TheVariants.{AttributeNotSupported, AttributeNotSettable, InvalidAttributeValue, InvalidParameter}
-use Rattle.cip_objects.specs.Check.{◌>>=◌, ◌>>◌, demand, exactly}
-use Rattle.cip_objects.specs.Contents.{Contents, value_at, bytes_at, number_at, with_value}
-use Rattle.cip_objects.specs.Reading.{named_member}
+use Rattle.cip_objects.specs.declared.status.Refusal.{Refusal}
+use Rattle.cip_objects.specs.declared.status.Refusal.TheVariants.{AttributeNotSupported, AttributeNotSettable, InvalidAttributeValue, InvalidParameter}
+use Rattle.cip_bytes.specs.Reading.{◌>>=◌, ◌>>◌}
+use Rattle.cip_objects.specs.Check.{demand, exactly}
+use Rattle.cip_objects.specs.Contents.{Contents, value_at, bytes_at, udint_at, with_value}
+use Rattle.cip_objects.specs.ReadServices.{named_member}
 use Rattle.cip_objects.specs.Tables.{settable_size, ASSEMBLY, COUNTER}
 
 -- what a service that changes leaves, and the data of its reply
@@ -17,26 +18,26 @@ pub record Change : Type 0 where
   pub after : Contents
   pub content : List ℕ
 
-abbrev pub change : Contents → List ℕ → Result Change Status
+abbrev pub change : Contents → List ℕ → Result Change Refusal
 change after content = Ok (record { after = after; content = content })
 
 -- what a call answered, with the data that its answer stands for, and the contents that it left
-abbrev pub changed : {A : Type 0} → (A → List ℕ) → Contents → Result A Status → Result Change Status
-changed bytes after (Ok x) = change after (bytes x)
-changed bytes after (Err s) = Err s
+abbrev pub change_left : {A : Type 0} → (A → List ℕ) → Contents → Result A Refusal → Result Change Refusal
+change_left bytes after (Ok x) = change after (bytes x)
+change_left bytes after (Err s) = Err s
 
 -- the counter's limit is never set below its value
 abbrev pub is_allowed : Contents → ℕ → List ℕ → Bool
-is_allowed m class content = not (class == COUNTER) || nat_le (number_at m COUNTER 1 1) (little_number 4 content)
+is_allowed m class content = not (class == COUNTER) || nat_le (udint_at m COUNTER 1 1) (little_number 4 content)
 
 -- the counter's limit set, where that is allowed
-abbrev pub limited_by : Contents → List ℕ → Result Change Status
-limited_by m content = do
+abbrev pub limit_change : Contents → List ℕ → Result Change Refusal
+limit_change m content = do
   demand (is_allowed m COUNTER content) InvalidAttributeValue
   change (with_value m COUNTER 1 2 content) []
 
 -- Set_Attribute_Single: the attribute has these data from then on
-unfoldable pub set_attribute_single : Contents → Path → List ℕ → Result Change Status
+unfoldable pub set_attribute_single : Contents → Path → List ℕ → Result Change Refusal
 set_attribute_single m path content = do
   attribute ← ok_or path.attribute AttributeNotSupported
   value ← ok_or (value_at m path.class path.instance attribute) AttributeNotSupported
@@ -46,30 +47,30 @@ set_attribute_single m path content = do
   change (with_value m path.class path.instance attribute content) []
 
 -- old with these bytes from a place on
-abbrev pub spliced : List ℕ → ℕ → List ℕ → List ℕ
-spliced old place bytes = take place old ++ (bytes ++ drop (place + length bytes) old)
+abbrev pub with_bytes_at : List ℕ → ℕ → List ℕ → List ℕ
+with_bytes_at old place bytes = take place old ++ (bytes ++ drop (place + length bytes) old)
 
 -- Set_Member: the member has these data from then on
-unfoldable pub set_member : Contents → Path → List ℕ → Result Change Status
+unfoldable pub set_member : Contents → Path → List ℕ → Result Change Refusal
 set_member m path content = do
   span ← named_member m.shapes path
   all ← ok_or (settable_size m.shapes ASSEMBLY path.instance 3) AttributeNotSettable
   exactly span.size content
-  change (with_value m ASSEMBLY path.instance 3 (spliced (bytes_at m ASSEMBLY path.instance 3) span.offset content)) []
+  change (with_value m ASSEMBLY path.instance 3 (with_bytes_at (bytes_at m ASSEMBLY path.instance 3) span.offset content)) []
 
 -- the counter once it was added to
-abbrev pub added : Contents → ℕ → Contents
-added m total = with_value (with_value m COUNTER 1 1 (le 4 total)) COUNTER 1 3 (le 4 ((number_at m COUNTER 1 3 + 1) % 2 ^ 32))
+abbrev pub after_add : Contents → ℕ → Contents
+after_add m total = with_value (with_value m COUNTER 1 1 (le 4 total)) COUNTER 1 3 (le 4 ((udint_at m COUNTER 1 3 + 1) % 2 ^ 32))
 
 -- Add: the value grows by the number in the data, unless it came over the limit
-unfoldable pub add : Contents → List ℕ → Result Change Status
+unfoldable pub add : Contents → List ℕ → Result Change Refusal
 add m content = do
   exactly 4 content
-  demand (nat_le (number_at m COUNTER 1 1 + little_number 4 content) (number_at m COUNTER 1 2)) InvalidParameter
-  change (added m (number_at m COUNTER 1 1 + little_number 4 content)) (le 4 (number_at m COUNTER 1 1 + little_number 4 content))
+  demand (nat_le (udint_at m COUNTER 1 1 + little_number 4 content) (udint_at m COUNTER 1 2)) InvalidParameter
+  change (after_add m (udint_at m COUNTER 1 1 + little_number 4 content)) (le 4 (udint_at m COUNTER 1 1 + little_number 4 content))
 
 -- Clear: the value is 0, and the old one is answered
-unfoldable pub clear : Contents → List ℕ → Result Change Status
+unfoldable pub clear : Contents → List ℕ → Result Change Refusal
 clear m content = do
   exactly 0 content
-  change (with_value m COUNTER 1 1 (le 4 0)) (le 4 (number_at m COUNTER 1 1))
+  change (with_value m COUNTER 1 1 (le 4 0)) (le 4 (udint_at m COUNTER 1 1))

@@ -1,0 +1,6 @@
+-- A limit of this profile that larger connections will raise (ours).
+use Rattle.std.specs.Prelude.{ℕ}
+
+-- the most bytes of an assembly's data: no attribute has a longer value
+abbrev pub LONGEST_DATA : ℕ
+LONGEST_DATA = 480

@@ -1,0 +1,97 @@
+-- The services that read, each by its first check that fails (Volume 1, common services).
+use Rattle.std.specs.Prelude.{ℕ, ◌+◌, ◌*◌, Bool, true, false, ◌&&◌, ◌==◌, nat_le, if◌then◌else◌, List, [], ◌∷◌, ◌++◌, length, take, drop, Option, Some, None, is_some, Result, Ok, Err}
+use Rattle.std.specs.Option.{ok_or}
+use Rattle.std.specs.List.{flat_map}
+use Rattle.byteorder.specs.Endian.{little_number}
+use Rattle.cip_message.specs.declared.path.Path.{Path}
+use Rattle.cip_bytes.specs.Numbers.{le, words_of}
+use Rattle.cip_objects.specs.declared.assembly.Span.{Span}
+use Rattle.cip_objects.specs.declared.service.Service.{Service}
+use Rattle.cip_objects.specs.declared.status.Completion.{Completion}
+use Rattle.cip_objects.specs.declared.status.Completion.TheVariants.{Whole, Partial}
+use Rattle.cip_objects.specs.declared.status.Refusal.{Refusal}
+use Rattle.cip_objects.specs.declared.status.Refusal.TheVariants.{PathDestinationUnknown, ServiceNotSupported, AttributeNotSupported, InvalidMemberId, NotEnoughData}
+use Rattle.cip_bytes.specs.Reading.{◌>>=◌, ◌>>◌}
+use Rattle.cip_objects.specs.Check.{demand, exactly}
+use Rattle.cip_objects.specs.Contents.{Contents, value_at, bytes_at}
+use Rattle.cip_objects.specs.Service.{service_in}
+use Rattle.cip_objects.specs.Status.{status_code, completion_status, refusal_status}
+use Rattle.cip_objects.specs.Tables.{Shape, services_of, member_at, ASSEMBLY}
+
+-- the service of this code, where the class and instance are there and have it
+unfoldable pub service_at : List Shape → ℕ → ℕ → ℕ → Result Service Refusal
+service_at shapes class instance code = do
+  offered ← ok_or (services_of shapes class instance) PathDestinationUnknown
+  ok_or (service_in code offered) ServiceNotSupported
+
+-- what a service that reads answers: how much it has done, and the data of the reply
+pub record Answer : Type 0 where
+  pub status : Completion
+  pub content : List ℕ
+
+abbrev pub answer : Completion → List ℕ → Result Answer Refusal
+answer status content = Ok (record { status = status; content = content })
+
+-- Get_Attribute_Single: the value of the attribute
+unfoldable pub get_attribute_single : Contents → Path → List ℕ → Result Answer Refusal
+get_attribute_single m path content = do
+  attribute ← ok_or path.attribute AttributeNotSupported
+  value ← ok_or (value_at m path.class path.instance attribute) AttributeNotSupported
+  exactly 0 content
+  answer Whole value
+
+-- the attributes that Get_Attributes_All gives
+abbrev pub ALL_ATTRIBUTES : List ℕ
+ALL_ATTRIBUTES = 1 ∷ 2 ∷ 3 ∷ 4 ∷ 5 ∷ 6 ∷ 7 ∷ []
+
+-- Get_Attributes_All: the values of attributes 1 to 7, joined. This profile ends there
+unfoldable pub get_attributes_all : Contents → Path → List ℕ → Result Answer Refusal
+get_attributes_all m path content = do
+  exactly 0 content
+  answer Whole (flat_map (bytes_at m path.class path.instance) ALL_ATTRIBUTES)
+
+-- one attribute of a list: its number, its status, and its value where it is there
+abbrev pub list_entry_of : ℕ → Option (List ℕ) → List ℕ
+list_entry_of attribute None = le 2 attribute ++ le 2 (status_code (refusal_status AttributeNotSupported))
+list_entry_of attribute (Some value) = le 2 attribute ++ (le 2 (status_code (completion_status Whole)) ++ value)
+
+unfoldable pub list_entry : Contents → Path → ℕ → List ℕ
+list_entry m path attribute = list_entry_of attribute (value_at m path.class path.instance attribute)
+
+abbrev pub is_there : Contents → Path → ℕ → Bool
+is_there m path attribute = is_some (value_at m path.class path.instance attribute)
+
+-- whether all of these attributes are there
+abbrev pub all_there : Contents → Path → List ℕ → Bool
+all_there m path [] = true
+all_there m path (a ∷ attributes) = is_there m path a && all_there m path attributes
+
+-- all of the list, or not every attribute
+abbrev pub list_completion : Bool → Completion
+list_completion complete = if complete then Whole else Partial
+
+-- Get_Attribute_List: the data are a count and so many attribute numbers; the answer has the count and each of them
+unfoldable pub get_attribute_list : Contents → Path → List ℕ → Result Answer Refusal
+get_attribute_list m path content = do
+  demand (nat_le 2 (length content)) NotEnoughData
+  exactly (2 + 2 * little_number 2 content) content
+  answer (list_completion (all_there m path (words_of (drop 2 content)))) (le 2 (little_number 2 content) ++ flat_map (list_entry m path) (words_of (drop 2 content)))
+
+-- whether the attribute is the data of an assembly
+abbrev pub is_data : Option ℕ → Bool
+is_data None = false
+is_data (Some attribute) = attribute == 3
+
+-- where the member that the path names lies
+unfoldable pub named_member : List Shape → Path → Result Span Refusal
+named_member shapes path = do
+  demand (is_data path.attribute) AttributeNotSupported
+  number ← ok_or path.member InvalidMemberId
+  ok_or (member_at shapes path.instance number) InvalidMemberId
+
+-- Get_Member: the member's part of the data
+unfoldable pub get_member : Contents → Path → List ℕ → Result Answer Refusal
+get_member m path content = do
+  span ← named_member m.shapes path
+  exactly 0 content
+  answer Whole (take span.size (drop span.offset (bytes_at m ASSEMBLY path.instance 3)))

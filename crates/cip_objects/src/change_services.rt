@@ -1,0 +1,87 @@
+//! The services that change (Volume 1, common services; Add and Clear are the counter's own).
+ghost use Rattle.std.specs.Prelude.{◌≡◌, ◌≤◌, ◌+◌, length, [], OnErr};
+ghost use Rattle.cip_bytes.specs.Numbers.{le};
+ghost use Rattle.cip_objects.specs.ChangeServices.{change_left, set_attribute_single, set_member, add, clear};
+ghost use Rattle.cip_objects.specs.ChangeServices.{limit_change};
+
+use crate::check::exactly;
+use crate::objects::{ASSEMBLY, Objects};
+use crate::status::Refusal;
+use byteorder::{ByteOrder, LittleEndian};
+use cip_message::Path;
+
+impl Objects {
+    /// Set_Attribute_Single.
+    #[tactic(auto, unfolding(crate::specs::ChangeServices::set_attribute_single))]
+    pub(crate) fn set_attribute_single(&mut self, path: Path, data: &[u8]) -> Result<(), Refusal>
+        ensures change_left { change_left (λ _. []) self.new result ≡ set_attribute_single self.old path «data».now }
+        ensures err { OnErr result (self.new ≡ self.old) }
+    {
+        // no such attribute: 0x14 (objects)
+        let attribute = path.attribute.ok_or(Refusal::AttributeNotSupported)?;
+        self.value(path.class, path.instance, attribute)
+            .ok_or(Refusal::AttributeNotSupported)?;
+        // an attribute that can't be set: 0x0e, before its data are measured (objects)
+        let size = self
+            .settable_size(path.class, path.instance, attribute)
+            .ok_or(Refusal::AttributeNotSettable)?;
+        exactly(size, data)?;
+        if path.class == ASSEMBLY {
+            self.write_content(path.instance, 0, data);
+            return Ok(());
+        }
+        self.change_limit(data)
+    }
+
+    /// Sets the counter's limit, where it isn't below the value.
+    fn change_limit(&mut self, data: &[u8]) -> Result<(), Refusal>
+        requires { length «data».now ≡ 4 }
+        ensures change_left { change_left (λ _. []) self.new result ≡ limit_change self.old «data».now }
+        ensures err { OnErr result (self.new ≡ self.old) }
+    {
+        let counter = self.counter().with_limit(LittleEndian::read_u32(data))?;
+        self.set_limit(counter.limit);
+        Ok(())
+    }
+
+    /// Set_Member.
+    #[tactic(auto, unfolding(crate::specs::ChangeServices::set_member))]
+    pub(crate) fn set_member(&mut self, path: Path, data: &[u8]) -> Result<(), Refusal>
+        ensures change_left { change_left (λ _. []) self.new result ≡ set_member self.old path «data».now }
+        ensures err { OnErr result (self.new ≡ self.old) }
+    {
+        let span = self.named_member(path)?;
+        // after the member, whether its assembly can be set: 0x0e (objects)
+        self.settable_size(ASSEMBLY, path.instance, 3)
+            .ok_or(Refusal::AttributeNotSettable)?;
+        exactly(span.size, data)?;
+        self.write_content(path.instance, span.offset, data);
+        Ok(())
+    }
+
+    /// Add: answers the new value.
+    #[tactic(auto, unfolding(crate::specs::ChangeServices::add))]
+    pub(crate) fn add(&mut self, data: &[u8]) -> Result<u32, Refusal>
+        ensures change_left { change_left (le 4) self.new result ≡ add self.old «data».now }
+        ensures err { OnErr result (self.new ≡ self.old) }
+    {
+        exactly(4, data)?;
+        let counter = self.counter().add(LittleEndian::read_u32(data))?;
+        self.set_value(counter.value);
+        self.set_additions(counter.additions);
+        Ok(counter.value)
+    }
+
+    /// Clear: answers the old value.
+    #[tactic(auto, unfolding(crate::specs::ChangeServices::clear))]
+    pub(crate) fn clear(&mut self, data: &[u8]) -> Result<u32, Refusal>
+        ensures change_left { change_left (le 4) self.new result ≡ clear self.old «data».now }
+        ensures err { OnErr result (self.new ≡ self.old) }
+    {
+        // the old value is answered (counter, ours)
+        exactly(0, data)?;
+        let counter = self.counter();
+        self.set_value(counter.clear().value);
+        Ok(counter.value)
+    }
+}
