@@ -24,6 +24,22 @@ use std::io::{BufWriter, Read, Write};
 /// What can be answered is written before more input is read, and before a line is refused.
 pub fn answer<R: Read + Drop, W: Write + Drop, E: Write + Drop>(
     alloc: Global,
+    config: &str,
+    input: R,
+    output: W,
+    errors: E,
+) -> u8
+    ensures status { IsStatus result }
+    ensures accepted { result ≡ 0 → IsAccepted config.now }
+    ensures line { result ≡ 4 → IsAccepted config.now }
+    ensures refused { result ≡ 3 → (fault : Fault) × IsRefusedText config.now fault }
+{
+    answer_bytes(alloc, config.as_bytes(), input, output, errors)
+}
+
+/// As `answer`, with the bytes of the configuration, which need not be text.
+pub fn answer_bytes<R: Read + Drop, W: Write + Drop, E: Write + Drop>(
+    alloc: Global,
     config: &[u8],
     input: R,
     output: W,

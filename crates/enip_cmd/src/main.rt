@@ -119,7 +119,7 @@ fn run(rt: &HostRuntime, words: &[Word], matches: &ArgMatches<'_>) -> Result<u8,
 fn run_answer(rt: &HostRuntime, name: &[u8]) -> Result<u8, Fault> {
     let mut config = Vec::new(rt.alloc());
     File::open(name)?.read_to_end(&mut config)?;
-    Ok(answer::answer(
+    Ok(answer::answer_bytes(
         rt.alloc(),
         config.as_slice(),
         rt.stdin(),

@@ -3,7 +3,7 @@
 pub(crate) mod devices;
 mod rows;
 
-use super::answer::answer;
+use super::answer::{answer, answer_bytes};
 use devices::{
     BrokenReader, BrokenWriter, CountingWriter, FullWriter, PieceReader, WatchingReader,
 };
@@ -38,13 +38,7 @@ const REGISTERED: &str = "1 6500040001000000000000000102030405060708000000000100
 fn run(alloc: Global, config: &str, input: &str) -> Result<(u8, Vec<u8>, Vec<u8>), Fail> {
     let mut output = Vec::new(alloc);
     let mut errors = Vec::new(alloc);
-    let status = answer(
-        alloc,
-        config.as_bytes(),
-        input.as_bytes(),
-        &mut output,
-        &mut errors,
-    );
+    let status = answer(alloc, config, input.as_bytes(), &mut output, &mut errors);
     Ok((status, output, errors))
 }
 
@@ -198,7 +192,7 @@ fn a_reader_that_fails(rt: HostRuntime) -> Result<(), Fail> {
     let input = BrokenReader {
         text: Some(REGISTER.as_bytes()),
     };
-    let status = answer(rt.alloc(), DEMO.as_bytes(), input, &mut output, &mut errors);
+    let status = answer(rt.alloc(), DEMO, input, &mut output, &mut errors);
     assert_eq!(rt; status, 5);
     assert_eq!(rt; output.as_slice(), REGISTERED.as_bytes());
     assert_eq!(rt; errors.as_slice(), b"device\n".as_slice());
@@ -213,13 +207,7 @@ fn a_writer_that_fails(rt: HostRuntime) -> Result<(), Fail> {
         text: &mut written,
         room: 10,
     };
-    let status = answer(
-        rt.alloc(),
-        DEMO.as_bytes(),
-        REGISTER.as_bytes(),
-        output,
-        &mut errors,
-    );
+    let status = answer(rt.alloc(), DEMO, REGISTER.as_bytes(), output, &mut errors);
     assert_eq!(rt; status, 5);
     assert_eq!(rt; written.as_slice(), b"1 65000400".as_slice());
     assert_eq!(rt; errors.as_slice(), b"device\n".as_slice());
@@ -232,7 +220,7 @@ fn a_configuration_that_is_no_text(rt: HostRuntime) -> Result<(), Fail> {
     let mut errors = Vec::new(rt.alloc());
     let config = b"name = \"\xff\"\n";
     let input = REGISTER.as_bytes();
-    let status = answer(
+    let status = answer_bytes(
         rt.alloc(),
         config.as_slice(),
         input,
@@ -319,7 +307,7 @@ fn lines_over_several_reads(rt: HostRuntime) -> Result<(), Fail> {
         };
         let mut written = Vec::new(rt.alloc());
         let mut told = Vec::new(rt.alloc());
-        let got = answer(rt.alloc(), DEMO.as_bytes(), input, &mut written, &mut told);
+        let got = answer(rt.alloc(), DEMO, input, &mut written, &mut told);
         assert_eq!(rt; got, status, "{place}");
         assert_eq!(rt; written.as_slice(), output.as_bytes(), "{place}");
         assert_eq!(rt; told.as_slice(), errors.as_bytes(), "{place}");
@@ -337,7 +325,7 @@ fn answers_leave_before_more_is_read(rt: HostRuntime) -> Result<(), Fail> {
     };
     let output = CountingWriter { written: &written };
     let mut errors = Vec::new(rt.alloc());
-    let status = answer(rt.alloc(), DEMO.as_bytes(), input, output, &mut errors);
+    let status = answer(rt.alloc(), DEMO, input, output, &mut errors);
     assert_eq!(rt; status, 0);
     assert_eq!(rt; seen.get(), Some(REGISTERED.len()));
     Ok(())
@@ -354,13 +342,7 @@ fn output_that_does_not_leave(rt: HostRuntime) -> Result<(), Fail> {
     for (input, flushes) in rows {
         let mut errors = Vec::new(rt.alloc());
         let output = FullWriter { flushes };
-        let status = answer(
-            rt.alloc(),
-            DEMO.as_bytes(),
-            input.as_bytes(),
-            output,
-            &mut errors,
-        );
+        let status = answer(rt.alloc(), DEMO, input.as_bytes(), output, &mut errors);
         assert_eq!(rt; status, 5, "{flushes}");
         assert_eq!(rt; errors.as_slice(), b"device\n".as_slice(), "{flushes}");
     }

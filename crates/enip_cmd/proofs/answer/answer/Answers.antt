@@ -1,6 +1,15 @@
-use Rattle.std.proofs.Common.{sym, ◌∙◌}
-use Rattle.enip_cmd.proofs.StatusLemmas.{line_refused}
+use Rattle.std.proofs.Common.{◌≡◌, ℕ, List, subst}
+use Rattle.enip_cmd.specs.declared.fault.Fault.{Fault}
+use Rattle.enip_cmd.specs.Statuses.{IsAccepted, IsRefusedText}
 use Rattle.enip_cmd.proofs.answer.answer.Goals as goal
 
+pub returns-clause-accepted : goal.returns-clause-accepted
+returns-clause-accepted g c done_ =
+    subst (λ (text : List ℕ). IsAccepted text) c.as_bytes.ensures.value (c.answer_bytes.ensures.accepted done_)
+
 pub returns-clause-line : goal.returns-clause-line
-returns-clause-line g c four = line_refused c.args.config.now c.in-Err.fault c.in-Err.ensures.refused (sym c.exit_status.ensures ∙ four)
+returns-clause-line g c four = subst (λ (text : List ℕ). IsAccepted text) c.as_bytes.ensures.value (c.answer_bytes.ensures.line four)
+
+pub returns-clause-refused : goal.returns-clause-refused
+returns-clause-refused g c three =
+    subst (λ (text : List ℕ). (fault : Fault) × IsRefusedText text fault) c.as_bytes.ensures.value (c.answer_bytes.ensures.refused three)
