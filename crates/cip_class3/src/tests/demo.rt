@@ -1,7 +1,7 @@
 //! Worked items at a target over the objects of the demo configuration.
 
-use crate::{Received, Target};
-use cip_objects::{Config, CounterConfig, Objects};
+use crate::{Originator, Received, Refused, Target};
+use cip_objects::{AssemblyConfig, Config, CounterConfig, Objects};
 use std::alloc::Global;
 use std::test::Fail;
 
@@ -10,8 +10,8 @@ const ADD_FIVE: [u8; 10] = [0x32, 2, 0x20, 0x64, 0x24, 1, 5, 0, 0, 0];
 
 const VALUE: [u8; 8] = [0x0e, 3, 0x20, 0x64, 0x24, 1, 0x30, 1];
 
-fn demo(alloc: Global) -> Result<Objects, Fail> {
-    let config = Config {
+fn config(alloc: Global) -> Result<Config, Fail> {
+    Ok(Config {
         vendor: 4660,
         device_type: 43,
         product_code: 7,
@@ -26,7 +26,11 @@ fn demo(alloc: Global) -> Result<Objects, Fail> {
             limit: 100,
         },
         assemblies: Vec::new(alloc),
-    };
+    })
+}
+
+fn demo(alloc: Global) -> Result<Objects, Fail> {
+    let config = config(alloc)?;
     let objects = Objects::new(alloc, &config)
         .ok()
         .ok_or("the objects are made")?;
@@ -108,5 +112,68 @@ fn count_zero_at_the_opening(rt: HostRuntime) -> Result<(), Fail> {
     assert_eq!(rt; target.kept(), [0, 0, 0xb2, 0, 0, 0, 5, 0, 0, 0].as_slice());
     let value = objects.attribute(0x64, 1, 1).ok_or("the value")?;
     assert_eq!(rt; value.as_slice(), [5, 0, 0, 0].as_slice());
+    Ok(())
+}
+
+/// A connection of the greatest sizes, 511 bytes each way: an assembly of 480 bytes is set in an item of 501 bytes, the
+/// longest item is taken, and one byte more is dropped.
+#[test]
+fn the_greatest_sizes(rt: HostRuntime) -> Result<(), Fail> {
+    let alloc = rt.alloc();
+    let mut config = config(alloc)?;
+    config.assemblies.push(AssemblyConfig {
+        instance: 101,
+        settable: true,
+        members: Vec::from_slice(alloc, &[480])?,
+    })?;
+    let mut objects = Objects::new(alloc, &config)
+        .ok()
+        .ok_or("the objects are made")?;
+    let mut target = Target::new(511, 511);
+    // Set_Attribute_Single of attribute 3 of assembly 101
+    let mut request = Vec::from_slice(alloc, b"\x10\x03\x20\x04\x24\x65\x30\x03")?;
+    request.extend_from_slice(&[0xa5; 480])?;
+    let set = item(alloc, 1, request.as_slice())?;
+    assert_eq!(rt;
+        target.receive(&mut objects, set.as_slice()),
+        Received::Executed
+    );
+    assert_eq!(rt; target.kept(), b"\x01\x00\x90\x00\x00\x00".as_slice());
+    // Get_Attribute_Single of it: count, four bytes and 480 are 486
+    let get = item(alloc, 2, b"\x0e\x03\x20\x04\x24\x65\x30\x03")?;
+    assert_eq!(rt;
+        target.receive(&mut objects, get.as_slice()),
+        Received::Executed
+    );
+    let mut whole = Vec::from_slice(alloc, b"\x02\x00\x8e\x00\x00\x00")?;
+    whole.extend_from_slice(&[0xa5; 480])?;
+    assert_eq!(rt; target.kept(), whole.as_slice());
+    // 511 bytes are taken, and are too much data; 512 are dropped
+    let mut longest = Vec::from_slice(alloc, b"\x33\x02\x20\x64\x24\x01")?;
+    longest.extend_from_slice(&[0; 503])?;
+    let taken = item(alloc, 3, longest.as_slice())?;
+    assert_eq!(rt; taken.len(), 511);
+    assert_eq!(rt;
+        target.receive(&mut objects, taken.as_slice()),
+        Received::Executed
+    );
+    assert_eq!(rt; target.kept(), b"\x03\x00\xb3\x00\x15\x00".as_slice());
+    longest.push(0)?;
+    let dropped = item(alloc, 4, longest.as_slice())?;
+    assert_eq!(rt;
+        target.receive(&mut objects, dropped.as_slice()),
+        Received::Dropped
+    );
+    assert_eq!(rt; target.kept(), b"\x03\x00\xb3\x00\x15\x00".as_slice());
+    // an originator of these sizes sends the longest request, and refuses one byte more
+    let mut originator = Originator::new(alloc, 65_535, 511, 511)?;
+    assert_eq!(rt;
+        originator.submit(longest.as_slice()),
+        Err(Refused::TooLong)
+    );
+    longest.pop();
+    let sent = originator.submit(longest.as_slice()).ok().ok_or("taken")?;
+    assert_eq!(rt; sent.len(), 511);
+    assert_eq!(rt; &sent[..3], b"\xff\xff\x33".as_slice());
     Ok(())
 }
