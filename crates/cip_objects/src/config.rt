@@ -121,7 +121,7 @@ impl Config {
 
     /// The first check that fails, but for want of memory.
     #[tactic(auto, unfolding(crate::specs::Configuration::fault_of))]
-    pub(crate) fn fault(&self) -> Option<ConfigFault>
+    pub fn fault(&self) -> Option<ConfigFault>
         ensures { result ≡ fault_of self.now }
     {
         // the first check that fails is told: 1 to 5 (configuration, ours)

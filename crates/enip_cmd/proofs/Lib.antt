@@ -5,9 +5,6 @@ pub mod PeerLemmas
 pub mod RunningLemmas
 pub mod CutLemmas
 pub mod Rows
-pub mod KeyLemmas
-pub mod SettingLemmas
-pub mod SettingRows
 pub mod StatusLemmas
 pub mod DigitLemmas
 pub mod LineLemmas

@@ -2,31 +2,17 @@ use Rattle.std.proofs.Common.{◌≡◌, ℕ, List, Option, Some, None, IfSome, 
 use Rattle.std.specs.Result.{is_ok, IsErr, IsErrAnd}
 use Rattle.std.proofs.lemmas.Bool.{false≢true}
 use Rattle.cip_objects.specs.declared.config.ConfigFault.{ConfigFault}
-use Rattle.cip_objects.specs.declared.config.ConfigFault.TheVariants.{Name, Size, Members, DoubleInstance, Limit, Memory as NoMemory}
+use Rattle.cip_objects.specs.declared.config.ConfigFault.TheVariants.{Memory as NoMemory}
 use Rattle.cip_objects.specs.Configuration.{fault_of}
 use Rattle.enip_cmd.specs.declared.fault.Fault.{Fault}
 use Rattle.enip_cmd.specs.declared.fault.Fault.TheVariants.{Configuration as Refused, Line, Device, Memory}
-use Rattle.enip_cmd.specs.declared.configuration.Configuration.{Configuration}
-use Rattle.enip_cmd.specs.Refusals.{refusal}
-use Rattle.enip_cmd.specs.Told.{IsToldBy}
-use Rattle.enip_cmd.specs.Statuses.{exit_status, IsOfDevices, EndsAt, EndsBy, IsAccepted, IsRefusedText, IsFaultOf}
-
-not_made : {T E : Type 0} (fault : Option E) (r : Result T E) (made : T) → IfSome fault (λ f. r ≡ Err f) → r ≡ Ok made → fault ≡ None
-not_made None r made refused is = refl
-not_made (Some f) r made refused is = absurd (false≢true (ap is_ok (sym refused ∙ is)))
-
--- What is made was accepted.
-pub accepted : {T : Type 0} (text : List ℕ) (told : Configuration) (r : Result T ConfigFault) (made : T)
-    → IsToldBy text told → IfSome (fault_of told.objects) (λ f. r ≡ Err f) → r ≡ Ok made → IsAccepted text
-accepted text told r made read refused is = (told, (read, not_made (fault_of told.objects) r made refused is))
-
-said : (text : List ℕ) (check : ConfigFault) → IsRefusedText text (refusal check) → IsFaultOf text (refusal check)
-said text Name refused = refused
-said text Size refused = refused
-said text Members refused = refused
-said text DoubleInstance refused = refused
-said text Limit refused = refused
-said text NoMemory refused = tt
+use Rattle.enip_config.specs.declared.configuration.Configuration.{Configuration}
+use Rattle.enip_config.specs.declared.fault.Fault.{Fault as ConfigurationFault}
+use Rattle.enip_config.specs.declared.fault.Fault.TheVariants as configuration
+use Rattle.enip_config.specs.declared.fault.Refusal.{Refusal}
+use Rattle.enip_config.specs.Refusals.{fault_of_objects}
+use Rattle.enip_config.specs.Told.{IsTold, IsRefused, IsFaultOf as IsUnread}
+use Rattle.enip_cmd.specs.Statuses.{exit_status, IsOfDevices, EndsAt, EndsBy, IsAccepted, IsFaultOf, fault_of_configuration}
 
 -- What a line's fault is to the whole input.
 from_line : (refuses : ℕ → List ℕ → Type 0) (number : ℕ) (text : List ℕ) (fault : Fault) → EndsAt (refuses number text) number fault → EndsBy refuses fault
@@ -94,23 +80,25 @@ line_refused text (Line number) so four = so
 line_refused text Device so four = absurd (omega (arith, four))
 line_refused text Memory so four = absurd (omega (arith, four))
 
--- What the objects refuse was read.
-by_check : {T : Type 0} (text : List ℕ) (told : Configuration) (first : Option ConfigFault) (r : Result T ConfigFault) (check : ConfigFault) (fault : Fault)
-    → fault_of told.objects ≡ first → IsToldBy text told → IfSome first (λ f. r ≡ Err f) → (first ≡ None → IfErr r (λ f. f ≡ NoMemory))
-    → r ≡ Err check → fault ≡ refusal check → IsFaultOf text fault
-by_check text told None r check fault at read refused allowed is same =
-    let none : check ≡ NoMemory = subst (λ s. IfErr s (λ f. f ≡ NoMemory)) is (allowed refl) in
-    rw (same, none) tt
-by_check text told (Some f) r check fault at read refused allowed is same =
-    let first : f ≡ check = subst (λ s. IfErr s (λ e. f ≡ e)) (sym refused ∙ is) refl in
-    rw same (said text check (inr (told, (read, rw at (ap refusal (sym first))))))
+-- The status 3 is that of a configuration.
+pub configuration_refused : (text : List ℕ) (fault : Fault) → IsFaultOf text fault → exit_status fault ≡ 3 → (refusal : Refusal) × IsRefused text refusal
+configuration_refused text (Refused refusal) so three = (refusal, so)
+configuration_refused text (Line number) so three = absurd (omega (arith, three))
+configuration_refused text Device so three = absurd (omega (arith, three))
+configuration_refused text Memory so three = absurd (omega (arith, three))
 
-back : {T : Type 0} (r : Result T Fault) (check : ConfigFault) (P : Fault → Type 0) → IsErr r × IsErrAnd r (λ f. f ≡ refusal check) → ((f : Fault) → f ≡ refusal check → P f) → IfErr r P
-back (Ok x) check P gives holds = tt
-back (Err f) check P gives holds = holds f gives.1
+-- What is not read is refused.
+pub unread : {T : Type 0} (text : List ℕ) (refused : ConfigurationFault) (r : Result T Fault) → IsErr r × IsErrAnd r (λ f. f ≡ fault_of_configuration refused)
+    → IsUnread text refused → IfErr r (IsFaultOf text)
+unread text refused (Ok x) gives so = tt
+unread text (configuration.Refused refusal) (Err f) gives so = rw gives.1 so
+unread text configuration.Memory (Err f) gives so = rw gives.1 tt
 
-pub objects_refuse : {T U : Type 0} (text : List ℕ) (told : Configuration) (r : Result T ConfigFault) (check : ConfigFault) (returned : Result U Fault)
-    → IsToldBy text told → IfSome (fault_of told.objects) (λ f. r ≡ Err f) → (fault_of told.objects ≡ None → IfErr r (λ f. f ≡ NoMemory))
-    → r ≡ Err check → IsErr returned × IsErrAnd returned (λ f. f ≡ refusal check) → IfErr returned (IsFaultOf text)
-objects_refuse text told r check returned read refused allowed is gives =
-    back returned check (IsFaultOf text) gives (λ f same. by_check text told (fault_of told.objects) r check f refl read refused allowed is same)
+-- The objects take what is read: only memory may fail.
+pub objects_fail : {T U : Type 0} (text : List ℕ) (told : Configuration) (r : Result T ConfigFault) (check : ConfigFault) (returned : Result U Fault)
+    → IsTold text told → (fault_of told.objects ≡ None → IfErr r (λ f. f ≡ NoMemory))
+    → r ≡ Err check → IsErr returned × IsErrAnd returned (λ f. f ≡ fault_of_configuration (fault_of_objects check)) → IfErr returned (IsFaultOf text)
+objects_fail text told r check (Ok x) read allowed is gives = tt
+objects_fail text told r check (Err fault) read allowed is gives =
+    let none : check ≡ NoMemory = subst (λ s. IfErr s (λ f. f ≡ NoMemory)) is (allowed read.taken) in
+    rw (gives.1, none) tt

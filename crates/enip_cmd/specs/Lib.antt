@@ -5,9 +5,5 @@ pub mod Answers
 pub mod Room
 pub mod Statuses
 pub mod Runs
-pub mod Refusals
-pub mod Settings
-pub mod Told
-pub mod Keys
 pub mod Digits
 pub mod Lines

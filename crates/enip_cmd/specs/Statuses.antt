@@ -1,16 +1,15 @@
 -- How a program ends.
 use Rattle.std.specs.Prelude.{◌≡◌, ◌⊎◌, ℕ, List, ⊤, None}
-use Rattle.std.specs.Option.{IsSomeAnd}
 use Rattle.std.specs.declared.io.ErrorKind.{ErrorKind}
 use Rattle.std.specs.declared.io.ErrorKind.TheVariants.{OutOfMemory}
-use Rattle.cip_objects.specs.Configuration.{fault_of}
 use Rattle.enip_cmd.specs.declared.fault.Fault.{Fault}
 use Rattle.enip_cmd.specs.declared.fault.Fault.TheVariants.{Configuration as Refused, Line, Device, Memory}
 use Rattle.enip_cmd.specs.declared.show.Stop.{Stop}
 use Rattle.enip_cmd.specs.declared.show.Stop.TheVariants.{Program}
-use Rattle.enip_cmd.specs.declared.configuration.Configuration.{Configuration}
-use Rattle.enip_cmd.specs.Refusals.{refusal}
-use Rattle.enip_cmd.specs.Told.{IsToldBy, IsRefusedBy}
+use Rattle.enip_config.specs.declared.configuration.Configuration.{Configuration}
+use Rattle.enip_config.specs.declared.fault.Fault.{Fault as ConfigurationFault}
+use Rattle.enip_config.specs.declared.fault.Fault.TheVariants as unread
+use Rattle.enip_config.specs.Told.{IsTold, IsRefused}
 
 -- The exit status of a program that ends so.
 abbrev pub exit_status : Fault → ℕ
@@ -49,18 +48,17 @@ abbrev pub IsStopOfDevices : Stop → Type 0
 IsStopOfDevices (Program fault) = IsOfDevices fault
 IsStopOfDevices _ = ⊤
 
--- The configuration is read, and the objects take it.
-abbrev pub IsAccepted : List ℕ → Type 0
-IsAccepted text = (told : Configuration) × (IsToldBy text told × (fault_of told.objects ≡ None))
+-- Why a configuration is not read, as the program tells it.
+abbrev pub fault_of_configuration : ConfigurationFault → Fault
+fault_of_configuration (unread.Refused refusal) = Refused refusal
+fault_of_configuration unread.Memory = Memory
 
--- The configuration can't be read, or the objects refuse it, by the check that fails.
-abbrev pub IsRefusedText : List ℕ → Fault → Type 0
-IsRefusedText text fault =
-    IsRefusedBy text fault
-    ⊎ ((told : Configuration) × (IsToldBy text told × IsSomeAnd (fault_of told.objects) (λ check. fault ≡ refusal check)))
+-- The text is a configuration, which the objects take.
+abbrev pub IsAccepted : List ℕ → Type 0
+IsAccepted text = (told : Configuration) × IsTold text told
 
 -- Why a run ends: what is said of the configuration is so, and a line is looked at only once that is taken.
 abbrev pub IsFaultOf : List ℕ → Fault → Type 0
-IsFaultOf text (Refused check) = IsRefusedText text (Refused check)
+IsFaultOf text (Refused refusal) = IsRefused text refusal
 IsFaultOf text (Line number) = IsAccepted text
 IsFaultOf text _ = ⊤

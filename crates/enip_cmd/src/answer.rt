@@ -1,20 +1,21 @@
 //! `enip answer`: lines of pieces in, the adapter's answers out.
 
 ghost use Rattle.std.specs.Prelude.{◌≡◌, ◌≤◌, true, false, IfOk, IfErr, Some, length};
-ghost use Rattle.enip_cmd.specs.declared.fault.Fault.{Fault};
+ghost use Rattle.enip_config.specs.declared.fault.Refusal.{Refusal};
+ghost use Rattle.enip_config.specs.Told.{IsRefused};
 ghost use Rattle.enip_cmd.specs.Digits.{bytes_spelled};
 ghost use Rattle.enip_cmd.specs.Lines.{spells_bytes, IsRefusedLine};
-ghost use Rattle.enip_cmd.specs.Statuses.{IsOfDevices, IsStatus, IsAccepted, IsRefusedText, IsFaultOf};
+ghost use Rattle.enip_cmd.specs.Statuses.{IsOfDevices, IsStatus, IsAccepted, IsFaultOf};
 
 use crate::adapter::{Adapter, Full, Peer};
 use crate::commands::LONGEST_ANSWER;
-use crate::configuration::Configuration;
 use crate::digits::decode;
 use crate::fault::Fault;
 use crate::input_lines::{TakeLines, read_lines};
 use crate::lines::Line;
 use crate::number::Number;
 use cip_objects::Objects;
+use enip_config::Configuration;
 use std::alloc::Global;
 use std::io::{BufWriter, Read, Write};
 
@@ -32,7 +33,7 @@ pub fn answer<R: Read + Drop, W: Write + Drop, E: Write + Drop>(
     ensures status { IsStatus result }
     ensures accepted { result ≡ 0 → IsAccepted config.now }
     ensures line { result ≡ 4 → IsAccepted config.now }
-    ensures refused { result ≡ 3 → (fault : Fault) × IsRefusedText config.now fault }
+    ensures refused { result ≡ 3 → (refusal : Refusal) × IsRefused config.now refusal }
 {
     answer_bytes(alloc, config.as_bytes(), input, output, errors)
 }
@@ -48,7 +49,7 @@ pub fn answer_bytes<R: Read + Drop, W: Write + Drop, E: Write + Drop>(
     ensures status { IsStatus result }
     ensures accepted { result ≡ 0 → IsAccepted config.now }
     ensures line { result ≡ 4 → IsAccepted config.now }
-    ensures refused { result ≡ 3 → (fault : Fault) × IsRefusedText config.now fault }
+    ensures refused { result ≡ 3 → (refusal : Refusal) × IsRefused config.now refusal }
 {
     let mut errors = errors;
     match run(alloc, config, input, output) {

@@ -1,43 +1,13 @@
 //! Why a command of the program ends early, what it then prints, and its exit status.
 
 ghost use Rattle.std.specs.Prelude.{◌≡◌};
-ghost use Rattle.enip_cmd.specs.Refusals.{refusal_number};
 ghost use Rattle.enip_cmd.specs.Statuses.{exit_status};
 
 use cip_objects::ConfigFault;
+use enip_config::Refusal;
 use std::alloc::{AllocError, AllocFailed};
 use std::io;
 use thiserror::Error;
-
-/// Why a configuration is refused.
-#[derive(Clone, Copy, Debug, PartialEq, Eq)]
-pub enum Refusal {
-    /// The product's name is too long, or has a byte that can't be printed.
-    Name = 1,
-    /// There are too many assemblies, or one has no byte or too many.
-    Size = 2,
-    /// An assembly has too many members, or one of no byte.
-    Members = 3,
-    /// An assembly's instance is 0 or stands twice.
-    DoubleInstance = 4,
-    /// The counter's value is over its limit.
-    Limit = 5,
-    /// The text is no TOML.
-    NotToml = 7,
-    /// A key is missing, or its value is of another type or out of its range.
-    BadValue = 8,
-    /// A key is unknown.
-    UnknownKey = 9,
-}
-
-impl Refusal {
-    /// The number that is printed.
-    pub fn number(self) -> u8
-        ensures { result ≡ refusal_number self }
-    {
-        self as u8
-    }
-}
 
 /// Why a command ends early. Its text goes to standard error.
 #[derive(Clone, Copy, Debug, PartialEq, Eq, Error)]
@@ -103,20 +73,27 @@ impl From<io::Error> for Fault {
     }
 }
 
+impl From<enip_config::Fault> for Fault {
+    ghost use Rattle.enip_cmd.specs.Statuses.{fault_of_configuration};
+
+    ghost from_gives = { λ refused fault. fault ≡ fault_of_configuration refused };
+
+    fn from(refused: enip_config::Fault) -> Fault {
+        match refused {
+            enip_config::Fault::Refused(refusal) => Fault::Configuration(refusal),
+            enip_config::Fault::Memory => Fault::Memory,
+        }
+    }
+}
+
 /// What the objects refuse.
 impl From<ConfigFault> for Fault {
-    ghost use Rattle.enip_cmd.specs.Refusals.{refusal};
+    ghost use Rattle.enip_config.specs.Refusals.{fault_of_objects};
+    ghost use Rattle.enip_cmd.specs.Statuses.{fault_of_configuration};
 
-    ghost from_gives = { λ refused fault. fault ≡ refusal refused };
+    ghost from_gives = { λ refused fault. fault ≡ fault_of_configuration (fault_of_objects refused) };
 
     fn from(refused: ConfigFault) -> Fault {
-        match refused {
-            ConfigFault::Name => Fault::Configuration(Refusal::Name),
-            ConfigFault::Size => Fault::Configuration(Refusal::Size),
-            ConfigFault::Members => Fault::Configuration(Refusal::Members),
-            ConfigFault::DoubleInstance => Fault::Configuration(Refusal::DoubleInstance),
-            ConfigFault::Limit => Fault::Configuration(Refusal::Limit),
-            ConfigFault::Memory => Fault::Memory,
-        }
+        Fault::from(enip_config::Fault::from(refused))
     }
 }

@@ -4,7 +4,6 @@
 pub mod adapter;
 pub mod answer;
 pub mod commands;
-pub mod configuration;
 pub mod digits;
 pub mod fault;
 pub mod file;

@@ -1,9 +1,0 @@
-use Rattle.std.proofs.Common.{refl}
-use Rattle.enip_cmd.proofs.SettingLemmas.{under_four, over_four}
-use Rattle.enip_cmd.proofs.configuration.values.four_bytes.Goals as goal
-
-pub returns-in_default-clause-refused : goal.returns-in_default-clause-refused
-returns-in_default-clause-refused c = (refl, under_four c.args.values.now c.in_default.len_below)
-
-pub returns-in_default-2-clause-refused : goal.returns-in_default-2-clause-refused
-returns-in_default-2-clause-refused c = (refl, over_four c.args.values.now c.in_default.len_at_least)

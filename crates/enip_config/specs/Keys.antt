@@ -1,0 +1,129 @@
+-- The keys of a configuration: the name of each, its range, and what it is where it is left out.
+use Rattle.std.specs.Prelude.{ℕ, pos, List, [], ◌∷◌, Bool, false, ◌&&◌, if◌then◌else◌, nat_le, codes, Option, Some, None, option_map, option_and_then, String}
+use Rattle.std.specs.Borrow.{Bor}
+use Rattle.std.specs.BTreeMap.{BTreeMap}
+use Rattle.std.specs.declared.alloc.Global.{Global}
+use Rattle.toml.specs.Data.{Data, integer, array, table, Items, no_items, item, Members, no_members, get_member, as_str, as_bool, as_table}
+use Rattle.toml.specs.View.{table_view}
+use Rattle.toml.specs.declared.value.Value.{Value}
+use Rattle.enip_config.specs.declared.key.NumberKey.{NumberKey}
+use Rattle.enip_config.specs.declared.key.NumberKey.TheVariants.{Vendor, DeviceType, ProductCode, Major, Minor, Serial, Status, State, Port, Peers, Connections, CounterValue, CounterLimit}
+use Rattle.enip_config.specs.declared.key.Row.{Row}
+
+-- A row of the table: a key's name, its least and its greatest number, and its number where it is left out; None
+-- where it has to be there.
+pub record KeyRow : Type 0 where
+  pub name : List ℕ
+  pub least : ℕ
+  pub greatest : ℕ
+  pub default : Option ℕ
+
+abbrev required : List ℕ → ℕ → ℕ → KeyRow
+required name least greatest = record { name = name; least = least; greatest = greatest; default = None }
+
+abbrev optional : List ℕ → ℕ → ℕ → ℕ → KeyRow
+optional name least greatest default = record { name = name; least = least; greatest = greatest; default = Some default }
+
+-- The table of the keys whose values are numbers. The last two stand in the table `counter`.
+abbrev pub row : NumberKey → KeyRow
+row Vendor = required (codes "vendor") 0 0xffff
+row DeviceType = required (codes "device_type") 0 0xffff
+row ProductCode = required (codes "product_code") 0 0xffff
+row Major = required (codes "major") 1 127
+row Minor = required (codes "minor") 0 0xff
+row Serial = required (codes "serial") 0 0xffffffff
+row Status = optional (codes "status") 0 0xffff 0
+row State = optional (codes "state") 0 0xff 3
+row Port = optional (codes "port") 0 0xffff 44818
+row Peers = optional (codes "peers") 1 16 4
+row Connections = optional (codes "connections") 1 64 16
+row CounterValue = optional (codes "value") 0 0xffffffff 0
+row CounterLimit = optional (codes "limit") 0 0xffffffff 0xffffffff
+
+-- The instance number of a table `assembly`.
+abbrev pub instance_row : KeyRow
+instance_row = required (codes "instance") 0 0xffff
+
+abbrev pub row_seen : Row → KeyRow
+row_seen r = record { name = r.name.now; least = r.least; greatest = r.greatest; default = r.default }
+
+-- The number that a value is, from the least to the greatest that is allowed.
+abbrev pub number_in : ℕ → ℕ → Data → Option ℕ
+number_in least greatest (integer (pos n)) = if nat_le least n && nat_le n greatest then Some n else None
+number_in least greatest _ = None
+
+-- What a value is read as, and what is taken where there is none.
+abbrev pub read_or : {A : Type 0} → Option A → (Data → Option A) → Option Data → Option A
+read_or default read None = default
+read_or default read (Some value) = read value
+
+-- The number of a key in a table.
+abbrev pub number_by : KeyRow → Members → Option ℕ
+number_by key told = read_or key.default (number_in key.least key.greatest) (get_member key.name told)
+
+-- A table that is left out has no key.
+abbrev pub members_found : Option (Bor (BTreeMap (String Global) Value)) → Members
+members_found None = no_members
+members_found (Some found) = table_view found.now
+
+-- The table `counter`.
+abbrev pub counter_table : Members → Option Members
+counter_table told = read_or (Some no_members) as_table (get_member (codes "counter") told)
+
+-- The table in which a key stands.
+abbrev pub table_with : NumberKey → Members → Option Members
+table_with CounterValue told = counter_table told
+table_with CounterLimit told = counter_table told
+table_with key told = Some told
+
+-- The number of a key; None where it is missing, of another type or out of its range.
+abbrev pub number_of : NumberKey → Members → Option ℕ
+number_of key told = option_and_then (number_by (row key)) (table_with key told)
+
+-- The product's name.
+abbrev pub name_of : Members → Option (List ℕ)
+name_of told = read_or None as_str (get_member (codes "name") told)
+
+-- What each value of an array is read as.
+abbrev pub each : {A : Type 0} → (Data → Option A) → Items → Option (List A)
+each read no_items = Some []
+each read (item value values) = option_and_then (λ a. option_map (λ rest. a ∷ rest) (each read values)) (read value)
+
+-- The four bytes of an address.
+abbrev pub address_in : Data → Option (List ℕ)
+address_in (array (item a (item b (item c (item d no_items))))) =
+    each (number_in 0 0xff) (item a (item b (item c (item d no_items))))
+address_in _ = None
+
+abbrev pub address_of : Members → Option (List ℕ)
+address_of told = read_or (Some (0 ∷ 0 ∷ 0 ∷ 0 ∷ [])) address_in (get_member (codes "address") told)
+
+-- The sizes of an assembly's members.
+abbrev pub sizes_in : Data → Option (List ℕ)
+sizes_in (array values) = each (number_in 0 0xffff) values
+sizes_in _ = None
+
+abbrev pub sizes_of : Members → Option (List ℕ)
+sizes_of told = read_or None sizes_in (get_member (codes "members") told)
+
+-- Whether an assembly's data can be set.
+abbrev pub settable_of : Members → Option Bool
+settable_of told = read_or (Some false) as_bool (get_member (codes "settable") told)
+
+-- Two things that are read.
+abbrev pub both : {A B : Type 0} → Option A → Option B → Option (A × B)
+both None second = None
+both (Some a) second = option_map (λ b. (a, b)) second
+
+-- An assembly's instance, whether it is settable, and the sizes of its members.
+abbrev pub assembly_in : Data → Option (ℕ × (Bool × List ℕ))
+assembly_in (table told) = both (number_by instance_row told) (both (settable_of told) (sizes_of told))
+assembly_in _ = None
+
+-- Assemblies, in the text's order.
+abbrev pub assemblies_in : Data → Option (List (ℕ × (Bool × List ℕ)))
+assemblies_in (array values) = each assembly_in values
+assemblies_in _ = None
+
+abbrev pub assemblies_of : Members → Option (List (ℕ × (Bool × List ℕ)))
+assemblies_of told = read_or (Some []) assemblies_in (get_member (codes "assembly") told)

@@ -1,0 +1,28 @@
+-- Why a configuration is refused, and the numbers by which that is printed.
+use Rattle.std.specs.Prelude.{ℕ}
+use Rattle.cip_objects.specs.declared.config.ConfigFault.{ConfigFault}
+use Rattle.cip_objects.specs.declared.config.ConfigFault.TheVariants.{Name, Size, Members, DoubleInstance, Limit, Memory as NoMemory}
+use Rattle.enip_config.specs.declared.fault.Fault.{Fault}
+use Rattle.enip_config.specs.declared.fault.Fault.TheVariants.{Refused, Memory}
+use Rattle.enip_config.specs.declared.fault.Refusal.{Refusal}
+use Rattle.enip_config.specs.declared.fault.Refusal.TheVariants as refused
+
+-- The number that is printed.
+abbrev pub refusal_number : Refusal → ℕ
+refusal_number refused.Name = 1
+refusal_number refused.Size = 2
+refusal_number refused.Members = 3
+refusal_number refused.DoubleInstance = 4
+refusal_number refused.Limit = 5
+refusal_number refused.NotToml = 7
+refusal_number refused.BadValue = 8
+refusal_number refused.UnknownKey = 9
+
+-- What the objects refuse.
+abbrev pub fault_of_objects : ConfigFault → Fault
+fault_of_objects Name = Refused refused.Name
+fault_of_objects Size = Refused refused.Size
+fault_of_objects Members = Refused refused.Members
+fault_of_objects DoubleInstance = Refused refused.DoubleInstance
+fault_of_objects Limit = Refused refused.Limit
+fault_of_objects NoMemory = Memory

@@ -1,0 +1,90 @@
+//! The assemblies of a configuration.
+
+ghost use Rattle.std.specs.Prelude.{◌≡◌, IfOk, IfErr, Some, map};
+ghost use Rattle.toml.specs.View.{view, items_view, table_view};
+ghost use Rattle.enip_config.specs.Keys.{each, number_in, settable_of, sizes_of, assembly_in};
+ghost use Rattle.enip_config.specs.Keys.{assemblies_of};
+ghost use Rattle.enip_config.specs.Told.{IsBad, IsBadOrMemory, IsUnread, assembly_seen};
+
+use crate::fault::Fault;
+use crate::key::INSTANCE;
+use crate::values::{BAD_VALUE, number_by, number_in, value_of};
+use crate::width::Width;
+use cip_objects::AssemblyConfig;
+use std::alloc::Global;
+use toml::{Table, Value};
+
+/// The assemblies, in the text's order.
+pub(crate) fn assemblies_of(alloc: Global, text: &Table) -> Result<Vec<AssemblyConfig>, Fault>
+    ensures read { IfOk result (λ assemblies. assemblies_of (table_view text.now)
+        ≡ Some (map assembly_seen assemblies.items)) }
+    ensures refused { IfErr result (IsUnread (table_view text.now)) }
+{
+    match value_of(text, "assembly") {
+        None => Ok(Vec::new(alloc)),
+        Some(Value::Array(values)) => each_assembly(alloc, values.as_slice()),
+        Some(_) => Err(BAD_VALUE),
+    }
+}
+
+/// An assembly of each value.
+fn each_assembly(alloc: Global, values: &[Value]) -> Result<Vec<AssemblyConfig>, Fault>
+    ensures read { IfOk result (λ assemblies. each assembly_in (items_view values.now)
+        ≡ Some (map assembly_seen assemblies.items)) }
+    ensures refused { IfErr result (IsBadOrMemory (each assembly_in (items_view values.now))) }
+{
+    let mut assemblies = Vec::new(alloc);
+    for value in values {
+        assemblies.push(assembly_of(alloc, value)?)?;
+    }
+    Ok(assemblies)
+}
+
+/// One assembly.
+fn assembly_of(alloc: Global, value: &Value) -> Result<AssemblyConfig, Fault>
+    ensures read { IfOk result (λ assembly. assembly_in (view value.now) ≡ Some (assembly_seen assembly)) }
+    ensures refused { IfErr result (IsBadOrMemory (assembly_in (view value.now))) }
+{
+    let Value::Table(table) = value else {
+        return Err(BAD_VALUE);
+    };
+    Ok(AssemblyConfig {
+        instance: number_by(table, INSTANCE)?,
+        settable: settable_of(table)?,
+        members: sizes_of(alloc, table)?,
+    })
+}
+
+/// Whether an assembly's data can be set.
+fn settable_of(table: &Table) -> Result<bool, Fault>
+    ensures read { IfOk result (λ settable. settable_of (table_view table.now) ≡ Some settable) }
+    ensures refused { IfErr result (IsBad (settable_of (table_view table.now))) }
+{
+    match value_of(table, "settable") {
+        None => Ok(false),
+        Some(value) => value.as_bool().ok_or(BAD_VALUE),
+    }
+}
+
+/// The sizes of an assembly's members.
+fn sizes_of(alloc: Global, table: &Table) -> Result<Vec<u16>, Fault>
+    ensures read { IfOk result (λ sizes. sizes_of (table_view table.now) ≡ Some sizes.items) }
+    ensures refused { IfErr result (IsBadOrMemory (sizes_of (table_view table.now))) }
+{
+    match value_of(table, "members") {
+        Some(Value::Array(values)) => each_size(alloc, values.as_slice()),
+        _ => Err(BAD_VALUE),
+    }
+}
+
+/// A size of each value.
+fn each_size(alloc: Global, values: &[Value]) -> Result<Vec<u16>, Fault>
+    ensures read { IfOk result (λ sizes. each (number_in 0 0xffff) (items_view values.now) ≡ Some sizes.items) }
+    ensures refused { IfErr result (IsBadOrMemory (each (number_in 0 0xffff) (items_view values.now))) }
+{
+    let mut sizes = Vec::new(alloc);
+    for value in values {
+        sizes.push(u16::of(number_in(value, 0, 0xffff)?))?;
+    }
+    Ok(sizes)
+}

@@ -1,0 +1,88 @@
+//! What is read of a configuration.
+
+ghost use Rattle.std.specs.Prelude.{◌≡◌, IfOk, IfErr, None};
+ghost use Rattle.toml.specs.View.{table_view};
+ghost use Rattle.cip_objects.specs.Configuration.{fault_of};
+ghost use Rattle.enip_config.specs.Told.{IsTold, IsFaultOf, IsInRange, IsUnread, HasValues};
+
+use crate::assemblies::assemblies_of;
+use crate::fault::{Fault, Refusal};
+use crate::key::NumberKey;
+use crate::known::has_unknown_key;
+use crate::values::{address_of, name_of, number};
+use cip_objects::{Config, CounterConfig};
+use std::alloc::Global;
+use toml::Table;
+
+/// A device, where it listens, and how much it has room for.
+#[derive(Debug, Drop)]
+pub struct Configuration {
+    /// The device's identity, its counter and its assemblies.
+    pub objects: Config,
+    /// The address that ListIdentity shows.
+    pub address: [u8; 4],
+    /// The port that ListIdentity shows.
+    pub port: u16,
+    /// How many peers there are places for, 1 to 16.
+    pub peers: u16,
+    /// How many connections there are places for, 1 to 64.
+    pub connections: u16,
+}
+
+impl Configuration {
+    /// Reads a configuration from its bytes. A TOML document is UTF-8: other bytes are no TOML.
+    ///
+    /// # Errors
+    ///
+    /// `Fault::Refused` by the first check that fails: `NotToml` (7), `UnknownKey` (9) where any key is unknown,
+    /// `BadValue` (8) where a key is missing, or its value is of another type or out of its range, and then what the
+    /// objects refuse (1 to 5). `Fault::Memory` where there is no memory.
+    pub fn from_bytes(alloc: Global, bytes: &[u8]) -> Result<Configuration, Fault>
+        ensures read { IfOk result (IsTold bytes.now) }
+        ensures in_range { IfOk result IsInRange }
+        ensures refused { IfErr result (IsFaultOf bytes.now) }
+    {
+        let table = match toml::table_from_slice(alloc, bytes) {
+            Ok(table) => table,
+            Err(error) if error.is_memory() => return Err(Fault::Memory),
+            Err(_) => return Err(Fault::Refused(Refusal::NotToml)),
+        };
+        if has_unknown_key(&table) {
+            return Err(Fault::Refused(Refusal::UnknownKey));
+        }
+        let configuration = Configuration::from_table(alloc, &table)?;
+        match configuration.objects.fault() {
+            Some(check) => Err(Fault::from(check)),
+            None => Ok(configuration),
+        }
+    }
+
+    /// The configuration that a table tells, each of whose keys is known.
+    fn from_table(alloc: Global, text: &Table) -> Result<Configuration, Fault>
+        ensures read { IfOk result (HasValues (table_view text.now)) }
+        ensures refused { IfErr result (IsUnread (table_view text.now)) }
+    {
+        Ok(Configuration {
+            objects: Config {
+                vendor: number(text, NumberKey::Vendor)?,
+                device_type: number(text, NumberKey::DeviceType)?,
+                product_code: number(text, NumberKey::ProductCode)?,
+                major: number(text, NumberKey::Major)?,
+                minor: number(text, NumberKey::Minor)?,
+                serial: number(text, NumberKey::Serial)?,
+                name: name_of(text)?,
+                status: number(text, NumberKey::Status)?,
+                state: number(text, NumberKey::State)?,
+                counter: CounterConfig {
+                    value: number(text, NumberKey::CounterValue)?,
+                    limit: number(text, NumberKey::CounterLimit)?,
+                },
+                assemblies: assemblies_of(alloc, text)?,
+            },
+            address: address_of(text)?,
+            port: number(text, NumberKey::Port)?,
+            peers: number(text, NumberKey::Peers)?,
+            connections: number(text, NumberKey::Connections)?,
+        })
+    }
+}

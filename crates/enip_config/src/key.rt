@@ -1,0 +1,81 @@
+//! The table of the keys whose values are numbers.
+
+ghost use Rattle.std.specs.Prelude.{◌≡◌, bytes_eq};
+ghost use Rattle.enip_config.specs.Keys.{row, row_seen};
+
+/// The port that is registered for EtherNet/IP. (Volume 2, TCP.)
+const REGISTERED_PORT: u32 = 44_818;
+
+/// A key of the text or of its table `counter` whose value is a number.
+#[derive(Clone, Copy, Debug)]
+pub(crate) enum NumberKey {
+    Vendor,
+    DeviceType,
+    ProductCode,
+    Major,
+    Minor,
+    Serial,
+    Status,
+    State,
+    Port,
+    Peers,
+    Connections,
+    CounterValue,
+    CounterLimit,
+}
+
+/// A row of the table: a key's name, the range of its number, and its number where it is left out.
+#[derive(Clone, Copy, Debug)]
+pub(crate) struct Row {
+    pub(crate) name: &'static str,
+    pub(crate) least: u32,
+    pub(crate) greatest: u32,
+    /// `None` where the key has to be there.
+    pub(crate) default: Option<u32>,
+}
+
+/// The instance number of a table `assembly`.
+pub(crate) const INSTANCE: Row = Row {
+    name: "instance",
+    least: 0,
+    greatest: 0xffff,
+    default: None,
+};
+
+impl NumberKey {
+    /// The key's row in the table.
+    pub(crate) fn row(self) -> Row
+        ensures { row_seen result ≡ row self }
+    {
+        let (name, least, greatest, default) = match self {
+            NumberKey::Vendor => ("vendor", 0, 0xffff, None),
+            NumberKey::DeviceType => ("device_type", 0, 0xffff, None),
+            NumberKey::ProductCode => ("product_code", 0, 0xffff, None),
+            NumberKey::Major => ("major", 1, 127, None),
+            NumberKey::Minor => ("minor", 0, 0xff, None),
+            NumberKey::Serial => ("serial", 0, u32::MAX, None),
+            NumberKey::Status => ("status", 0, 0xffff, Some(0)),
+            NumberKey::State => ("state", 0, 0xff, Some(3)),
+            NumberKey::Port => ("port", 0, 0xffff, Some(REGISTERED_PORT)),
+            NumberKey::Peers => ("peers", 1, 16, Some(4)),
+            NumberKey::Connections => ("connections", 1, 64, Some(16)),
+            NumberKey::CounterValue => ("value", 0, u32::MAX, Some(0)),
+            NumberKey::CounterLimit => ("limit", 0, u32::MAX, Some(u32::MAX)),
+        };
+        Row {
+            name,
+            least,
+            greatest,
+            default,
+        }
+    }
+}
+
+impl Row {
+    /// Whether the key has this name.
+    pub(crate) fn is_named(self, name: &str) -> bool
+        ensures { result ≡ bytes_eq name.now (row_seen self).name }
+    {
+        name == self.name
+    }
+}

@@ -1,0 +1,155 @@
+//! The keys that a configuration knows, by the table in which they stand.
+
+ghost use Rattle.std.specs.Prelude.{◌≡◌, map};
+ghost use Rattle.std.specs.List.{list_any};
+ghost use Rattle.toml.specs.View.{view, table_view};
+ghost use Rattle.enip_config.specs.Keys.{row};
+ghost use Rattle.enip_config.specs.Known.{is_among, keys_of, has_key, has_unknown_key, is_unknown};
+ghost use Rattle.enip_config.specs.Known.{are_other_keys, has_other_keys, has_other_keys_within};
+
+use crate::key::{INSTANCE, NumberKey};
+use toml::{Table, Value};
+
+/// A kind of table, by where it stands.
+#[derive(Clone, Copy, Debug)]
+enum TableKind {
+    /// The text itself, but for its tables.
+    Text,
+    /// The table `counter`.
+    Counter,
+    /// A table `assembly`.
+    Assembly,
+}
+
+/// The keys of the text whose values are numbers.
+static TEXT_NUMBERS: [NumberKey; 11] = [
+    NumberKey::Vendor,
+    NumberKey::DeviceType,
+    NumberKey::ProductCode,
+    NumberKey::Major,
+    NumberKey::Minor,
+    NumberKey::Serial,
+    NumberKey::Status,
+    NumberKey::State,
+    NumberKey::Port,
+    NumberKey::Peers,
+    NumberKey::Connections,
+];
+
+impl TableKind {
+    /// Whether a key is known here.
+    fn knows(self, name: &str) -> bool
+        ensures { result ≡ is_among (keys_of self) name.now }
+    {
+        match self {
+            TableKind::Text => is_number(&TEXT_NUMBERS, name) || name == "name" || name == "address",
+            TableKind::Counter => is_number(&[NumberKey::CounterValue, NumberKey::CounterLimit], name),
+            TableKind::Assembly => INSTANCE.is_named(name) || name == "settable" || name == "members",
+        }
+    }
+}
+
+/// Whether one of these keys has this name.
+fn is_number(keys: &[NumberKey], name: &str) -> bool
+    ensures { result ≡ is_among (map (λ key. (row key).name) keys.now) name.now }
+{
+    for key in keys {
+        if key.row().is_named(name) {
+            return true;
+        }
+    }
+    false
+}
+
+/// Whether there is an unknown key, at any depth.
+pub(crate) fn has_unknown_key(table: &Table) -> bool
+    ensures { result ≡ has_unknown_key (table_view table.now) }
+{
+    for (key, value) in table.iter() {
+        if is_unknown(key.as_str(), value) {
+            return true;
+        }
+    }
+    false
+}
+
+/// Whether a key of the text is unknown, or one within its value.
+fn is_unknown(key: &str, value: &Value) -> bool
+    ensures { result ≡ is_unknown key.now (view value.now) }
+{
+    match key {
+        "counter" => has_other_keys_within(value, TableKind::Counter),
+        "assembly" => has_other_keys_within(value, TableKind::Assembly),
+        name => !TableKind::Text.knows(name) || has_key(value),
+    }
+}
+
+/// Whether a value has other keys than these: itself where it is a table, or the tables in it where it is an
+/// array.
+fn has_other_keys_within(value: &Value, kind: TableKind) -> bool
+    ensures { result ≡ has_other_keys_within (keys_of kind) (view value.now) }
+{
+    match value {
+        Value::Array(values) => any_has_other_keys(values.as_slice(), kind),
+        _ => has_other_keys(value, kind),
+    }
+}
+
+/// Whether one of these values has other keys.
+fn any_has_other_keys(values: &[Value], kind: TableKind) -> bool
+    ensures { result ≡ list_any (λ value. has_other_keys (keys_of kind) (view value)) values.now }
+{
+    for value in values {
+        if has_other_keys(value, kind) {
+            return true;
+        }
+    }
+    false
+}
+
+/// Whether a value has other keys.
+fn has_other_keys(value: &Value, kind: TableKind) -> bool
+    ensures { result ≡ has_other_keys (keys_of kind) (view value.now) }
+{
+    match value {
+        Value::Table(table) => are_other_keys(table, kind),
+        _ => has_key(value),
+    }
+}
+
+/// Whether a table has other keys, or keys within their values.
+fn are_other_keys(table: &Table, kind: TableKind) -> bool
+    ensures { result ≡ are_other_keys (keys_of kind) (table_view table.now) }
+{
+    for (key, value) in table.iter() {
+        if !kind.knows(key.as_str()) || has_key(value) {
+            return true;
+        }
+    }
+    false
+}
+
+/// Whether a value has a key within it, at any depth.
+#[cycle(keys)]
+fn has_key(value: &Value) -> bool
+    ensures { result ≡ has_key (view value.now) }
+{
+    match value {
+        Value::Table(table) => !table.is_empty(),
+        Value::Array(values) => any_has_key(values.as_slice()),
+        _ => false,
+    }
+}
+
+/// Whether one of these values has a key within it.
+#[cycle(keys)]
+fn any_has_key(values: &[Value]) -> bool
+    ensures { result ≡ list_any (λ value. has_key (view value)) values.now }
+{
+    for value in values {
+        if has_key(value) {
+            return true;
+        }
+    }
+    false
+}

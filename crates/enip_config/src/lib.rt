@@ -1,0 +1,21 @@
+//! The configuration of an EtherNet/IP device, a TOML text: its identity, counter and assemblies, where it listens,
+//! and how much it has room for.
+//!
+//! `Configuration::from_bytes` reads it by a table of keys, each with its name, its range and what it is where it is
+//! left out (`specs/Keys.antt`), and refuses it by the first check that fails, whose number is printed
+//! (`specs/Told.antt`). A configuration that is read is one that the objects take.
+#![tactic(auto)]
+
+mod assemblies;
+mod configuration;
+mod fault;
+mod key;
+mod known;
+mod values;
+mod width;
+
+pub use configuration::Configuration;
+pub use fault::{Fault, Refusal};
+
+#[cfg(test)]
+mod tests;

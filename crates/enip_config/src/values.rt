@@ -1,0 +1,141 @@
+//! The values of a configuration's keys.
+
+ghost use Rattle.std.specs.Prelude.{◌≡◌, ◌≤◌, IfOk, IfErr, IfSome, Some, option_map, string_bytes};
+ghost use Rattle.toml.specs.Data.{array, as_str, get_member};
+ghost use Rattle.toml.specs.View.{view, items_view, table_view};
+ghost use Rattle.enip_config.specs.Keys.{row, row_seen, number_by, number_of, table_with, counter_table, members_found, name_of};
+ghost use Rattle.enip_config.specs.Keys.{number_in, address_in, address_of};
+ghost use Rattle.enip_config.specs.Told.{IsBad, IsUnread};
+
+use crate::fault::{Fault, Refusal};
+use crate::key::{NumberKey, Row};
+use crate::width::Width;
+use toml::{Table, Value};
+
+/// A key is missing, or its value is of another type or out of its range.
+pub(crate) const BAD_VALUE: Fault = Fault::Refused(Refusal::BadValue);
+
+/// The value of a key.
+pub(crate) fn value_of<'a>(table: &'a Table, key: &str) -> Option<&'a Value>
+    ensures { option_map (λ value. view value.now) result ≡ get_member key.now (table_view table.now) }
+{
+    table.get(key)
+}
+
+/// The number that a value is, within a range.
+pub(crate) fn number_in(value: &Value, least: u32, greatest: u32) -> Result<u32, Fault>
+    ensures read { IfOk result (λ n. number_in least greatest (view value.now) ≡ Some n) }
+    ensures refused { IfErr result (IsBad (number_in least greatest (view value.now))) }
+    ensures to { IfOk result (λ n. n ≤ greatest) }
+{
+    let Value::Integer(number) = value else {
+        return Err(BAD_VALUE);
+    };
+    match u32::try_from(*number) {
+        Ok(number) if least <= number && number <= greatest => Ok(number),
+        _ => Err(BAD_VALUE),
+    }
+}
+
+/// The number of a key in a table.
+pub(crate) fn number_by<N: Width>(table: &Table, key: Row) -> Result<N, Fault>
+    requires fits { key.greatest ≤ N.most }
+    requires default { IfSome key.default (λ n. n ≤ N.most) }
+    ensures read { IfOk result (λ n. number_by (row_seen key) (table_view table.now) ≡ Some (N.number n)) }
+    ensures refused { IfErr result (IsBad (number_by (row_seen key) (table_view table.now))) }
+{
+    match value_of(table, key.name) {
+        Some(value) => Ok(N::of(number_in(value, key.least, key.greatest)?)),
+        None => default_of(key),
+    }
+}
+
+/// The number of a key that is left out.
+fn default_of<N: Width>(key: Row) -> Result<N, Fault>
+    requires default { IfSome key.default (λ n. n ≤ N.most) }
+    ensures read { IfOk result (λ n. key.default ≡ Some (N.number n)) }
+    ensures refused { IfErr result (IsBad key.default) }
+{
+    match key.default {
+        Some(number) => Ok(N::of(number)),
+        None => Err(BAD_VALUE),
+    }
+}
+
+/// The number of a key.
+#[tactic(auto, using(crate::proofs::Refused::unread_table, crate::proofs::Refused::unread_in))]
+pub(crate) fn number<N: Width>(text: &Table, key: NumberKey) -> Result<N, Fault>
+    requires fits { (row key).greatest ≤ N.most }
+    requires default { IfSome (row key).default (λ n. n ≤ N.most) }
+    ensures read { IfOk result (λ n. number_of key (table_view text.now) ≡ Some (N.number n)) }
+    ensures refused { IfErr result (IsUnread (table_view text.now)) }
+{
+    match table_with(text, key)? {
+        Some(table) => number_by(table, key.row()),
+        None => default_of(key.row()),
+    }
+}
+
+/// The table in which a key stands, `None` where it is left out.
+fn table_with(text: &Table, key: NumberKey) -> Result<Option<&Table>, Fault>
+    ensures read { IfOk result (λ found. table_with key (table_view text.now) ≡ Some (members_found found)) }
+    ensures refused { IfErr result (IsBad (table_with key (table_view text.now))) }
+{
+    match key {
+        NumberKey::CounterValue | NumberKey::CounterLimit => counter_table(text),
+        _ => Ok(Some(text)),
+    }
+}
+
+/// The table `counter`, `None` where it is left out.
+fn counter_table(text: &Table) -> Result<Option<&Table>, Fault>
+    ensures read { IfOk result (λ found. counter_table (table_view text.now) ≡ Some (members_found found)) }
+    ensures refused { IfErr result (IsBad (counter_table (table_view text.now))) }
+{
+    match value_of(text, "counter") {
+        None => Ok(None),
+        Some(value) => Ok(Some(value.as_table().ok_or(BAD_VALUE)?)),
+    }
+}
+
+/// The product's name.
+pub(crate) fn name_of(text: &Table) -> Result<String, Fault>
+    ensures read { IfOk result (λ name. name_of (table_view text.now) ≡ Some (string_bytes name)) }
+    ensures refused { IfErr result (IsUnread (table_view text.now)) }
+{
+    match value_of(text, "name") {
+        Some(Value::String(name)) => Ok(name.clone()?),
+        _ => Err(BAD_VALUE),
+    }
+}
+
+/// The address that ListIdentity shows.
+pub(crate) fn address_of(text: &Table) -> Result<[u8; 4], Fault>
+    ensures read { IfOk result (λ address. address_of (table_view text.now) ≡ Some address) }
+    ensures refused { IfErr result (IsUnread (table_view text.now)) }
+{
+    match value_of(text, "address") {
+        None => Ok([0; 4]),
+        Some(Value::Array(values)) => four_bytes(values.as_slice()),
+        Some(_) => Err(BAD_VALUE),
+    }
+}
+
+/// A byte of each of four values.
+fn four_bytes(values: &[Value]) -> Result<[u8; 4], Fault>
+    ensures read { IfOk result (λ address. address_in (array (items_view values.now)) ≡ Some address) }
+    ensures refused { IfErr result (IsBad (address_in (array (items_view values.now)))) }
+{
+    let [first, second, third, last] = values else {
+        return Err(BAD_VALUE);
+    };
+    Ok([byte(first)?, byte(second)?, byte(third)?, byte(last)?])
+}
+
+/// The byte that a value is.
+fn byte(value: &Value) -> Result<u8, Fault>
+    ensures read { IfOk result (λ n. number_in 0 0xff (view value.now) ≡ Some n) }
+    ensures refused { IfErr result (IsBad (number_in 0 0xff (view value.now))) }
+{
+    Ok(u8::of(number_in(value, 0, 0xff)?))
+}

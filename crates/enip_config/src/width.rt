@@ -1,0 +1,47 @@
+//! Numbers of the widths that keys have.
+
+ghost use Rattle.std.specs.Prelude.{◌≡◌, ◌≤◌, ℕ};
+
+/// A number of a fixed width.
+pub(crate) trait Width: Sized {
+    /// The number as such.
+    ghost number: { Self → ℕ };
+
+    /// The greatest number of this width.
+    ghost most: { ℕ };
+
+    /// A number that has this width.
+    fn of(wide: u32) -> Self
+        requires { wide ≤ most }
+        ensures { number result ≡ wide };
+}
+
+impl Width for u8 {
+    ghost number = { λ n. n };
+
+    ghost most = { 0xff };
+
+    fn of(wide: u32) -> u8 {
+        wide as u8
+    }
+}
+
+impl Width for u16 {
+    ghost number = { λ n. n };
+
+    ghost most = { 0xffff };
+
+    fn of(wide: u32) -> u16 {
+        wide as u16
+    }
+}
+
+impl Width for u32 {
+    ghost number = { λ n. n };
+
+    ghost most = { 0xffffffff };
+
+    fn of(wide: u32) -> u32 {
+        wide
+    }
+}
