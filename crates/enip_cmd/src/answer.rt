@@ -19,6 +19,12 @@ use enip_config::Configuration;
 use std::alloc::Global;
 use std::io::{BufWriter, Read, Write};
 
+/// How many bytes of answers are kept before they are written.
+const OUTPUT_BUFFER: usize = 65_536;
+
+/// The digits of the longest answer.
+const LONGEST_TEXT: usize = 2 * LONGEST_ANSWER;
+
 /// Runs an adapter over the lines of an input, and answers the exit status of the program: 0, or 3 where the
 /// configuration is refused, 4 where a line is, 5 where a device or memory failed, with a line on `errors`.
 ///
@@ -96,6 +102,7 @@ struct Desk<W: Write + Drop> {
     output: BufWriter<W>,
     digits: Vec<u8>,
     piece: Vec<u8>,
+    text: [u8; LONGEST_TEXT],
 }
 
 impl<W: Write + Drop> Desk<W> {
@@ -106,9 +113,10 @@ impl<W: Write + Drop> Desk<W> {
             adapter: Adapter::new(alloc, objects)?,
             now: 0,
             seats: [Seat::Free; 9],
-            output: BufWriter::new(alloc, output)?,
+            output: BufWriter::with_capacity(alloc, OUTPUT_BUFFER, output)?,
             digits: Vec::new(alloc),
             piece: Vec::new(alloc),
+            text: [0; LONGEST_TEXT],
         })
     }
 
@@ -173,7 +181,7 @@ impl<W: Write + Drop> Desk<W> {
             }
             let fed = self.adapter.feed(self.now, &peer, rest);
             if let Some(frame) = fed.answer {
-                print_answer(&mut self.output, number, frame)?;
+                print_answer(&mut self.output, &mut self.text, number, frame)?;
             }
             if fed.close {
                 self.seats[number.place()] = Seat::Closed(peer);
@@ -202,12 +210,16 @@ impl<W: Write + Drop> TakeLines for Desk<W> {
     }
 }
 
-/// Prints an answer: `P hex`.
-fn print_answer<W: Write>(output: &mut W, number: Number, frame: &[u8]) -> Result<(), Fault>
+/// Prints an answer: `P hex`. `text` is room for its digits.
+fn print_answer<W: Write>(
+    output: &mut W,
+    text: &mut [u8; LONGEST_TEXT],
+    number: Number,
+    frame: &[u8],
+) -> Result<(), Fault>
     requires { length frame.now ≤ LONGEST_ANSWER }
     ensures { IfErr result IsOfDevices }
 {
-    let mut text = [0u8; 2 * LONGEST_ANSWER];
     let digits = &mut text[..2 * frame.len()];
     let _ = hex::encode_to_slice(frame, digits);
     output.write_all(&[number.digit(), b' '])?;

@@ -14,8 +14,12 @@ use byteorder::{ByteOrder, LittleEndian};
 use cip_objects::{Objects, ReplyBuf, Router};
 use enip_wire::{FrameView, Header, rr_body, write_rr_body};
 
-/// The longest answer, in bytes.
-pub const LONGEST_ANSWER: usize = 544;
+/// The bytes of interface, timeout, count of items, null address, and type and length of the data item.
+/// (Volume 2, SendRRData.)
+const ITEMS_HEAD: usize = 16;
+
+/// The longest answer, in bytes: a header, and the longest reply of the router as a data item.
+pub const LONGEST_ANSWER: usize = Header::SIZE + ITEMS_HEAD + UNCONNECTED_ROOM;
 
 /// One answer, a whole frame.
 pub type Answer = ArrayVec<u8, LONGEST_ANSWER>;
@@ -164,7 +168,7 @@ fn write_rr_reply(asked: &Header, router_reply: &[u8], answer: &mut Answer)
         asked,
         asked.session,
         Status::Success,
-        16 + router_reply.len(),
+        ITEMS_HEAD + router_reply.len(),
         answer,
     );
     let _ = write_rr_body(answer, router_reply);
