@@ -1,0 +1,66 @@
+-- The adapter as it is made and stored.
+use Rattle.std.specs.Prelude.{ℕ, List, [], ◌≡◌, ◌≤◌, ◌+◌, ◌^◌, map, vec_len, All, Option, Some, None, Result, Ok, Err}
+use Rattle.std.specs.Borrow.{Bor}
+use Rattle.std.specs.Global.{Vec}
+use Rattle.std.specs.Vec.{vec_capacity}
+use Rattle.cip_manager.specs.Manager.{no_connection}
+use Rattle.cip_objects.specs.Contents.{Contents}
+use Rattle.enip_adapter.specs.declared.adapter.Full.{Full}
+use Rattle.enip_adapter.specs.declared.adapter.Full.TheVariants.{Places, Handles}
+use Rattle.enip_adapter.specs.declared.adapter.Limits.{Limits}
+use Rattle.enip_adapter.specs.declared.peer.Place.{Place}
+use Rattle.enip_adapter.specs.declared.peer.Session.{Session}
+use Rattle.enip_adapter.specs.declared.shared.Listen.{Listen}
+use Rattle.enip_adapter.specs.declared.shared.Shared.{Shared}
+use Rattle.enip_adapter.specs.Calls.{AdapterState, Held}
+use Rattle.enip_adapter.specs.Turn.{State, Said}
+use Rattle.enip_adapter.specs.Turn.Said.{Silent, Sends, Begins, Refuses}
+
+-- The number of why no peer can begin.
+abbrev pub full_number : Full → ℕ
+full_number Places = 1
+full_number Handles = 2
+
+-- A peer's session, and the bytes that its reader holds.
+abbrev pub session_in : Place → Session
+session_in place = place.session
+
+abbrev pub held_in : Place → Held
+held_in place = record { peer = place.session.handle; bytes = place.reader }
+
+-- What the adapter is, by its fields.
+abbrev pub state_in : ℕ → Shared → List Place → State
+state_in places shared peers = record { places = places; shared = shared; peers = map session_in peers }
+
+abbrev pub adapter_in : ℕ → Shared → List Place → AdapterState
+adapter_in places shared peers = record { state = state_in places shared peers; held = map held_in peers }
+
+-- An adapter with no peer and no connection.
+abbrev pub new_shared : Contents → Listen → Limits → Shared
+new_shared objects listen limits = record {
+  listen = listen;
+  moment = 0;
+  next_handle = limits.first_handle;
+  manager = no_connection limits.connections limits.first_id objects.device;
+  objects = objects;
+}
+
+abbrev pub new_adapter : Contents → Listen → Limits → AdapterState
+new_adapter objects listen limits = adapter_in limits.peers (new_shared objects listen limits) []
+
+-- Each place is taken or free, a free reader holds no byte, and there is room for all on either side.
+pub record IsRoomy (places next_handle : ℕ) (peers : Vec Place) (free : Vec (List ℕ)) : Type 0 where
+  pub handles : next_handle ≤ 2 ^ 32
+  pub for_peers : places ≤ vec_capacity peers
+  pub for_free : places ≤ vec_capacity free
+  pub all : vec_len peers + vec_len free ≡ places
+  pub blank : All (λ held. held ≡ []) free.items
+
+-- What a call of begin says, and one of feed.
+abbrev pub begin_said : Result ℕ Full → Said
+begin_said (Ok handle) = Begins handle
+begin_said (Err full) = Refuses full
+
+abbrev pub feed_said : Option (Bor (List ℕ)) → Said
+feed_said None = Silent
+feed_said (Some bytes) = Sends bytes.now

@@ -1,0 +1,103 @@
+-- The adapter's calls: which events each stands for, and which bytes it takes and leaves.
+use Rattle.std.specs.Prelude.{ℕ, List, [], ◌∷◌, ◌++◌, if◌then◌else◌, Bool, true, false, Option, Some, None}
+use Rattle.enip_wire.specs.Stream.{Sight, taken_of, joined_of, sight_of, cleared}
+use Rattle.enip_wire.specs.Stream.Sight.{Nothing_yet, A_frame, A_long_header}
+use Rattle.enip_adapter.specs.declared.peer.Session.{Session}
+use Rattle.enip_adapter.specs.Lookup.{first_with, with_first, without_first}
+use Rattle.enip_adapter.specs.Turn.{State, Event, Said, Answer, turn, answers, after, session_of, at_moment}
+use Rattle.enip_adapter.specs.Turn.Event.{Begin, End, At, Framed, Long}
+use Rattle.enip_adapter.specs.Turn.Said.{Silent, Sends, Begins, Refuses}
+
+-- The bytes that have come of a peer's next frame.
+pub record Held : Type 0 where
+  pub peer : ℕ
+  pub bytes : List ℕ
+
+-- The adapter: the turn's state, and what has come of each peer's next frame.
+pub record AdapterState : Type 0 where
+  pub state : State
+  pub held : List Held
+
+pub data Call : Type 0 where
+  Begins_peer : Call
+  Feeds : (now peer : ℕ) → (piece : List ℕ) → Call
+  Ends_peer : (peer : ℕ) → Call
+  Ticks : (now : ℕ) → Call
+
+-- The bytes that are held of a peer.
+abbrev pub bytes_found : Option Held → List ℕ
+bytes_found None = []
+bytes_found (Some held) = held.bytes
+
+abbrev pub bytes_held : List Held → ℕ → List ℕ
+bytes_held held peer = bytes_found (first_with (λ h. h.peer) peer held)
+
+-- What a sight of a peer's bytes is to the turn.
+abbrev pub events_of_sight : ℕ → Sight → List Event
+events_of_sight peer Nothing_yet = []
+events_of_sight peer (A_frame f) = Framed peer f ∷ []
+events_of_sight peer (A_long_header h) = Long peer h ∷ []
+
+-- What a call is: the events that it stands for, how many bytes it takes, and the bytes that are held afterwards. A
+-- piece for a peer that is closed or not held is dropped.
+pub record Meaning : Type 0 where
+  pub events : List Event
+  pub taken : ℕ
+  pub held : List Held
+  pub dropped : Bool
+
+abbrev pub meaning : List Event → List Held → Meaning
+meaning events held = record { events = events; taken = 0; held = held; dropped = false }
+
+-- A peer that begins holds no byte.
+abbrev pub held_at_beginning : List Held → Said → List Held
+held_at_beginning held (Begins handle) = held ++ record { peer = handle; bytes = [] } ∷ []
+held_at_beginning held other = held
+
+-- A peer takes bytes of a piece up to the end of one frame.
+abbrev pub piece_meaning : List Held → ℕ → List ℕ → List ℕ → Meaning
+piece_meaning held peer bytes piece = record {
+  events = events_of_sight peer (sight_of (joined_of bytes piece));
+  taken = taken_of bytes piece;
+  held = with_first (λ h. h.peer) peer
+      (record { peer = peer; bytes = cleared (sight_of (joined_of bytes piece)) (joined_of bytes piece) }) held;
+  dropped = false;
+}
+
+abbrev pub dropped_piece : List Held → Meaning
+dropped_piece held = record { events = []; taken = 0; held = held; dropped = true }
+
+abbrev pub piece_to : List Held → ℕ → List ℕ → Option Session → Meaning
+piece_to held peer piece None = dropped_piece held
+piece_to held peer piece (Some session) =
+    if session.closed then dropped_piece held else piece_meaning held peer (bytes_held held peer) piece
+
+-- A moment, and then what comes at it.
+abbrev pub at_a_moment : ℕ → Meaning → Meaning
+at_a_moment now m = record m { events = At now ∷ m.events }
+
+abbrev pub call_meaning : AdapterState → Call → Meaning
+call_meaning a Begins_peer = meaning (Begin ∷ []) (held_at_beginning a.held (turn a.state Begin).answer.said)
+call_meaning a (Feeds now peer piece) = at_a_moment now (piece_to a.held peer piece (session_of a.state peer))
+call_meaning a (Ends_peer peer) = meaning (End peer ∷ []) (without_first (λ h. h.peer) peer a.held)
+call_meaning a (Ticks now) = at_a_moment now (meaning [] a.held)
+
+-- The adapter after what a call means.
+abbrev pub after_meaning : State → Meaning → AdapterState
+after_meaning s m = record { state = after s m.events; held = m.held }
+
+abbrev pub after_call : AdapterState → Call → AdapterState
+after_call a call = after_meaning a.state (call_meaning a call)
+
+-- What a call answers: what its last event does; a piece that is dropped says that the peer is closed.
+abbrev pub last_from : Answer → List Answer → Answer
+last_from a [] = a
+last_from a (b ∷ more) = last_from b more
+
+abbrev pub answer_of : State → Meaning → Answer
+answer_of s m =
+    if m.dropped then record { said = Silent; close = true }
+    else last_from (record { said = Silent; close = false }) (answers s m.events)
+
+abbrev pub call_answer : AdapterState → Call → Answer
+call_answer a call = answer_of a.state (call_meaning a call)

@@ -1,0 +1,16 @@
+pub mod Lookup
+pub mod Replies
+pub mod RegisterSession
+pub mod UnRegisterSession
+pub mod ListServices
+pub mod ListIdentity
+pub mod ListInterfaces
+pub mod SendRRData
+pub mod SendUnitData
+pub mod Commands
+pub mod Turn
+pub mod Calls
+pub mod Adapter
+pub mod Stored
+pub mod Places
+pub mod Destinations

@@ -1,0 +1,21 @@
+-- A piece at the places of peers is the piece at the adapter.
+use Rattle.std.specs.Prelude.{ℕ, List, ◌≡◌, map}
+use Rattle.enip_adapter.specs.declared.peer.Outcome.{Outcome}
+use Rattle.enip_adapter.specs.declared.peer.Place.{Place}
+use Rattle.enip_adapter.specs.declared.shared.Shared.{Shared}
+use Rattle.enip_adapter.specs.Adapter.{adapter_in, state_in, held_in}
+use Rattle.enip_adapter.specs.Calls.{Meaning, piece_to, after_meaning, answer_of}
+use Rattle.enip_adapter.specs.Replies.{written}
+use Rattle.enip_adapter.specs.Turn.{Answer, session_of, sent}
+
+-- What is shared, the places, the outcome and the buffer after a piece for a peer are these.
+pub record IsFed (limit : ℕ) (shared : Shared) (places : List Place) (m : Meaning) (left : Shared) (kept : List Place) (outcome : Outcome) (bytes : List ℕ) : Type 0 where
+  pub adapter : adapter_in limit left kept ≡ after_meaning (state_in limit shared places) m
+  pub taken : outcome.taken ≡ m.taken
+  pub answer : ◌≡◌ {A = Answer} (record { said = sent (written outcome.answered bytes); close = outcome.close })
+      (answer_of (state_in limit shared places) m)
+
+-- What a piece for a peer means.
+abbrev pub piece_at : ℕ → Shared → List Place → ℕ → List ℕ → Meaning
+piece_at limit shared places peer piece =
+    piece_to (map held_in places) peer piece (session_of (state_in limit shared places) peer)

@@ -1,0 +1,72 @@
+-- What a frame leaves and what answers it (Volume 2, encapsulation header).
+use Rattle.std.specs.Prelude.{ℕ, List, [], Option, Some, None, Bool, true, false, ◌==◌, ◌&&◌, length}
+use Rattle.enip_wire.specs.declared.header.Header.{Header}
+use Rattle.enip_wire.specs.Frames.{frame}
+use Rattle.enip_adapter.specs.declared.peer.Session.{Session}
+use Rattle.enip_adapter.specs.declared.shared.Shared.{Shared}
+use Rattle.enip_adapter.specs.declared.reply.Status.{Status}
+use Rattle.enip_adapter.specs.declared.reply.Status.TheVariants.{Success, UnsupportedCommand, PoorlyFormedData, InvalidSession, InvalidLength, UnsupportedRevision}
+
+-- The number of a status in a header.
+abbrev pub status_code : Status → ℕ
+status_code Success = 0x0000
+status_code UnsupportedCommand = 0x0001
+status_code PoorlyFormedData = 0x0003
+status_code InvalidSession = 0x0064
+status_code InvalidLength = 0x0065
+status_code UnsupportedRevision = 0x0069
+
+-- The header of a reply with so many bytes of data: command and context of what asked, no options.
+abbrev pub reply_header : Header → ℕ → Status → ℕ → Header
+reply_header asked session status count = record {
+  command = asked.command;
+  length = count;
+  session = session;
+  status = status_code status;
+  context = asked.context;
+  options = 0;
+}
+
+-- A reply with these data.
+abbrev pub reply : Header → ℕ → Status → List ℕ → List ℕ
+reply asked session status bytes =
+    frame (record { header = reply_header asked session status (length bytes); body = bytes })
+
+-- What a frame is to its peer: whether it is registered then, what is sent back, and whether the connection is closed.
+pub record Reaction : Type 0 where
+  pub registered : Bool
+  pub answer : Option (List ℕ)
+  pub close : Bool
+
+-- Nothing is sent.
+abbrev pub silent : Session → Reaction
+silent session = record { registered = session.registered; answer = None; close = false }
+
+-- These bytes are sent.
+abbrev pub answered : Session → List ℕ → Reaction
+answered session bytes = record { registered = session.registered; answer = Some bytes; close = false }
+
+-- A reply with these data; its session field is that of the frame that asked.
+abbrev pub replied : Session → Header → List ℕ → Reaction
+replied session asked bytes = answered session (reply asked asked.session Success bytes)
+
+-- A refusal has no data, and the session field of the frame that asked.
+abbrev pub refused : Session → Header → Status → Reaction
+refused session asked status = answered session (reply asked asked.session status [])
+
+-- The same, and what all peers share is then.
+pub record Served : Type 0 where
+  pub shared : Shared
+  pub reaction : Reaction
+
+abbrev pub leaving : Shared → Reaction → Served
+leaving shared reaction = record { shared = shared; reaction = reaction }
+
+-- The number is that of the peer's own session, which is registered.
+abbrev pub is_registered_as : Session → ℕ → Bool
+is_registered_as session handle = session.registered && (handle == session.handle)
+
+-- What a buffer, and the word whether it was written, say.
+abbrev pub written : Bool → List ℕ → Option (List ℕ)
+written true bytes = Some bytes
+written false bytes = None

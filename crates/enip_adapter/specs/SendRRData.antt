@@ -1,0 +1,85 @@
+-- SendRRData, 0x006f (Volume 2, encapsulation commands; Volume 1, Unconnected Message Manager).
+use Rattle.std.specs.Prelude.{ℕ, Bool, List, length, ◌==◌, ◌&&◌, nat_lt, if◌then◌else◌, not, Result, Ok, Err}
+use Rattle.cip_message.specs.declared.path.Path.{Path}
+use Rattle.cip_message.specs.declared.path.PathFault.{PathFault}
+use Rattle.cip_message.specs.declared.request.RequestFault.{RequestFault}
+use Rattle.cip_message.specs.PathReading.{path_of}
+use Rattle.cip_message.specs.Request.{Request, request_of}
+use Rattle.cip_manager.specs.Manager.{Turn}
+use Rattle.cip_manager.specs.Opening.{open_turn}
+use Rattle.cip_manager.specs.Closing.{close_turn}
+use Rattle.cip_objects.specs.Execution.{exec}
+use Rattle.enip_wire.specs.Bodies.{rr_text, rr_body_of}
+use Rattle.enip_wire.specs.Frames.{Frame}
+use Rattle.enip_wire.specs.declared.packet.CpfFault.{CpfFault}
+use Rattle.enip_adapter.specs.declared.peer.Session.{Session}
+use Rattle.enip_adapter.specs.declared.shared.Shared.{Shared}
+use Rattle.enip_adapter.specs.declared.reply.Status.TheVariants.{PoorlyFormedData, InvalidSession}
+use Rattle.enip_adapter.specs.Replies.{Served, leaving, replied, refused, is_registered_as}
+
+-- The room of the reply to an unconnected request, in bytes.
+abbrev pub UNCONNECTED_ROOM : ℕ
+UNCONNECTED_ROOM = 504
+
+-- Where a request goes: to the Connection Manager as a Forward_Open or a Forward_Close, with its data, or to the
+-- objects.
+pub data Destination : Type 0 where
+  Opens : (bytes : List ℕ) → Destination
+  Closes : (bytes : List ℕ) → Destination
+  Executes : Destination
+
+abbrev pub is_manager : Path → Bool
+is_manager path = (path.class == 0x06) && (path.instance == 1)
+
+-- The two services of the Connection Manager, class 0x06, instance 1.
+abbrev pub manager_service : ℕ → List ℕ → Destination
+manager_service service bytes =
+    if service == 0x54 then Opens bytes else if service == 0x4e then Closes bytes else Executes
+
+abbrev pub destination_by_path : Request → Result Path PathFault → Destination
+destination_by_path request (Err fault) = Executes
+destination_by_path request (Ok path) =
+    if is_manager path then manager_service request.service request.«data» else Executes
+
+abbrev pub destination_by_request : Result Request RequestFault → Destination
+destination_by_request (Err fault) = Executes
+destination_by_request (Ok request) = destination_by_path request (path_of request.path)
+
+abbrev pub destination_of : List ℕ → Destination
+destination_of request = destination_by_request (request_of request)
+
+-- What a request leaves, and the reply to it.
+pub record Routed : Type 0 where
+  pub shared : Shared
+  pub reply : List ℕ
+
+-- The Connection Manager changes its connections alone.
+abbrev pub managed : Shared → Turn → Routed
+managed shared turn = record { shared = record shared { manager = turn.manager }; reply = turn.reply }
+
+abbrev pub routed_to : Shared → Session → List ℕ → Destination → Routed
+routed_to shared session request (Opens bytes) =
+    managed shared (open_turn shared.manager shared.moment session.handle bytes)
+routed_to shared session request (Closes bytes) = managed shared (close_turn shared.manager session.handle bytes)
+routed_to shared session request Executes = record {
+  shared = record shared { objects = (exec shared.objects UNCONNECTED_ROOM request).after };
+  reply = (exec shared.objects UNCONNECTED_ROOM request).answer;
+}
+
+-- A request of a session, and its reply as the data of a SendRRData.
+abbrev pub routed : Shared → Session → List ℕ → Routed
+routed shared session request = routed_to shared session request (destination_of request)
+
+-- The router's reply, or poorly formed data, also where they are too short for a request.
+abbrev pub reply_to_body : Shared → Session → Frame → Result (List ℕ) CpfFault → Served
+reply_to_body shared session f (Err fault) = leaving shared (refused session f.header PoorlyFormedData)
+reply_to_body shared session f (Ok request) =
+    if nat_lt (length request) 2 then leaving shared (refused session f.header PoorlyFormedData)
+    else leaving (routed shared session request).shared
+    (replied session f.header (rr_text (routed shared session request).reply))
+
+-- Another session than this peer's registered one is invalid.
+abbrev pub send_rr_data : Shared → Session → Frame → Served
+send_rr_data shared session f =
+    if not (is_registered_as session f.header.session) then leaving shared (refused session f.header InvalidSession)
+    else reply_to_body shared session f (rr_body_of f.body)

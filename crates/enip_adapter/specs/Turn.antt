@@ -1,0 +1,125 @@
+-- The adapter's turn: what each event leaves and answers.
+use Rattle.std.specs.Prelude.{ℕ, ◌+◌, max, List, [], ◌∷◌, ◌++◌, length, nat_lt, not, if◌then◌else◌, Bool, true, false, Option, Some, None}
+use Rattle.cip_manager.specs.Closing.{without_overdue, without_session}
+use Rattle.enip_wire.specs.Frames.{Frame}
+use Rattle.enip_wire.specs.declared.header.Header.{Header}
+use Rattle.enip_adapter.specs.declared.adapter.Full.{Full}
+use Rattle.enip_adapter.specs.declared.adapter.Full.TheVariants.{Places, Handles}
+use Rattle.enip_adapter.specs.declared.peer.Session.{Session}
+use Rattle.enip_adapter.specs.declared.shared.Shared.{Shared}
+use Rattle.enip_adapter.specs.Commands.{command_served, long_refused}
+use Rattle.enip_adapter.specs.Lookup.{first_with, with_first, without_first}
+use Rattle.enip_adapter.specs.Replies.{Served, leaving}
+
+-- What all peers share, how many peers there are places for, and the peers in the order in which they began.
+pub record State : Type 0 where
+  pub places : ℕ
+  pub shared : Shared
+  pub peers : List Session
+
+-- A TCP connection begins or ends; a moment comes; a peer's stream has come to the end of a frame, or of a header whose
+-- length is too long.
+pub data Event : Type 0 where
+  Begin : Event
+  End : (peer : ℕ) → Event
+  At : (now : ℕ) → Event
+  Framed : (peer : ℕ) → (frame : Frame) → Event
+  Long : (peer : ℕ) → (header : Header) → Event
+
+-- What an event says: nothing, a frame to the peer, or the handle or the refusal of one that begins.
+pub data Said : Type 0 where
+  Silent : Said
+  Sends : (bytes : List ℕ) → Said
+  Begins : (handle : ℕ) → Said
+  Refuses : (full : Full) → Said
+
+-- What an event answers: what is said, and whether the peer's connection is closed.
+pub record Answer : Type 0 where
+  pub said : Said
+  pub close : Bool
+
+pub record Turned : Type 0 where
+  pub state : State
+  pub answer : Answer
+
+abbrev pub turned : State → Said → Bool → Turned
+turned state said close = record { state = state; answer = record { said = said; close = close } }
+
+abbrev pub sent : Option (List ℕ) → Said
+sent None = Silent
+sent (Some bytes) = Sends bytes
+
+-- A peer that just began.
+abbrev pub new_session : ℕ → Session
+new_session handle = record { handle = handle; registered = false; closed = false }
+
+-- The next session handle is drawn.
+abbrev pub with_peer : State → State
+with_peer s = record s {
+  shared = record s.shared { next_handle = s.shared.next_handle + 1 };
+  peers = s.peers ++ new_session s.shared.next_handle ∷ [];
+}
+
+-- A connection of TCP begins. Places are looked at before handles (ours). A handle is not used again.
+abbrev pub begun : State → Turned
+begun s =
+    if not (nat_lt (length s.peers) s.places) then turned s (Refuses Places) false
+    else if nat_lt 0xffffffff s.shared.next_handle then turned s (Refuses Handles) false
+    else turned (with_peer s) (Begins s.shared.next_handle) false
+
+-- The connections that a session opened end with it.
+abbrev pub without_connections : Shared → ℕ → Shared
+without_connections shared session = record shared { manager = without_session shared.manager session }
+
+-- What a peer's session is after a frame, and what is shared: a peer that is closed has no connection.
+abbrev pub session_after : Session → Served → Session
+session_after session served =
+    record session { registered = served.reaction.registered; closed = served.reaction.close }
+
+abbrev pub shared_after : Session → Served → Shared
+shared_after session served =
+    if served.reaction.close then without_connections served.shared session.handle else served.shared
+
+-- To a peer that is held and not closed, what it sent is served; to any other nothing is done.
+abbrev pub serve_found : State → ℕ → (Session → Served) → Option Session → Turned
+serve_found s peer serve None = turned s Silent true
+serve_found s peer serve (Some session) =
+    if session.closed then turned s Silent true
+    else turned (record s {
+      shared = shared_after session (serve session);
+      peers = with_first (λ p. p.handle) peer (session_after session (serve session)) s.peers;
+    }) (sent (serve session).reaction.answer) (serve session).reaction.close
+
+abbrev pub session_of : State → ℕ → Option Session
+session_of s peer = first_with (λ p. p.handle) peer s.peers
+
+-- A peer ends, and its connections; one that is not held changes nothing.
+abbrev pub end_found : State → ℕ → Option Session → State
+end_found s peer None = s
+end_found s peer (Some session) = record s {
+  shared = without_connections s.shared peer;
+  peers = without_first (λ p. p.handle) peer s.peers;
+}
+
+-- The greatest moment so far counts, and ends the connections whose deadline is at or before it.
+abbrev pub at_moment : Shared → ℕ → Shared
+at_moment shared now = record shared {
+  moment = max shared.moment now;
+  manager = without_overdue shared.manager (max shared.moment now);
+}
+
+abbrev pub turn : State → Event → Turned
+turn s Begin = begun s
+turn s (End peer) = turned (end_found s peer (session_of s peer)) Silent false
+turn s (At now) = turned (record s { shared = at_moment s.shared now }) Silent false
+turn s (Framed peer f) = serve_found s peer (λ session. command_served s.shared session f) (session_of s peer)
+turn s (Long peer h) = serve_found s peer (λ session. leaving s.shared (long_refused session h)) (session_of s peer)
+
+-- The answers to a list of events, and the state after it.
+abbrev pub answers : State → List Event → List Answer
+answers s [] = []
+answers s (e ∷ es) = (turn s e).answer ∷ answers (turn s e).state es
+
+abbrev pub after : State → List Event → State
+after s [] = s
+after s (e ∷ es) = after (turn s e).state es

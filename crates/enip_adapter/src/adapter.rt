@@ -1,0 +1,257 @@
+//! The adapter: its peers, and the calls that change it.
+
+ghost use Rattle.std.specs.Prelude.{ℕ, ◌≡◌, ◌==◌, ◌≤◌, ◌-◌, length, IfOk, IfSome};
+ghost use Rattle.std.specs.Borrow.{sem};
+ghost use Rattle.std.specs.Io.BufRead.{Rests};
+ghost use Rattle.std.specs.List.{position};
+ghost use Rattle.enip_adapter.specs.Adapter.{full_number};
+ghost use Rattle.enip_adapter.specs.Places.{IsFed, piece_at};
+
+use crate::peer::{Outcome, Peer, Place, Session};
+use crate::reply::{Answer, LONGEST_ANSWER};
+use crate::shared::{Listen, Shared};
+use cip_manager::Manager;
+use cip_objects::Objects;
+use enip_wire::FrameReader;
+use std::alloc::{AllocError, Global};
+use std::marker::Model;
+use thiserror::Error;
+
+/// How much an adapter has room for, and the numbers with which it begins.
+#[derive(Clone, Copy, Debug)]
+pub struct Limits {
+    /// How many peers there are places for, 1 to 16.
+    pub peers: u16,
+    /// How many connections there are places for, 1 to 64.
+    pub connections: u16,
+    /// The first session handle, 32 bits: at least 1.
+    pub first_handle: u32,
+    /// The first O->T connection ID, 32 bits: at least 1.
+    pub first_id: u32,
+}
+
+/// Why no peer can begin.
+#[derive(Clone, Copy, Debug, PartialEq, Eq, Error)]
+pub enum Full {
+    /// All places are taken.
+    #[error("all places are taken")]
+    Places = 1,
+    /// The last session handle was given out.
+    #[error("all session handles were given out")]
+    Handles = 2,
+}
+
+impl Full {
+    /// The number that is printed.
+    pub fn number(self) -> u8
+        ensures { result ≡ full_number self }
+    {
+        self as u8
+    }
+}
+
+/// What `feed` did with a piece.
+#[derive(Clone, Copy, Debug)]
+pub struct Fed<'a> {
+    /// How many bytes of the piece were taken.
+    pub taken: usize,
+    /// The frame to send, if any.
+    pub answer: Option<&'a [u8]>,
+    /// Whether the peer is closed, or not held.
+    pub close: bool,
+}
+
+/// An adapter that serves its objects to its peers.
+#[derive(Drop)]
+pub struct Adapter {
+    limit: u16,
+    shared: Shared,
+    places: Vec<Place>,
+    free: Vec<FrameReader>,
+    answer: Answer,
+}
+
+impl Model for Adapter {
+    ghost use Rattle.enip_adapter.specs.Calls.{AdapterState};
+    ghost use Rattle.enip_adapter.specs.Stored.{adapter_code};
+
+    ghost Value = { AdapterState };
+
+    ghost coded = { adapter_code };
+
+    ghost use Rattle.enip_adapter.specs.Adapter.{adapter_in, IsRoomy};
+
+    ghost view = { λ a. adapter_in a.limit a.shared a.places.items };
+
+    ghost invariant = { λ a. IsRoomy a.limit a.shared.next_handle a.places a.free };
+}
+
+impl Adapter {
+    ghost use Rattle.enip_adapter.specs.Adapter.{new_adapter, begin_said, feed_said};
+    ghost use Rattle.enip_adapter.specs.Calls.{Call, call_meaning, call_answer, after_call};
+    ghost use Rattle.enip_adapter.specs.contracts.adapter.Adapter.{the_row};
+
+    /// An adapter with no peer and no connection. All its memory is taken here.
+    ///
+    /// # Errors
+    ///
+    /// `AllocError` where memory is refused.
+    pub fn new(
+        alloc: Global,
+        objects: Objects,
+        listen: Listen,
+        limits: Limits,
+    ) -> Result<Adapter, AllocError>
+        requires peers_from { 1 ≤ limits.peers }
+        requires peers_to { limits.peers ≤ 16 }
+        requires connections_from { 1 ≤ limits.connections }
+        requires connections_to { limits.connections ≤ 64 }
+        requires handle { 1 ≤ limits.first_handle }
+        requires id { 1 ≤ limits.first_id }
+        ensures { IfOk result (λ a. a ≡ new_adapter objects listen limits) }
+    {
+        let places = Vec::with_capacity(alloc, usize::from(limits.peers))?;
+        let mut free = Vec::with_capacity(alloc, usize::from(limits.peers))?;
+        for _ in 0..limits.peers {
+            free.push_reserved(FrameReader::new(alloc)?);
+        }
+        let manager = Manager::new(alloc, limits.connections, limits.first_id, objects.device())?;
+        Ok(Adapter {
+            limit: limits.peers,
+            shared: Shared {
+                listen,
+                moment: 0,
+                next_handle: u64::from(limits.first_handle),
+                manager,
+                objects,
+            },
+            places,
+            free,
+            answer: Answer::new(),
+        })
+    }
+
+    /// A peer begins: it draws the next session handle.
+    ///
+    /// # Errors
+    ///
+    /// `Full::Places` where all places are taken, else `Full::Handles` where the last handle was given out.
+    pub fn begin(&mut self) -> Result<Peer, Full>
+        ensures state { self.new ≡ after_call self.old Call.Begins_peer }
+        ensures said { begin_said result ≡ (call_answer self.old Call.Begins_peer).said }
+    {
+        // places before handles (ours)
+        let Some(reader) = self.free.pop() else {
+            return Err(Full::Places);
+        };
+        // a handle is not used again (RegisterSession)
+        let Ok(handle) = u32::try_from(self.shared.next_handle) else {
+            self.free.push_reserved(reader);
+            return Err(Full::Handles);
+        };
+        self.shared.next_handle += 1;
+        let session = Session {
+            handle,
+            registered: false,
+            closed: false,
+        };
+        self.places.push_reserved(Place { session, reader });
+        Ok(Peer { handle })
+    }
+
+    /// Takes bytes of the piece that came from a peer at a moment, in microseconds, up to the end of one frame, and
+    /// serves the frame. For a peer that is closed or not held it takes none and answers `close`.
+    ///
+    /// The greatest moment so far counts; connections whose deadline is at or before it end first.
+    pub fn feed(&mut self, now: u64, peer: &Peer, piece: &[u8]) -> Fed<'_>
+        ensures* state { sem 𝓛 (Rests the_row self.entry (λ last. last
+            ≡ after_call self.old (Call.Feeds now peer.now piece.now))) }
+        ensures taken { result.taken ≡ (call_meaning self.old (Call.Feeds now peer.now piece.now)).taken }
+        ensures answer { feed_said result.answer ≡ (call_answer self.old (Call.Feeds now peer.now piece.now)).said }
+        ensures close { result.close ≡ (call_answer self.old (Call.Feeds now peer.now piece.now)).close }
+        ensures within { result.taken ≤ length piece.now }
+        ensures fits { IfSome result.answer (λ frame. length frame.now ≤ LONGEST_ANSWER) }
+    {
+        self.shared.advance(now);
+        let outcome = feed_places(
+            &mut self.shared,
+            &mut self.places,
+            peer.handle,
+            piece,
+            &mut self.answer,
+        );
+        Fed {
+            taken: outcome.taken,
+            answer: if outcome.answered {
+                Some(self.answer.as_slice())
+            } else {
+                None
+            },
+            close: outcome.close,
+        }
+    }
+
+    /// Ends a peer and its connections, and frees its place. One that is not held changes nothing.
+    pub fn end(&mut self, peer: Peer)
+        ensures { self.new ≡ after_call self.old (Call.Ends_peer peer) }
+    {
+        if let Some(index) = index_of(&self.places, peer.handle) {
+            let place = self.places.remove(index);
+            let mut reader = place.reader;
+            reader.clear();
+            self.free.push_reserved(reader);
+            self.shared.end_session(peer.handle);
+        }
+    }
+
+    /// A moment comes, in microseconds: the greatest so far counts, and connections whose deadline is at or before it
+    /// end.
+    pub fn tick(&mut self, now: u64)
+        ensures { self.new ≡ after_call self.old (Call.Ticks now) }
+    {
+        self.shared.advance(now);
+    }
+
+    /// The objects, as they are now.
+    pub fn objects(&self) -> &Objects
+        ensures { result.now ≡ self.now.state.shared.objects }
+    {
+        &self.shared.objects
+    }
+
+    /// How many places are free, of peers and of connections.
+    pub fn free(&self) -> (u16, u16)
+        ensures peers { result.0 ≡ self.now.state.places - length self.now.state.peers }
+        ensures connections { result.1
+            ≡ self.now.state.shared.manager.places - length self.now.state.shared.manager.connections }
+    {
+        (self.free.len() as u16, self.shared.manager.free())
+    }
+}
+
+/// Where the first peer with this handle is.
+fn index_of(places: &[Place], handle: u32) -> Option<usize>
+    ensures { result ≡ position (λ p. p.session.handle == handle) places.now }
+{
+    places
+        .iter()
+        .position(|place| place.session.handle == handle)
+}
+
+/// Feeds a piece to the peer with this handle.
+fn feed_places(
+    shared: &mut Shared,
+    places: &mut [Place],
+    handle: u32,
+    piece: &[u8],
+    answer: &mut Answer,
+) -> Outcome
+    ensures fed { (limit : ℕ) → IsFed limit shared.old places.old
+        (piece_at limit shared.old places.old handle piece.now) shared.new places.new result answer.new.items }
+    ensures within { result.taken ≤ length piece.now }
+{
+    match index_of(places, handle) {
+        Some(index) if !places[index].session.closed => places[index].feed(shared, piece, answer),
+        _ => Outcome::DROPPED,
+    }
+}

@@ -1,0 +1,83 @@
+//! What a whole frame does. (Volume 2, encapsulation commands.)
+
+mod items;
+mod lists;
+mod requests;
+mod sessions;
+
+ghost use Rattle.std.specs.Prelude.{◌≡◌, Some, true, false};
+ghost use Rattle.enip_wire.specs.Stream.{frame_of};
+ghost use Rattle.enip_adapter.specs.Commands.{command_served, long_refused};
+ghost use Rattle.enip_adapter.specs.Replies.{written};
+
+use crate::peer::Session;
+use crate::reply::{Answer, Reaction, Status, refuse};
+use crate::shared::Shared;
+use enip_wire::{FrameView, Header};
+use items::send_unit_data;
+use lists::{list_identity, list_interfaces, list_services};
+use requests::send_rr_data;
+use sessions::{register_session, unregister_session};
+
+const NOP: u16 = 0x0000;
+
+const LIST_SERVICES: u16 = 0x0004;
+
+const LIST_IDENTITY: u16 = 0x0063;
+
+const LIST_INTERFACES: u16 = 0x0064;
+
+const REGISTER_SESSION: u16 = 0x0065;
+
+const UNREGISTER_SESSION: u16 = 0x0066;
+
+const SEND_RR_DATA: u16 = 0x006f;
+
+const SEND_UNIT_DATA: u16 = 0x0070;
+
+/// Serves a whole frame.
+#[tactic(auto, unfolding(crate::specs::Commands::command_served))]
+pub(crate) fn serve(
+    shared: &mut Shared,
+    session: &mut Session,
+    frame: FrameView<'_>,
+    answer: &mut Answer,
+) -> Reaction
+    ensures session { session.new ≡ record session.old {
+      registered = (command_served shared.old session.old (frame_of frame.entry)).reaction.registered;
+    } }
+    ensures shared { shared.new ≡ (command_served shared.old session.old (frame_of frame.entry)).shared }
+    ensures answer { written result.answered answer.new.items
+        ≡ (command_served shared.old session.old (frame_of frame.entry)).reaction.answer }
+    ensures close { result.close ≡ (command_served shared.old session.old (frame_of frame.entry)).reaction.close }
+{
+    // options that are not 0: discarded; a status that is not 0: discarded (a frame; ours)
+    if frame.header.options != 0 || frame.header.status != 0 {
+        return Reaction::SILENT;
+    }
+    match frame.header.command {
+        NOP => return Reaction::SILENT,
+        LIST_SERVICES => list_services(&frame.header, answer),
+        LIST_IDENTITY => list_identity(shared, &frame.header, answer),
+        LIST_INTERFACES => list_interfaces(&frame.header, answer),
+        REGISTER_SESSION => register_session(session, frame, answer),
+        UNREGISTER_SESSION => return unregister_session(*session, &frame.header),
+        SEND_RR_DATA => send_rr_data(shared, *session, frame, answer),
+        SEND_UNIT_DATA => return send_unit_data(shared, *session, frame, answer),
+        // every other command is unsupported (ours)
+        _ => refuse(&frame.header, Status::UnsupportedCommand, answer),
+    }
+    Reaction::ANSWERED
+}
+
+/// Refuses a header whose length is too long, and closes the connection.
+pub(crate) fn refuse_long(header: &Header, answer: &mut Answer) -> Reaction
+    ensures answer { (session : Session) → written result.answered answer.new.items ≡ (long_refused session header.now).answer }
+    ensures close { result.close ≡ true }
+{
+    refuse(header, Status::InvalidLength, answer);
+    Reaction {
+        answered: true,
+        close: true,
+    }
+}

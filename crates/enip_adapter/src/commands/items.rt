@@ -1,0 +1,63 @@
+//! SendUnitData: items on connections.
+
+ghost use Rattle.std.specs.Prelude.{◌≡◌, ◌≤◌, length};
+ghost use Rattle.enip_wire.specs.Bodies.{unit_text};
+ghost use Rattle.enip_wire.specs.Stream.{frame_of};
+ghost use Rattle.enip_adapter.specs.Replies.{reply, written};
+ghost use Rattle.enip_adapter.specs.SendUnitData.{send_unit_data};
+ghost use Rattle.enip_adapter.specs.declared.reply.Status.TheVariants.{Success};
+
+use crate::peer::Session;
+use crate::reply::{Answer, LONGEST_ITEM, Reaction, Status, begin_reply};
+use crate::shared::Shared;
+use enip_wire::{FrameView, Header, unit_body, write_unit_body};
+
+/// The bytes of a packet in front of a connection's item: interface 4, timeout 2, count 2, connected address 8, type and
+/// length of the data item 4.
+const CONNECTED_HEAD: usize = 20;
+
+/// SendUnitData: no answer to another session, to a packet that is none, and where no connection answers (ours).
+pub(super) fn send_unit_data(
+    shared: &mut Shared,
+    session: Session,
+    frame: FrameView<'_>,
+    answer: &mut Answer,
+) -> Reaction
+    ensures shared { shared.new ≡ (send_unit_data shared.old session (frame_of frame.entry)).shared }
+    ensures answer { written result.answered answer.new.items
+        ≡ (send_unit_data shared.old session (frame_of frame.entry)).reaction.answer }
+    ensures close { result.close ≡ (send_unit_data shared.old session (frame_of frame.entry)).reaction.close }
+{
+    if !session.is_registered_as(frame.header.session) {
+        return Reaction::SILENT;
+    }
+    let Ok((id, item)) = unit_body(frame.body) else {
+        return Reaction::SILENT;
+    };
+    let moment = shared.moment;
+    match shared
+        .manager
+        .connected(moment, session.handle, id, item, &mut shared.objects)
+    {
+        Some(kept) => {
+            write_unit_reply(&frame.header, kept.id, kept.bytes, answer);
+            Reaction::ANSWERED
+        }
+        None => Reaction::SILENT,
+    }
+}
+
+/// Writes a whole SendUnitData that answers, with the T->O connection ID, and the count and reply that are held.
+fn write_unit_reply(asked: &Header, id: u32, kept: &[u8], answer: &mut Answer)
+    requires { length kept.now ≤ LONGEST_ITEM }
+    ensures { answer.new.items ≡ reply asked.now asked.now.session Success (unit_text id kept.now) }
+{
+    begin_reply(
+        asked,
+        asked.session,
+        Status::Success,
+        CONNECTED_HEAD + kept.len(),
+        answer,
+    );
+    let _ = write_unit_body(answer, id, kept);
+}

@@ -1,0 +1,107 @@
+//! ListServices, ListIdentity and ListInterfaces: answered with or without a session, whatever their data are.
+
+ghost use Rattle.std.specs.Prelude.{◌≡◌, ◌≤◌, ◌++◌};
+ghost use Rattle.arrayvec.specs.ArrayVec.{array_vec_len};
+ghost use Rattle.cip_bytes.specs.Numbers.{le};
+ghost use Rattle.enip_adapter.specs.ListIdentity.{identity_text, identity_bytes, socket_address};
+ghost use Rattle.enip_adapter.specs.ListInterfaces.{interfaces_text};
+ghost use Rattle.enip_adapter.specs.ListServices.{services_text};
+ghost use Rattle.enip_adapter.specs.Replies.{reply};
+ghost use Rattle.enip_adapter.specs.declared.reply.Status.TheVariants.{Success};
+
+use crate::reply::{Answer, Status, begin_reply, write_reply};
+use crate::shared::{Listen, Shared};
+use arrayvec::ArrayVec;
+use byteorder::{BigEndian, ByteOrder, LittleEndian};
+use cip_objects::Objects;
+use enip_wire::Header;
+
+/// The class of the Identity object. (Volume 1, class codes.)
+const IDENTITY: u16 = 0x01;
+
+/// The attributes that ListIdentity shows: vendor, device type, product code, revision, status, serial number, product
+/// name, state.
+static ATTRIBUTES: [u16; 8] = [1, 2, 3, 4, 5, 6, 7, 8];
+
+/// The bytes in front of an identity item: count 2, type 2, length 2.
+const IDENTITY_HEAD: usize = 6;
+
+/// The bytes of the protocol version 2 and of a socket address 16.
+const SOCKET_SIZE: usize = 18;
+
+/// The address family of the internet.
+const INTERNET_FAMILY: u16 = 2;
+
+/// The most bytes of an identity item: version and socket address, and eight attributes of at most 33 bytes each.
+const ITEM_SIZE: usize = SOCKET_SIZE + 8 * 33;
+
+/// An identity item, without its type and length.
+type Item = ArrayVec<u8, ITEM_SIZE>;
+
+/// The data of ListServices: one item of type 0x0100 and 20 bytes, version 1, capability flag 0x0020, a name.
+const SERVICES: [u8; 26] = *b"\x01\x00\x00\x01\x14\x00\x01\x00\x20\x00Communications\x00\x00";
+
+/// The data of ListInterfaces: no item.
+const INTERFACES: [u8; 2] = [0, 0];
+
+/// ListServices.
+pub(super) fn list_services(asked: &Header, answer: &mut Answer)
+    ensures { answer.new.items ≡ reply asked.now asked.now.session Success services_text }
+{
+    write_reply(asked, asked.session, Status::Success, &SERVICES, answer);
+}
+
+/// ListInterfaces.
+pub(super) fn list_interfaces(asked: &Header, answer: &mut Answer)
+    ensures { answer.new.items ≡ reply asked.now asked.now.session Success interfaces_text }
+{
+    write_reply(asked, asked.session, Status::Success, &INTERFACES, answer);
+}
+
+/// ListIdentity: protocol version 1, the socket address, and the attributes of the Identity object.
+pub(super) fn list_identity(shared: &Shared, asked: &Header, answer: &mut Answer)
+    ensures { answer.new.items
+        ≡ reply asked.now asked.now.session Success (identity_text shared.now.listen shared.now.objects) }
+{
+    let mut item = Item::new();
+    append_socket(shared.listen, &mut item);
+    append_identity(&shared.objects, &mut item);
+    begin_reply(
+        asked,
+        asked.session,
+        Status::Success,
+        IDENTITY_HEAD + item.len(),
+        answer,
+    );
+    let mut head = [1, 0, 0x0c, 0, 0, 0];
+    LittleEndian::write_u16(&mut head[4..6], item.len() as u16);
+    let _ = answer.try_extend_from_slice(&head);
+    let _ = answer.try_extend_from_slice(item.as_slice());
+}
+
+/// Appends the protocol version and the socket address, most significant byte first.
+fn append_socket(listen: Listen, item: &mut Item)
+    requires { array_vec_len item.old ≡ 0 }
+    ensures text { item.new.items ≡ le 2 1 ++ socket_address listen }
+    ensures size { array_vec_len item.new ≡ 18 }
+{
+    let mut text = [0; SOCKET_SIZE];
+    LittleEndian::write_u16(&mut text[0..2], 1);
+    BigEndian::write_u16(&mut text[2..4], INTERNET_FAMILY);
+    BigEndian::write_u16(&mut text[4..6], listen.port);
+    text[6..10].copy_from_slice(&listen.address);
+    let _ = item.try_extend_from_slice(&text);
+}
+
+/// Appends the attributes of the Identity object.
+fn append_identity(objects: &Objects, item: &mut Item)
+    requires { array_vec_len item.old ≡ 18 }
+    ensures text { item.new.items ≡ item.old.items ++ identity_bytes objects.now }
+    ensures size { array_vec_len item.new ≤ ITEM_SIZE }
+{
+    for attribute in &ATTRIBUTES {
+        if let Some(value) = objects.attribute(IDENTITY, 1, *attribute) {
+            let _ = item.try_extend_from_slice(value.as_slice());
+        }
+    }
+}

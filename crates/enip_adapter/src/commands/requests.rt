@@ -1,0 +1,123 @@
+//! SendRRData: unconnected requests.
+
+ghost use Rattle.std.specs.Prelude.{◌≡◌, ◌≤◌, length, Some};
+ghost use Rattle.enip_wire.specs.Bodies.{rr_text};
+ghost use Rattle.enip_wire.specs.Stream.{frame_of};
+ghost use Rattle.enip_adapter.specs.Replies.{reply};
+ghost use Rattle.enip_adapter.specs.SendRRData.{send_rr_data, routed, destination_of, manager_service, is_manager};
+ghost use Rattle.enip_adapter.specs.Destinations.{destination};
+ghost use Rattle.enip_adapter.specs.declared.reply.Status.TheVariants.{Success};
+
+use crate::peer::Session;
+use crate::reply::{Answer, Status, UNCONNECTED_ROOM, begin_reply, refuse};
+use crate::shared::Shared;
+use cip_message::{Path, RequestView, read_path};
+use cip_objects::{ReplyBuf, Router};
+use enip_wire::{FrameView, Header, rr_body, write_rr_body};
+
+/// The class of the Connection Manager. (Volume 1, class codes.)
+const CONNECTION_MANAGER: u16 = 0x06;
+
+const FORWARD_OPEN: u8 = 0x54;
+
+const FORWARD_CLOSE: u8 = 0x4e;
+
+/// The bytes of a packet in front of an unconnected request or reply: interface 4, timeout 2, count 2, null address 4,
+/// type and length of the data item 4.
+const UNCONNECTED_HEAD: usize = 16;
+
+/// Where a request goes.
+#[derive(Clone, Copy, Debug)]
+enum Destination<'a> {
+    /// To the Connection Manager, as the data of a Forward_Open.
+    Open(&'a [u8]),
+    /// To the Connection Manager, as the data of a Forward_Close.
+    Close(&'a [u8]),
+    /// To the objects.
+    Objects,
+}
+
+impl<'a> Destination<'a> {
+    /// Where these bytes go as a request.
+    fn of(request: &'a [u8]) -> Destination<'a>
+        ensures { destination result ≡ destination_of request.now }
+    {
+        let Ok(request) = RequestView::read(request) else {
+            return Destination::Objects;
+        };
+        match read_path(request.path) {
+            // class 0x06, instance 1 (objects)
+            Ok(path) if is_manager(path) => match request.service {
+                FORWARD_OPEN => Destination::Open(request.data),
+                FORWARD_CLOSE => Destination::Close(request.data),
+                _ => Destination::Objects,
+            },
+            _ => Destination::Objects,
+        }
+    }
+}
+
+/// Whether a path is that of the Connection Manager's one instance.
+fn is_manager(path: Path) -> bool
+    ensures { result ≡ is_manager path }
+{
+    path.class == CONNECTION_MANAGER && path.instance == 1
+}
+
+/// SendRRData.
+pub(super) fn send_rr_data(
+    shared: &mut Shared,
+    session: Session,
+    frame: FrameView<'_>,
+    answer: &mut Answer,
+)
+    ensures shared { shared.new ≡ (send_rr_data shared.old session (frame_of frame.entry)).shared }
+    ensures answer { Some answer.new.items ≡ (send_rr_data shared.old session (frame_of frame.entry)).reaction.answer }
+{
+    // this peer's registered session: 0x0064 (SendRRData)
+    if !session.is_registered_as(frame.header.session) {
+        return refuse(&frame.header, Status::InvalidSession, answer);
+    }
+    // a packet with a request of two bytes at least: 0x0003 (SendRRData)
+    match rr_body(frame.body) {
+        Ok(request) if request.len() >= 2 => {
+            let mut reply = ReplyBuf::new();
+            route(shared, session, request, &mut reply);
+            write_rr_reply(&frame.header, reply.as_slice(), answer);
+        }
+        _ => refuse(&frame.header, Status::PoorlyFormedData, answer),
+    }
+}
+
+/// Hands a request to the Connection Manager or to the objects, and leaves the reply in `reply`.
+fn route(shared: &mut Shared, session: Session, request: &[u8], reply: &mut ReplyBuf)
+    requires { 2 ≤ length request.now }
+    ensures shared { shared.new ≡ (routed shared.old session request.now).shared }
+    ensures reply { reply.new.items ≡ (routed shared.old session request.now).reply }
+    ensures fits { length reply.new.items ≤ UNCONNECTED_ROOM }
+{
+    match Destination::of(request) {
+        Destination::Open(data) => {
+            shared
+                .manager
+                .open(shared.moment, session.handle, data, reply);
+        }
+        Destination::Close(data) => shared.manager.close(session.handle, data, reply),
+        Destination::Objects => shared.objects.execute(request, UNCONNECTED_ROOM, reply),
+    }
+}
+
+/// Writes a whole reply to a SendRRData, with the reply of the router as its data item.
+fn write_rr_reply(asked: &Header, router_reply: &[u8], answer: &mut Answer)
+    requires { length router_reply.now ≤ UNCONNECTED_ROOM }
+    ensures { answer.new.items ≡ reply asked.now asked.now.session Success (rr_text router_reply.now) }
+{
+    begin_reply(
+        asked,
+        asked.session,
+        Status::Success,
+        UNCONNECTED_HEAD + router_reply.len(),
+        answer,
+    );
+    let _ = write_rr_body(answer, router_reply);
+}

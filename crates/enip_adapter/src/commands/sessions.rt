@@ -1,0 +1,81 @@
+//! RegisterSession and UnRegisterSession.
+
+ghost use Rattle.std.specs.Prelude.{◌≡◌, Some, false};
+ghost use Rattle.enip_wire.specs.Stream.{frame_of};
+ghost use Rattle.enip_adapter.specs.RegisterSession.{register_session, version_one};
+ghost use Rattle.enip_adapter.specs.Replies.{reply, is_registered_as};
+
+use crate::peer::Session;
+use crate::reply::{Answer, Reaction, Status, refuse, write_reply};
+use byteorder::{ByteOrder, LittleEndian};
+use enip_wire::{FrameView, Header};
+
+/// The bytes of version and flags.
+const REGISTER_DATA: usize = 4;
+
+/// The protocol version that is served.
+const PROTOCOL_VERSION: u16 = 1;
+
+/// RegisterSession: its data are the version 2 and the flags 2.
+pub(super) fn register_session(session: &mut Session, frame: FrameView<'_>, answer: &mut Answer)
+    ensures session { session.new ≡ record session.old {
+      registered = (register_session session.old (frame_of frame.entry)).registered;
+    } }
+    ensures answer { Some answer.new.items ≡ (register_session session.old (frame_of frame.entry)).answer }
+{
+    // four bytes of data: 0x0065 (RegisterSession)
+    if frame.body.len() != REGISTER_DATA {
+        return refuse(&frame.header, Status::InvalidLength, answer);
+    }
+    // one session a peer: 0x0001 (RegisterSession, ours)
+    if session.registered {
+        return refuse(&frame.header, Status::UnsupportedCommand, answer);
+    }
+    // version 1: 0x0069, with the version that is served (RegisterSession)
+    if LittleEndian::read_u16(&frame.body[0..2]) != PROTOCOL_VERSION {
+        return answer_version(
+            &frame.header,
+            frame.header.session,
+            Status::UnsupportedRevision,
+            answer,
+        );
+    }
+    // no flags: 0x0003 (RegisterSession, ours)
+    if LittleEndian::read_u16(&frame.body[2..4]) != 0 {
+        return refuse(&frame.header, Status::PoorlyFormedData, answer);
+    }
+    session.registered = true;
+    answer_version(&frame.header, session.handle, Status::Success, answer)
+}
+
+/// Answers with the version and flags that are served.
+fn answer_version(asked: &Header, session: u32, status: Status, answer: &mut Answer)
+    ensures { answer.new.items ≡ reply asked.now session status version_one }
+{
+    let mut version = [0; REGISTER_DATA];
+    LittleEndian::write_u16(&mut version[0..2], PROTOCOL_VERSION);
+    write_reply(asked, session, status, &version, answer)
+}
+
+impl Session {
+    ghost use Rattle.std.specs.Prelude.{◌≡◌};
+    ghost use Rattle.enip_adapter.specs.Replies.{is_registered_as};
+
+    /// Whether a frame with this session field comes from this session, and it is registered.
+    pub(super) fn is_registered_as(self, handle: u32) -> bool
+        ensures { result ≡ is_registered_as self handle }
+    {
+        self.registered && handle == self.handle
+    }
+}
+
+/// UnRegisterSession: no answer.
+pub(super) fn unregister_session(session: Session, header: &Header) -> Reaction
+    ensures { result ≡ record { answered = false; close = is_registered_as session header.now.session } }
+{
+    // this peer's registered session closes; another is dropped (UnRegisterSession; ours)
+    Reaction {
+        answered: false,
+        close: session.is_registered_as(header.session),
+    }
+}

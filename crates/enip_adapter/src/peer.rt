@@ -1,0 +1,105 @@
+//! A peer: its session, and what has come of its next frame.
+
+ghost use Rattle.std.specs.Prelude.{◌≡◌, ◌≤◌, length};
+ghost use Rattle.enip_wire.specs.Stream.{taken_of, joined_of, sight_of, cleared};
+ghost use Rattle.enip_adapter.specs.Turn.{shared_after, session_after};
+ghost use Rattle.enip_adapter.specs.Commands.{sight_served};
+ghost use Rattle.enip_adapter.specs.Replies.{written};
+
+use crate::commands::{refuse_long, serve};
+use crate::reply::{Answer, Reaction};
+use crate::shared::Shared;
+use enip_wire::{FrameReader, Held};
+use std::marker::Model;
+
+/// A peer that has begun, known by its session handle.
+#[derive(Clone, Copy, Debug)]
+pub struct Peer {
+    pub(crate) handle: u32,
+}
+
+impl Model for Peer {
+    ghost use Rattle.std.specs.Prelude.{ℕ};
+
+    ghost Value = { ℕ };
+
+    ghost view = { λ p. p.handle };
+
+    ghost inverse = { λ n. record { handle = n } };
+}
+
+/// What a peer is to the encapsulation.
+#[derive(Clone, Copy, Debug, PartialEq, Eq)]
+pub(crate) struct Session {
+    /// The session handle that it was given when it began.
+    pub(crate) handle: u32,
+    /// Whether it has registered.
+    pub(crate) registered: bool,
+    /// Whether its connection is closed.
+    pub(crate) closed: bool,
+}
+
+/// A place that a peer holds.
+#[derive(Drop)]
+pub(crate) struct Place {
+    pub(crate) session: Session,
+    pub(crate) reader: FrameReader,
+}
+
+/// What became of a piece.
+#[derive(Clone, Copy, Debug)]
+pub(crate) struct Outcome {
+    /// How many of its bytes were taken.
+    pub(crate) taken: usize,
+    /// Whether an answer was written.
+    pub(crate) answered: bool,
+    /// Whether the connection is closed.
+    pub(crate) close: bool,
+}
+
+impl Outcome {
+    /// Of a peer that is closed or not held: no byte is taken.
+    pub(crate) const DROPPED: Outcome = Outcome {
+        taken: 0,
+        answered: false,
+        close: true,
+    };
+}
+
+impl Place {
+    /// Takes bytes of a piece up to the end of one frame, and serves the frame.
+    pub(crate) fn feed(&mut self, shared: &mut Shared, piece: &[u8], answer: &mut Answer) -> Outcome
+        ensures session { self.new.session ≡ session_after self.old.session
+            (sight_served shared.old self.old.session (sight_of (joined_of self.old.reader piece.now))) }
+        ensures reader { self.new.reader
+            ≡ cleared (sight_of (joined_of self.old.reader piece.now)) (joined_of self.old.reader piece.now) }
+        ensures shared { shared.new ≡ shared_after self.old.session
+            (sight_served shared.old self.old.session (sight_of (joined_of self.old.reader piece.now))) }
+        ensures taken { result.taken ≡ taken_of self.old.reader piece.now }
+        ensures answer { written result.answered answer.new.items
+            ≡ (sight_served shared.old self.old.session (sight_of (joined_of self.old.reader piece.now))).reaction.answer }
+        ensures close { result.close
+            ≡ (sight_served shared.old self.old.session (sight_of (joined_of self.old.reader piece.now))).reaction.close }
+        ensures within { result.taken ≤ length piece.now }
+    {
+        let (taken, held) = self.reader.next(piece);
+        let reaction = match held {
+            Held::More => Reaction::SILENT,
+            Held::Frame(frame) => {
+                let reaction = serve(shared, &mut self.session, frame, answer);
+                self.reader.clear();
+                reaction
+            }
+            Held::TooLong(header) => refuse_long(&header, answer),
+        };
+        self.session.closed = reaction.close;
+        if reaction.close {
+            shared.end_session(self.session.handle);
+        }
+        Outcome {
+            taken,
+            answered: reaction.answered,
+            close: reaction.close,
+        }
+    }
+}
