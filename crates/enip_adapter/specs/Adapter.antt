@@ -29,27 +29,29 @@ abbrev pub held_in : Place → Held
 held_in place = record { peer = place.session.handle; bytes = place.reader }
 
 -- What the adapter is, by its fields.
-abbrev pub state_in : ℕ → Shared → List Place → State
-state_in places shared peers = record { places = places; shared = shared; peers = map session_in peers }
+abbrev pub state_in : ℕ → ℕ → Shared → List Place → State
+state_in places next_handle shared peers =
+    record { places = places; next_handle = next_handle; shared = shared; peers = map session_in peers }
 
-abbrev pub adapter_in : ℕ → Shared → List Place → AdapterState
-adapter_in places shared peers = record { state = state_in places shared peers; held = map held_in peers }
+abbrev pub adapter_in : ℕ → ℕ → Shared → List Place → AdapterState
+adapter_in places next_handle shared peers =
+    record { state = state_in places next_handle shared peers; held = map held_in peers }
 
 -- An adapter with no peer and no connection.
 abbrev pub new_shared : Contents → Listen → Limits → Shared
 new_shared objects listen limits = record {
   listen = listen;
   moment = 0;
-  next_handle = limits.first_handle;
   manager = no_connection limits.connections limits.first_id objects.device;
   objects = objects;
 }
 
 abbrev pub new_adapter : Contents → Listen → Limits → AdapterState
-new_adapter objects listen limits = adapter_in limits.peers (new_shared objects listen limits) []
+new_adapter objects listen limits = adapter_in limits.peers limits.first_handle (new_shared objects listen limits) []
 
 -- Each place is taken or free, a free reader holds no byte, and there is room for all on either side.
 pub record IsRoomy (places next_handle : ℕ) (peers : Vec Place) (free : Vec (List ℕ)) : Type 0 where
+  pub few : places ≤ 16
   pub handles : next_handle ≤ 2 ^ 32
   pub for_peers : places ≤ vec_capacity peers
   pub for_free : places ≤ vec_capacity free

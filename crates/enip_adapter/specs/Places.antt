@@ -9,13 +9,13 @@ use Rattle.enip_adapter.specs.Replies.{written}
 use Rattle.enip_adapter.specs.Turn.{Answer, session_of, sent}
 
 -- What is shared, the places, the outcome and the buffer after a piece for a peer are these.
-pub record IsFed (limit : ℕ) (shared : Shared) (places : List Place) (m : Meaning) (left : Shared) (kept : List Place) (outcome : Outcome) (bytes : List ℕ) : Type 0 where
-  pub adapter : adapter_in limit left kept ≡ after_meaning (state_in limit shared places) m
+pub record IsFed (limit next_handle : ℕ) (shared : Shared) (places : List Place) (m : Meaning) (left : Shared) (kept : List Place) (outcome : Outcome) (bytes : List ℕ) : Type 0 where
+  pub adapter : adapter_in limit next_handle left kept ≡ after_meaning (state_in limit next_handle shared places) m
   pub taken : outcome.taken ≡ m.taken
   pub answer : ◌≡◌ {A = Answer} (record { said = sent (written outcome.answered bytes); close = outcome.close })
-      (answer_of (state_in limit shared places) m)
+      (answer_of (state_in limit next_handle shared places) m)
 
 -- What a piece for a peer means.
-abbrev pub piece_at : ℕ → Shared → List Place → ℕ → List ℕ → Meaning
-piece_at limit shared places peer piece =
-    piece_to (map held_in places) peer piece (session_of (state_in limit shared places) peer)
+abbrev pub piece_at : ℕ → ℕ → Shared → List Place → ℕ → List ℕ → Meaning
+piece_at limit next_handle shared places peer piece =
+    piece_to (map held_in places) peer piece (session_of (state_in limit next_handle shared places) peer)

@@ -63,15 +63,17 @@ listen_code =
 
 abbrev pub shared_code : Coded Shared
 shared_code =
-    code_by (Listen × (ℕ × (ℕ × (ManagerState × Contents))))
-    (coded× listen_code (coded× coded_ℕ (coded× coded_ℕ (coded× manager_code contents_code))))
-    (λ s. (s.listen, (s.moment, (s.next_handle, (s.manager, s.objects)))))
-    (λ p. record { listen = p.0; moment = p.1.0; next_handle = p.1.1.0; manager = p.1.1.1.0; objects = p.1.1.1.1 }) (λ _. refl)
+    code_by (Listen × (ℕ × (ManagerState × Contents)))
+    (coded× listen_code (coded× coded_ℕ (coded× manager_code contents_code)))
+    (λ s. (s.listen, (s.moment, (s.manager, s.objects))))
+    (λ p. record { listen = p.0; moment = p.1.0; manager = p.1.1.0; objects = p.1.1.1 }) (λ _. refl)
 
 abbrev pub state_code : Coded State
 state_code =
-    code_by (ℕ × (Shared × List Session)) (coded× coded_ℕ (coded× shared_code (coded_list session_code)))
-    (λ s. (s.places, (s.shared, s.peers))) (λ p. record { places = p.0; shared = p.1.0; peers = p.1.1 }) (λ _. refl)
+    code_by (ℕ × (ℕ × (Shared × List Session)))
+    (coded× coded_ℕ (coded× coded_ℕ (coded× shared_code (coded_list session_code))))
+    (λ s. (s.places, (s.next_handle, (s.shared, s.peers))))
+    (λ p. record { places = p.0; next_handle = p.1.0; shared = p.1.1.0; peers = p.1.1.1 }) (λ _. refl)
 
 abbrev pub held_code : Coded Held
 held_code =

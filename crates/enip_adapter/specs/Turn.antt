@@ -11,9 +11,11 @@ use Rattle.enip_adapter.specs.Commands.{command_served, long_refused}
 use Rattle.enip_adapter.specs.Lookup.{first_with, with_first, without_first}
 use Rattle.enip_adapter.specs.Replies.{Served, leaving}
 
--- What all peers share, how many peers there are places for, and the peers in the order in which they began.
+-- How many peers there are places for, the next session handle, what all peers share, and the peers in the order in
+-- which they began.
 pub record State : Type 0 where
   pub places : ℕ
+  pub next_handle : ℕ
   pub shared : Shared
   pub peers : List Session
 
@@ -56,16 +58,16 @@ new_session handle = record { handle = handle; registered = false; closed = fals
 -- The next session handle is drawn.
 abbrev pub with_peer : State → State
 with_peer s = record s {
-  shared = record s.shared { next_handle = s.shared.next_handle + 1 };
-  peers = s.peers ++ new_session s.shared.next_handle ∷ [];
+  next_handle = s.next_handle + 1;
+  peers = s.peers ++ new_session s.next_handle ∷ [];
 }
 
 -- A connection of TCP begins. Places are looked at before handles (ours). A handle is not used again.
 abbrev pub begun : State → Turned
 begun s =
     if not (nat_lt (length s.peers) s.places) then turned s (Refuses Places) false
-    else if nat_lt 0xffffffff s.shared.next_handle then turned s (Refuses Handles) false
-    else turned (with_peer s) (Begins s.shared.next_handle) false
+    else if nat_lt 0xffffffff s.next_handle then turned s (Refuses Handles) false
+    else turned (with_peer s) (Begins s.next_handle) false
 
 -- The connections that a session opened end with it.
 abbrev pub without_connections : Shared → ℕ → Shared

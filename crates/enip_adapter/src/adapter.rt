@@ -65,6 +65,8 @@ pub struct Fed<'a> {
 #[derive(Drop)]
 pub struct Adapter {
     limit: u16,
+    // Past the greatest handle once that was drawn.
+    next_handle: u64,
     shared: Shared,
     places: Vec<Place>,
     free: Vec<FrameReader>,
@@ -81,9 +83,9 @@ impl Model for Adapter {
 
     ghost use Rattle.enip_adapter.specs.Adapter.{adapter_in, IsRoomy};
 
-    ghost view = { λ a. adapter_in a.limit a.shared a.places.items };
+    ghost view = { λ a. adapter_in a.limit a.next_handle a.shared a.places.items };
 
-    ghost invariant = { λ a. IsRoomy a.limit a.shared.next_handle a.places a.free };
+    ghost invariant = { λ a. IsRoomy a.limit a.next_handle a.places a.free };
 }
 
 impl Adapter {
@@ -118,10 +120,10 @@ impl Adapter {
         let manager = Manager::new(alloc, limits.connections, limits.first_id, objects.device())?;
         Ok(Adapter {
             limit: limits.peers,
+            next_handle: u64::from(limits.first_handle),
             shared: Shared {
                 listen,
                 moment: 0,
-                next_handle: u64::from(limits.first_handle),
                 manager,
                 objects,
             },
@@ -145,11 +147,11 @@ impl Adapter {
             return Err(Full::Places);
         };
         // a handle is not used again (RegisterSession)
-        let Ok(handle) = u32::try_from(self.shared.next_handle) else {
+        let Ok(handle) = u32::try_from(self.next_handle) else {
             self.free.push_reserved(reader);
             return Err(Full::Handles);
         };
-        self.shared.next_handle += 1;
+        self.next_handle += 1;
         let session = Session {
             handle,
             registered: false,
@@ -246,8 +248,8 @@ fn feed_places(
     piece: &[u8],
     answer: &mut Answer,
 ) -> Outcome
-    ensures fed { (limit : ℕ) → IsFed limit shared.old places.old
-        (piece_at limit shared.old places.old handle piece.now) shared.new places.new result answer.new.items }
+    ensures fed { (limit next_handle : ℕ) → IsFed limit next_handle shared.old places.old
+        (piece_at limit next_handle shared.old places.old handle piece.now) shared.new places.new result answer.new.items }
     ensures within { result.taken ≤ length piece.now }
 {
     match index_of(places, handle) {

@@ -5,10 +5,11 @@ mod lists;
 mod requests;
 mod sessions;
 
-ghost use Rattle.std.specs.Prelude.{◌≡◌, Some, true, false};
+ghost use Rattle.std.specs.Prelude.{◌≡◌, [], true};
 ghost use Rattle.enip_wire.specs.Stream.{frame_of};
-ghost use Rattle.enip_adapter.specs.Commands.{command_served, long_refused};
-ghost use Rattle.enip_adapter.specs.Replies.{written};
+ghost use Rattle.enip_adapter.specs.Commands.{command_served};
+ghost use Rattle.enip_adapter.specs.Replies.{reply, written};
+ghost use Rattle.enip_adapter.specs.declared.reply.Status.TheVariants.{InvalidLength};
 
 use crate::peer::Session;
 use crate::reply::{Answer, Reaction, Status, refuse};
@@ -72,8 +73,8 @@ pub(crate) fn serve(
 
 /// Refuses a header whose length is too long, and closes the connection.
 pub(crate) fn refuse_long(header: &Header, answer: &mut Answer) -> Reaction
-    ensures answer { (session : Session) → written result.answered answer.new.items ≡ (long_refused session header.now).answer }
-    ensures close { result.close ≡ true }
+    ensures reaction { result ≡ record { answered = true; close = true } }
+    ensures answer { answer.new.items ≡ reply header.now header.now.session InvalidLength [] }
 {
     refuse(header, Status::InvalidLength, answer);
     Reaction {

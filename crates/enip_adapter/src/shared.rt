@@ -21,8 +21,6 @@ pub(crate) struct Shared {
     pub(crate) listen: Listen,
     /// The greatest moment so far, in microseconds.
     pub(crate) moment: u64,
-    /// The next session handle: past the greatest once that was drawn.
-    pub(crate) next_handle: u64,
     pub(crate) manager: Manager,
     pub(crate) objects: Objects,
 }

@@ -1,0 +1,4 @@
+pub mod LookupLemmas
+pub mod MapLemmas
+pub mod FeedLemmas
+pub mod CallLemmas
