@@ -19,6 +19,11 @@ pub AreBytes-second : (a b : List ℕ) → AreBytes (a ++ b) → AreBytes b
 AreBytes-second [] b h = h
 AreBytes-second (x ∷ a) b h = AreBytes-second a b (AreBytes-tail x (a ++ b) h)
 
+pub AreBytes-append : (xs ys : List ℕ) → AreBytes xs → AreBytes ys → AreBytes (xs ++ ys)
+AreBytes-append [] ys f g i = g i
+AreBytes-append (x ∷ xs) ys f g zero = f zero
+AreBytes-append (x ∷ xs) ys f g (suc i) = AreBytes-append xs ys (λ k. f (suc k)) g i
+
 pub AreBytes-take : (n : ℕ) (b : List ℕ) → AreBytes b → AreBytes (take n b)
 AreBytes-take n b h i =
     elim (cases_lt i n) [

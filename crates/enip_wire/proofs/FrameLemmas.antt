@@ -1,5 +1,5 @@
 -- Whole frames and too long headers by their numbers.
-use Rattle.std.proofs.Common.{◌≡◌, ℕ, zero, suc, ◌+◌, ◌^◌, ◌<◌, ◌≤◌, inl, inr, List, [], ◌∷◌, ◌++◌, length, take, drop, refl, sym, ap, ◌∙◌, arith, append_assoc, length-append, length-take, length-drop}
+use Rattle.std.proofs.Common.{◌≡◌, ℕ, suc, ◌+◌, ◌^◌, ◌<◌, ◌≤◌, inl, inr, List, ◌++◌, length, take, drop, refl, sym, ap, ◌∙◌, arith, append_assoc, length-append, length-take, length-drop}
 use Rattle.std.proofs.Math.Seq.{take-append_seam}
 use Rattle.std.proofs.lemmas.Bool.{cases_lt}
 use Rattle.std.proofs.lemmas.Bool.Decides.{nat_tests}
@@ -117,11 +117,6 @@ not_before bytes m short before (inr over) =
     let e : end_after (number_at 2 2 bytes) ≡ 24
     = end_after-over (number_at 2 2 bytes) (omega (arith, over.over)) in
     omega arith
-
-pub AreBytes-append : (xs ys : List ℕ) → AreBytes xs → AreBytes ys → AreBytes (xs ++ ys)
-AreBytes-append [] ys f g i = g i
-AreBytes-append (x ∷ xs) ys f g zero = f zero
-AreBytes-append (x ∷ xs) ys f g (suc i) = AreBytes-append xs ys (λ k. f (suc k)) g i
 
 -- what begins so stops at the end
 pub stops_at : (bytes : List ℕ) (m : ℕ) → AreBytes bytes → 24 ≤ length bytes → m ≡ end_after (number_at 2 2 bytes)

@@ -9,9 +9,9 @@ use Rattle.enip_wire.specs.declared.packet.CpfFault.{CpfFault}
 use Rattle.enip_wire.specs.declared.packet.CpfFault.TheVariants.{Short, Trailing, Interface, Address, Data}
 use Rattle.cip_bytes.specs.Numbers.{le, number_at, AreBytes}
 use Rattle.enip_wire.specs.Items.{Item, item, items, IsItem, AreItems, IsShort, IsTrailing, item_at, size_at, first_items, after, whole, items_of}
-use Rattle.cip_bytes.proofs.Bytes.{AreBytes-drop, cells, drop-cells, le-number_at_2, of_two}
+use Rattle.cip_bytes.proofs.Bytes.{AreBytes-drop, cells, drop-cells, le-number_at_2, of_two, AreBytes-append}
 use Rattle.cip_bytes.proofs.Joined.{same_front}
-use Rattle.enip_wire.proofs.FrameLemmas.{number-two, number_at-append, AreBytes-append}
+use Rattle.enip_wire.proofs.FrameLemmas.{number-two, number_at-append}
 
 pub same_item : {k m : ℕ} {b c : List ℕ} → k ≡ m → b ≡ c
     → ◌≡◌ {A = Item} (record { kind = k; bytes = b }) (record { kind = m; bytes = c })

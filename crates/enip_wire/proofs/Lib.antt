@@ -2,6 +2,7 @@ pub mod HeaderLemmas
 pub mod FrameLemmas
 pub mod TakeLemmas
 pub mod SeeLemmas
+pub mod NextLemmas
 pub mod StreamLemmas
 pub mod PieceLemmas
 pub mod ItemLemmas

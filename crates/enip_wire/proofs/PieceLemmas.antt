@@ -5,7 +5,7 @@ use Rattle.std.proofs.lemmas.Bool.Decides.{nat_tests}
 use Rattle.std.proofs.lemmas.List.{take_all, drop_at}
 use Rattle.std.specs.List.{AllByRecursion, concat}
 use Rattle.cip_bytes.specs.Numbers.{number_at, AreBytes}
-use Rattle.cip_bytes.proofs.Bytes.{AreBytes-drop}
+use Rattle.cip_bytes.proofs.Bytes.{AreBytes-drop, AreBytes-append}
 use Rattle.enip_wire.specs.Headers.{header_spelling, header_at}
 use Rattle.enip_wire.specs.Frames.{Frame, frame, IsFrame, Stops, end_after}
 use Rattle.enip_wire.specs.Stream.{Cut, IsFresh, Takes, taken_of, sight_of}
@@ -13,7 +13,7 @@ use Rattle.enip_wire.specs.Stream.Sight.{A_frame}
 use Rattle.enip_wire.specs.Pieces.{Reads}
 use Rattle.enip_wire.specs.Pieces.Reads.{Ended, Waited, Showed, Stayed}
 use Rattle.enip_wire.proofs.HeaderLemmas.{header_at-header_spelling, length-header_spelling}
-use Rattle.enip_wire.proofs.FrameLemmas.{number_at-frame, length-frame, end_after-within, not_before, stops_at, AreBytes-append}
+use Rattle.enip_wire.proofs.FrameLemmas.{number_at-frame, length-frame, end_after-within, not_before, stops_at}
 use Rattle.enip_wire.proofs.SeeLemmas.{same_frame, sight_of-frame}
 use Rattle.enip_wire.proofs.TakeLemmas.{stops-header, front, Takes-short, Takes-count, IsFresh-end-append, IsFresh-after}
 use Rattle.enip_wire.proofs.StreamLemmas.{any_pieces_lem, not_empty}

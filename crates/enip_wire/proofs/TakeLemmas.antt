@@ -6,7 +6,8 @@ use Rattle.std.proofs.lemmas.List.{take-append-le, take-take}
 use Rattle.cip_bytes.specs.Numbers.{number_at, AreBytes}
 use Rattle.enip_wire.specs.Frames.{Stops, end_after}
 use Rattle.enip_wire.specs.Stream.{IsFresh, Takes}
-use Rattle.enip_wire.proofs.FrameLemmas.{end_after-most, number_at-append, end_after-least, not_before, stops_at, Sized, Sized-whole, AreBytes-append}
+use Rattle.cip_bytes.proofs.Bytes.{AreBytes-append}
+use Rattle.enip_wire.proofs.FrameLemmas.{end_after-most, number_at-append, end_after-least, not_before, stops_at, Sized, Sized-whole}
 
 pub stops-header : (bytes : List ℕ) → Stops bytes → 24 ≤ length bytes
 stops-header bytes (inl whole) = let s : Sized bytes = Sized-whole bytes whole in s.header

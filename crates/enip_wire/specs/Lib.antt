@@ -4,3 +4,5 @@ pub mod Stream
 pub mod Pieces
 pub mod Items
 pub mod Bodies
+pub mod Devices
+pub mod MemoryDevices

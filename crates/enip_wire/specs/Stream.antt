@@ -1,4 +1,4 @@
-use Rattle.std.specs.Prelude.{if◌then◌else◌, nat_lt, ◌==◌, ◌+◌, ◌-◌, min, ℕ, List, ◌≡◌, ◌<◌, ◌≤◌, ◌++◌, ◌⊎◌, length, take, drop}
+use Rattle.std.specs.Prelude.{if◌then◌else◌, nat_lt, ◌==◌, ◌+◌, ◌-◌, min, ℕ, List, [], ◌∷◌, ◌≡◌, ◌<◌, ◌≤◌, ◌++◌, ◌⊎◌, length, take, drop}
 use Rattle.std.specs.List.{flat_map, AllByRecursion}
 use Rattle.enip_wire.specs.declared.reader.FrameView.{FrameView}
 use Rattle.enip_wire.specs.declared.reader.Held.{Held}
@@ -67,3 +67,25 @@ abbrev pub sight : Held → Sight
 sight More = Nothing_yet
 sight (Whole view) = A_frame (frame_of view)
 sight (TooLong header) = A_long_header header
+
+-- What is held of these bytes after a sight of them: all, but nothing of a frame that came whole while no
+-- byte was held, since it is lent from where it came.
+abbrev pub left_after : List ℕ → List ℕ → Sight → List ℕ
+left_after held bytes Nothing_yet = bytes
+left_after held bytes (A_long_header h) = bytes
+left_after [] bytes (A_frame f) = []
+left_after (x ∷ xs) bytes (A_frame f) = bytes
+
+-- What is held joined with what is taken of a piece.
+abbrev pub joined_of : List ℕ → List ℕ → List ℕ
+joined_of held piece = held ++ take (taken_of held piece) piece
+
+-- What a reader of these bytes holds after a piece that may be read in place.
+abbrev pub left_of : List ℕ → List ℕ → List ℕ
+left_of held piece = left_after held (joined_of held piece) (sight_of (joined_of held piece))
+
+-- What is held of these bytes once a frame that was shown is cleared.
+abbrev pub cleared : Sight → List ℕ → List ℕ
+cleared Nothing_yet bytes = bytes
+cleared (A_frame f) bytes = []
+cleared (A_long_header h) bytes = bytes

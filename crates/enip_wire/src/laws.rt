@@ -5,7 +5,7 @@ ghost use Rattle.std.specs.Prelude.{ℕ, List, [], ◌≡◌, ◌<◌, ◌^◌, 
 ghost use Rattle.std.specs.List.{concat, AllByRecursion};
 ghost use Rattle.cip_bytes.specs.Numbers.{AreBytes};
 ghost use Rattle.enip_wire.specs.Frames.{Frame, frame, IsFrame};
-ghost use Rattle.enip_wire.specs.Stream.{Cut, Takes, taken_of, sight_of, A_frame};
+ghost use Rattle.enip_wire.specs.Stream.{Cut, Takes, taken_of, sight_of, A_frame, joined_of, left_of, cleared};
 ghost use Rattle.enip_wire.specs.Pieces.{Reads};
 ghost use Rattle.enip_wire.specs.Items.{Item, items, AreItems, items_of};
 ghost use Rattle.enip_wire.specs.Bodies.{IsRrBody, IsUnitBody, rr_text, unit_text, rr_body_of, unit_body_of};
@@ -44,6 +44,13 @@ pub fn one_number()
 pub fn any_pieces()
     ensures { (pieces : List (List ℕ)) (frames : List Frame) (rest : List ℕ) → Reads [] pieces frames rest
         → Cut (concat pieces) frames rest }
+{}
+
+/// Once a frame that was shown is cleared, a reader of frames in place holds what push, state and clear leave. As it
+/// takes and shows what they take and show, it reads any pieces as they do.
+pub fn in_place_as_gathered()
+    ensures { (held piece : List ℕ) → cleared (sight_of (joined_of held piece)) (left_of held piece)
+        ≡ cleared (sight_of (joined_of held piece)) (joined_of held piece) }
 {}
 
 /// Every list of pieces of bytes is read: repeated push, state and clear come to an end of it.

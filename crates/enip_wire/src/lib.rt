@@ -3,7 +3,8 @@
 //!
 //! [`FrameReader`] gathers one frame at a time from the pieces of a stream; [`Header`] is the 24 bytes in front of
 //! a frame's data. [`cpf_items`], [`rr_body`] and [`unit_body`] read such data and lend what they find;
-//! [`write_items`], [`write_rr_body`] and [`write_unit_body`] append them.
+//! [`write_items`], [`write_rr_body`] and [`write_unit_body`] append them. [`Source`] and [`Sink`] are where bytes come
+//! from and go to, [`MemorySource`] and [`MemorySink`] those over memory.
 //!
 //! Each reader answers exactly the value that the bytes spell, or the first fault. Each writer appends exactly one
 //! spelling to a buffer of fixed capacity, or changes nothing. Only `FrameReader::new` takes memory.
@@ -12,6 +13,9 @@
 //! function `read_..`, whose one clause is the equation that the public clauses follow from.
 #![tactic(auto)]
 
+mod device;
+#[cfg(test)]
+mod device_tests;
 mod header;
 #[cfg(test)]
 mod header_tests;
@@ -24,6 +28,7 @@ mod reader;
 mod reader_tests;
 
 pub use cip_bytes::Full;
+pub use device::{Failed, MemorySink, MemorySource, Sink, Source, write_all};
 pub use header::Header;
 pub use packet::{
     CpfFault, ItemView, Items, cpf_items, rr_body, unit_body, write_items, write_rr_body,

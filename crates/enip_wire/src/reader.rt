@@ -9,7 +9,9 @@
 ghost use Rattle.std.specs.Prelude.{◌≡◌, ◌≤◌, ◌<◌, ◌^◌, ◌+◌, ◌++◌, [], take, length, IfOk, slice_index};
 ghost use Rattle.cip_bytes.specs.Numbers.{number_at, AreBytes};
 ghost use Rattle.enip_wire.specs.Frames.{end_after as end_after_length};
-ghost use Rattle.enip_wire.specs.Stream.{IsFresh, Takes, taken_of, Shows, sight, sight_of};
+ghost use Rattle.enip_wire.specs.Stream.{IsFresh, Takes, taken_of, Shows, sight, sight_of, left_of};
+ghost use Rattle.std.specs.Borrow.{sem};
+ghost use Rattle.std.specs.Io.BufRead.{Rests};
 
 use crate::header::Header;
 use byteorder::{ByteOrder, LittleEndian};
@@ -62,6 +64,8 @@ impl Model for FrameReader {
 }
 
 impl FrameReader {
+    ghost use Rattle.enip_wire.specs.contracts.reader.FrameReader.{the_row};
+
     /// A reader that holds no byte. Its 65,535 bytes are reserved here: no later call allocates.
     ///
     /// # Errors
@@ -96,6 +100,30 @@ impl FrameReader {
         ensures bound { length self.now ≤ 65535 }
     {
         see(&self.buffer[..self.len])
+    }
+
+    /// Takes the bytes of the piece that `push` takes, and shows what `state` then shows.
+    ///
+    /// Where no byte is held and the piece begins with a whole frame, that frame is lent from the piece itself, and
+    /// no byte is held afterwards. Else what was taken is held until `clear`, as after `push`.
+    ///
+    /// Who calls `clear` after each frame holds the same bytes as with `push`, `state` and `clear`.
+    pub fn next<'a>(&'a mut self, piece: &'a [u8]) -> (usize, Held<'a>)
+        ensures* after { sem 𝓛 (Rests the_row self.entry (λ last. last ≡ left_of self.old piece.now)) }
+        ensures taken { Takes self.old piece.now result.0 }
+        ensures number { result.0 ≡ taken_of self.old piece.now }
+        ensures shown { Shows (self.old ++ take result.0 piece.now) result.1 }
+        ensures kind { sight result.1 ≡ sight_of (self.old ++ take result.0 piece.now) }
+        ensures bound { length self.old + result.0 ≤ 65535 }
+    {
+        if self.len == 0 {
+            let taken = count(&[], piece);
+            if let Held::Frame(frame) = see(&piece[..taken]) {
+                return (taken, Held::Frame(frame));
+            }
+        }
+        let taken = self.push(piece);
+        (taken, self.state())
     }
 
     /// Drops what is held.

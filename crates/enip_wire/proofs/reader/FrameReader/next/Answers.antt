@@ -1,0 +1,54 @@
+use Rattle.std.proofs.Common.{◌≡◌, ◌≤◌, ◌++◌, [], length, take, refl, sym, ap, subst, ◌∙◌, arith, length-append, length-take}
+use Rattle.enip_wire.specs.Stream.{taken_of, Shows, sight_of, left_after}
+use Rattle.enip_wire.proofs.NextLemmas.{no_frame, some_held, left_of-pushed}
+use Rattle.enip_wire.proofs.reader.FrameReader.next.Goals as goal
+use Rattle.enip_wire.proofs.reader.FrameReader.next.Goals.{then-self-eq0+in_default, else-self-eq0}
+
+-- what push leaves is kept: it is no frame, or a byte was held before
+kept : (c : goal.After-state)
+    → left_after c.args.self.now c.push-taken.new.self (sight_of c.push-taken.new.self) ≡ c.push-taken.new.self
+kept c =
+    elim c.if-self-eq0.branch [
+      | then-self-eq0+in_default w ↦
+          let empty : c.args.self.now ≡ [] = sym c.self.view_is ∙ ap (λ n. take n c.self.inside.buffer.items) w.if-self-eq0.true in
+          let bytes : c.push-taken.new.self ≡ take w.count-taken.result c.args.piece.now
+          = c.push-taken.ensures.held ∙ ap (λ h. h ++ take c.push-taken.result c.args.piece.now) empty
+          ∙ ap (λ n. take n c.args.piece.now) (c.push-taken.ensures.number ∙ ap (λ h. taken_of h c.args.piece.now) empty ∙ sym w.count-taken.ensures.number) in
+          ap (left_after c.args.self.now c.push-taken.new.self) (ap sight_of bytes ∙ sym w.see.ensures.kind)
+          ∙ no_frame c.args.self.now c.push-taken.new.self w.see.result w.in_default.not-Frame
+      | else-self-eq0 w ↦
+          some_held c.args.self.now c.push-taken.new.self (sight_of c.push-taken.new.self) (
+          λ empty.
+          let none : length (take c.self.inside.len c.self.inside.buffer.items) ≡ 0 = ap length (c.self.view_is ∙ empty) in
+          let some : c.self.inside.len ≡ 0 → ⊥ = w.if-self-eq0.false in
+          let size : length c.self.inside.buffer.items ≡ 65535 = sym c.self.inside.buffer.ok.0 ∙ c.self.invariant.0 in
+          let within : c.self.inside.len ≤ 65535 = c.self.invariant.1 in
+          omega (arith, length-take c.self.inside.len c.self.inside.buffer.items)
+          )
+    ]
+
+pub returns : goal.returns
+returns c = (
+  (
+    refl,
+    (λ _. tt),
+    left_of-pushed c.args.self.now c.args.piece.now c.push-taken.new.self c.push-taken.result c.push-taken.ensures.number c.push-taken.ensures.held (kept c),
+  ),
+  record {
+    after = tt;
+    taken = c.push-taken.ensures.taken;
+    number = c.push-taken.ensures.number;
+    shown = subst (λ bytes. Shows bytes c.state.result) c.push-taken.ensures.held c.state.ensures.shown;
+    kind = c.state.ensures.kind ∙ ap sight_of c.push-taken.ensures.held;
+    bound =
+        let size : length c.push-taken.new.self ≡ length (c.args.self.now ++ take c.push-taken.result c.args.piece.now)
+        = ap length c.push-taken.ensures.held in
+        omega (
+          arith,
+          c.push-taken.ensures.bound,
+          c.push-taken.ensures.taken.within,
+          length-append c.args.self.now (take c.push-taken.result c.args.piece.now),
+          length-take c.push-taken.result c.args.piece.now,
+        );
+  },
+)

@@ -1,0 +1,106 @@
+//! Devices: where bytes come from and where they go, told by a contract and not by what they are.
+//!
+//! A device counts its reads and its failures, so that whoever calls it can answer a fault only where it failed. Its
+//! bytes are told where they are known: those of [`MemorySource`] and [`MemorySink`] are, those of a socket are not.
+
+mod calls;
+mod memory_sink;
+mod memory_source;
+
+ghost use Rattle.std.specs.Prelude.{ℕ, List, Option, ◌≡◌, ◌+◌, ◌<◌, ◌≤◌, length, take, IfOk, MatchResult};
+ghost use Rattle.std.specs.Io.KnownBytes.{Appends, ReadConsumes, WriteAppends};
+ghost use Rattle.enip_wire.specs.Devices.{failures_in, moved};
+
+pub use memory_sink::MemorySink;
+pub use memory_source::MemorySource;
+use thiserror::Error;
+
+/// A call of a device failed.
+#[derive(Clone, Copy, Debug, PartialEq, Eq, Drop, Error)]
+#[error("the device failed")]
+pub struct Failed;
+
+/// Where bytes come from.
+pub trait Source {
+    // The bytes that are left to read, where the source tells them.
+    ghost left: { Self → Option (List ℕ) };
+
+    // The microsecond at which the last read that gave a byte returned, as the source names it.
+    ghost moment: { Self → ℕ };
+
+    // How many reads were made, and how many calls failed.
+    ghost reads: { Self → ℕ };
+
+    ghost failures: { Self → ℕ };
+
+    /// Reads bytes to the front of a slice, and answers how many. For a slice that is not empty 0 is the end.
+    ///
+    /// # Errors
+    ///
+    /// `Failed` where the device failed. No byte was read then.
+    fn read(&mut self, into: &mut [u8]) -> Result<usize, Failed>
+        requires reads_left { reads self.old < u64.MAX }
+        requires failures_left { failures self.old < u64.MAX }
+        ensures count { IfOk result (λ n. n ≤ length into.new) }
+        ensures bytes { ReadConsumes (left self.old) (left self.new) result into.new }
+        ensures moment_kept { moved result ≡ 0 → moment self.new ≡ moment self.old }
+        ensures reads { reads self.new ≡ reads self.old + 1 }
+        ensures failures { failures self.new ≡ failures self.old + failures_in result };
+
+    /// The microsecond at which the last read that gave a byte returned, as the source names it; 0 before the first.
+    fn moment(&self) -> u64
+        ensures { result ≡ moment self.now };
+
+    /// How many reads were made.
+    fn reads(&self) -> u64
+        ensures { result ≡ reads self.now };
+
+    /// How many reads failed.
+    fn failures(&self) -> u64
+        ensures { result ≡ failures self.now };
+}
+
+/// Where bytes go.
+pub trait Sink {
+    // The bytes that were written, where the sink tells them.
+    ghost written: { Self → Option (List ℕ) };
+
+    // How many calls failed.
+    ghost failures: { Self → ℕ };
+
+    /// Writes bytes from the front of a slice, and answers how many: at least one, where the slice is not empty.
+    ///
+    /// # Errors
+    ///
+    /// `Failed` where the device failed. No byte was written then.
+    fn write(&mut self, from: &[u8]) -> Result<usize, Failed>
+        requires { failures self.old < u64.MAX }
+        ensures count { IfOk result (λ n. n ≤ length from.now) }
+        ensures some { IfOk result (λ n. 0 < length from.now → 0 < n) }
+        ensures bytes { WriteAppends (written self.old) (written self.new) result from.now }
+        ensures failures { failures self.new ≡ failures self.old + failures_in result };
+
+    /// How many writes failed.
+    fn failures(&self) -> u64
+        ensures { result ≡ failures self.now };
+}
+
+/// Writes all the bytes of a slice, by as many writes as that takes.
+///
+/// # Errors
+///
+/// `Failed` where a write failed. A front of the bytes was written then, and not all of them.
+pub fn write_all<W: Sink>(sink: &mut W, text: &[u8]) -> Result<(), Failed>
+    requires { W.failures sink.old < u64.MAX }
+    ensures bytes { MatchResult result
+        (λ _. Appends (W.written sink.old) (W.written sink.new) text.now)
+        (λ _. (sent : ℕ) × (sent < length text.now)
+        × Appends (W.written sink.old) (W.written sink.new) (take sent text.now)) }
+    ensures failures { W.failures sink.new ≡ W.failures sink.old + failures_in result }
+{
+    let mut sent = 0;
+    while sent < text.len() {
+        sent += sink.write(&text[sent..])?;
+    }
+    Ok(())
+}

@@ -1,0 +1,108 @@
+//! A sink over memory.
+
+ghost use Rattle.std.specs.Prelude.{◌≡◌, ◌+◌, ◌<◌, ◌≤◌, [], length, Some, IfOk};
+ghost use Rattle.std.specs.Result.{result_ok};
+ghost use Rattle.std.specs.Io.KnownBytes.{WriteAppends};
+ghost use Rattle.enip_wire.specs.Devices.{failures_in};
+
+use super::calls::Calls;
+use super::{Failed, Sink};
+use std::marker::Model;
+
+/// A sink over memory: it writes into a slice, and fails where that is full.
+#[derive(Debug, Drop)]
+pub struct MemorySink<'a> {
+    into: &'a mut [u8],
+    len: usize,
+    calls: Calls,
+}
+
+impl<'a> Model for MemorySink<'a> {
+    ghost use Rattle.std.specs.Prelude.{◌<◌, ◌≤◌, ◌-◌, length, take};
+    ghost use Rattle.enip_wire.specs.MemoryDevices.{SinkState};
+
+    ghost Value = { SinkState };
+
+    ghost view = { λ s. record { written = take s.len s.into.now; room = length s.into.now - s.len; calls = s.calls } };
+
+    ghost invariant = { λ s. (s.len ≤ length s.into.now) × (0 < s.calls.largest_count) };
+}
+
+impl<'a> MemorySink<'a> {
+    /// A sink into this slice, from its front on.
+    pub fn new(into: &'a mut [u8]) -> MemorySink<'a>
+        ensures { result ≡ record { written = []; room = length into.old; calls = Calls.UNBOUNDED } }
+    {
+        MemorySink {
+            into,
+            len: 0,
+            calls: Calls::UNBOUNDED,
+        }
+    }
+
+    /// The same sink, each of whose writes takes at most so many bytes.
+    pub fn with_largest_count(mut self, count: usize) -> MemorySink<'a>
+        requires { 0 < count }
+        ensures { result ≡ record self.entry { calls = record self.entry.calls { largest_count = count } } }
+    {
+        self.calls.largest_count = count;
+        self
+    }
+
+    /// The same sink, whose write after so many more fails, and none after it but where the slice is full.
+    pub fn with_failure_after(mut self, calls: u64) -> MemorySink<'a>
+        ensures { result ≡ record self.entry { calls = record self.entry.calls { before_failure = Some calls } } }
+    {
+        self.calls = Calls {
+            before_failure: Some(calls),
+            ..self.calls
+        };
+        self
+    }
+
+    /// The bytes that were written.
+    pub fn written(&self) -> &[u8]
+        ensures { result.now ≡ self.now.written }
+    {
+        &self.into[..self.len]
+    }
+}
+
+impl Sink for MemorySink<'_> {
+    ghost use Rattle.enip_wire.specs.MemoryDevices.{taken_by, after_write};
+
+    ghost written = { λ s. Some s.written };
+
+    ghost failures = { λ s. s.calls.failures };
+
+    /// Writes as the trait says. It takes as many bytes as there is room for, up to the largest count.
+    ///
+    /// # Errors
+    ///
+    /// `Failed` in the call that is to fail, and for a byte or more where the slice is full.
+    fn write(&mut self, from: &[u8]) -> Result<usize, Failed>
+        requires { self.old.calls.failures < u64.MAX }
+        ensures count { IfOk result (λ n. n ≤ length from.now) }
+        ensures some { IfOk result (λ n. 0 < length from.now → 0 < n) }
+        ensures bytes { WriteAppends (Some self.old.written) (Some self.new.written) result from.now }
+        ensures failures { self.new.calls.failures ≡ self.old.calls.failures + failures_in result }
+        ensures taken { result_ok result ≡ taken_by self.old (length from.now) }
+        ensures state { self.new ≡ after_write self.old from.now (result_ok result) }
+    {
+        let count = self
+            .calls
+            .next_count(from.len().min(self.into.len() - self.len))?;
+        // A full slice takes nothing of what there is to write (ours).
+        if count == 0 && !from.is_empty() {
+            self.calls.failures += 1;
+            return Err(Failed);
+        }
+        self.into[self.len..self.len + count].copy_from_slice(&from[..count]);
+        self.len += count;
+        Ok(count)
+    }
+
+    fn failures(&self) -> u64 {
+        self.calls.failures
+    }
+}
