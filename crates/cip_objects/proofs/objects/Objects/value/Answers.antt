@@ -1,12 +1,25 @@
-use Rattle.std.proofs.Common.{ap, arith}
-use Rattle.std.proofs.lemmas.Bool.Decides.{nat_tests}
-use Rattle.cip_objects.specs.Contents.{value_at}
+use Rattle.std.proofs.Common.{arith, sym, ap, ◌∙◌, subst, option_map}
 use Rattle.cip_objects.specs.Counter.{counter_values}
-use Rattle.cip_objects.proofs.Lookup.{value_at-contents_of}
+use Rattle.cip_objects.specs.Destination.{IsThere, IsPlace, value_to}
+use Rattle.cip_objects.specs.Entries.{attribute_in, block_attributes}
+use Rattle.cip_objects.proofs.Destinations.{first_at_place, place_value}
 use Rattle.cip_objects.proofs.objects.Objects.value.Goals as goal
 
-pub returns-in_default : goal.returns-in_default
-returns-in_default c =
-    let e = value_at-contents_of c.self.inside.identity c.self.inside.assemblies.items (counter_values c.self.inside.counter) c.self.invariant.numbered c.args.class c.args.instance c.args.attribute in
-    let v = ap (λ m. value_at m c.args.class c.args.instance c.args.attribute) c.self.view_is in
-    grind (arith, nat_tests)
+pub index-requires : goal.index-requires
+index-requires c =
+    let o = c.self.inside in
+    let p : IsPlace c.args.self.now.shapes c.in-Assembly.place = subst (IsThere c.args.self.now.shapes) c.in-Assembly.is c.requires in
+    let f = first_at_place o.identity o.assemblies.items (counter_values o.counter) c.args.self.now c.in-Assembly.place c.self.view_is p in
+    omega (arith, o.assemblies.ok.0, f.within)
+
+pub returns-in-Assembly-clause-value : goal.returns-in-Assembly-clause-value
+returns-in-Assembly-clause-value c =
+    let o = c.self.inside in
+    let m = c.args.self.now in
+    let place = c.in-Assembly.place in
+    let p : IsPlace m.shapes place = subst (IsThere m.shapes) c.in-Assembly.is c.requires in
+    let v = place_value o.identity o.assemblies.items (counter_values o.counter) m place c.args.attribute c.index.result.now c.self.view_is c.self.invariant.numbered p in
+    c.attribute-in-Assembly.ensures.value
+    ∙ ap (λ b. attribute_in c.args.attribute (block_attributes b)) c.index.ensures
+    ∙ sym v
+    ∙ ap (λ d. value_to m d c.args.attribute) (sym c.in-Assembly.is)
