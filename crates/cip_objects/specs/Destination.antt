@@ -1,18 +1,19 @@
 -- What the class and the instance of a path lead to (Volume 1, object model), and what of it can be set.
-use Rattle.std.specs.Prelude.{◌≡◌, ℕ, ◌+◌, ◌≤◌, List, [], ◌∷◌, length, map, slice_index, Option, Some, None, Result, Ok, Err, ⊤}
+use Rattle.std.specs.Prelude.{◌≡◌, ℕ, ◌+◌, ◌≤◌, List, [], ◌∷◌, length, map, slice_index, Option, Some, None}
+use Rattle.std.specs.Prelude.{Result, Ok, Err, ⊤}
 use Rattle.cip_message.specs.declared.path.Path.{Path}
 use Rattle.cip_bytes.specs.Reading.{◌>>=◌, ◌>>◌}
+use Rattle.cip_objects.specs.declared.assembly.Span.{Span}
 use Rattle.cip_objects.specs.declared.class.Class.{Class}
 use Rattle.cip_objects.specs.declared.class.Class.TheVariants as classes
 use Rattle.cip_objects.specs.declared.destination.Destination.{Destination}
 use Rattle.cip_objects.specs.declared.destination.Destination.TheVariants as destinations
 use Rattle.cip_objects.specs.declared.destination.Subject.{Subject}
+use Rattle.cip_objects.specs.declared.destination.Member.{Member}
 use Rattle.cip_objects.specs.declared.destination.Settable.{Settable}
 use Rattle.cip_objects.specs.declared.destination.Settable.TheVariants.{Data, Limit}
-use Rattle.cip_objects.specs.declared.assembly.Span.{Span}
-use Rattle.cip_objects.specs.declared.read_services.Member.{Member}
 use Rattle.cip_objects.specs.declared.service.Service.{Service}
-use Rattle.cip_objects.specs.declared.service.Service.TheVariants.{GetAttributesAll, GetAttributeList, GetAttributeSingle, SetAttributeSingle, Add, Clear}
+use Rattle.cip_objects.specs.declared.service.Service.TheVariants as services
 use Rattle.cip_objects.specs.declared.status.Refusal.{Refusal}
 use Rattle.cip_objects.specs.declared.status.Refusal.TheVariants.{InvalidAttributeValue}
 use Rattle.cip_objects.specs.ChangeServices.{Change, change, is_allowed}
@@ -20,7 +21,8 @@ use Rattle.cip_objects.specs.Check.{demand}
 use Rattle.cip_objects.specs.Contents.{Contents, value_at, bytes_at, with_value}
 use Rattle.cip_objects.specs.Service.{service_code, service_in}
 use Rattle.cip_objects.specs.Places.{IsFirst}
-use Rattle.cip_objects.specs.Tables.{Shape, shape_at, assembly_services, IDENTITY, ASSEMBLY, CONNECTION_MANAGER, COUNTER}
+use Rattle.cip_objects.specs.Tables.{Shape, shape_at, assembly_services}
+use Rattle.cip_objects.specs.Tables.{IDENTITY, ASSEMBLY, CONNECTION_MANAGER, COUNTER}
 
 abbrev pub class_number : Class → ℕ
 class_number classes.Identity = IDENTITY
@@ -49,11 +51,14 @@ instance_at shapes destinations.Counter = 1
 
 -- its services
 abbrev pub services_at : Destination → List Service
-services_at (destinations.Class c) = GetAttributeSingle ∷ []
-services_at destinations.Identity = GetAttributesAll ∷ GetAttributeList ∷ GetAttributeSingle ∷ []
+services_at (destinations.Class c) = services.GetAttributeSingle ∷ []
+services_at destinations.Identity =
+    services.GetAttributesAll ∷ services.GetAttributeList ∷ services.GetAttributeSingle ∷ []
 services_at (destinations.Assembly place) = assembly_services
 services_at destinations.ConnectionManager = []
-services_at destinations.Counter = GetAttributeList ∷ GetAttributeSingle ∷ SetAttributeSingle ∷ Add ∷ Clear ∷ []
+services_at destinations.Counter =
+    services.GetAttributeList ∷ services.GetAttributeSingle ∷ services.SetAttributeSingle ∷ services.Add
+    ∷ services.Clear ∷ []
 
 -- an assembly stands at this place, the first of its number
 abbrev pub IsPlace : List Shape → ℕ → Type 0
@@ -95,6 +100,11 @@ value_to m destination attribute = value_at m (class_at destination) (instance_a
 -- its bytes, none where there is no such attribute
 abbrev pub bytes_to : Contents → Destination → ℕ → List ℕ
 bytes_to m destination attribute = bytes_at m (class_at destination) (instance_at m.shapes destination) attribute
+
+-- the contents with that value there, all else as before
+abbrev pub with_value_to : Contents → Destination → ℕ → List ℕ → Contents
+with_value_to m destination attribute value =
+    with_value m (class_at destination) (instance_at m.shapes destination) attribute value
 
 -- the path of a subject
 abbrev pub path_to : List Shape → Subject → Path
@@ -148,4 +158,4 @@ pub record CanBeSet (m : Contents) (destination : Destination) (attribute : ℕ)
 abbrev pub set_to : Contents → Settable → List ℕ → Result Change Refusal
 set_to m settable content = do
   demand (is_allowed m (class_at (destination_of settable)) content) InvalidAttributeValue
-  change (with_value m (class_at (destination_of settable)) (instance_at m.shapes (destination_of settable)) (attribute_of settable) content) []
+  change (with_value_to m (destination_of settable) (attribute_of settable) content) []

@@ -2,6 +2,7 @@
 ghost use Rattle.std.specs.Prelude.{◌≡◌};
 ghost use Rattle.cip_objects.specs.Service.{service_in};
 
+use crate::assembly::Span;
 use crate::class::Class;
 use crate::service::Service;
 
@@ -33,7 +34,7 @@ static COUNTER_SERVICES: [Service; 5] = [
     Service::Clear,
 ];
 
-/// What the class and the instance of a path lead to. Where it is none, the path's destination is unknown: 0x05.
+/// What the class and the instance of a path lead to. Where there is none, the path's destination is unknown: 0x05.
 #[derive(Clone, Copy, PartialEq, Eq, Debug)]
 pub(crate) enum Destination {
     /// A class itself, at instance 0.
@@ -84,6 +85,15 @@ pub(crate) struct Subject {
     pub(crate) attribute: Option<u16>,
     /// The member's number, if the path names one.
     pub(crate) member: Option<u16>,
+}
+
+/// A member of the data of an assembly.
+#[derive(Clone, Copy, Debug)]
+pub(crate) struct Member {
+    /// The assembly's place among the assemblies, from 0.
+    pub(crate) place: usize,
+    /// Where the member lies in its data.
+    pub(crate) span: Span,
 }
 
 /// An attribute that can be set (objects).

@@ -31,7 +31,8 @@ impl Objects {
         requires room_to { room ≤ REPLY_LIMIT }
         requires head { length reply.old.items ≡ 4 }
         ensures outcome { outcome_left self.new result reply.new.items
-            ≡ outcome_in_room room reply.old.items (perform self.old service (path_to self.old.shapes subject) «data».now) }
+            ≡ outcome_in_room room reply.old.items
+            (perform self.old service (path_to self.old.shapes subject) «data».now) }
         ensures err { OnErr result (self.new ≡ self.old) }
     {
         match service {

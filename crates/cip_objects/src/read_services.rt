@@ -10,23 +10,13 @@ ghost use Rattle.cip_objects.specs.ReadServices.{ALL_ATTRIBUTES};
 ghost use Rattle.cip_objects.specs.Execution.{outcome_of_read, outcome_left, outcome_in_room};
 ghost use Rattle.cip_objects.specs.Text.{Writes};
 
-use crate::assembly::Span;
 use crate::check::exactly;
-use crate::destination::{Destination, Subject};
+use crate::destination::{Destination, Member, Subject};
 use crate::objects::Objects;
 use crate::router::{REPLY_LIMIT, ReplyBuf};
 use crate::status::{Completion, Refusal};
 use crate::text::append;
 use byteorder::{ByteOrder, LittleEndian};
-
-/// A member of the data of an assembly.
-#[derive(Clone, Copy, Debug)]
-pub(crate) struct Member {
-    /// The assembly's place among the assemblies, from 0.
-    pub(crate) place: usize,
-    /// Where the member lies in its data.
-    pub(crate) span: Span,
-}
 
 impl Objects {
     /// Get_Attribute_Single.
@@ -71,21 +61,26 @@ impl Objects {
             (get_attributes_all self.now (path_to self.now.shapes subject) «data».now)) }
     {
         exactly(0, data)?;
-        self.append_all(subject, room, reply)?;
+        self.append_all(subject.destination, room, reply)?;
         Ok(Completion::Whole)
     }
 
     /// Appends the values of attributes 1 to 7.
-    fn append_all(&self, subject: Subject, room: usize, reply: &mut ReplyBuf) -> Result<(), Refusal>
-        requires there { IsThere self.now.shapes subject.destination }
+    fn append_all(
+        &self,
+        destination: Destination,
+        room: usize,
+        reply: &mut ReplyBuf,
+    ) -> Result<(), Refusal>
+        requires there { IsThere self.now.shapes destination }
         requires room { room ≤ REPLY_LIMIT }
         requires fits { length reply.old.items ≤ room }
-        ensures { Writes room (reply.old.items ++ flat_map (bytes_to self.now subject.destination) ALL_ATTRIBUTES)
+        ensures { Writes room (reply.old.items ++ flat_map (bytes_to self.now destination) ALL_ATTRIBUTES)
             result reply.new.items }
     {
         // this profile ends there (ours)
         for attribute in [1, 2, 3, 4, 5, 6, 7].iter() {
-            self.append_value(subject, *attribute, room, reply)?;
+            self.append_value(destination, *attribute, room, reply)?;
         }
         Ok(())
     }
@@ -93,18 +88,17 @@ impl Objects {
     /// Appends the value of an attribute, nothing where there is no such attribute.
     fn append_value(
         &self,
-        subject: Subject,
+        destination: Destination,
         attribute: u16,
         room: usize,
         reply: &mut ReplyBuf,
     ) -> Result<(), Refusal>
-        requires there { IsThere self.now.shapes subject.destination }
+        requires there { IsThere self.now.shapes destination }
         requires room { room ≤ REPLY_LIMIT }
         requires fits { length reply.old.items ≤ room }
-        ensures { Writes room (reply.old.items ++ bytes_to self.now subject.destination attribute)
-            result reply.new.items }
+        ensures { Writes room (reply.old.items ++ bytes_to self.now destination attribute) result reply.new.items }
     {
-        match self.value(subject.destination, attribute) {
+        match self.value(destination, attribute) {
             Some(value) => value.append(room, reply),
             None => Ok(()),
         }
@@ -152,9 +146,11 @@ impl Objects {
         requires there { IsThere self.now.shapes subject.destination }
         requires room { room ≤ REPLY_LIMIT }
         requires fits { length reply.old.items ≤ room }
-        ensures text { Writes room (reply.old.items ++ flat_map (list_entry self.now (path_to self.now.shapes subject)) (words_of list.now))
+        ensures text { Writes room
+            (reply.old.items ++ flat_map (list_entry self.now (path_to self.now.shapes subject)) (words_of list.now))
             result reply.new.items }
-        ensures there { IfOk result (λ all. all ≡ all_there self.now (path_to self.now.shapes subject) (words_of list.now)) }
+        ensures there { IfOk result (λ all. all
+            ≡ all_there self.now (path_to self.now.shapes subject) (words_of list.now)) }
     {
         let mut all = true;
         for i in 0..list.len() / 2 {
@@ -176,7 +172,9 @@ impl Objects {
     ) -> Result<bool, Refusal>
         requires there { IsThere self.now.shapes subject.destination }
         requires room { room ≤ REPLY_LIMIT }
-        ensures text { Writes room (reply.old.items ++ list_entry self.now (path_to self.now.shapes subject) attribute) result reply.new.items }
+        ensures text { Writes room
+            (reply.old.items ++ list_entry self.now (path_to self.now.shapes subject) attribute)
+            result reply.new.items }
         ensures there { IfOk result (λ there. there ≡ is_there self.now (path_to self.now.shapes subject) attribute) }
     {
         append(&attribute.to_le_bytes(), room, reply)?;
