@@ -139,23 +139,23 @@ attribute_of (Data place size) = 3
 attribute_of Limit = 2
 
 -- how many bytes it has
-abbrev pub size_of : Settable → ℕ
-size_of (Data place size) = size
-size_of Limit = 4
+abbrev pub size_to_set : Settable → ℕ
+size_to_set (Data place size) = size
+size_to_set Limit = 4
 
 -- that many bytes are there
-abbrev pub IsWhole : Contents → Settable → Type 0
-IsWhole m (Data place size) = size ≡ length (data_at m place)
-IsWhole m Limit = ⊤
+abbrev pub HasSize : Contents → Settable → Type 0
+HasSize m (Data place size) = size ≡ length (data_at m place)
+HasSize m Limit = ⊤
 
 -- this attribute of a destination can be set
 pub record CanBeSet (m : Contents) (destination : Destination) (attribute : ℕ) (settable : Settable) : Type 0 where
   pub of_destination : destination ≡ destination_of settable
   pub of_attribute : attribute ≡ attribute_of settable
-  pub whole : IsWhole m settable
+  pub whole : HasSize m settable
 
 -- what was set, where it may have that value
-abbrev pub set_to : Contents → Settable → List ℕ → Result Change Refusal
-set_to m settable content = do
+abbrev pub setting : Contents → Settable → List ℕ → Result Change Refusal
+setting m settable content = do
   demand (is_allowed m (class_at (destination_of settable)) content) InvalidAttributeValue
   change (with_value_to m (destination_of settable) (attribute_of settable) content) []

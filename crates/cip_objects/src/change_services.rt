@@ -3,7 +3,8 @@ ghost use Rattle.std.specs.Prelude.{◌≡◌, length, [], OnErr};
 ghost use Rattle.cip_bytes.specs.Numbers.{le};
 ghost use Rattle.cip_objects.specs.ChangeServices.{change_left, set_attribute_single, set_member, add, clear};
 ghost use Rattle.cip_objects.specs.ChangeServices.{limit_change};
-ghost use Rattle.cip_objects.specs.Destination.{IsThere, IsAssembly, IsWhole, destination_of, size_of, set_to, path_to};
+ghost use Rattle.cip_objects.specs.Destination.{IsThere, IsAssembly, HasSize, path_to};
+ghost use Rattle.cip_objects.specs.Destination.{destination_of, size_to_set, setting};
 
 use crate::check::exactly;
 use crate::destination::{Settable, Subject};
@@ -39,9 +40,9 @@ impl Objects {
     /// Sets what can be set to data of its length.
     fn set(&mut self, settable: Settable, data: &[u8]) -> Result<(), Refusal>
         requires there { IsThere self.old.shapes (destination_of settable) }
-        requires whole { IsWhole self.old settable }
-        requires exact { length «data».now ≡ size_of settable }
-        ensures change_left { change_left (λ _. []) self.new result ≡ set_to self.old settable «data».now }
+        requires whole { HasSize self.old settable }
+        requires exact { length «data».now ≡ size_to_set settable }
+        ensures change_left { change_left (λ _. []) self.new result ≡ setting self.old settable «data».now }
         ensures err { OnErr result (self.new ≡ self.old) }
     {
         match settable {

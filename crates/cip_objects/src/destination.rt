@@ -111,11 +111,11 @@ pub(crate) enum Settable {
 }
 
 impl Settable {
-    ghost use Rattle.cip_objects.specs.Destination.{size_of};
+    ghost use Rattle.cip_objects.specs.Destination.{size_to_set};
 
     /// How many bytes it has.
     pub(crate) fn size(self) -> usize
-        ensures { result ≡ size_of self }
+        ensures { result ≡ size_to_set self }
     {
         match self {
             Settable::Data { size, .. } => size,

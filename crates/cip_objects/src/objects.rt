@@ -8,7 +8,7 @@ ghost use Rattle.cip_objects.specs.Contents.{value_at, udint_at, with_value};
 ghost use Rattle.cip_objects.specs.ChangeServices.{with_bytes_at};
 ghost use Rattle.cip_objects.specs.Destination.{LeadTo, HasNoValue, IsThere, IsPlace, CanBeSet};
 ghost use Rattle.cip_objects.specs.Destination.{services_at, class_at, instance_at, number_at, value_to, data_at};
-ghost use Rattle.cip_objects.specs.Destination.{size_of};
+ghost use Rattle.cip_objects.specs.Destination.{size_to_set};
 ghost use Rattle.cip_objects.specs.Members.{AreWhole};
 ghost use Rattle.cip_objects.specs.Run.{IsCounter};
 ghost use Rattle.cip_objects.specs.Entries.{shape_of};
@@ -172,10 +172,10 @@ impl Objects {
 
     /// What can be set as this attribute of a destination, `None` where that can't be set.
     #[inline(always)]
-    #[tactic(auto, unfolding(crate::specs::Tables::settable_size))]
+    #[tactic(auto, unfolding(crate::specs::Tables::settable_size), using(crate::proofs::Destinations::not_settable))]
     pub(crate) fn settable(&self, destination: Destination, attribute: u16) -> Option<Settable>
         requires { IsThere self.now.shapes destination }
-        ensures size { option_map size_of result
+        ensures size { option_map size_to_set result
             ≡ settable_size self.now.shapes (class_at destination) (instance_at self.now.shapes destination) attribute }
         ensures names { IfSome result (CanBeSet self.now destination attribute) }
     {
