@@ -38,12 +38,20 @@ impl Objects {
         match service {
             Service::GetAttributesAll => self.get_attributes_all(subject, data, room, reply),
             Service::GetAttributeList => self.get_attribute_list(subject, data, room, reply),
-            Service::GetAttributeSingle => self.get_attribute_single(subject, data, room, reply),
+            Service::GetAttributeSingle => {
+                let value = self.get_attribute_single(subject, data)?;
+                value.append(room, reply)?;
+                Ok(Completion::Whole)
+            }
             Service::SetAttributeSingle => {
                 self.set_attribute_single(subject, data)?;
                 Ok(Completion::Whole)
             }
-            Service::GetMember => self.get_member(subject, data, room, reply),
+            Service::GetMember => {
+                let member = self.get_member(subject, data)?;
+                append(member, room, reply)?;
+                Ok(Completion::Whole)
+            }
             Service::SetMember => {
                 self.set_member(subject, data)?;
                 Ok(Completion::Whole)

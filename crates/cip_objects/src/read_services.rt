@@ -6,9 +6,10 @@ ghost use Rattle.cip_objects.specs.Destination.{IsThere, IsAssembly, bytes_to, p
 ghost use Rattle.cip_objects.specs.Destination.{IsInside};
 ghost use Rattle.cip_objects.specs.ReadServices.{get_attribute_single, get_attributes_all, get_attribute_list};
 ghost use Rattle.cip_objects.specs.ReadServices.{get_member, named_member, list_entry, is_there, all_there};
-ghost use Rattle.cip_objects.specs.ReadServices.{ALL_ATTRIBUTES};
+ghost use Rattle.cip_objects.specs.ReadServices.{answer_left, ALL_ATTRIBUTES};
 ghost use Rattle.cip_objects.specs.Execution.{outcome_of_read, outcome_left, outcome_in_room};
 ghost use Rattle.cip_objects.specs.Text.{Writes};
+ghost use Rattle.cip_objects.specs.Value.{value_bytes};
 
 use crate::check::exactly;
 use crate::destination::{Destination, Member, Subject};
@@ -16,23 +17,21 @@ use crate::objects::Objects;
 use crate::router::{REPLY_LIMIT, ReplyBuf};
 use crate::status::{Completion, Refusal};
 use crate::text::append;
+use crate::value::Value;
 use byteorder::{ByteOrder, LittleEndian};
 
 impl Objects {
-    /// Get_Attribute_Single.
+    /// Get_Attribute_Single: the attribute's value.
+    #[inline(always)]
     #[tactic(auto, unfolding(crate::specs::ReadServices::get_attribute_single))]
     pub(crate) fn get_attribute_single(
         &self,
         subject: Subject,
         data: &[u8],
-        room: usize,
-        reply: &mut ReplyBuf,
-    ) -> Result<Completion, Refusal>
-        requires there { IsThere self.now.shapes subject.destination }
-        requires room { room ≤ REPLY_LIMIT }
-        ensures { outcome_left self.now result reply.new.items
-            ≡ outcome_in_room room reply.old.items (outcome_of_read self.now
-            (get_attribute_single self.now (path_to self.now.shapes subject) «data».now)) }
+    ) -> Result<Value<'_>, Refusal>
+        requires { IsThere self.now.shapes subject.destination }
+        ensures { answer_left value_bytes result
+            ≡ get_attribute_single self.now (path_to self.now.shapes subject) «data».now }
     {
         let attribute = subject.attribute.ok_or(Refusal::AttributeNotSupported)?;
         let value = self
@@ -40,8 +39,7 @@ impl Objects {
             .ok_or(Refusal::AttributeNotSupported)?;
         // a read takes no data (common services)
         exactly(0, data)?;
-        value.append(room, reply)?;
-        Ok(Completion::Whole)
+        Ok(value)
     }
 
     /// Get_Attributes_All.
@@ -214,26 +212,17 @@ impl Objects {
         Ok(Member { place, span })
     }
 
-    /// Get_Member.
+    /// Get_Member: the member's bytes.
+    #[inline(always)]
     #[tactic(auto, unfolding(crate::specs::ReadServices::get_member))]
-    pub(crate) fn get_member(
-        &self,
-        subject: Subject,
-        data: &[u8],
-        room: usize,
-        reply: &mut ReplyBuf,
-    ) -> Result<Completion, Refusal>
+    pub(crate) fn get_member(&self, subject: Subject, data: &[u8]) -> Result<&[u8], Refusal>
         requires there { IsThere self.now.shapes subject.destination }
         requires assembly { IsAssembly subject.destination }
-        requires room { room ≤ REPLY_LIMIT }
-        ensures { outcome_left self.now result reply.new.items
-            ≡ outcome_in_room room reply.old.items (outcome_of_read self.now
-            (get_member self.now (path_to self.now.shapes subject) «data».now)) }
+        ensures { answer_left (λ bytes. bytes.now) result
+            ≡ get_member self.now (path_to self.now.shapes subject) «data».now }
     {
         let Member { place, span } = self.named_member(subject)?;
         exactly(0, data)?;
-        let content = self.assembly(place).content();
-        append(&content[span.offset..span.offset + span.size], room, reply)?;
-        Ok(Completion::Whole)
+        Ok(&self.assembly(place).content()[span.offset..span.offset + span.size])
     }
 }
