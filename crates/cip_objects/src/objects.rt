@@ -127,7 +127,7 @@ impl Objects {
             Destination::Class(_) => class_attribute(1, 1, 1, attribute),
             Destination::Identity => self.identity.attribute(attribute),
             Destination::Assembly(place) => self.assemblies[place].attribute(attribute),
-            // its attributes are left out (ours)
+            // it has no attributes here (ours)
             Destination::ConnectionManager => None,
             Destination::Counter => counter.attribute(attribute),
         }
