@@ -171,7 +171,6 @@ impl Objects {
     }
 
     /// What can be set as this attribute of a destination, `None` where that can't be set.
-    #[inline(always)]
     #[tactic(auto, unfolding(crate::specs::Tables::settable_size), using(crate::proofs::Destinations::not_settable))]
     pub(crate) fn settable(&self, destination: Destination, attribute: u16) -> Option<Settable>
         requires { IsThere self.now.shapes destination }

@@ -22,7 +22,6 @@ use byteorder::{ByteOrder, LittleEndian};
 
 impl Objects {
     /// Get_Attribute_Single: the attribute's value.
-    #[inline(always)]
     #[tactic(auto, unfolding(crate::specs::ReadServices::get_attribute_single))]
     pub(crate) fn get_attribute_single(
         &self,
@@ -213,7 +212,6 @@ impl Objects {
     }
 
     /// Get_Member: the member's bytes.
-    #[inline(always)]
     #[tactic(auto, unfolding(crate::specs::ReadServices::get_member))]
     pub(crate) fn get_member(&self, subject: Subject, data: &[u8]) -> Result<&[u8], Refusal>
         requires there { IsThere self.now.shapes subject.destination }
