@@ -18,7 +18,7 @@ none_at (b ∷ bs) i h =
     ∙ none_at bs i (λ k d lt. h (suc k) d (omega arith))
 
 -- the first one is the one that is found
-pub first_at : (bs : List Block) (i k : ℕ) (d : Block) → IsFirst bs i k → block_at i bs ≡ Some (get_or bs k d)
+pub first_at : (bs : List Block) (i k : ℕ) (d : Block) → IsFirst (λ b. b.instance) bs i k → block_at i bs ≡ Some (get_or bs k d)
 first_at [] i k d f = absurd (omega (arith, f.within))
 first_at (b ∷ bs) i zero d f = ap (λ t. cond t (Some b) (block_at i bs)) (eqb-same b.instance i (f.here d))
 first_at (b ∷ bs) i (suc k) d f =

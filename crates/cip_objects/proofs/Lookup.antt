@@ -88,7 +88,7 @@ find_blocks q (b ∷ bs) =
     ∙ ap (λ t. cond (eqb q.class ASSEMBLY) (cond t (attribute_in q.attribute (block_attributes b)) (block_value q.attribute (block_at q.instance bs))) None) (eqb-turned q.instance b.instance)
     ∙ ap (λ v. cond (eqb q.class ASSEMBLY) v None) (sym (value_cond q.attribute (eqb b.instance q.instance) b (block_at q.instance bs)))
 
-none_of_class : (bs : List Block) → NoneIsClass bs → block_at 0 bs ≡ None
+pub none_of_class : (bs : List Block) → NoneIsClass bs → block_at 0 bs ≡ None
 none_of_class [] h = refl
 none_of_class (b ∷ bs) h = ap (λ t. cond t (Some b) (block_at 0 bs)) (above b.instance h.0) ∙ none_of_class bs h.1
 

@@ -13,7 +13,12 @@ shape_at-map i (b ∷ bs) =
       | false ↦ shape_at-map i bs
     ]
 
+-- the shapes in the contents that the assemblies make
+pub shapes-contents : (d : IdentityValues) (bs : List Block) (c : CounterValues) (m : Contents) → contents_of d bs c ≡ m
+    → m.shapes ≡ map shape_of bs
+unfolding contents_of
+shapes-contents d bs c m e = ap (λ x. x.shapes) (sym e)
+
 -- the shape of an instance in the contents that the assemblies make
 pub shape_at-contents : (d : IdentityValues) (bs : List Block) (c : CounterValues) (m : Contents) (i : ℕ) → contents_of d bs c ≡ m → shape_at i m.shapes ≡ option_map shape_of (block_at i bs)
-unfolding contents_of
-shape_at-contents d bs c m i e = ap (λ x. shape_at i x.shapes) (sym e) ∙ shape_at-map i bs
+shape_at-contents d bs c m i e = ap (shape_at i) (shapes-contents d bs c m e) ∙ shape_at-map i bs

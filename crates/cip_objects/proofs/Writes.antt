@@ -67,7 +67,7 @@ updates_key i j v old new e u = subst (λ n. Updates (key ASSEMBLY n 3) v old ne
 other_instance : (i j : ℕ) → (j ≡ i → ⊥) → eqb ASSEMBLY ASSEMBLY && eqb i j ≡ false
 other_instance i j h = eqb-other i j (λ e. h (sym e))
 
-pub blocks_update : (bs : List Block) (i k : ℕ) (v : List ℕ) (d : Block) → IsFirst bs i k → Updates (key ASSEMBLY i 3) v (blocks_of bs) (blocks_of (with_content bs k v))
+pub blocks_update : (bs : List Block) (i k : ℕ) (v : List ℕ) (d : Block) → IsFirst (λ b. b.instance) bs i k → Updates (key ASSEMBLY i 3) v (blocks_of bs) (blocks_of (with_content bs k v))
 blocks_update [] i k v d f = absurd (omega (arith, f.within))
 blocks_update (b ∷ bs) i zero v d f =
     updates_front (key ASSEMBLY i 3) v (entries_at ASSEMBLY b.instance (block_attributes b)) (entries_at ASSEMBLY b.instance (block_attributes (record b { content = v }))) (blocks_of bs)
@@ -78,7 +78,7 @@ blocks_update (b ∷ bs) i (suc k) v d f =
     (blocks_update bs i k v d (record { within = omega (arith, f.within); here = f.here; before = λ j e lt. f.before (suc j) e (omega arith) }))
 
 -- the first with that number is of no class itself
-pub first_above : (bs : List Block) (i k : ℕ) (d : Block) → NoneIsClass bs → IsFirst bs i k → 0 < i
+pub first_above : (bs : List Block) (i k : ℕ) (d : Block) → NoneIsClass bs → IsFirst (λ b. b.instance) bs i k → 0 < i
 first_above [] i k d h f = absurd (omega (arith, f.within))
 first_above (b ∷ bs) i zero d h f = let e = f.here d in omega (arith, h.0, e)
 first_above (b ∷ bs) i (suc k) d h f =
@@ -131,7 +131,7 @@ written old new m q v shapes u e f = λ i. record {
 }
 
 -- the contents with other data in one assembly
-pub content_written : (d : IdentityValues) (bs : List Block) (c : CounterValues) (i k : ℕ) (v : List ℕ) (e : Block) → NoneIsClass bs → IsFirst bs i k → contents_of d (with_content bs k v) c ≡ with_value (contents_of d bs c) ASSEMBLY i 3 v
+pub content_written : (d : IdentityValues) (bs : List Block) (c : CounterValues) (i k : ℕ) (v : List ℕ) (e : Block) → NoneIsClass bs → IsFirst (λ b. b.instance) bs i k → contents_of d (with_content bs k v) c ≡ with_value (contents_of d bs c) ASSEMBLY i 3 v
 unfolding contents_of entries_of
 content_written d bs c i k v e h f =
     ap (λ g. record { values = from_entries (assembled d g (length (with_content bs k v)) (blocks_of (with_content bs k v)) (entries_at COUNTER 1 (counter_attributes c))); shapes = map shape_of (with_content bs k v); device = device_of d }) (greatest-content bs k v)
@@ -182,7 +182,7 @@ additions_written d bs c v =
     (λ x. third_set (eqb x 1) (eqb x 2) (eqb x 3) (little_bytes 4 c.value) (little_bytes 4 c.limit) (little_bytes 4 c.additions) (little_bytes 4 v) (apart x 3 1 (λ e. omega arith)) (apart x 3 2 (λ e. omega arith)))
 
 -- the data of an assembly are what the map holds at its attribute 3
-pub content_read : (d : IdentityValues) (bs : List Block) (c : CounterValues) (m : Contents) (i k : ℕ) (e : Block) → contents_of d bs c ≡ m → NoneIsClass bs → IsFirst bs i k → bytes_at m ASSEMBLY i 3 ≡ (get_or bs k e).content
+pub content_read : (d : IdentityValues) (bs : List Block) (c : CounterValues) (m : Contents) (i k : ℕ) (e : Block) → contents_of d bs c ≡ m → NoneIsClass bs → IsFirst (λ b. b.instance) bs i k → bytes_at m ASSEMBLY i 3 ≡ (get_or bs k e).content
 content_read d bs c m i k e is h f =
     ap (λ x. bytes_at x ASSEMBLY i 3) (sym is)
     ∙ ap (λ o. unwrap_or o []) (value_at-contents_of d bs c h ASSEMBLY i 3)
@@ -190,7 +190,7 @@ content_read d bs c m i k e is h f =
     ∙ ap (λ o. unwrap_or (block_value 3 o) []) (first_at bs i k e f)
 
 -- the contents once the first assembly of a number has other data
-pub content_set : (d : IdentityValues) (bs : List Block) (c : CounterValues) (m : Contents) (i k : ℕ) (b : Block) (new : Block) (offset : ℕ) (bytes : List ℕ) → contents_of d bs c ≡ m → NoneIsClass bs → IsFirst bs i k → b ≡ get_or bs k b → new ≡ record b { content = with_bytes_at b.content offset bytes } → contents_of d (set bs k new) c ≡ with_value m ASSEMBLY i 3 (with_bytes_at (bytes_at m ASSEMBLY i 3) offset bytes)
+pub content_set : (d : IdentityValues) (bs : List Block) (c : CounterValues) (m : Contents) (i k : ℕ) (b : Block) (new : Block) (offset : ℕ) (bytes : List ℕ) → contents_of d bs c ≡ m → NoneIsClass bs → IsFirst (λ b. b.instance) bs i k → b ≡ get_or bs k b → new ≡ record b { content = with_bytes_at b.content offset bytes } → contents_of d (set bs k new) c ≡ with_value m ASSEMBLY i 3 (with_bytes_at (bytes_at m ASSEMBLY i 3) offset bytes)
 content_set d bs c m i k b new offset bytes is h f here e =
     ap (λ x. contents_of d (set bs k x) c) (e ∙ ap (λ (x : Block). record x { content = with_bytes_at b.content offset bytes }) here)
     ∙ ap (λ l. contents_of d l c) (set-content bs k (with_bytes_at b.content offset bytes) b)

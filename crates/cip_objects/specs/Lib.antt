@@ -9,6 +9,7 @@ pub mod Contents
 pub mod Entries
 pub mod Counter
 pub mod Places
+pub mod Destination
 pub mod Check
 pub mod Text
 pub mod ReadServices

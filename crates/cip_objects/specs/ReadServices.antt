@@ -32,6 +32,11 @@ pub record Answer : Type 0 where
 abbrev pub answer : Completion → List ℕ → Result Answer Refusal
 answer status content = Ok (record { status = status; content = content })
 
+-- what a call that reads answered, with the data that its answer stands for
+abbrev pub answer_left : {A : Type 0} → (A → List ℕ) → Result A Refusal → Result Answer Refusal
+answer_left bytes (Ok x) = answer Whole (bytes x)
+answer_left bytes (Err s) = Err s
+
 -- Get_Attribute_Single: the value of the attribute
 unfoldable pub get_attribute_single : Contents → Path → List ℕ → Result Answer Refusal
 get_attribute_single m path content = do

@@ -1,7 +1,6 @@
 -- What every reply of a router has (Volume 1, Message Router response format).
 use Rattle.std.specs.Prelude.{◌≡◌, ℕ, ◌≤◌, List, length, slice_index}
--- the service of the reply to a request of this service: bit 7 is set
-pub use Rattle.cip_message.specs.Reply.{reply_service}
+use Rattle.cip_message.specs.Reply.{reply_service}
 
 -- the general status of a reply: service, a reserved byte, the status, the size of the additional status
 abbrev pub general_status : List ℕ → ℕ

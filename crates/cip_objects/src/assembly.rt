@@ -167,7 +167,8 @@ fn total(members: &[u16]) -> usize
 
 /// The place of the first assembly of this instance number.
 pub(crate) fn position(assemblies: &[Assembly], instance: u32) -> Option<usize>
-    ensures { MatchOption result (block_at instance assemblies.now ≡ None) (IsFirst assemblies.now instance) }
+    ensures { MatchOption result (block_at instance assemblies.now ≡ None)
+        (IsFirst (λ a. a.instance) assemblies.now instance) }
 {
     for (i, assembly) in assemblies.iter().enumerate() {
         if u32::from(assembly.instance()) == instance {

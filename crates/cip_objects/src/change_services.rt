@@ -1,36 +1,57 @@
 //! The services that change (Volume 1, common services; Add and Clear are the counter's own).
-ghost use Rattle.std.specs.Prelude.{◌≡◌, ◌≤◌, ◌+◌, length, [], OnErr};
+ghost use Rattle.std.specs.Prelude.{◌≡◌, length, [], OnErr};
 ghost use Rattle.cip_bytes.specs.Numbers.{le};
 ghost use Rattle.cip_objects.specs.ChangeServices.{change_left, set_attribute_single, set_member, add, clear};
 ghost use Rattle.cip_objects.specs.ChangeServices.{limit_change};
+ghost use Rattle.cip_objects.specs.Destination.{IsThere, IsAssembly, HasSize, path_to};
+ghost use Rattle.cip_objects.specs.Destination.{destination_of, size_to_set, setting};
 
 use crate::check::exactly;
-use crate::objects::{ASSEMBLY, Objects};
+use crate::destination::{Settable, Subject};
+use crate::objects::Objects;
 use crate::status::Refusal;
 use byteorder::{ByteOrder, LittleEndian};
-use cip_message::Path;
 
 impl Objects {
     /// Set_Attribute_Single.
     #[tactic(auto, unfolding(crate::specs::ChangeServices::set_attribute_single))]
-    pub(crate) fn set_attribute_single(&mut self, path: Path, data: &[u8]) -> Result<(), Refusal>
-        ensures change_left { change_left (λ _. []) self.new result ≡ set_attribute_single self.old path «data».now }
+    pub(crate) fn set_attribute_single(
+        &mut self,
+        subject: Subject,
+        data: &[u8],
+    ) -> Result<(), Refusal>
+        requires { IsThere self.old.shapes subject.destination }
+        ensures change_left { change_left (λ _. []) self.new result
+            ≡ set_attribute_single self.old (path_to self.old.shapes subject) «data».now }
         ensures err { OnErr result (self.new ≡ self.old) }
     {
         // no such attribute: 0x14 (objects)
-        let attribute = path.attribute.ok_or(Refusal::AttributeNotSupported)?;
-        self.value(path.class, path.instance, attribute)
+        let attribute = subject.attribute.ok_or(Refusal::AttributeNotSupported)?;
+        self.value(subject.destination, attribute)
             .ok_or(Refusal::AttributeNotSupported)?;
         // an attribute that can't be set: 0x0e, before its data are measured (objects)
-        let size = self
-            .settable_size(path.class, path.instance, attribute)
+        let settable = self
+            .settable(subject.destination, attribute)
             .ok_or(Refusal::AttributeNotSettable)?;
-        exactly(size, data)?;
-        if path.class == ASSEMBLY {
-            self.write_content(path.instance, 0, data);
-            return Ok(());
+        exactly(settable.size(), data)?;
+        self.set(settable, data)
+    }
+
+    /// Sets what can be set to data of its length.
+    fn set(&mut self, settable: Settable, data: &[u8]) -> Result<(), Refusal>
+        requires there { IsThere self.old.shapes (destination_of settable) }
+        requires whole { HasSize self.old settable }
+        requires exact { length «data».now ≡ size_to_set settable }
+        ensures change_left { change_left (λ _. []) self.new result ≡ setting self.old settable «data».now }
+        ensures err { OnErr result (self.new ≡ self.old) }
+    {
+        match settable {
+            Settable::Data { place, .. } => {
+                self.write_content(place, 0, data);
+                Ok(())
+            }
+            Settable::Limit => self.change_limit(data),
         }
-        self.change_limit(data)
     }
 
     /// Sets the counter's limit, where it isn't below the value.
@@ -46,16 +67,19 @@ impl Objects {
 
     /// Set_Member.
     #[tactic(auto, unfolding(crate::specs::ChangeServices::set_member))]
-    pub(crate) fn set_member(&mut self, path: Path, data: &[u8]) -> Result<(), Refusal>
-        ensures change_left { change_left (λ _. []) self.new result ≡ set_member self.old path «data».now }
+    pub(crate) fn set_member(&mut self, subject: Subject, data: &[u8]) -> Result<(), Refusal>
+        requires there { IsThere self.old.shapes subject.destination }
+        requires assembly { IsAssembly subject.destination }
+        ensures change_left { change_left (λ _. []) self.new result
+            ≡ set_member self.old (path_to self.old.shapes subject) «data».now }
         ensures err { OnErr result (self.new ≡ self.old) }
     {
-        let span = self.named_member(path)?;
+        let member = self.named_member(subject)?;
         // after the member, whether its assembly can be set: 0x0e (objects)
-        self.settable_size(ASSEMBLY, path.instance, 3)
+        self.settable(subject.destination, 3)
             .ok_or(Refusal::AttributeNotSettable)?;
-        exactly(span.size, data)?;
-        self.write_content(path.instance, span.offset, data);
+        exactly(member.span.size, data)?;
+        self.write_content(member.place, member.span.offset, data);
         Ok(())
     }
 

@@ -1,46 +1,59 @@
 //! Execution of router requests (Volume 1, Message Router).
 ghost use Rattle.std.specs.Prelude.{◌≡◌, ◌≤◌, [], length, OnErr, slice_set};
 ghost use Rattle.cip_message.specs.Reply.{reply as spelled, reply_of_fields};
+ghost use Rattle.cip_objects.specs.Destination.{IsThere, Has, path_to};
 ghost use Rattle.cip_objects.specs.Execution.{outcome_left, outcome_in_room, perform, outcome, exec};
 ghost use Rattle.cip_message.specs.Reply.{reply_service};
 ghost use Rattle.cip_objects.specs.Status.{status_code};
 
 use crate::Status;
+use crate::destination::Subject;
 use crate::objects::Objects;
 use crate::router::{REPLY_LIMIT, ReplyBuf, Router};
 use crate::service::Service;
 use crate::status::{Completion, Refusal};
 use crate::text::append;
-use cip_message::{Path, RequestView, read_path, reply_service};
+use cip_message::{RequestView, read_path, reply_service};
 
 impl Objects {
     /// Performs a service that the instance has, and appends the data of its reply.
     fn perform(
         &mut self,
         service: Service,
-        path: Path,
+        subject: Subject,
         data: &[u8],
         room: usize,
         reply: &mut ReplyBuf,
     ) -> Result<Completion, Refusal>
+        requires there { IsThere self.old.shapes subject.destination }
+        requires offered { Has subject.destination service }
         requires room_from { 8 ≤ room }
         requires room_to { room ≤ REPLY_LIMIT }
         requires head { length reply.old.items ≡ 4 }
         ensures outcome { outcome_left self.new result reply.new.items
-            ≡ outcome_in_room room reply.old.items (perform self.old service path «data».now) }
+            ≡ outcome_in_room room reply.old.items
+            (perform self.old service (path_to self.old.shapes subject) «data».now) }
         ensures err { OnErr result (self.new ≡ self.old) }
     {
         match service {
-            Service::GetAttributesAll => self.get_attributes_all(path, data, room, reply),
-            Service::GetAttributeList => self.get_attribute_list(path, data, room, reply),
-            Service::GetAttributeSingle => self.get_attribute_single(path, data, room, reply),
-            Service::SetAttributeSingle => {
-                self.set_attribute_single(path, data)?;
+            Service::GetAttributesAll => self.get_attributes_all(subject, data, room, reply),
+            Service::GetAttributeList => self.get_attribute_list(subject, data, room, reply),
+            Service::GetAttributeSingle => {
+                let value = self.get_attribute_single(subject, data)?;
+                value.append(room, reply)?;
                 Ok(Completion::Whole)
             }
-            Service::GetMember => self.get_member(path, data, room, reply),
+            Service::SetAttributeSingle => {
+                self.set_attribute_single(subject, data)?;
+                Ok(Completion::Whole)
+            }
+            Service::GetMember => {
+                let member = self.get_member(subject, data)?;
+                append(member, room, reply)?;
+                Ok(Completion::Whole)
+            }
             Service::SetMember => {
-                self.set_member(path, data)?;
+                self.set_member(subject, data)?;
                 Ok(Completion::Whole)
             }
             Service::Add => {
@@ -57,7 +70,7 @@ impl Objects {
     }
 
     /// Reads a request and performs it: the first check that fails is answered.
-    #[tactic(auto, unfolding(crate::specs::Execution::outcome))]
+    #[tactic(auto, unfolding(crate::specs::Execution::outcome, crate::specs::ReadServices::service_at))]
     fn perform_request(
         &mut self,
         request: &[u8],
@@ -79,9 +92,20 @@ impl Objects {
         let Ok(path) = read_path(view.path) else {
             return Err(Refusal::PathSegmentError);
         };
-        // class and instance, then the service: 0x05, 0x08 (objects)
-        let service = self.service_at(path.class, path.instance, view.service)?;
-        self.perform(service, path, view.data, room, reply)
+        // no such class or instance: 0x05 (objects)
+        let destination = self
+            .destination(path.class, path.instance)
+            .ok_or(Refusal::PathDestinationUnknown)?;
+        // the destination hasn't this service: 0x08 (objects)
+        let service = destination
+            .service(view.service)
+            .ok_or(Refusal::ServiceNotSupported)?;
+        let subject = Subject {
+            destination,
+            attribute: path.attribute,
+            member: path.member,
+        };
+        self.perform(service, subject, view.data, room, reply)
     }
 }
 

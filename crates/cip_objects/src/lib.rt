@@ -15,6 +15,7 @@ mod check;
 mod class;
 mod config;
 mod counter;
+mod destination;
 mod execute;
 mod identity;
 pub mod laws;

@@ -1,72 +1,32 @@
 //! The objects: what a caller sees as one map, held as typed structs.
-ghost use Rattle.std.specs.Prelude.{◌≡◌, ◌≤◌, ◌+◌, ◌<◌, length, option_map, option_copied, sum, map, IsSome, IfSome};
-ghost use Rattle.std.specs.Prelude.{OnSome, IfOk, IfErr};
+ghost use Rattle.std.specs.Prelude.{◌≡◌, ◌≤◌, ◌+◌, length, option_map, sum, map, Some, IfSome};
+ghost use Rattle.std.specs.Prelude.{IfOk, IfErr, MatchOption};
 ghost use Rattle.std.specs.List.{All};
 ghost use Rattle.cip_objects.specs.Configuration.{fault_of, contents_of_config, block_of};
 ghost use Rattle.byteorder.specs.Endian.{little_bytes};
-ghost use Rattle.cip_objects.specs.Contents.{value_at, bytes_at, udint_at, with_value};
+ghost use Rattle.cip_objects.specs.Contents.{value_at, udint_at, with_value};
 ghost use Rattle.cip_objects.specs.ChangeServices.{with_bytes_at};
-ghost use Rattle.cip_objects.specs.ReadServices.{service_at};
+ghost use Rattle.cip_objects.specs.Destination.{LeadTo, HasNoValue, IsThere, IsPlace, CanBeSet};
+ghost use Rattle.cip_objects.specs.Destination.{services_at, class_at, instance_at, number_at, value_to, data_at};
+ghost use Rattle.cip_objects.specs.Destination.{size_to_set};
 ghost use Rattle.cip_objects.specs.Members.{AreWhole};
 ghost use Rattle.cip_objects.specs.Run.{IsCounter};
-ghost use Rattle.cip_objects.specs.Service.{service_in};
 ghost use Rattle.cip_objects.specs.Entries.{shape_of};
-ghost use Rattle.cip_objects.specs.Tables.{services_of, class_or_first, shape_at, settable_size, member_at};
+ghost use Rattle.cip_objects.specs.Tables.{services_of, shape_at, settable_size};
 ghost use Rattle.cip_objects.specs.Value.{value_bytes, IsShort};
 
-use crate::assembly::{Assembly, DATA_LIMIT, MEMBER_LIMIT, Span, greatest, position};
-use crate::class::class_attribute;
+use crate::assembly::{Assembly, DATA_LIMIT, MEMBER_LIMIT, greatest, position};
+use crate::class::{ASSEMBLY, CONNECTION_MANAGER, COUNTER, Class, IDENTITY, class_attribute};
 use crate::config::{AssemblyConfig, Config, ConfigFault};
 use crate::counter::Counter;
+use crate::destination::{Destination, Settable};
 use crate::identity::{Identity, NAME_LIMIT};
 use crate::router::{REPLY_LIMIT, ReplyBuf};
-use crate::service::Service;
-use crate::status::Refusal;
 use crate::value::Value;
 use arrayvec::ArrayVec;
 use cip_message::Device;
 use std::alloc::{AllocError, Global};
 use std::marker::Model;
-
-/// The services of a class as such.
-static CLASS_SERVICES: [Service; 1] = [Service::GetAttributeSingle];
-
-/// The services of the Identity object's instance.
-static IDENTITY_SERVICES: [Service; 3] = [
-    Service::GetAttributesAll,
-    Service::GetAttributeList,
-    Service::GetAttributeSingle,
-];
-
-/// The services of an assembly.
-static ASSEMBLY_SERVICES: [Service; 5] = [
-    Service::GetAttributeList,
-    Service::GetAttributeSingle,
-    Service::SetAttributeSingle,
-    Service::GetMember,
-    Service::SetMember,
-];
-
-/// The services of the counter's instance.
-static COUNTER_SERVICES: [Service; 5] = [
-    Service::GetAttributeList,
-    Service::GetAttributeSingle,
-    Service::SetAttributeSingle,
-    Service::Add,
-    Service::Clear,
-];
-
-/// The class of the Identity object.
-pub(crate) const IDENTITY: u16 = 0x01;
-
-/// The class of the Assembly object.
-pub(crate) const ASSEMBLY: u16 = 0x04;
-
-/// The class of the Connection Manager, whose services are not the objects'.
-pub(crate) const CONNECTION_MANAGER: u16 = 0x06;
-
-/// The class of the counter, in the range of the vendor's own.
-pub(crate) const COUNTER: u16 = 0x64;
 
 /// The objects of a device: Identity, the assemblies and the counter.
 ///
@@ -128,37 +88,48 @@ impl Objects {
         })
     }
 
-    /// The value of an attribute, if there is one of this class, instance and number.
+    /// What a class and an instance lead to, if there is such a class and instance.
+    #[tactic(auto, unfolding(crate::specs::Tables::services_of), using(crate::proofs::Destinations::reaches))]
+    pub(crate) fn destination(&self, class: u16, instance: u32) -> Option<Destination>
+        ensures services { option_map services_at result ≡ services_of self.now.shapes class instance }
+        ensures leads { MatchOption result (HasNoValue self.now class instance)
+            (LeadTo self.now.shapes class instance) }
+    {
+        match (class, instance) {
+            // instance 0 is the class itself (object model)
+            (IDENTITY, 0) => Some(Destination::Class(Class::Identity)),
+            (IDENTITY, 1) => Some(Destination::Identity),
+            (ASSEMBLY, 0) => Some(Destination::Class(Class::Assembly)),
+            (ASSEMBLY, _) => Some(Destination::Assembly(position(&self.assemblies, instance)?)),
+            (CONNECTION_MANAGER, 1) => Some(Destination::ConnectionManager),
+            (COUNTER, 0) => Some(Destination::Class(Class::Counter)),
+            (COUNTER, 1) => Some(Destination::Counter),
+            _ => None,
+        }
+    }
+
+    /// The value of an attribute of a destination, if it has one of this number.
     #[inline(always)]
     #[tactic(auto, using(crate::proofs::Lookup::reads))]
-    pub(crate) fn value(&self, class: u16, instance: u32, attribute: u16) -> Option<Value<'_>>
-        ensures value { option_map value_bytes result ≡ value_at self.now class instance attribute }
+    pub(crate) fn value(&self, destination: Destination, attribute: u16) -> Option<Value<'_>>
+        requires { IsThere self.now.shapes destination }
+        ensures value { option_map value_bytes result ≡ value_to self.now destination attribute }
         ensures short { IfSome result IsShort }
     {
         let counter = self.counter;
-        // instance 0 is the class itself (object model)
-        match class {
-            IDENTITY => match instance {
-                0 => class_attribute(1, 1, 1, attribute),
-                1 => self.identity.attribute(attribute),
-                _ => None,
-            },
-            ASSEMBLY if instance == 0 => class_attribute(
+        match destination {
+            Destination::Class(Class::Assembly) => class_attribute(
                 2,
                 greatest(&self.assemblies),
                 self.assemblies.len() as u16,
                 attribute,
             ),
-            ASSEMBLY => {
-                let at = position(&self.assemblies, instance)?;
-                self.assemblies[at].attribute(attribute)
-            }
-            COUNTER => match instance {
-                0 => class_attribute(1, 1, 1, attribute),
-                1 => counter.attribute(attribute),
-                _ => None,
-            },
-            _ => None,
+            Destination::Class(_) => class_attribute(1, 1, 1, attribute),
+            Destination::Identity => self.identity.attribute(attribute),
+            Destination::Assembly(place) => self.assemblies[place].attribute(attribute),
+            // it has no attributes here (ours)
+            Destination::ConnectionManager => None,
+            Destination::Counter => counter.attribute(attribute),
         }
     }
 
@@ -180,7 +151,8 @@ impl Objects {
     pub fn attribute(&self, class: u16, instance: u32, attribute: u16) -> Option<ReplyBuf>
         ensures { option_map (λ bytes. bytes.items) result ≡ value_at self.now class instance attribute }
     {
-        let value = self.value(class, instance, attribute)?;
+        let destination = self.destination(class, instance)?;
+        let value = self.value(destination, attribute)?;
         let mut bytes = ReplyBuf::new();
         match value.append(REPLY_LIMIT, &mut bytes) {
             Ok(()) => Some(bytes),
@@ -188,83 +160,39 @@ impl Objects {
         }
     }
 
-    /// The assembly of this instance number.
-    fn assembly(&self, instance: u32) -> Option<&Assembly>
-        ensures shape { option_map (λ a. shape_of a.now) result ≡ shape_at instance self.now.shapes }
-        ensures content { IfSome result (λ a. a.now.content ≡ bytes_at self.now ASSEMBLY instance 3) }
+    /// The assembly at this place.
+    #[inline(always)]
+    pub(crate) fn assembly(&self, place: usize) -> &Assembly
+        requires { IsPlace self.now.shapes place }
+        ensures shape { shape_at (number_at self.now.shapes place) self.now.shapes ≡ Some (shape_of result.now) }
+        ensures content { result.now.content ≡ data_at self.now place }
     {
-        let assemblies = self.assemblies.as_slice();
-        match position(assemblies, instance) {
-            Some(at) => Some(&assemblies[at]),
-            None => None,
-        }
+        &self.assemblies[place]
     }
 
-    /// The services of an instance, `None` where there is no such class or instance.
-    #[tactic(auto, unfolding(crate::specs::Tables::services_of))]
-    fn services(&self, class: u16, instance: u32) -> Option<&'static [Service]>
-        ensures { option_copied result ≡ services_of self.now.shapes class instance }
-    {
-        match class {
-            IDENTITY => class_or_first(instance, &IDENTITY_SERVICES),
-            ASSEMBLY if instance == 0 => Some(&CLASS_SERVICES),
-            ASSEMBLY => match self.assembly(instance) {
-                Some(_) => Some(&ASSEMBLY_SERVICES),
-                None => None,
-            },
-            // its services are the manager's (objects)
-            CONNECTION_MANAGER if instance == 1 => Some(&[]),
-            COUNTER => class_or_first(instance, &COUNTER_SERVICES),
-            _ => None,
-        }
-    }
-
-    /// The service of this code that an instance has.
-    #[tactic(auto, unfolding(crate::specs::ReadServices::service_at))]
-    pub(crate) fn service_at(&self, class: u16, instance: u32, code: u8) -> Result<Service, Refusal>
-        ensures { result ≡ service_at self.now.shapes class instance code }
-    {
-        // no such class or instance: 0x05 (objects)
-        let offered = self
-            .services(class, instance)
-            .ok_or(Refusal::PathDestinationUnknown)?;
-        // the instance hasn't this service: 0x08 (objects)
-        service_in(code, offered).ok_or(Refusal::ServiceNotSupported)
-    }
-
-    /// The length of an attribute that can be set, `None` where it can't.
-    #[tactic(auto, unfolding(crate::specs::Tables::settable_size))]
-    pub(crate) fn settable_size(&self, class: u16, instance: u32, attribute: u16) -> Option<usize>
-        ensures size { result ≡ settable_size self.now.shapes class instance attribute }
-        ensures there { class ≡ ASSEMBLY → OnSome result (IsSome (shape_at instance self.now.shapes)) }
-        ensures whole { class ≡ ASSEMBLY → IfSome result (λ n. n ≡ length (bytes_at self.now ASSEMBLY instance 3)) }
+    /// What can be set as this attribute of a destination, `None` where that can't be set.
+    #[tactic(auto, unfolding(crate::specs::Tables::settable_size), using(crate::proofs::Destinations::not_settable))]
+    pub(crate) fn settable(&self, destination: Destination, attribute: u16) -> Option<Settable>
+        requires { IsThere self.now.shapes destination }
+        ensures size { option_map size_to_set result
+            ≡ settable_size self.now.shapes (class_at destination) (instance_at self.now.shapes destination) attribute }
+        ensures names { IfSome result (CanBeSet self.now destination attribute) }
     {
         // the data of an assembly that the configuration lets be set, and the counter's limit (objects)
-        match class {
-            ASSEMBLY if attribute == 3 => match self.assembly(instance) {
-                Some(assembly) if assembly.is_settable() => Some(assembly.size()),
-                _ => None,
-            },
-            COUNTER if instance == 1 && attribute == 2 => Some(4),
+        match (destination, attribute) {
+            (Destination::Assembly(place), 3) => {
+                let assembly = self.assembly(place);
+                if !assembly.is_settable() {
+                    return None;
+                }
+                Some(Settable::Data {
+                    place,
+                    size: assembly.size(),
+                })
+            }
+            (Destination::Counter, 2) => Some(Settable::Limit),
             _ => None,
         }
-    }
-
-    /// Where the member of this number lies in the data of an assembly.
-    pub(crate) fn span(&self, instance: u32, number: u16) -> Option<Span>
-        ensures place { result ≡ member_at self.now.shapes instance number }
-        ensures there { OnSome result (IsSome (shape_at instance self.now.shapes)) }
-        ensures inside { IfSome result (λ s. s.offset + s.size ≤ length (bytes_at self.now ASSEMBLY instance 3)) }
-    {
-        self.assembly(instance)?.span(number)
-    }
-
-    /// The data of an assembly that is there.
-    pub(crate) fn content(&self, instance: u32) -> &[u8]
-        requires { IsSome (shape_at instance self.now.shapes) }
-        ensures { result.now ≡ bytes_at self.now ASSEMBLY instance 3 }
-    {
-        self.assembly(instance).unwrap().content()
     }
 
     /// The numbers of the counter.
@@ -277,16 +205,15 @@ impl Objects {
         counter
     }
 
-    /// Writes bytes from `offset` on into the data of an assembly that is there.
-    pub(crate) fn write_content(&mut self, instance: u32, offset: usize, bytes: &[u8])
-        requires there { IsSome (shape_at instance self.old.shapes) }
-        requires inside { offset + length bytes.now ≤ length (bytes_at self.old ASSEMBLY instance 3) }
+    /// Writes bytes from `offset` on into the data of the assembly at this place.
+    pub(crate) fn write_content(&mut self, place: usize, offset: usize, bytes: &[u8])
+        requires there { IsPlace self.old.shapes place }
+        requires inside { offset + length bytes.now ≤ length (data_at self.old place) }
         ensures { self.new
-            ≡ with_value self.old ASSEMBLY instance 3 (with_bytes_at
-            (bytes_at self.old ASSEMBLY instance 3) offset bytes.now) }
+            ≡ with_value self.old ASSEMBLY (number_at self.old.shapes place) 3
+            (with_bytes_at (data_at self.old place) offset bytes.now) }
     {
-        let at = position(&self.assemblies, instance).unwrap();
-        self.assemblies[at].write(offset, bytes);
+        self.assemblies[place].write(offset, bytes);
     }
 
     /// Sets the counter's value.
@@ -309,29 +236,6 @@ impl Objects {
     {
         self.counter.additions = additions;
     }
-}
-
-/// The services of a class with one instance, which has these.
-fn class_or_first(instance: u32, services: &'static [Service]) -> Option<&'static [Service]>
-    ensures { option_copied result ≡ class_or_first instance services.now }
-{
-    match instance {
-        0 => Some(&CLASS_SERVICES),
-        1 => Some(services),
-        _ => None,
-    }
-}
-
-/// The service of this code among these.
-fn service_in(code: u8, services: &[Service]) -> Option<Service>
-    ensures { result ≡ service_in code services.now }
-{
-    for service in services {
-        if service.code() == code {
-            return Some(*service);
-        }
-    }
-    None
 }
 
 /// A product name.

@@ -1,79 +1,83 @@
 //! The services that read (Volume 1, common services).
-ghost use Rattle.std.specs.Prelude.{◌≡◌, ◌≤◌, ◌+◌, ◌++◌, length, take, drop, IsSome, IfOk, OnOk, is_some};
+ghost use Rattle.std.specs.Prelude.{◌≡◌, ◌≤◌, ◌+◌, ◌++◌, length, IfOk};
 ghost use Rattle.std.specs.List.{flat_map};
 ghost use Rattle.cip_bytes.specs.Numbers.{words_of};
-ghost use Rattle.cip_objects.specs.Contents.{bytes_at};
+ghost use Rattle.cip_objects.specs.Destination.{IsThere, IsAssembly, bytes_to, path_to, span_left};
+ghost use Rattle.cip_objects.specs.Destination.{IsInside};
 ghost use Rattle.cip_objects.specs.ReadServices.{get_attribute_single, get_attributes_all, get_attribute_list};
 ghost use Rattle.cip_objects.specs.ReadServices.{get_member, named_member, list_entry, is_there, all_there};
-ghost use Rattle.cip_objects.specs.ReadServices.{ALL_ATTRIBUTES};
+ghost use Rattle.cip_objects.specs.ReadServices.{answer_left, ALL_ATTRIBUTES};
 ghost use Rattle.cip_objects.specs.Execution.{outcome_of_read, outcome_left, outcome_in_room};
-ghost use Rattle.cip_objects.specs.Tables.{shape_at};
 ghost use Rattle.cip_objects.specs.Text.{Writes};
+ghost use Rattle.cip_objects.specs.Value.{value_bytes};
 
-use crate::assembly::Span;
 use crate::check::exactly;
-use crate::objects::{ASSEMBLY, Objects};
+use crate::destination::{Destination, Member, Subject};
+use crate::objects::Objects;
 use crate::router::{REPLY_LIMIT, ReplyBuf};
 use crate::status::{Completion, Refusal};
 use crate::text::append;
+use crate::value::Value;
 use byteorder::{ByteOrder, LittleEndian};
-use cip_message::Path;
 
 impl Objects {
-    /// Get_Attribute_Single.
+    /// Get_Attribute_Single: the attribute's value.
     #[tactic(auto, unfolding(crate::specs::ReadServices::get_attribute_single))]
     pub(crate) fn get_attribute_single(
         &self,
-        path: Path,
+        subject: Subject,
         data: &[u8],
-        room: usize,
-        reply: &mut ReplyBuf,
-    ) -> Result<Completion, Refusal>
-        requires { room ≤ REPLY_LIMIT }
-        ensures { outcome_left self.now result reply.new.items
-            ≡ outcome_in_room room reply.old.items (outcome_of_read self.now
-            (get_attribute_single self.now path «data».now)) }
+    ) -> Result<Value<'_>, Refusal>
+        requires { IsThere self.now.shapes subject.destination }
+        ensures { answer_left value_bytes result
+            ≡ get_attribute_single self.now (path_to self.now.shapes subject) «data».now }
     {
-        let attribute = path.attribute.ok_or(Refusal::AttributeNotSupported)?;
+        let attribute = subject.attribute.ok_or(Refusal::AttributeNotSupported)?;
         let value = self
-            .value(path.class, path.instance, attribute)
+            .value(subject.destination, attribute)
             .ok_or(Refusal::AttributeNotSupported)?;
         // a read takes no data (common services)
         exactly(0, data)?;
-        value.append(room, reply)?;
-        Ok(Completion::Whole)
+        Ok(value)
     }
 
     /// Get_Attributes_All.
     #[tactic(auto, unfolding(crate::specs::ReadServices::get_attributes_all))]
     pub(crate) fn get_attributes_all(
         &self,
-        path: Path,
+        subject: Subject,
         data: &[u8],
         room: usize,
         reply: &mut ReplyBuf,
     ) -> Result<Completion, Refusal>
+        requires there { IsThere self.now.shapes subject.destination }
         requires room { room ≤ REPLY_LIMIT }
         requires fits { length reply.old.items ≤ room }
         ensures { outcome_left self.now result reply.new.items
             ≡ outcome_in_room room reply.old.items (outcome_of_read self.now
-            (get_attributes_all self.now path «data».now)) }
+            (get_attributes_all self.now (path_to self.now.shapes subject) «data».now)) }
     {
         exactly(0, data)?;
-        self.append_all(path, room, reply)?;
+        self.append_all(subject.destination, room, reply)?;
         Ok(Completion::Whole)
     }
 
     /// Appends the values of attributes 1 to 7.
-    fn append_all(&self, path: Path, room: usize, reply: &mut ReplyBuf) -> Result<(), Refusal>
+    fn append_all(
+        &self,
+        destination: Destination,
+        room: usize,
+        reply: &mut ReplyBuf,
+    ) -> Result<(), Refusal>
+        requires there { IsThere self.now.shapes destination }
         requires room { room ≤ REPLY_LIMIT }
         requires fits { length reply.old.items ≤ room }
-        ensures { Writes room (reply.old.items ++ flat_map (bytes_at self.now path.class path.instance) ALL_ATTRIBUTES)
+        ensures { Writes room (reply.old.items ++ flat_map (bytes_to self.now destination) ALL_ATTRIBUTES)
             result reply.new.items }
     {
         // this profile ends there (ours)
         for attribute in [1, 2, 3, 4, 5, 6, 7].iter() {
-            self.append_value(path, *attribute, room, reply)?;
+            self.append_value(destination, *attribute, room, reply)?;
         }
         Ok(())
     }
@@ -81,17 +85,17 @@ impl Objects {
     /// Appends the value of an attribute, nothing where there is no such attribute.
     fn append_value(
         &self,
-        path: Path,
+        destination: Destination,
         attribute: u16,
         room: usize,
         reply: &mut ReplyBuf,
     ) -> Result<(), Refusal>
+        requires there { IsThere self.now.shapes destination }
         requires room { room ≤ REPLY_LIMIT }
         requires fits { length reply.old.items ≤ room }
-        ensures { Writes room (reply.old.items ++ bytes_at self.now path.class path.instance attribute)
-            result reply.new.items }
+        ensures { Writes room (reply.old.items ++ bytes_to self.now destination attribute) result reply.new.items }
     {
-        match self.value(path.class, path.instance, attribute) {
+        match self.value(destination, attribute) {
             Some(value) => value.append(room, reply),
             None => Ok(()),
         }
@@ -101,15 +105,16 @@ impl Objects {
     #[tactic(auto, unfolding(crate::specs::ReadServices::get_attribute_list))]
     pub(crate) fn get_attribute_list(
         &self,
-        path: Path,
+        subject: Subject,
         data: &[u8],
         room: usize,
         reply: &mut ReplyBuf,
     ) -> Result<Completion, Refusal>
-        requires { room ≤ REPLY_LIMIT }
+        requires there { IsThere self.now.shapes subject.destination }
+        requires room { room ≤ REPLY_LIMIT }
         ensures { outcome_left self.now result reply.new.items
             ≡ outcome_in_room room reply.old.items (outcome_of_read self.now
-            (get_attribute_list self.now path «data».now)) }
+            (get_attribute_list self.now (path_to self.now.shapes subject) «data».now)) }
     {
         // the count and so many attribute numbers, two bytes each (common services)
         if data.len() < 2 {
@@ -119,7 +124,7 @@ impl Objects {
         exactly(2 + 2 * usize::from(count), data)?;
         append(&count.to_le_bytes(), room, reply)?;
         // an unknown attribute is told in its place, and by the general status 0x0a (common services)
-        if self.append_list(path, &data[2..], room, reply)? {
+        if self.append_list(subject, &data[2..], room, reply)? {
             Ok(Completion::Whole)
         } else {
             Ok(Completion::Partial)
@@ -130,21 +135,24 @@ impl Objects {
     #[tactic(auto, using(crate::proofs::Words::words))]
     fn append_list(
         &self,
-        path: Path,
+        subject: Subject,
         list: &[u8],
         room: usize,
         reply: &mut ReplyBuf,
     ) -> Result<bool, Refusal>
+        requires there { IsThere self.now.shapes subject.destination }
         requires room { room ≤ REPLY_LIMIT }
         requires fits { length reply.old.items ≤ room }
-        ensures text { Writes room (reply.old.items ++ flat_map (list_entry self.now path) (words_of list.now))
+        ensures text { Writes room
+            (reply.old.items ++ flat_map (list_entry self.now (path_to self.now.shapes subject)) (words_of list.now))
             result reply.new.items }
-        ensures there { IfOk result (λ all. all ≡ all_there self.now path (words_of list.now)) }
+        ensures there { IfOk result (λ all. all
+            ≡ all_there self.now (path_to self.now.shapes subject) (words_of list.now)) }
     {
         let mut all = true;
         for i in 0..list.len() / 2 {
             let attribute = LittleEndian::read_u16(&list[2 * i..]);
-            let there = self.append_listed(path, attribute, room, reply)?;
+            let there = self.append_listed(subject, attribute, room, reply)?;
             all = all && there;
         }
         Ok(all)
@@ -154,17 +162,20 @@ impl Objects {
     #[tactic(auto, unfolding(crate::specs::ReadServices::list_entry))]
     fn append_listed(
         &self,
-        path: Path,
+        subject: Subject,
         attribute: u16,
         room: usize,
         reply: &mut ReplyBuf,
     ) -> Result<bool, Refusal>
-        requires { room ≤ REPLY_LIMIT }
-        ensures text { Writes room (reply.old.items ++ list_entry self.now path attribute) result reply.new.items }
-        ensures there { IfOk result (λ there. there ≡ is_there self.now path attribute) }
+        requires there { IsThere self.now.shapes subject.destination }
+        requires room { room ≤ REPLY_LIMIT }
+        ensures text { Writes room
+            (reply.old.items ++ list_entry self.now (path_to self.now.shapes subject) attribute)
+            result reply.new.items }
+        ensures there { IfOk result (λ there. there ≡ is_there self.now (path_to self.now.shapes subject) attribute) }
     {
         append(&attribute.to_le_bytes(), room, reply)?;
-        match self.value(path.class, path.instance, attribute) {
+        match self.value(subject.destination, attribute) {
             Some(value) => {
                 append(&[0, 0], room, reply)?;
                 value.append(room, reply)?;
@@ -178,40 +189,38 @@ impl Objects {
         }
     }
 
-    /// Where the member lies that the path names.
+    /// The member that the path names.
     #[tactic(auto, unfolding(crate::specs::ReadServices::named_member))]
-    pub(crate) fn named_member(&self, path: Path) -> Result<Span, Refusal>
-        ensures place { result ≡ named_member self.now.shapes path }
-        ensures there { OnOk result (IsSome (shape_at path.instance self.now.shapes)) }
-        ensures inside { IfOk result (λ s. s.offset + s.size ≤ length (bytes_at self.now ASSEMBLY path.instance 3)) }
+    pub(crate) fn named_member(&self, subject: Subject) -> Result<Member, Refusal>
+        requires there { IsThere self.now.shapes subject.destination }
+        requires assembly { IsAssembly subject.destination }
+        ensures span { span_left result ≡ named_member self.now.shapes (path_to self.now.shapes subject) }
+        ensures inside { IfOk result (IsInside self.now subject.destination) }
     {
         // only the data of an assembly, attribute 3, have members (Assembly)
-        if path.attribute != Some(3) {
+        let (Destination::Assembly(place), Some(3)) = (subject.destination, subject.attribute)
+        else {
             return Err(Refusal::AttributeNotSupported);
-        }
+        };
         // no such member: 0x28 (objects)
-        let number = path.member.ok_or(Refusal::InvalidMemberId)?;
-        self.span(path.instance, number)
-            .ok_or(Refusal::InvalidMemberId)
+        let number = subject.member.ok_or(Refusal::InvalidMemberId)?;
+        let span = self
+            .assembly(place)
+            .span(number)
+            .ok_or(Refusal::InvalidMemberId)?;
+        Ok(Member { place, span })
     }
 
-    /// Get_Member.
+    /// Get_Member: the member's bytes.
     #[tactic(auto, unfolding(crate::specs::ReadServices::get_member))]
-    pub(crate) fn get_member(
-        &self,
-        path: Path,
-        data: &[u8],
-        room: usize,
-        reply: &mut ReplyBuf,
-    ) -> Result<Completion, Refusal>
-        requires { room ≤ REPLY_LIMIT }
-        ensures { outcome_left self.now result reply.new.items
-            ≡ outcome_in_room room reply.old.items (outcome_of_read self.now (get_member self.now path «data».now)) }
+    pub(crate) fn get_member(&self, subject: Subject, data: &[u8]) -> Result<&[u8], Refusal>
+        requires there { IsThere self.now.shapes subject.destination }
+        requires assembly { IsAssembly subject.destination }
+        ensures { answer_left (λ bytes. bytes.now) result
+            ≡ get_member self.now (path_to self.now.shapes subject) «data».now }
     {
-        let span = self.named_member(path)?;
+        let Member { place, span } = self.named_member(subject)?;
         exactly(0, data)?;
-        let content = self.content(path.instance);
-        append(&content[span.offset..span.offset + span.size], room, reply)?;
-        Ok(Completion::Whole)
+        Ok(&self.assembly(place).content()[span.offset..span.offset + span.size])
     }
 }

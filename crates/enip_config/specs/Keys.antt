@@ -1,13 +1,17 @@
 -- The keys of a configuration: the name of each, its range, and what it is where it is left out.
-use Rattle.std.specs.Prelude.{ℕ, pos, List, [], ◌∷◌, Bool, false, ◌&&◌, if◌then◌else◌, nat_le, codes, Option, Some, None, option_map, option_and_then, String}
+use Rattle.std.specs.Prelude.{ℕ, pos, List, [], ◌∷◌, Bool, false, ◌&&◌, if◌then◌else◌, nat_le, codes, Option, Some}
+use Rattle.std.specs.Prelude.{None, option_map, option_and_then, String}
 use Rattle.std.specs.Borrow.{Bor}
 use Rattle.std.specs.BTreeMap.{BTreeMap}
 use Rattle.std.specs.declared.alloc.Global.{Global}
-use Rattle.toml.specs.Data.{Data, integer, array, table, Items, no_items, item, Members, no_members, get_member, as_str, as_bool, as_table}
+use Rattle.toml.specs.Data.{Data, integer, array, table, Items, no_items, item, Members, no_members, get_member, as_str}
+use Rattle.toml.specs.Data.{as_bool, as_table}
 use Rattle.toml.specs.View.{table_view}
 use Rattle.toml.specs.declared.value.Value.{Value}
 use Rattle.enip_config.specs.declared.key.NumberKey.{NumberKey}
-use Rattle.enip_config.specs.declared.key.NumberKey.TheVariants.{Vendor, DeviceType, ProductCode, Major, Minor, Serial, Status, State, Port, Peers, Connections, CounterValue, CounterLimit}
+use Rattle.enip_config.specs.declared.key.NumberKey.TheVariants.{Vendor, DeviceType, ProductCode, Major, Minor, Serial}
+use Rattle.enip_config.specs.declared.key.NumberKey.TheVariants.{Status, State, Port, Peers, Connections, CounterValue}
+use Rattle.enip_config.specs.declared.key.NumberKey.TheVariants.{CounterLimit}
 use Rattle.enip_config.specs.declared.key.Row.{Row}
 
 -- A row of the table: a key's name, its least and its greatest number, and its number where it is left out; None
@@ -22,7 +26,8 @@ abbrev required : List ℕ → ℕ → ℕ → KeyRow
 required name least greatest = record { name = name; least = least; greatest = greatest; default = None }
 
 abbrev optional : List ℕ → ℕ → ℕ → ℕ → KeyRow
-optional name least greatest default = record { name = name; least = least; greatest = greatest; default = Some default }
+optional name least greatest default =
+    record { name = name; least = least; greatest = greatest; default = Some default }
 
 -- The table of the keys whose values are numbers. The last two stand in the table `counter`.
 abbrev pub row : NumberKey → KeyRow

@@ -1,7 +1,8 @@
 -- Why a configuration is refused, and the numbers by which that is printed.
 use Rattle.std.specs.Prelude.{ℕ}
 use Rattle.cip_objects.specs.declared.config.ConfigFault.{ConfigFault}
-use Rattle.cip_objects.specs.declared.config.ConfigFault.TheVariants.{Name, Size, Members, DoubleInstance, Limit, Memory as NoMemory}
+use Rattle.cip_objects.specs.declared.config.ConfigFault.TheVariants.{Name, Size, Members, DoubleInstance, Limit}
+use Rattle.cip_objects.specs.declared.config.ConfigFault.TheVariants.{Memory as NoMemory}
 use Rattle.enip_config.specs.declared.fault.Fault.{Fault}
 use Rattle.enip_config.specs.declared.fault.Fault.TheVariants.{Refused, Memory}
 use Rattle.enip_config.specs.declared.fault.Refusal.{Refusal}

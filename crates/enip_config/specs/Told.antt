@@ -1,5 +1,6 @@
 -- What a configuration says, and why one is refused: by the first check that fails, in the order 7, 9, 8, 1 to 5.
-use Rattle.std.specs.Prelude.{◌≡◌, ◌≤◌, ◌⊎◌, ⊤, ℕ, List, Bool, true, false, Option, Some, None, map, string_bytes, IsUtf8}
+use Rattle.std.specs.Prelude.{◌≡◌, ◌≤◌, ◌⊎◌, ⊤, ℕ, List, Bool, true, false, Option, Some, None, map, string_bytes}
+use Rattle.std.specs.Prelude.{IsUtf8}
 use Rattle.std.specs.Option.{IsSomeAnd}
 use Rattle.toml.specs.Parse.{parse_document}
 use Rattle.toml.specs.Data.{Members}
@@ -11,7 +12,9 @@ use Rattle.enip_config.specs.declared.fault.Fault.TheVariants.{Refused, Memory}
 use Rattle.enip_config.specs.declared.fault.Refusal.{Refusal}
 use Rattle.enip_config.specs.declared.fault.Refusal.TheVariants.{NotToml, BadValue, UnknownKey}
 use Rattle.enip_config.specs.declared.key.NumberKey.{NumberKey}
-use Rattle.enip_config.specs.declared.key.NumberKey.TheVariants.{Vendor, DeviceType, ProductCode, Major, Minor, Serial, Status, State, Port, Peers, Connections, CounterValue, CounterLimit}
+use Rattle.enip_config.specs.declared.key.NumberKey.TheVariants.{Vendor, DeviceType, ProductCode, Major, Minor, Serial}
+use Rattle.enip_config.specs.declared.key.NumberKey.TheVariants.{Status, State, Port, Peers, Connections, CounterValue}
+use Rattle.enip_config.specs.declared.key.NumberKey.TheVariants.{CounterLimit}
 use Rattle.enip_config.specs.Known.{has_unknown_key}
 use Rattle.enip_config.specs.Keys.{row, number_of, name_of, address_of, assemblies_of}
 use Rattle.enip_config.specs.Refusals.{fault_of_objects}

@@ -47,8 +47,11 @@ fn all_that_can_be_said(rt: HostRuntime) -> Result<(), Fail> {
     let alloc = rt.alloc();
     let mut text = String::from_str(alloc, LEAST)?;
     text.push_str(
-        "status = 1\nstate = 2\naddress = [127, 0, 0, 1]\nport = 3\npeers = 16\nconnections = 64\n[counter]\nvalue = 99\nlimit = 100\n[[assembly]]\ninstance = 100\nsettable = true\nmembers = [1, 2, 1]\n[[assembly]]\ninstance = 101\nmembers = [4]\n",
+        "status = 1\nstate = 2\naddress = [127, 0, 0, 1]\nport = 3\npeers = 16\nconnections = 64\n",
     )?;
+    text.push_str("[counter]\nvalue = 99\nlimit = 100\n")?;
+    text.push_str("[[assembly]]\ninstance = 100\nsettable = true\nmembers = [1, 2, 1]\n")?;
+    text.push_str("[[assembly]]\ninstance = 101\nmembers = [4]\n")?;
     let told = Configuration::from_bytes(alloc, text.as_bytes())?;
     assert_eq!(rt; told.address, [127, 0, 0, 1]);
     assert_eq!(rt; (told.port, told.peers, told.connections), (3, 16, 64));

@@ -3,7 +3,8 @@
 ghost use Rattle.std.specs.Prelude.{◌≡◌, ◌≤◌, IfOk, IfErr, IfSome, Some, option_map, string_bytes};
 ghost use Rattle.toml.specs.Data.{array, as_str, get_member};
 ghost use Rattle.toml.specs.View.{view, items_view, table_view};
-ghost use Rattle.enip_config.specs.Keys.{row, row_seen, number_by, number_of, table_with, counter_table, members_found, name_of};
+ghost use Rattle.enip_config.specs.Keys.{row, row_seen, number_by, number_of, table_with, counter_table, members_found};
+ghost use Rattle.enip_config.specs.Keys.{name_of};
 ghost use Rattle.enip_config.specs.Keys.{number_in, address_in, address_of};
 ghost use Rattle.enip_config.specs.Told.{IsBad, IsUnread};
 

@@ -94,7 +94,8 @@ pub fn write_all<W: Sink>(sink: &mut W, text: &[u8]) -> Result<(), Failed>
     requires { W.failures sink.old < u64.MAX }
     ensures bytes { MatchResult result
         (λ _. Appends (W.written sink.old) (W.written sink.new) text.now)
-        (λ _. (sent : ℕ) × (sent < length text.now) × Appends (W.written sink.old) (W.written sink.new) (take sent text.now)) }
+        (λ _. (sent : ℕ) × (sent < length text.now)
+        × Appends (W.written sink.old) (W.written sink.new) (take sent text.now)) }
     ensures failures { W.failures sink.new ≡ W.failures sink.old + failures_in result }
 {
     let mut sent = 0;

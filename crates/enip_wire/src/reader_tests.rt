@@ -204,7 +204,8 @@ impl Counting {
     fn feed(&mut self, piece: &[u8]) -> usize
         requires { self.old.shown < 255 }
         ensures number { result ≡ taken_of self.old.reader piece.now }
-        ensures held { self.new.reader ≡ cleared (sight_of (joined_of self.old.reader piece.now)) (joined_of self.old.reader piece.now) }
+        ensures held { self.new.reader
+            ≡ cleared (sight_of (joined_of self.old.reader piece.now)) (joined_of self.old.reader piece.now) }
         ensures within { result ≤ length piece.now }
     {
         let (taken, held) = self.reader.next(piece);

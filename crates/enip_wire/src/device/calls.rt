@@ -31,6 +31,7 @@ impl Calls {
         ensures count { result_ok result ≡ count_of self.old there }
         ensures calls { self.new ≡ answered self.old (count_of self.old there) }
     {
+        // One call fails, and none after it (ours).
         match self.before_failure {
             Some(0) => {
                 self.before_failure = None;

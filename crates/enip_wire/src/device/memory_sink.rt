@@ -92,6 +92,7 @@ impl Sink for MemorySink<'_> {
         let count = self
             .calls
             .next_count(from.len().min(self.into.len() - self.len))?;
+        // A full slice takes nothing of what there is to write (ours).
         if count == 0 && !from.is_empty() {
             self.calls.failures += 1;
             return Err(Failed);

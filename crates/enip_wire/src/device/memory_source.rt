@@ -26,7 +26,13 @@ impl<'a> Model for MemorySource<'a> {
 
     ghost Value = { SourceState };
 
-    ghost view = { λ s. record { left = s.left.now; moments = s.moments.now; moment = s.moment; reads = s.reads; calls = s.calls } };
+    ghost view = { λ s. record {
+      left = s.left.now;
+      moments = s.moments.now;
+      moment = s.moment;
+      reads = s.reads;
+      calls = s.calls;
+    } };
 
     ghost invariant = { λ s. 0 < s.calls.largest_count };
 }
@@ -35,7 +41,13 @@ impl<'a> MemorySource<'a> {
     /// A source of these bytes. Each read has a moment of the list, in its order: the last again where the list is
     /// used up, and 0 where it is empty.
     pub fn new(bytes: &'a [u8], moments: &'a [u64]) -> MemorySource<'a>
-        ensures { result ≡ record { left = bytes.now; moments = moments.now; moment = 0; reads = 0; calls = Calls.UNBOUNDED } }
+        ensures { result ≡ record {
+          left = bytes.now;
+          moments = moments.now;
+          moment = 0;
+          reads = 0;
+          calls = Calls.UNBOUNDED;
+        } }
     {
         MemorySource {
             left: bytes,
@@ -123,15 +135,8 @@ impl Source for MemorySource<'_> {
 fn moment_of(moments: &[u64], before: u64) -> u64
     ensures { result ≡ moment_at moments.now before }
 {
-    match moments.last() {
-        None => 0,
-        Some(last) => {
-            let place = before as usize;
-            if place < moments.len() {
-                moments[place]
-            } else {
-                *last
-            }
-        }
-    }
+    moments
+        .get(before as usize)
+        .or(moments.last())
+        .map_or(0, |moment| *moment)
 }

@@ -1,26 +1,34 @@
-use Rattle.std.proofs.Common.{◌≡◌, sym, ap, ◌∙◌, option_map, Some, get_or}
+use Rattle.std.proofs.Common.{sym, ap, ◌∙◌, option_map, Some}
 use Rattle.cip_objects.specs.Counter.{counter_values}
+use Rattle.cip_objects.specs.Destination.{number_at}
 use Rattle.cip_objects.specs.Entries.{shape_of}
 use Rattle.cip_objects.proofs.Blocks.{first_at}
-use Rattle.cip_objects.specs.Places.{IsFirst}
-use Rattle.cip_objects.proofs.Writes.{content_read}
+use Rattle.cip_objects.proofs.Destinations.{first_at_place, place_within}
 use Rattle.cip_objects.proofs.Shapes.{shape_at-contents}
+use Rattle.cip_objects.proofs.Writes.{content_read}
 use Rattle.cip_objects.proofs.objects.Objects.assembly.Goals as goal
 
-pub returns-in-Some : goal.returns-in-Some
-returns-in-Some c =
-    let o = c.self.inside in
-    let s = shape_at-contents o.identity o.assemblies.items (counter_values o.counter) c.args.self.now c.args.instance c.self.view_is in
-    let f = first_at o.assemblies.items c.args.instance c.in-Some.at c.index-assemblies-at.result (rw c.as_slice-assemblies.ensures.value at c.in-Some.ensures) in
-    let place : IsFirst o.assemblies.items c.args.instance c.in-Some.at = rw c.as_slice-assemblies.ensures.value at c.in-Some.ensures in
-    let here : c.index-assemblies-at.result ≡ get_or o.assemblies.items c.in-Some.at c.index-assemblies-at.result = rw c.as_slice-assemblies.ensures.value at c.index-assemblies-at.is in
-    record {
-      shape = ap (λ b. Some (shape_of b)) here ∙ sym (ap (option_map shape_of) f) ∙ sym s;
-      content = ap (λ b. b.content) here ∙ sym (content_read o.identity o.assemblies.items (counter_values o.counter) c.args.self.now c.args.instance c.in-Some.at c.index-assemblies-at.result c.self.view_is c.self.invariant.numbered place);
-    }
+pub index-requires : goal.index-requires
+index-requires c = place_within c.self.inside c.args.self.now c.args.place c.self.view_is c.requires
 
-pub returns-in-None : goal.returns-in-None
-returns-in-None c =
+pub returns-clause-shape : goal.returns-clause-shape
+returns-clause-shape c =
     let o = c.self.inside in
-    let s = shape_at-contents o.identity o.assemblies.items (counter_values o.counter) c.args.self.now c.args.instance c.self.view_is in
-    record { shape = sym (s ∙ ap (option_map shape_of) (rw c.as_slice-assemblies.ensures.value at c.in-None.ensures)); content = tt }
+    let m = c.args.self.now in
+    let n = number_at m.shapes c.args.place in
+    let f = first_at_place o m c.args.place c.self.view_is c.requires in
+    shape_at-contents o.identity o.assemblies.items (counter_values o.counter) m n c.self.view_is
+    ∙ ap (option_map shape_of) (first_at o.assemblies.items n c.args.place c.index.result.now f)
+    ∙ ap (λ b. Some (shape_of b)) (sym c.index.ensures)
+
+pub returns-clause-content : goal.returns-clause-content
+returns-clause-content c =
+    let o = c.self.inside in
+    let m = c.args.self.now in
+    let n = number_at m.shapes c.args.place in
+    let f = first_at_place o m c.args.place c.self.view_is c.requires in
+    let numbered = c.self.invariant.numbered in
+    let b = c.index.result.now in
+    ap (λ x. x.content) c.index.ensures
+    ∙ sym (content_read o.identity o.assemblies.items (counter_values o.counter) m n c.args.place b c.self.view_is
+    numbered f)

@@ -1,12 +1,22 @@
-use Rattle.std.proofs.Common.{ap, arith}
-use Rattle.std.proofs.lemmas.Bool.Decides.{nat_tests}
-use Rattle.cip_objects.specs.Contents.{value_at}
-use Rattle.cip_objects.specs.Counter.{counter_values}
-use Rattle.cip_objects.proofs.Lookup.{value_at-contents_of}
+use Rattle.std.proofs.Common.{sym, ap, ◌∙◌, subst}
+use Rattle.cip_objects.specs.Destination.{IsThere, IsPlace, value_to}
+use Rattle.cip_objects.specs.Entries.{attribute_in, block_attributes}
+use Rattle.cip_objects.proofs.Destinations.{place_value, place_within}
 use Rattle.cip_objects.proofs.objects.Objects.value.Goals as goal
 
-pub returns-in_default : goal.returns-in_default
-returns-in_default c =
-    let e = value_at-contents_of c.self.inside.identity c.self.inside.assemblies.items (counter_values c.self.inside.counter) c.self.invariant.numbered c.args.class c.args.instance c.args.attribute in
-    let v = ap (λ m. value_at m c.args.class c.args.instance c.args.attribute) c.self.view_is in
-    grind (arith, nat_tests)
+pub index-requires : goal.index-requires
+index-requires c =
+    let m = c.args.self.now in
+    let p : IsPlace m.shapes c.in-Assembly.place = subst (IsThere m.shapes) c.in-Assembly.is c.requires in
+    place_within c.self.inside m c.in-Assembly.place c.self.view_is p
+
+pub returns-in-Assembly-clause-value : goal.returns-in-Assembly-clause-value
+returns-in-Assembly-clause-value c =
+    let m = c.args.self.now in
+    let place = c.in-Assembly.place in
+    let a = c.args.attribute in
+    let p : IsPlace m.shapes place = subst (IsThere m.shapes) c.in-Assembly.is c.requires in
+    c.attribute-in-Assembly.ensures.value
+    ∙ ap (λ b. attribute_in a (block_attributes b)) c.index.ensures
+    ∙ sym (place_value c.self.inside m place a c.index.result.now c.self.view_is c.self.invariant.numbered p)
+    ∙ ap (λ d. value_to m d a) (sym c.in-Assembly.is)
