@@ -1,6 +1,7 @@
 -- A peer that begins, and one that ends.
-use Rattle.std.proofs.Common.{◌≡◌, ℕ, ◌+◌, ◌<◌, ltb, not, List, [], ◌∷◌, ◌++◌, Bool, true, false, cond, Option, Some, None, length, map, get_or, refl, sym, ap, subst, ◌∙◌, arith}
+use Rattle.std.proofs.Common.{◌≡◌, ℕ, ◌+◌, ◌<◌, ltb, not, List, [], ◌∷◌, ◌++◌, Bool, true, false, cond, Option, Some, None, length, map, get_or, refl, sym, ap, subst, ◌∙◌, arith, rules, All, ◌≤◌}
 use Rattle.std.specs.Prelude.{remove}
+use Rattle.std.proofs.lemmas.List.Elements.{All-head, All-tail}
 use Rattle.enip_adapter.specs.declared.adapter.Full.TheVariants.{Places, Handles}
 use Rattle.enip_adapter.specs.declared.peer.Place.{Place}
 use Rattle.enip_adapter.specs.declared.peer.Session.{Session}
@@ -72,3 +73,11 @@ begun_one limit next_handle shared places new room unused is =
 
 pub finds_same : (h k : ℕ) (xs ys : List Place) → h ≡ k → xs ≡ ys → finds h xs ≡ finds k ys
 finds_same h k xs ys e f = ap (λ n. finds n xs) e ∙ ap (finds k) f
+
+-- The last of a list, of which something holds throughout.
+pub last_of : {X : Type 0} (P : X → Type 0) (xs : List X) (x : X) → All P (xs ++ x ∷ []) → P x
+last_of P [] x all = All-head P x [] all
+last_of P (y ∷ ys) x all = last_of P ys x (All-tail P y (ys ++ x ∷ []) all)
+
+pub ltb-not : (a b : ℕ) → b ≤ a → ltb a b ≡ false
+ltb-not a b le = search (rules, le)

@@ -9,13 +9,15 @@ use Rattle.enip_adapter.specs.declared.peer.Outcome.{Outcome}
 use Rattle.enip_adapter.specs.declared.peer.Place.{Place}
 use Rattle.enip_adapter.specs.declared.peer.Session.{Session}
 use Rattle.enip_adapter.specs.declared.shared.Shared.{Shared}
-use Rattle.enip_adapter.specs.Adapter.{adapter_in, state_in, session_in, held_in}
-use Rattle.enip_adapter.specs.Calls.{AdapterState, Held, Meaning, piece_to, piece_meaning, dropped_piece, after_meaning, answer_of, events_of_sight, bytes_held, bytes_found, last_from}
+use Rattle.std.specs.Borrow.{Bor}
+use Rattle.enip_adapter.specs.Adapter.{adapter_in, state_in, session_in, held_in, feed_said}
+use Rattle.enip_adapter.specs.Calls.{AdapterState, Held, Meaning, piece_to, piece_meaning, dropped_piece, after_meaning, answer_of, events_of_sight, bytes_held, bytes_found, last_from, after_call, call_meaning, call_answer}
+use Rattle.enip_adapter.specs.Calls.Call.{Feeds}
 use Rattle.enip_adapter.specs.Commands.{command_served, long_refused, sight_served}
 use Rattle.enip_adapter.specs.Lookup.{first_with, with_first, IsFirstWith}
 use Rattle.enip_adapter.specs.Places.{IsFed, piece_at}
 use Rattle.enip_adapter.specs.Replies.{Served, leaving, silent, written}
-use Rattle.enip_adapter.specs.Turn.{State, Event, Answer, Turned, Said, turn, turned, after, answers, session_of, serve_found, session_after, shared_after, sent}
+use Rattle.enip_adapter.specs.Turn.{State, Event, Answer, Turned, Said, turn, turned, after, answers, session_of, serve_found, session_after, shared_after, sent, at_moment}
 use Rattle.enip_adapter.specs.Turn.Said.{Silent, Sends}
 use Rattle.enip_adapter.proofs.LookupLemmas.{first-Some, first-None, slice_get-past, slice_get-within}
 use Rattle.enip_adapter.proofs.MapLemmas.{map-first_with, map-with_first, with_first-same, first_with-number}
@@ -215,3 +217,37 @@ alive_there places handle i d e at alive =
     = sym (found_item places handle i d at) ∙ found_item places handle i e at in
     let one : get_or places i d ≡ get_or places i e = cc in
     ap (λ q. q.session.closed) (sym one) ∙ alive
+
+-- What a call of feed does, once the moment has come.
+pub record IsFeed (old : AdapterState) (now peer : ℕ) (piece : List ℕ) (last : AdapterState) (outcome : Outcome) (bytes : List ℕ) : Type 0 where
+  pub state : last ≡ after_call old (Feeds now peer piece)
+  pub taken : outcome.taken ≡ (call_meaning old (Feeds now peer piece)).taken
+  pub answer : ◌≡◌ {A = Answer} (record { said = sent (written outcome.answered bytes); close = outcome.close })
+      (call_answer old (Feeds now peer piece))
+
+feeds_now : (limit next_handle : ℕ) (shared left : Shared) (places kept : List Place) (now peer : ℕ) (piece bytes : List ℕ) (outcome : Outcome)
+    → IsFed limit next_handle (at_moment shared now) places (piece_at limit next_handle (at_moment shared now) places peer piece) left kept outcome bytes
+    → IsFeed (adapter_in limit next_handle shared places) now peer piece (adapter_in limit next_handle left kept) outcome bytes
+feeds_now limit next_handle shared left places kept now peer piece bytes outcome fed =
+    record { state = fed.adapter; taken = fed.taken; answer = fed.answer }
+
+pub feeds : (limit next_handle : ℕ) (shared first left : Shared) (places seen kept : List Place) (now handle peer : ℕ) (piece bytes : List ℕ) (outcome : Outcome) (old : AdapterState)
+    → adapter_in limit next_handle shared places ≡ old → first ≡ at_moment shared now → seen ≡ places → handle ≡ peer
+    → IsFed limit next_handle first seen (piece_at limit next_handle first seen handle piece) left kept outcome bytes
+    → IsFeed old now peer piece (adapter_in limit next_handle left kept) outcome bytes
+feeds limit next_handle shared first left places seen kept now handle peer piece bytes outcome old is moment same who fed =
+    subst (λ o. IsFeed o now peer piece (adapter_in limit next_handle left kept) outcome bytes) is
+    (feeds_now limit next_handle shared left places kept now peer piece bytes outcome
+    (subst (λ h. IsFed limit next_handle (at_moment shared now) places (piece_at limit next_handle (at_moment shared now) places h piece) left kept outcome bytes) who
+    (subst (λ s. IsFed limit next_handle (at_moment shared now) s (piece_at limit next_handle (at_moment shared now) s handle piece) left kept outcome bytes) same
+    (subst (λ s. IsFed limit next_handle s seen (piece_at limit next_handle s seen handle piece) left kept outcome bytes) moment fed))))
+
+pub said_then : (answered : Bool) (bytes : List ℕ) (lent : Option (Bor (List ℕ))) (slice : Bor (List ℕ)) → answered ≡ true → lent ≡ Some slice
+    → slice.now ≡ bytes → feed_said lent ≡ sent (written answered bytes)
+said_then true bytes lent slice e is same = rw (is, same) refl
+said_then false bytes lent slice e is same = cc
+
+pub said_else : (answered : Bool) (bytes : List ℕ) (lent : Option (Bor (List ℕ))) → answered ≡ false → lent ≡ None
+    → feed_said lent ≡ sent (written answered bytes)
+said_else false bytes lent e is = rw is refl
+said_else true bytes lent e is = cc

@@ -250,6 +250,7 @@ fn feed_places(
 ) -> Outcome
     ensures fed { (limit next_handle : ℕ) → IsFed limit next_handle shared.old places.old
         (piece_at limit next_handle shared.old places.old handle piece.now) shared.new places.new result answer.new.items }
+    ensures size { length places.new ≡ length places.old }
     ensures within { result.taken ≤ length piece.now }
 {
     match index_of(places, handle) {
