@@ -1,5 +1,5 @@
 //! The Identity object (Volume 1, class 0x01).
-ghost use Rattle.std.specs.Prelude.{◌≡◌, option_map, IfSome};
+ghost use Rattle.std.specs.Prelude.{◌≡◌, ◌≤◌, ◌+◌, length, option_map, IfSome};
 ghost use Rattle.cip_objects.specs.Entries.{attribute_in, identity_attributes};
 ghost use Rattle.cip_objects.specs.Value.{value_bytes, IsShort};
 
@@ -47,6 +47,7 @@ impl Identity {
     pub(crate) fn attribute(&self, attribute: u16) -> Option<Value<'_>>
         ensures value { option_map value_bytes result ≡ attribute_in attribute (identity_attributes self.now) }
         ensures short { IfSome result IsShort }
+        ensures small { IfSome result (λ value. length (value_bytes value) ≤ NAME_LIMIT + 1) }
     {
         match attribute {
             1 => Some(Value::Uint(self.vendor)),

@@ -94,6 +94,7 @@ impl Objects {
         ensures services { option_map services_at result ≡ services_of self.now.shapes class instance }
         ensures leads { MatchOption result (HasNoValue self.now class instance)
             (LeadTo self.now.shapes class instance) }
+        ensures identity { class ≡ IDENTITY → instance ≡ 1 → result ≡ Some Destination.Identity }
     {
         match (class, instance) {
             // instance 0 is the class itself (object model)
@@ -115,6 +116,8 @@ impl Objects {
         requires { IsThere self.now.shapes destination }
         ensures value { option_map value_bytes result ≡ value_to self.now destination attribute }
         ensures short { IfSome result IsShort }
+        ensures identity { destination ≡ Destination.Identity
+            → IfSome result (λ value. length (value_bytes value) ≤ NAME_LIMIT + 1) }
     {
         let counter = self.counter;
         match destination {
@@ -149,7 +152,10 @@ impl Objects {
 
     /// The bytes of an attribute that can be read, `None` where there is no such attribute. Takes no memory.
     pub fn attribute(&self, class: u16, instance: u32, attribute: u16) -> Option<ReplyBuf>
-        ensures { option_map (λ bytes. bytes.items) result ≡ value_at self.now class instance attribute }
+        ensures value { option_map (λ bytes. bytes.items) result ≡ value_at self.now class instance attribute }
+        // Of the Identity object's instance the name, with its length, is the longest.
+        ensures identity { class ≡ IDENTITY → instance ≡ 1
+            → IfSome result (λ bytes. length bytes.items ≤ NAME_LIMIT + 1) }
     {
         let destination = self.destination(class, instance)?;
         let value = self.value(destination, attribute)?;

@@ -2,3 +2,4 @@ pub mod LookupLemmas
 pub mod MapLemmas
 pub mod FeedLemmas
 pub mod CallLemmas
+pub mod ListLemmas

@@ -27,9 +27,11 @@ abbrev pub identity_item : Listen → Contents → List ℕ
 identity_item listen objects = le 2 1 ++ (socket_address listen ++ identity_bytes objects)
 
 -- One item of type 0x000c.
+abbrev pub text_of_item : List ℕ → List ℕ
+text_of_item item = le 2 1 ++ (le 2 0x000c ++ (le 2 (length item) ++ item))
+
 abbrev pub identity_text : Listen → Contents → List ℕ
-identity_text listen objects =
-    le 2 1 ++ (le 2 0x000c ++ (le 2 (length (identity_item listen objects)) ++ identity_item listen objects))
+identity_text listen objects = text_of_item (identity_item listen objects)
 
 -- It is answered with or without a session, whatever its data are.
 abbrev pub list_identity : Shared → Session → Frame → Reaction

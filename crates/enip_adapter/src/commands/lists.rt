@@ -1,9 +1,10 @@
 //! ListServices, ListIdentity and ListInterfaces: answered with or without a session, whatever their data are.
 
-ghost use Rattle.std.specs.Prelude.{◌≡◌, ◌≤◌, ◌++◌};
+ghost use Rattle.std.specs.Prelude.{◌≡◌, ◌≤◌, ◌+◌, ◌++◌, length};
 ghost use Rattle.arrayvec.specs.ArrayVec.{array_vec_len};
 ghost use Rattle.cip_bytes.specs.Numbers.{le};
-ghost use Rattle.enip_adapter.specs.ListIdentity.{identity_text, identity_bytes, socket_address};
+ghost use Rattle.cip_objects.specs.Contents.{bytes_at};
+ghost use Rattle.enip_adapter.specs.ListIdentity.{identity_text, text_of_item, identity_bytes, socket_address};
 ghost use Rattle.enip_adapter.specs.ListInterfaces.{interfaces_text};
 ghost use Rattle.enip_adapter.specs.ListServices.{services_text};
 ghost use Rattle.enip_adapter.specs.Replies.{reply};
@@ -32,8 +33,14 @@ const SOCKET_SIZE: usize = 18;
 /// The address family of the internet.
 const INTERNET_FAMILY: u16 = 2;
 
-/// The most bytes of an identity item: version and socket address, and eight attributes of at most 33 bytes each.
-const ITEM_SIZE: usize = SOCKET_SIZE + 8 * 33;
+/// The type of an identity item.
+const IDENTITY_ITEM: u16 = 0x000c;
+
+/// The most bytes of an attribute of the Identity object: a name of 32 bytes and its length.
+const LONGEST_ATTRIBUTE: usize = 33;
+
+/// The most bytes of an identity item: version and socket address, and eight attributes.
+const ITEM_SIZE: usize = SOCKET_SIZE + 8 * LONGEST_ATTRIBUTE;
 
 /// An identity item, without its type and length.
 type Item = ArrayVec<u8, ITEM_SIZE>;
@@ -66,6 +73,14 @@ pub(super) fn list_identity(shared: &Shared, asked: &Header, answer: &mut Answer
     let mut item = Item::new();
     append_socket(shared.listen, &mut item);
     append_identity(&shared.objects, &mut item);
+    write_identity(asked, item.as_slice(), answer);
+}
+
+/// Writes a whole reply to a ListIdentity, with one item.
+fn write_identity(asked: &Header, item: &[u8], answer: &mut Answer)
+    requires { length item.now ≤ ITEM_SIZE }
+    ensures { answer.new.items ≡ reply asked.now asked.now.session Success (text_of_item item.now) }
+{
     begin_reply(
         asked,
         asked.session,
@@ -73,10 +88,19 @@ pub(super) fn list_identity(shared: &Shared, asked: &Header, answer: &mut Answer
         IDENTITY_HEAD + item.len(),
         answer,
     );
-    let mut head = [1, 0, 0x0c, 0, 0, 0];
-    LittleEndian::write_u16(&mut head[4..6], item.len() as u16);
-    let _ = answer.try_extend_from_slice(&head);
-    let _ = answer.try_extend_from_slice(item.as_slice());
+    let _ = answer.try_extend_from_slice(&item_head(item.len() as u16));
+    let _ = answer.try_extend_from_slice(item);
+}
+
+/// The count of items, 1, and the type and the length of an identity item.
+fn item_head(size: u16) -> [u8; IDENTITY_HEAD]
+    ensures { result ≡ le 2 1 ++ (le 2 0x000c ++ le 2 size) }
+{
+    let mut head = [0; IDENTITY_HEAD];
+    LittleEndian::write_u16(&mut head[0..2], 1);
+    LittleEndian::write_u16(&mut head[2..4], IDENTITY_ITEM);
+    LittleEndian::write_u16(&mut head[4..6], size);
+    head
 }
 
 /// Appends the protocol version and the socket address, most significant byte first.
@@ -95,13 +119,22 @@ fn append_socket(listen: Listen, item: &mut Item)
 
 /// Appends the attributes of the Identity object.
 fn append_identity(objects: &Objects, item: &mut Item)
-    requires { array_vec_len item.old ≡ 18 }
+    requires { array_vec_len item.old ≡ SOCKET_SIZE }
     ensures text { item.new.items ≡ item.old.items ++ identity_bytes objects.now }
     ensures size { array_vec_len item.new ≤ ITEM_SIZE }
 {
     for attribute in &ATTRIBUTES {
-        if let Some(value) = objects.attribute(IDENTITY, 1, *attribute) {
-            let _ = item.try_extend_from_slice(value.as_slice());
-        }
+        append_attribute(objects, *attribute, item);
+    }
+}
+
+/// Appends an attribute of the Identity object, if there is one of this number.
+fn append_attribute(objects: &Objects, attribute: u16, item: &mut Item)
+    requires { array_vec_len item.old + LONGEST_ATTRIBUTE ≤ ITEM_SIZE }
+    ensures text { item.new.items ≡ item.old.items ++ bytes_at objects.now 1 1 attribute }
+    ensures size { array_vec_len item.new ≤ array_vec_len item.old + LONGEST_ATTRIBUTE }
+{
+    if let Some(value) = objects.attribute(IDENTITY, 1, attribute) {
+        let _ = item.try_extend_from_slice(value.as_slice());
     }
 }
