@@ -10,7 +10,7 @@ use Rattle.enip_config.specs.declared.fault.Fault.{Fault}
 use Rattle.enip_config.specs.Refusals.{fault_of_objects}
 use Rattle.enip_config.specs.Told.{number_in as held, IsKnown, HasValues, IsFaultOf, IsInRange, IsBad, IsUnread}
 use Rattle.enip_config.specs.declared.key.NumberKey.{NumberKey}
-use Rattle.enip_config.specs.declared.key.NumberKey.TheVariants.{Vendor, DeviceType, ProductCode, Major, Minor, Serial, Status, State, Port, Peers, Connections, CounterValue, CounterLimit}
+use Rattle.enip_config.specs.declared.key.NumberKey.TheVariants.{Vendor, DeviceType, ProductCode, Major, Minor, Serial, Status, State, Port, Peers, Connections, FirstHandle, FirstId, CounterValue, CounterLimit}
 
 -- What the objects refuse of a configuration that is read.
 pub refused_by_objects : (bytes : List ℕ) (told : Members) (c : Configuration) (check : ConfigFault)
@@ -65,6 +65,8 @@ default_within State = search arith
 default_within Port = search arith
 default_within Peers = search arith
 default_within Connections = search arith
+default_within FirstHandle = (search arith, search arith)
+default_within FirstId = (search arith, search arith)
 default_within CounterValue = search arith
 default_within CounterLimit = search arith
 

@@ -10,7 +10,7 @@ use Rattle.toml.specs.View.{table_view}
 use Rattle.toml.specs.declared.value.Value.{Value}
 use Rattle.enip_config.specs.declared.key.NumberKey.{NumberKey}
 use Rattle.enip_config.specs.declared.key.NumberKey.TheVariants.{Vendor, DeviceType, ProductCode, Major, Minor, Serial}
-use Rattle.enip_config.specs.declared.key.NumberKey.TheVariants.{Status, State, Port, Peers, Connections, CounterValue}
+use Rattle.enip_config.specs.declared.key.NumberKey.TheVariants.{Status, State, Port, Peers, Connections, FirstHandle, FirstId, CounterValue}
 use Rattle.enip_config.specs.declared.key.NumberKey.TheVariants.{CounterLimit}
 use Rattle.enip_config.specs.declared.key.Row.{Row}
 
@@ -42,6 +42,8 @@ row State = optional (codes "state") 0 0xff 3
 row Port = optional (codes "port") 0 0xffff 44818
 row Peers = optional (codes "peers") 1 16 4
 row Connections = optional (codes "connections") 1 64 16
+row FirstHandle = optional (codes "first_handle") 1 0xffffffff 1
+row FirstId = optional (codes "first_id") 1 0xffffffff 1
 row CounterValue = optional (codes "value") 0 0xffffffff 0
 row CounterLimit = optional (codes "limit") 0 0xffffffff 0xffffffff
 

@@ -5,7 +5,7 @@ use Rattle.enip_config.specs.declared.known.TableKind.{TableKind}
 use Rattle.enip_config.specs.declared.known.TableKind.TheVariants.{Text, Counter, Assembly}
 use Rattle.enip_config.specs.declared.key.NumberKey.{NumberKey}
 use Rattle.enip_config.specs.declared.key.NumberKey.TheVariants.{Vendor, DeviceType, ProductCode, Major, Minor, Serial}
-use Rattle.enip_config.specs.declared.key.NumberKey.TheVariants.{Status, State, Port, Peers, Connections, CounterValue}
+use Rattle.enip_config.specs.declared.key.NumberKey.TheVariants.{Status, State, Port, Peers, Connections, FirstHandle, FirstId, CounterValue}
 use Rattle.enip_config.specs.declared.key.NumberKey.TheVariants.{CounterLimit}
 use Rattle.enip_config.specs.Keys.{row, instance_row}
 use Rattle.toml.specs.Data.{Data, array, table, Items, no_items, item, Members, no_members, member}
@@ -49,7 +49,8 @@ has_other_keys_within known value = has_other_keys known value
 -- The keys of the text whose values are numbers.
 abbrev pub text_numbers : List NumberKey
 text_numbers =
-    Vendor ∷ DeviceType ∷ ProductCode ∷ Major ∷ Minor ∷ Serial ∷ Status ∷ State ∷ Port ∷ Peers ∷ Connections ∷ []
+    Vendor ∷ DeviceType ∷ ProductCode ∷ Major ∷ Minor ∷ Serial ∷ Status ∷ State ∷ Port ∷ Peers ∷ Connections
+    ∷ FirstHandle ∷ FirstId ∷ []
 
 -- The names of the keys that are known in a table, but for tables within it.
 abbrev pub keys_of : TableKind → List (List ℕ)

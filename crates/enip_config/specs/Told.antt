@@ -13,7 +13,7 @@ use Rattle.enip_config.specs.declared.fault.Refusal.{Refusal}
 use Rattle.enip_config.specs.declared.fault.Refusal.TheVariants.{NotToml, BadValue, UnknownKey}
 use Rattle.enip_config.specs.declared.key.NumberKey.{NumberKey}
 use Rattle.enip_config.specs.declared.key.NumberKey.TheVariants.{Vendor, DeviceType, ProductCode, Major, Minor, Serial}
-use Rattle.enip_config.specs.declared.key.NumberKey.TheVariants.{Status, State, Port, Peers, Connections, CounterValue}
+use Rattle.enip_config.specs.declared.key.NumberKey.TheVariants.{Status, State, Port, Peers, Connections, FirstHandle, FirstId, CounterValue}
 use Rattle.enip_config.specs.declared.key.NumberKey.TheVariants.{CounterLimit}
 use Rattle.enip_config.specs.Known.{has_unknown_key}
 use Rattle.enip_config.specs.Keys.{row, number_of, name_of, address_of, assemblies_of}
@@ -32,6 +32,8 @@ number_in c State = c.objects.state
 number_in c Port = c.port
 number_in c Peers = c.peers
 number_in c Connections = c.connections
+number_in c FirstHandle = c.first_handle
+number_in c FirstId = c.first_id
 number_in c CounterValue = c.objects.counter.value
 number_in c CounterLimit = c.objects.counter.limit
 

@@ -27,6 +27,10 @@ pub struct Configuration {
     pub peers: u16,
     /// How many connections there are places for, 1 to 64.
     pub connections: u16,
+    /// The first session handle, 32 bits: at least 1.
+    pub first_handle: u32,
+    /// The first O->T connection ID, 32 bits: at least 1.
+    pub first_id: u32,
 }
 
 impl Configuration {
@@ -83,6 +87,8 @@ impl Configuration {
             port: number(text, NumberKey::Port)?,
             peers: number(text, NumberKey::Peers)?,
             connections: number(text, NumberKey::Connections)?,
+            first_handle: number(text, NumberKey::FirstHandle)?,
+            first_id: number(text, NumberKey::FirstId)?,
         })
     }
 }

@@ -20,6 +20,8 @@ pub(crate) enum NumberKey {
     Port,
     Peers,
     Connections,
+    FirstHandle,
+    FirstId,
     CounterValue,
     CounterLimit,
 }
@@ -59,6 +61,8 @@ impl NumberKey {
             NumberKey::Port => ("port", 0, 0xffff, Some(REGISTERED_PORT)),
             NumberKey::Peers => ("peers", 1, 16, Some(4)),
             NumberKey::Connections => ("connections", 1, 64, Some(16)),
+            NumberKey::FirstHandle => ("first_handle", 1, u32::MAX, Some(1)),
+            NumberKey::FirstId => ("first_id", 1, u32::MAX, Some(1)),
             NumberKey::CounterValue => ("value", 0, u32::MAX, Some(0)),
             NumberKey::CounterLimit => ("limit", 0, u32::MAX, Some(u32::MAX)),
         };

@@ -22,7 +22,7 @@ enum TableKind {
 }
 
 /// The keys of the text whose values are numbers.
-static TEXT_NUMBERS: [NumberKey; 11] = [
+static TEXT_NUMBERS: [NumberKey; 13] = [
     NumberKey::Vendor,
     NumberKey::DeviceType,
     NumberKey::ProductCode,
@@ -34,6 +34,8 @@ static TEXT_NUMBERS: [NumberKey; 11] = [
     NumberKey::Port,
     NumberKey::Peers,
     NumberKey::Connections,
+    NumberKey::FirstHandle,
+    NumberKey::FirstId,
 ];
 
 impl TableKind {

@@ -47,7 +47,7 @@ fn all_that_can_be_said(rt: HostRuntime) -> Result<(), Fail> {
     let alloc = rt.alloc();
     let mut text = String::from_str(alloc, LEAST)?;
     text.push_str(
-        "status = 1\nstate = 2\naddress = [127, 0, 0, 1]\nport = 3\npeers = 16\nconnections = 64\n",
+        "status = 1\nstate = 2\naddress = [127, 0, 0, 1]\nport = 3\npeers = 16\nconnections = 64\nfirst_handle = 5\nfirst_id = 6\n",
     )?;
     text.push_str("[counter]\nvalue = 99\nlimit = 100\n")?;
     text.push_str("[[assembly]]\ninstance = 100\nsettable = true\nmembers = [1, 2, 1]\n")?;
@@ -55,6 +55,7 @@ fn all_that_can_be_said(rt: HostRuntime) -> Result<(), Fail> {
     let told = Configuration::from_bytes(alloc, text.as_bytes())?;
     assert_eq!(rt; told.address, [127, 0, 0, 1]);
     assert_eq!(rt; (told.port, told.peers, told.connections), (3, 16, 64));
+    assert_eq!(rt; (told.first_handle, told.first_id), (5, 6));
     let objects = &told.objects;
     assert_eq!(rt;
         (objects.vendor, objects.device_type, objects.product_code),
@@ -82,6 +83,7 @@ fn what_is_left_unsaid(rt: HostRuntime) -> Result<(), Fail> {
     let told = Configuration::from_bytes(rt.alloc(), LEAST.as_bytes())?;
     assert_eq!(rt; told.address, [0, 0, 0, 0]);
     assert_eq!(rt; (told.port, told.peers, told.connections), (44_818, 4, 16));
+    assert_eq!(rt; (told.first_handle, told.first_id), (1, 1));
     let objects = &told.objects;
     assert_eq!(rt; (objects.status, objects.state), (0, 3));
     assert_eq!(rt;
@@ -205,7 +207,7 @@ fn bytes_that_are_no_text(rt: HostRuntime) {
 fn ranges_of_the_keys(rt: HostRuntime) -> Result<(), Fail> {
     let alloc = rt.alloc();
     // A key with the least and the greatest of its numbers.
-    let rows: [(&str, i64, i64); 13] = [
+    let rows: [(&str, i64, i64); 15] = [
         ("vendor", 0, 65_535),
         ("device_type", 0, 65_535),
         ("product_code", 0, 65_535),
@@ -217,6 +219,8 @@ fn ranges_of_the_keys(rt: HostRuntime) -> Result<(), Fail> {
         ("port", 0, 65_535),
         ("peers", 1, 16),
         ("connections", 1, 64),
+        ("first_handle", 1, 4_294_967_295),
+        ("first_id", 1, 4_294_967_295),
         ("counter.value", 0, 4_294_967_295),
         ("counter.limit", 0, 4_294_967_295),
     ];
