@@ -16,4 +16,5 @@ mod shared;
 
 pub use adapter::{Adapter, Fed, Full, Limits};
 pub use peer::Peer;
+pub use reply::LONGEST_ANSWER;
 pub use shared::Listen;

@@ -1,10 +1,3 @@
-pub mod LookupLemmas
-pub mod FeedLemmas
-pub mod EventLemmas
-pub mod PeerLemmas
-pub mod RunningLemmas
-pub mod CutLemmas
-pub mod Rows
 pub mod StatusLemmas
 pub mod DigitLemmas
 pub mod LineLemmas

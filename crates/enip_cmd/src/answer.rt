@@ -2,19 +2,18 @@
 
 ghost use Rattle.std.specs.Prelude.{◌≡◌, ◌≤◌, true, false, IfOk, IfErr, Some, length};
 ghost use Rattle.enip_config.specs.declared.fault.Refusal.{Refusal};
-ghost use Rattle.enip_config.specs.Told.{IsRefused};
+ghost use Rattle.enip_config.specs.Told.{IsRefused, IsInRange};
 ghost use Rattle.enip_cmd.specs.Digits.{bytes_spelled};
 ghost use Rattle.enip_cmd.specs.Lines.{spells_bytes, IsRefusedLine};
 ghost use Rattle.enip_cmd.specs.Statuses.{IsOfDevices, IsStatus, IsAccepted, IsFaultOf};
 
-use crate::adapter::{Adapter, Full, Peer};
-use crate::commands::LONGEST_ANSWER;
 use crate::digits::decode;
 use crate::fault::Fault;
 use crate::input_lines::{TakeLines, read_lines};
 use crate::lines::Line;
 use crate::number::Number;
 use cip_objects::Objects;
+use enip_adapter::{Adapter, Full, LONGEST_ANSWER, Limits, Listen, Peer};
 use enip_config::Configuration;
 use std::alloc::Global;
 use std::io::{BufWriter, Read, Write};
@@ -78,8 +77,31 @@ fn run<R: Read + Drop, W: Write + Drop>(
 {
     let configuration = Configuration::from_bytes(alloc, config)?;
     let objects = Objects::new(alloc, &configuration.objects)?;
-    let mut desk = Desk::new(alloc, objects, output)?;
+    let adapter = adapter_of(alloc, objects, &configuration)?;
+    let mut desk = Desk::new(alloc, adapter, output)?;
     read_lines(alloc, input, &mut desk)
+}
+
+/// The adapter of a configuration, over its objects.
+fn adapter_of(
+    alloc: Global,
+    objects: Objects,
+    configuration: &Configuration,
+) -> Result<Adapter, Fault>
+    requires { IsInRange configuration.now }
+    ensures { IfErr result IsOfDevices }
+{
+    let listen = Listen {
+        address: configuration.address,
+        port: configuration.port,
+    };
+    let limits = Limits {
+        peers: configuration.peers,
+        connections: configuration.connections,
+        first_handle: configuration.first_handle,
+        first_id: configuration.first_id,
+    };
+    Ok(Adapter::new(alloc, objects, listen, limits)?)
 }
 
 /// Who has one of the nine numbers of an input.
@@ -106,11 +128,11 @@ struct Desk<W: Write + Drop> {
 }
 
 impl<W: Write + Drop> Desk<W> {
-    fn new(alloc: Global, objects: Objects, output: W) -> Result<Desk<W>, Fault>
+    fn new(alloc: Global, adapter: Adapter, output: W) -> Result<Desk<W>, Fault>
         ensures { IfErr result IsOfDevices }
     {
         Ok(Desk {
-            adapter: Adapter::new(alloc, objects)?,
+            adapter,
             now: 0,
             seats: [Seat::Free; 9],
             output: BufWriter::with_capacity(alloc, OUTPUT_BUFFER, output)?,

@@ -1,17 +1,13 @@
 //! `enip`: an EtherNet/IP adapter on the command line.
 #![tactic(auto)]
 
-pub mod adapter;
 pub mod answer;
-pub mod commands;
 pub mod digits;
 pub mod fault;
 pub mod file;
 pub mod input_lines;
-pub mod laws;
 pub mod lines;
 pub mod number;
-pub mod place;
 pub mod show;
 #[cfg(test)]
 mod tests;

@@ -8,21 +8,36 @@ const REGISTERED_PORT: u32 = 44_818;
 
 /// A key of the text or of its table `counter` whose value is a number.
 #[derive(Clone, Copy, Debug)]
-pub(crate) enum NumberKey {
+pub enum NumberKey {
+    /// `vendor`.
     Vendor,
+    /// `device_type`.
     DeviceType,
+    /// `product_code`.
     ProductCode,
+    /// `major`.
     Major,
+    /// `minor`.
     Minor,
+    /// `serial`.
     Serial,
+    /// `status`.
     Status,
+    /// `state`.
     State,
+    /// `port`.
     Port,
+    /// `peers`.
     Peers,
+    /// `connections`.
     Connections,
+    /// `first_handle`.
     FirstHandle,
+    /// `first_id`.
     FirstId,
+    /// `value` of the counter.
     CounterValue,
+    /// `limit` of the counter.
     CounterLimit,
 }
 

@@ -16,6 +16,7 @@ mod width;
 
 pub use configuration::Configuration;
 pub use fault::{Fault, Refusal};
+pub use key::NumberKey;
 
 #[cfg(test)]
 mod tests;
