@@ -18,3 +18,6 @@ pub use adapter::{Adapter, Fed, Full, Limits};
 pub use peer::Peer;
 pub use reply::LONGEST_ANSWER;
 pub use shared::Listen;
+
+#[cfg(test)]
+mod tests;

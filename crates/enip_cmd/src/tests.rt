@@ -1,13 +1,15 @@
 //! Worked rows of the adapter through `answer`, and devices that fail.
 
+mod connections;
 pub(crate) mod devices;
 mod rows;
 
 use super::answer::{answer, answer_bytes};
+use connections::{CONNECTIONS, FULL_TABLES, LIMITS, OPENINGS};
 use devices::{
     BrokenReader, BrokenWriter, CountingWriter, FullWriter, PieceReader, WatchingReader,
 };
-use rows::ROWS;
+use rows::{ROWS, Row};
 use std::alloc::Global;
 use std::cell::Cell;
 use std::test::Fail;
@@ -108,14 +110,41 @@ fn worked_rows(rt: HostRuntime) -> Result<(), Fail> {
 
 #[test]
 fn conversations(rt: HostRuntime) -> Result<(), Fail> {
-    for row in &ROWS {
-        let got = run(rt.alloc(), row.config.unwrap_or(DEMO), row.input)?;
-        let name = row.name;
-        assert_eq!(rt; got.0, row.status, "{name}");
-        assert_eq!(rt; got.1.as_slice(), row.output.as_bytes(), "{name}");
-        assert_eq!(rt; got.2.as_slice(), row.errors.as_bytes(), "{name}");
-    }
+    assert_eq!(rt; first_other(rt.alloc(), &ROWS)?, None);
     Ok(())
+}
+
+#[test]
+fn connections_opened(rt: HostRuntime) -> Result<(), Fail> {
+    assert_eq!(rt; first_other(rt.alloc(), &OPENINGS)?, None);
+    Ok(())
+}
+
+#[test]
+fn connections_used(rt: HostRuntime) -> Result<(), Fail> {
+    assert_eq!(rt; first_other(rt.alloc(), &CONNECTIONS)?, None);
+    assert_eq!(rt; first_other(rt.alloc(), &LIMITS)?, None);
+    Ok(())
+}
+
+#[test]
+fn full_tables_and_used_up_numbers(rt: HostRuntime) -> Result<(), Fail> {
+    assert_eq!(rt; first_other(rt.alloc(), &FULL_TABLES)?, None);
+    Ok(())
+}
+
+/// Runs these conversations, and names the first that ends otherwise than its row says.
+fn first_other(alloc: Global, rows: &[Row]) -> Result<Option<&'static str>, Fail> {
+    for row in rows {
+        let (status, output, errors) = run(alloc, row.config.unwrap_or(DEMO), row.input)?;
+        if status != row.status
+            || output.as_slice() != row.output.as_bytes()
+            || errors.as_slice() != row.errors.as_bytes()
+        {
+            return Ok(Some(row.name));
+        }
+    }
+    Ok(None)
 }
 
 #[test]

@@ -44,9 +44,16 @@ impl TableKind {
         ensures { result ≡ is_among (keys_of self) name.now }
     {
         match self {
-            TableKind::Text => is_number(&TEXT_NUMBERS, name) || name == "name" || name == "address",
-            TableKind::Counter => is_number(&[NumberKey::CounterValue, NumberKey::CounterLimit], name),
-            TableKind::Assembly => INSTANCE.is_named(name) || name == "settable" || name == "members",
+            TableKind::Text => is_number(&TEXT_NUMBERS, name)
+                || name == "name"
+                || name == "address",
+            TableKind::Counter => is_number(
+                &[NumberKey::CounterValue, NumberKey::CounterLimit],
+                name,
+            ),
+            TableKind::Assembly => INSTANCE.is_named(name)
+                || name == "settable"
+                || name == "members",
         }
     }
 }

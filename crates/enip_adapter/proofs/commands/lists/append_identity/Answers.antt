@@ -7,7 +7,7 @@ use Rattle.enip_adapter.proofs.commands.lists.append_identity.Goals as goal
 pub loop-attribute-preserved : goal.loop-attribute-preserved
 loop-attribute-preserved c = (
   joined_more (bytes_at c.args.objects.now 1 1) identity_attributes c.loop-attribute.item.items c.append_attribute.new.item.items
-  (c.args.item.now.items ++ identity_bytes c.args.objects.now) c.loop-attribute.attribute-index 0
-  c.loop-attribute-test.true c.append_attribute.ensures.text c.loop-attribute.invariant.0,
+      (c.args.item.now.items ++ identity_bytes c.args.objects.now) c.loop-attribute.attribute-index 0
+      c.loop-attribute-test.true c.append_attribute.ensures.text c.loop-attribute.invariant.0,
   omega (arith, c.append_attribute.ensures.size, c.loop-attribute.invariant.1),
 )
