@@ -12,8 +12,10 @@ mod adapter;
 mod commands;
 mod peer;
 mod reply;
+mod serving;
 mod shared;
 
 pub use adapter::{Adapter, Fed, Full, Limits};
 pub use peer::Peer;
+pub use serving::{ServeFault, Served, serve};
 pub use shared::Listen;
