@@ -3,3 +3,5 @@ pub mod MapLemmas
 pub mod FeedLemmas
 pub mod CallLemmas
 pub mod ListLemmas
+pub mod WaitLemmas
+pub mod ServeLemmas

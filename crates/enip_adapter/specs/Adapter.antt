@@ -1,10 +1,11 @@
 -- The adapter as it is made and stored.
-use Rattle.std.specs.Prelude.{ℕ, List, [], ◌≡◌, ◌≤◌, ◌+◌, ◌^◌, map, vec_len, All, Option, Some, None, Result, Ok, Err}
+use Rattle.std.specs.Prelude.{ℕ, List, [], ◌≡◌, ◌≤◌, ◌+◌, ◌^◌, map, vec_len, All, false, Option, Some, None, Result, Ok, Err}
 use Rattle.std.specs.Borrow.{Bor}
 use Rattle.std.specs.Global.{Vec}
 use Rattle.std.specs.Vec.{vec_capacity}
 use Rattle.cip_manager.specs.Manager.{no_connection}
 use Rattle.cip_objects.specs.Contents.{Contents}
+use Rattle.enip_wire.specs.Frames.{Stops}
 use Rattle.enip_adapter.specs.declared.adapter.Full.{Full}
 use Rattle.enip_adapter.specs.declared.adapter.Full.TheVariants.{Places, Handles}
 use Rattle.enip_adapter.specs.declared.adapter.Limits.{Limits}
@@ -49,6 +50,10 @@ new_shared objects listen limits = record {
 abbrev pub new_adapter : Contents → Listen → Limits → AdapterState
 new_adapter objects listen limits = adapter_in limits.peers limits.first_handle (new_shared objects listen limits) []
 
+-- Of a peer that is not closed, neither a whole frame nor a header that is too long is held between calls.
+abbrev pub IsWaiting : Place → Type 0
+IsWaiting place = place.session.closed ≡ false → Stops place.reader → ⊥
+
 -- Each place is taken or free, a free reader holds no byte, and there is room for all on either side.
 pub record IsRoomy (places next_handle : ℕ) (peers : Vec Place) (free : Vec (List ℕ)) : Type 0 where
   pub few : places ≤ 16
@@ -57,6 +62,7 @@ pub record IsRoomy (places next_handle : ℕ) (peers : Vec Place) (free : Vec (L
   pub for_free : places ≤ vec_capacity free
   pub all : vec_len peers + vec_len free ≡ places
   pub blank : All (λ held. held ≡ []) free.items
+  pub waiting : All IsWaiting peers.items
 
 -- What a call of begin says, and one of feed.
 abbrev pub begin_said : Result ℕ Full → Said

@@ -14,3 +14,4 @@ pub mod Adapter
 pub mod Stored
 pub mod Places
 pub mod Destinations
+pub mod Serving

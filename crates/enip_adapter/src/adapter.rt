@@ -1,10 +1,10 @@
 //! The adapter: its peers, and the calls that change it.
 
-ghost use Rattle.std.specs.Prelude.{ℕ, ◌≡◌, ◌==◌, ◌≤◌, ◌-◌, length, IfOk, IfSome};
+ghost use Rattle.std.specs.Prelude.{ℕ, ◌≡◌, ◌==◌, ◌<◌, ◌≤◌, ◌-◌, length, All, IfOk, IfSome, false};
 ghost use Rattle.std.specs.Borrow.{sem};
 ghost use Rattle.std.specs.Io.BufRead.{Rests};
 ghost use Rattle.std.specs.List.{position};
-ghost use Rattle.enip_adapter.specs.Adapter.{full_number};
+ghost use Rattle.enip_adapter.specs.Adapter.{full_number, IsWaiting};
 ghost use Rattle.enip_adapter.specs.Places.{IsFed, piece_at};
 
 use crate::peer::{Outcome, Peer, Place, Session};
@@ -91,6 +91,7 @@ impl Model for Adapter {
 impl Adapter {
     ghost use Rattle.enip_adapter.specs.Adapter.{new_adapter, begin_said, feed_said};
     ghost use Rattle.enip_adapter.specs.Calls.{Call, call_meaning, call_answer, after_call};
+    ghost use Rattle.enip_adapter.specs.Serving.{is_peer_served};
     ghost use Rattle.enip_adapter.specs.contracts.adapter.Adapter.{the_row};
 
     /// An adapter with no peer and no connection. All its memory is taken here.
@@ -172,6 +173,7 @@ impl Adapter {
         ensures answer { feed_said result.answer ≡ (call_answer self.old (Call.Feeds now peer.now piece.now)).said }
         ensures close { result.close ≡ (call_answer self.old (Call.Feeds now peer.now piece.now)).close }
         ensures within { result.taken ≤ length piece.now }
+        ensures progress { 0 < length piece.now → result.close ≡ false → 0 < result.taken }
         ensures fits { IfSome result.answer (λ frame. length frame.now ≤ LONGEST_ANSWER) }
     {
         self.shared.advance(now);
@@ -221,6 +223,16 @@ impl Adapter {
         &self.shared.objects
     }
 
+    /// Whether a peer is held and not closed.
+    pub(crate) fn is_served(&self, peer: &Peer) -> bool
+        ensures { result ≡ is_peer_served self.now peer.now }
+    {
+        match index_of(&self.places, peer.handle) {
+            Some(index) => !self.places[index].session.closed,
+            None => false,
+        }
+    }
+
     /// How many places are free, of peers and of connections.
     pub fn free(&self) -> (u16, u16)
         ensures peers { result.0 ≡ self.now.state.places - length self.now.state.peers }
@@ -248,10 +260,13 @@ fn feed_places(
     piece: &[u8],
     answer: &mut Answer,
 ) -> Outcome
+    requires { All IsWaiting places.old }
     ensures fed { (limit next_handle : ℕ) → IsFed limit next_handle shared.old places.old
         (piece_at limit next_handle shared.old places.old handle piece.now) shared.new places.new result answer.new.items }
     ensures size { length places.new ≡ length places.old }
     ensures within { result.taken ≤ length piece.now }
+    ensures progress { 0 < length piece.now → result.close ≡ false → 0 < result.taken }
+    ensures waiting { All IsWaiting places.new }
 {
     match index_of(places, handle) {
         Some(index) if !places[index].session.closed => places[index].feed(shared, piece, answer),

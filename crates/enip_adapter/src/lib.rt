@@ -12,11 +12,13 @@ mod adapter;
 mod commands;
 mod peer;
 mod reply;
+mod serving;
 mod shared;
 
 pub use adapter::{Adapter, Fed, Full, Limits};
 pub use peer::Peer;
 pub use reply::LONGEST_ANSWER;
+pub use serving::{ServeFault, Served, serve};
 pub use shared::Listen;
 
 #[cfg(test)]

@@ -1,7 +1,9 @@
 //! A peer: its session, and what has come of its next frame.
 
-ghost use Rattle.std.specs.Prelude.{◌≡◌, ◌≤◌, length};
+ghost use Rattle.std.specs.Prelude.{◌≡◌, ◌<◌, ◌≤◌, length};
+ghost use Rattle.enip_wire.specs.Frames.{Stops};
 ghost use Rattle.enip_wire.specs.Stream.{taken_of, joined_of, sight_of, cleared};
+ghost use Rattle.enip_adapter.specs.Adapter.{IsWaiting};
 ghost use Rattle.enip_adapter.specs.Turn.{shared_after, session_after};
 ghost use Rattle.enip_adapter.specs.Commands.{sight_served};
 ghost use Rattle.enip_adapter.specs.Replies.{written};
@@ -69,6 +71,7 @@ impl Outcome {
 impl Place {
     /// Takes bytes of a piece up to the end of one frame, and serves the frame.
     pub(crate) fn feed(&mut self, shared: &mut Shared, piece: &[u8], answer: &mut Answer) -> Outcome
+        requires { Stops self.old.reader → ⊥ }
         ensures session { self.new.session ≡ session_after self.old.session
             (sight_served shared.old self.old.session (sight_of (joined_of self.old.reader piece.now))) }
         ensures reader { self.new.reader
@@ -81,6 +84,8 @@ impl Place {
         ensures close { result.close
             ≡ (sight_served shared.old self.old.session (sight_of (joined_of self.old.reader piece.now))).reaction.close }
         ensures within { result.taken ≤ length piece.now }
+        ensures progress { 0 < length piece.now → 0 < result.taken }
+        ensures waiting { IsWaiting self.new }
     {
         let (taken, held) = self.reader.next(piece);
         let reaction = match held {

@@ -1,4 +1,6 @@
 use Rattle.std.proofs.Common.{sym, ◌∙◌, get_or}
+use Rattle.std.proofs.lemmas.List.Elements.{All-set}
+use Rattle.enip_adapter.specs.Adapter.{IsWaiting}
 use Rattle.enip_adapter.proofs.FeedLemmas.{none_found, closed_found, open_found, found_item, alive_there}
 use Rattle.enip_adapter.proofs.adapter.feed_places.Goals as goal
 
@@ -19,3 +21,7 @@ returns-in-Some-clause-fed c limit next_handle =
     (alive_there c.args.places.now c.args.handle c.in-Some.index c.index-places-index.result c.index-places-index-in-Some.result
     (sym c.index_of.ensures ∙ c.in-Some.is) c.if-not-places-index.true)
     c.feed.ensures.session c.feed.ensures.reader c.feed.ensures.shared c.feed.ensures.taken c.feed.ensures.answer c.feed.ensures.close
+
+pub returns-in-Some-clause-waiting : goal.returns-in-Some-clause-waiting
+returns-in-Some-clause-waiting c =
+    All-set IsWaiting c.args.places.now c.in-Some.index c.feed.new.self c.feed.ensures.waiting c.requires

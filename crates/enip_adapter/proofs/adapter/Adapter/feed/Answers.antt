@@ -34,6 +34,7 @@ returns c =
               w.if-outcome.true w.result-is w.as_slice.ensures.value ∙ ap (λ a. a.said) fed.answer;
           close = ap (λ a. a.close) fed.answer;
           within = c.feed_places-outcome.ensures.within;
+          progress = c.feed_places-outcome.ensures.progress;
           fits = rw w.result-is w.as_slice.ensures.fits;
         },
       )
@@ -46,6 +47,7 @@ returns c =
               w.if-outcome.false w.result-is ∙ ap (λ a. a.said) fed.answer;
           close = ap (λ a. a.close) fed.answer;
           within = c.feed_places-outcome.ensures.within;
+          progress = c.feed_places-outcome.ensures.progress;
           fits = rw w.result-is tt;
         },
       )

@@ -1,0 +1,139 @@
+-- An adapter over a reader and a writer: what was read is fed until nothing is left or it closes.
+use Rattle.std.specs.Prelude.{ℕ, zero, suc, ◌≡◌, ◌<◌, ◌≤◌, List, [], ◌++◌, length, take, drop, not, Bool, true, false, ⊤, Option, Some, None, Result, Ok, Err}
+use Rattle.std.specs.Io.KnownBytes.{Appends, Consumes, Keeps, IsAtEnd}
+use Rattle.enip_adapter.specs.declared.peer.Session.{Session}
+use Rattle.enip_adapter.specs.declared.serving.Served.{Served}
+use Rattle.enip_adapter.specs.declared.serving.Served.TheVariants.{More, Input, Closed}
+use Rattle.enip_adapter.specs.declared.serving.ServeFault.{ServeFault}
+use Rattle.enip_adapter.specs.declared.serving.ServeFault.TheVariants.{Read, Write}
+use Rattle.enip_adapter.specs.Calls.{AdapterState, Call, call_meaning, call_answer, after_call}
+use Rattle.enip_adapter.specs.Calls.Call.{Feeds}
+use Rattle.enip_adapter.specs.Turn.{Said, Answer, session_of}
+use Rattle.enip_adapter.specs.Turn.Said.{Silent, Sends, Begins, Refuses}
+
+-- The number of why serving failed.
+abbrev pub serve_fault_number : ServeFault → ℕ
+serve_fault_number Read = 1
+serve_fault_number Write = 2
+
+-- A peer is served that is held and not closed.
+abbrev pub is_open : Option Session → Bool
+is_open None = false
+is_open (Some session) = not session.closed
+
+abbrev pub is_peer_served : AdapterState → ℕ → Bool
+is_peer_served a peer = is_open (session_of a.state peer)
+
+-- The bytes that an answer sends.
+abbrev pub bytes_said : Said → List ℕ
+bytes_said (Sends bytes) = bytes
+bytes_said other = []
+
+-- A front of these bytes was written, and not all of them.
+abbrev pub AppendsFront : Option (List ℕ) → Option (List ℕ) → List ℕ → Type 0
+AppendsFront before after bytes = (front : ℕ) × (front < length bytes) × Appends before after (take front bytes)
+
+-- What feeding a piece came to: the adapter, the bytes of the piece that are left, and the answers, joined.
+pub record Feeding : Type 0 where
+  pub adapter : AdapterState
+  pub rest : List ℕ
+  pub sent : List ℕ
+
+-- What the next feed of what is left answers.
+abbrev pub next_answer : ℕ → ℕ → Feeding → Answer
+next_answer now peer f = call_answer f.adapter (Feeds now peer f.rest)
+
+-- What is left is fed once more.
+abbrev pub fed_more : ℕ → ℕ → Feeding → Feeding
+fed_more now peer f = record {
+  adapter = after_call f.adapter (Feeds now peer f.rest);
+  rest = drop (call_meaning f.adapter (Feeds now peer f.rest)).taken f.rest;
+  sent = f.sent ++ bytes_said (next_answer now peer f).said;
+}
+
+-- A piece is fed to a peer at a moment, again and again, so many times.
+abbrev pub feeds : ℕ → ℕ → AdapterState → List ℕ → ℕ → Feeding
+feeds now peer a piece zero = record { adapter = a; rest = piece; sent = [] }
+feeds now peer a piece (suc k) = fed_more now peer (feeds now peer a piece k)
+
+-- A byte or more is left, and feeding it does not close.
+pub record GoesOn (now peer : ℕ) (f : Feeding) : Type 0 where
+  pub some : 0 < length f.rest
+  pub open_then : (next_answer now peer f).close ≡ false
+
+-- So it is at each of the first so many feeds.
+abbrev pub AllGoOn : ℕ → ℕ → AdapterState → List ℕ → ℕ → Type 0
+AllGoOn now peer a piece zero = ⊤
+AllGoOn now peer a piece (suc k) = AllGoOn now peer a piece k × GoesOn now peer (feeds now peer a piece k)
+
+-- A piece was fed to its end, and each answer was written.
+pub record FedWhole (now peer : ℕ) (a : AdapterState) (piece : List ℕ) (new : AdapterState) (before after : Option (List ℕ)) : Type 0 where
+  pub count : ℕ
+  pub each : AllGoOn now peer a piece count
+  pub whole : (feeds now peer a piece count).rest ≡ []
+  pub adapter : new ≡ (feeds now peer a piece count).adapter
+  pub written : Appends before after (feeds now peer a piece count).sent
+
+-- A piece was fed until a feed closed, and each answer was written, also that of the feed that closed.
+pub record FedToClose (now peer : ℕ) (a : AdapterState) (piece : List ℕ) (new : AdapterState) (before after : Option (List ℕ)) : Type 0 where
+  pub count : ℕ
+  pub each : AllGoOn now peer a piece count
+  pub some : 0 < length (feeds now peer a piece count).rest
+  pub close : (next_answer now peer (feeds now peer a piece count)).close ≡ true
+  pub adapter : new ≡ (feeds now peer a piece (suc count)).adapter
+  pub written : Appends before after (feeds now peer a piece (suc count)).sent
+
+-- A piece was fed until an answer could not be written: those before it were, and a front of it that is not all of it.
+pub record FedToFault (now peer : ℕ) (a : AdapterState) (piece : List ℕ) (new : AdapterState) (before after : Option (List ℕ)) : Type 0 where
+  pub count : ℕ
+  pub each : AllGoOn now peer a piece count
+  pub some : 0 < length (feeds now peer a piece count).rest
+  pub adapter : new ≡ (feeds now peer a piece (suc count)).adapter
+  pub front : ℕ
+  pub not_all : front < length (bytes_said (next_answer now peer (feeds now peer a piece count)).said)
+  pub written : Appends before after ((feeds now peer a piece count).sent
+      ++ take front (bytes_said (next_answer now peer (feeds now peer a piece count)).said))
+
+-- A piece was fed to its end, or closed, or met a fault of the writer.
+abbrev pub IsFedAll : {E : Type 0} → ℕ → ℕ → AdapterState → List ℕ → AdapterState → Option (List ℕ) → Option (List ℕ) → Result Bool E → Type 0
+IsFedAll now peer a piece new before after (Ok false) = FedWhole now peer a piece new before after
+IsFedAll now peer a piece new before after (Ok true) = FedToClose now peer a piece new before after
+IsFedAll now peer a piece new before after (Err e) = FedToFault now peer a piece new before after
+
+-- One read gave these bytes.
+pub record IsRead (before after : Option (List ℕ)) (bytes : List ℕ) : Type 0 where
+  pub some : 0 < length bytes
+  pub few : length bytes ≤ 4096
+  pub consumed : Consumes before after bytes
+
+-- The adapter, the bytes that are left to the reader, and those that the writer has.
+pub record Ends : Type 0 where
+  pub adapter : AdapterState
+  pub left : Option (List ℕ)
+  pub written : Option (List ℕ)
+
+-- What serving does to a peer that is served, by what it answers; the moment is the reader's after the read.
+abbrev pub IsServed : ℕ → ℕ → Ends → Ends → Result Served ServeFault → Type 0
+IsServed now peer old new (Ok More) =
+    (bytes : List ℕ) × IsRead old.left new.left bytes × FedWhole now peer old.adapter bytes new.adapter old.written new.written
+IsServed now peer old new (Ok Closed) =
+    (bytes : List ℕ) × IsRead old.left new.left bytes × FedToClose now peer old.adapter bytes new.adapter old.written new.written
+IsServed now peer old new (Err Write) =
+    (bytes : List ℕ) × IsRead old.left new.left bytes × FedToFault now peer old.adapter bytes new.adapter old.written new.written
+IsServed now peer old new (Ok Input) = Keeps old.left new.left × IsAtEnd new.left
+IsServed now peer old new (Err Read) = Keeps old.left new.left
+
+-- At the end of the input, and where the read failed, nothing is fed.
+abbrev pub IfNothingFed : Result Served ServeFault → Type 0 → Type 0
+IfNothingFed (Ok Input) P = P
+IfNothingFed (Err Read) P = P
+IfNothingFed other P = ⊤
+
+-- How many calls of the reader failed, and how many of the writer, by what serving answers.
+abbrev pub read_faults : Result Served ServeFault → ℕ
+read_faults (Err Read) = 1
+read_faults other = 0
+
+abbrev pub write_faults : Result Served ServeFault → ℕ
+write_faults (Err Write) = 1
+write_faults other = 0

@@ -1,0 +1,164 @@
+//! The adapter over a reader and a writer.
+
+ghost use Rattle.std.specs.Prelude.{◌≡◌, ◌+◌, ◌<◌, ◌≤◌, length, if◌then◌else◌, true, false, IfOk, MatchResult};
+ghost use Rattle.std.specs.Io.KnownBytes.{Appends};
+ghost use Rattle.enip_wire.specs.Devices.{failures_in};
+ghost use Rattle.enip_adapter.specs.Calls.{Call, call_meaning, call_answer, after_call};
+ghost use Rattle.enip_adapter.specs.Serving.{serve_fault_number, is_peer_served, bytes_said, AppendsFront, IsFedAll, IsServed, IfNothingFed, read_faults, write_faults};
+
+use crate::adapter::Adapter;
+use crate::peer::Peer;
+use enip_wire::{Failed, Sink, Source, write_all};
+use thiserror::Error;
+
+/// The most bytes of a read (ours).
+const LONGEST_READ: usize = 4_096;
+
+/// What a call of `serve` came to.
+#[derive(Clone, Copy, Debug, PartialEq, Eq)]
+pub enum Served {
+    /// A byte or more was read, all were fed, and each answer was written.
+    More,
+    /// The reader is at its end.
+    Input,
+    /// The adapter closed the connection, or the peer was closed or not held before.
+    Closed,
+}
+
+/// Which device failed.
+#[derive(Clone, Copy, Debug, PartialEq, Eq, Error)]
+pub enum ServeFault {
+    /// The reader.
+    #[error("the reader failed")]
+    Read = 1,
+    /// The writer.
+    #[error("the writer failed")]
+    Write = 2,
+}
+
+impl ServeFault {
+    /// The number that is printed.
+    pub fn number(self) -> u8
+        ensures { result ≡ serve_fault_number self }
+    {
+        self as u8
+    }
+}
+
+/// Serves a peer once: one read of at most 4,096 bytes, fed at the reader's moment after it, and each answer written
+/// before more is fed. A peer that is closed or not held is answered `Closed`, and no device is called.
+///
+/// After `Write` and `Closed` the rest of what was read is not fed. The peer is not ended.
+///
+/// # Errors
+///
+/// `ServeFault::Read` where the read failed, `ServeFault::Write` where a write failed.
+pub fn serve<R: Source, W: Sink>(
+    adapter: &mut Adapter,
+    peer: &Peer,
+    reader: &mut R,
+    writer: &mut W,
+) -> Result<Served, ServeFault>
+    requires reads { R.reads reader.old < u64.MAX }
+    requires read_failures { R.failures reader.old < u64.MAX }
+    requires write_failures { W.failures writer.old < u64.MAX }
+    ensures served { is_peer_served adapter.old peer.now ≡ true → IsServed (R.moment reader.new) peer.now
+        (record { adapter = adapter.old; left = R.left reader.old; written = W.written writer.old })
+        (record { adapter = adapter.new; left = R.left reader.new; written = W.written writer.new }) result }
+    ensures nothing_fed { IfNothingFed result ((adapter.new ≡ adapter.old) × (writer.new ≡ writer.old)) }
+    ensures not_served { is_peer_served adapter.old peer.now ≡ false → (result ≡ Ok Served.Closed)
+        × (adapter.new ≡ adapter.old) × (reader.new ≡ reader.old) × (writer.new ≡ writer.old) }
+    ensures reads { R.reads reader.new
+        ≡ R.reads reader.old + (if is_peer_served adapter.old peer.now then 1 else 0) }
+    ensures read_failures { R.failures reader.new ≡ R.failures reader.old + read_faults result }
+    ensures write_failures { W.failures writer.new ≡ W.failures writer.old + write_faults result }
+{
+    // Nothing is read of a connection that is over (ours).
+    if !adapter.is_served(peer) {
+        return Ok(Served::Closed);
+    }
+    let mut buffer = [0; LONGEST_READ];
+    let Ok(count) = reader.read(&mut buffer) else {
+        return Err(ServeFault::Read);
+    };
+    // A read of no byte is the end of the stream (a peer that closed its side).
+    if count == 0 {
+        return Ok(Served::Input);
+    }
+    match feed_all(adapter, reader.moment(), peer, &buffer[..count], writer) {
+        Ok(false) => Ok(Served::More),
+        Ok(true) => Ok(Served::Closed),
+        Err(_) => Err(ServeFault::Write),
+    }
+}
+
+/// Feeds a piece until nothing is left or it closes, and writes each answer. Answers whether it closed.
+///
+/// # Errors
+///
+/// `Failed` where a write failed. The rest is not fed then.
+fn feed_all<W: Sink>(
+    adapter: &mut Adapter,
+    now: u64,
+    peer: &Peer,
+    piece: &[u8],
+    writer: &mut W,
+) -> Result<bool, Failed>
+    requires { W.failures writer.old < u64.MAX }
+    ensures fed { IsFedAll now peer.now adapter.old piece.now adapter.new (W.written writer.old) (W.written writer.new) result }
+    ensures failures { W.failures writer.new ≡ W.failures writer.old + failures_in result }
+{
+    let mut fed = 0;
+    while fed < piece.len() {
+        let step = feed_once(adapter, now, peer, &piece[fed..], writer)?;
+        if step.close {
+            return Ok(true);
+        }
+        fed += step.taken;
+    }
+    Ok(false)
+}
+
+/// What became of a piece that was fed once.
+#[derive(Clone, Copy, Debug)]
+struct Step {
+    /// How many bytes were taken.
+    taken: usize,
+    /// Whether the peer is closed.
+    close: bool,
+}
+
+/// Feeds a piece once, and writes the answer.
+///
+/// # Errors
+///
+/// `Failed` where a write failed.
+fn feed_once<W: Sink>(
+    adapter: &mut Adapter,
+    now: u64,
+    peer: &Peer,
+    piece: &[u8],
+    writer: &mut W,
+) -> Result<Step, Failed>
+    requires { W.failures writer.old < u64.MAX }
+    ensures state { adapter.new ≡ after_call adapter.old (Call.Feeds now peer.now piece.now) }
+    ensures taken { IfOk result (λ step. step.taken ≡ (call_meaning adapter.old (Call.Feeds now peer.now piece.now)).taken) }
+    ensures close { IfOk result (λ step. step.close ≡ (call_answer adapter.old (Call.Feeds now peer.now piece.now)).close) }
+    ensures within { IfOk result (λ step. step.taken ≤ length piece.now) }
+    ensures progress { IfOk result (λ step. 0 < length piece.now → step.close ≡ false → 0 < step.taken) }
+    ensures bytes { MatchResult result
+        (λ _. Appends (W.written writer.old) (W.written writer.new)
+        (bytes_said (call_answer adapter.old (Call.Feeds now peer.now piece.now)).said))
+        (λ _. AppendsFront (W.written writer.old) (W.written writer.new)
+        (bytes_said (call_answer adapter.old (Call.Feeds now peer.now piece.now)).said)) }
+    ensures failures { W.failures writer.new ≡ W.failures writer.old + failures_in result }
+{
+    let fed = adapter.feed(now, peer, piece);
+    if let Some(frame) = fed.answer {
+        write_all(writer, frame)?;
+    }
+    Ok(Step {
+        taken: fed.taken,
+        close: fed.close,
+    })
+}
