@@ -10,6 +10,7 @@ pub mod SendUnitData
 pub mod Commands
 pub mod Turn
 pub mod Calls
+pub mod Runs
 pub mod Adapter
 pub mod Stored
 pub mod Places

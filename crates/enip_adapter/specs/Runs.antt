@@ -1,0 +1,45 @@
+-- Lists of calls of the adapter.
+use Rattle.std.specs.Prelude.{ℕ, ◌+◌, max, ◌≡◌, ◌≢◌, List, [], ◌∷◌, map, Bool, ⊤}
+use Rattle.std.specs.List.{flat_map, list_all}
+use Rattle.cip_manager.specs.declared.connection.Connection.{Connection}
+use Rattle.cip_manager.specs.Connection.{is_open_at}
+use Rattle.enip_adapter.specs.Calls.{AdapterState, Call, Meaning, call_meaning, after_call, call_answer}
+use Rattle.enip_adapter.specs.Calls.Call.{Begins_peer, Feeds, Ends_peer, Ticks}
+use Rattle.enip_adapter.specs.Turn.{Event, Said, Answer, answers}
+use Rattle.enip_adapter.specs.Turn.Said.{Silent, Sends, Begins, Refuses}
+
+-- The adapter after calls, one after the other.
+abbrev pub after_calls : AdapterState → List Call → AdapterState
+after_calls a [] = a
+after_calls a (call ∷ calls) = after_calls (after_call a call) calls
+
+-- What each call means.
+abbrev pub meanings : AdapterState → List Call → List Meaning
+meanings a [] = []
+meanings a (call ∷ calls) = call_meaning a call ∷ meanings (after_call a call) calls
+
+-- What each call answers.
+abbrev pub call_answers : AdapterState → List Call → List Answer
+call_answers a [] = []
+call_answers a (call ∷ calls) = call_answer a call ∷ call_answers (after_call a call) calls
+
+-- All events that calls stand for, in their order.
+abbrev pub events_of_calls : AdapterState → List Call → List Event
+events_of_calls a calls = flat_map (λ m. m.events) (meanings a calls)
+
+-- For each call, the answers to its own events.
+abbrev pub answers_by_call : AdapterState → List Call → List (List Answer)
+answers_by_call a [] = []
+answers_by_call a (call ∷ calls) = answers a.state (call_meaning a call).events ∷ answers_by_call (after_call a call) calls
+
+-- What is said before more: a silence is left out.
+abbrev pub speaks : Said → List Said → List Said
+speaks Silent more = more
+speaks (Sends bytes) more = Sends bytes ∷ more
+speaks (Begins handle) more = Begins handle ∷ more
+speaks (Refuses full) more = Refuses full ∷ more
+
+-- What answers say.
+abbrev pub spoken : List Answer → List Said
+spoken [] = []
+spoken (answer ∷ answers) = speaks answer.said (spoken answers)
