@@ -1,1 +1,3 @@
 pub mod EventLemmas
+pub mod ListLemmas
+pub mod PeerLemmas

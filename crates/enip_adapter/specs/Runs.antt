@@ -43,3 +43,22 @@ speaks (Refuses full) more = Refuses full ∷ more
 abbrev pub spoken : List Answer → List Said
 spoken [] = []
 spoken (answer ∷ answers) = speaks answer.said (spoken answers)
+
+-- The call is for another peer than this, or for none.
+abbrev pub IsForOther : ℕ → Call → Type 0
+IsForOther peer Begins_peer = ⊤
+IsForOther peer (Feeds now other piece) = other ≢ peer
+IsForOther peer (Ends_peer other) = other ≢ peer
+IsForOther peer (Ticks now) = ⊤
+
+-- The moments that count at the feeds and ticks of calls: each is the greatest so far.
+abbrev pub moments_of_calls : ℕ → List Call → List ℕ
+moments_of_calls moment [] = []
+moments_of_calls moment (Begins_peer ∷ calls) = moments_of_calls moment calls
+moments_of_calls moment (Feeds now peer piece ∷ calls) = max moment now ∷ moments_of_calls (max moment now) calls
+moments_of_calls moment (Ends_peer peer ∷ calls) = moments_of_calls moment calls
+moments_of_calls moment (Ticks now ∷ calls) = max moment now ∷ moments_of_calls (max moment now) calls
+
+-- The deadline of the connection is still to come at each of these moments.
+abbrev pub is_open_at_all : List ℕ → Connection → Bool
+is_open_at_all moments connection = list_all (λ moment. is_open_at moment connection) moments

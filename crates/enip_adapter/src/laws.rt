@@ -1,11 +1,13 @@
 //! What holds for every list of calls of the adapter. Each law is the contract of a function that does nothing, over
 //! the same definitions as the contracts of the calls.
 
-ghost use Rattle.std.specs.Prelude.{List, ◌≡◌, ◌||◌};
-ghost use Rattle.std.specs.List.{flat_map, list_any};
-ghost use Rattle.enip_adapter.specs.Turn.{answers, after};
-ghost use Rattle.enip_adapter.specs.Calls.{AdapterState, Call, call_meaning, call_answer};
-ghost use Rattle.enip_adapter.specs.Runs.{after_calls, call_answers, events_of_calls, answers_by_call, spoken};
+ghost use Rattle.std.specs.Prelude.{ℕ, List, ◌≡◌, ◌||◌, Some, filter};
+ghost use Rattle.std.specs.List.{flat_map, list_any, AllByRecursion};
+ghost use Rattle.cip_manager.specs.Runs.{of_session};
+ghost use Rattle.enip_adapter.specs.declared.peer.Session.{Session};
+ghost use Rattle.enip_adapter.specs.Turn.{answers, after, session_of};
+ghost use Rattle.enip_adapter.specs.Calls.{AdapterState, Call, call_meaning, call_answer, bytes_held};
+ghost use Rattle.enip_adapter.specs.Runs.{after_calls, call_answers, events_of_calls, answers_by_call, spoken, IsForOther, moments_of_calls, is_open_at_all};
 
 /// Whatever calls come, for any number of peers, the adapter is where the events lead that they stand for, and the
 /// answers of these events are each call's own, call by call. What calls say is what the events say; a call closes
@@ -19,4 +21,19 @@ pub fn answers_of_events()
         spoken (call_answers a calls) ≡ spoken (answers a.state (events_of_calls a calls)) }
     ensures close { (a : AdapterState) (call : Call) → (call_answer a call).close
         ≡ ((call_meaning a call).dropped || list_any (λ x. x.close) (answers a.state (call_meaning a call).events)) }
+{}
+
+/// Calls for other peers, of those that begin, and ticks leave what a peer's session is and which bytes of its next
+/// frame came. They leave a session exactly those of its connections whose deadline no moment reached, each with its
+/// count, kept reply and deadline.
+pub fn peers_apart()
+    ensures session { (peer : ℕ) (session : Session) (a : AdapterState) (calls : List Call) →
+        AllByRecursion (IsForOther peer) calls → session_of a.state peer ≡ Some session →
+        session_of (after_calls a calls).state peer ≡ Some session }
+    ensures held { (peer : ℕ) (a : AdapterState) (calls : List Call) → AllByRecursion (IsForOther peer) calls →
+        bytes_held (after_calls a calls).held peer ≡ bytes_held a.held peer }
+    ensures connections { (peer : ℕ) (a : AdapterState) (calls : List Call) → AllByRecursion (IsForOther peer) calls →
+        of_session peer (after_calls a calls).state.shared.manager.connections
+        ≡ filter (is_open_at_all (moments_of_calls a.state.shared.moment calls))
+        (of_session peer a.state.shared.manager.connections) }
 {}
