@@ -33,7 +33,7 @@ answers-events a (c ∷ cs) =
     ∙ ap (λ r. answers a.state (call_meaning a c).events ++ r) (answers-events (after_call a c) cs)
 
 -- What holds of a call whose meaning has these forms holds of every call.
-of_piece : (P : Meaning → Type 0) (now peer : ℕ) (piece : List ℕ) (held : List Held) (o : Option Session)
+pub of_piece : (P : Meaning → Type 0) (now peer : ℕ) (piece : List ℕ) (held : List Held) (o : Option Session)
     → P (at_a_moment now (dropped_piece held))
     → ((x : Sight) (n : ℕ) (left : List Held)
     → P (at_a_moment now (record { events = events_of_sight peer x; taken = n; held = left; dropped = false })))

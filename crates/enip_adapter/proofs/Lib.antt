@@ -1,3 +1,5 @@
+pub mod CommandLemmas
 pub mod EventLemmas
 pub mod ListLemmas
+pub mod NumberLemmas
 pub mod PeerLemmas

@@ -5,8 +5,7 @@ use Rattle.std.specs.List.{AllByRecursion, list_all}
 use Rattle.std.proofs.lemmas.Bool.{eqb-true, ne_eqb}
 use Rattle.cip_manager.specs.declared.connection.Connection.{Connection}
 use Rattle.cip_manager.specs.Connection.{is_of_session, is_open_at}
-use Rattle.cip_manager.specs.Runs.{of_session} 
-use Rattle.cip_manager.specs.Runs.Call.{Opens as Manager_opens, Closes as Manager_closes, Receives, Expires, Ends}
+use Rattle.cip_manager.specs.Runs.{Call as Manager_call, Opens, Closes, Receives, Ends, IsOfOther, of_session, state_after, is_open_after_all}
 use Rattle.cip_manager.proofs.SessionLemmas.{calls-of_other}
 use Rattle.cip_manager.proofs.ListLemmas.{filter-true, filter-filter, filter-swap}
 use Rattle.cip_objects.specs.Contents.{Contents}
@@ -22,28 +21,25 @@ use Rattle.enip_adapter.specs.declared.shared.Shared.{Shared}
 use Rattle.enip_adapter.specs.Commands.{command_served, long_refused}
 use Rattle.enip_adapter.specs.Lookup.{first_with, with_first, without_first}
 use Rattle.enip_adapter.specs.Replies.{Served, leaving, silent, refused, is_registered_as}
-use Rattle.enip_adapter.specs.SendRRData.{Destination, destination_of, routed, routed_to, reply_to_body, send_rr_data}
-use Rattle.enip_adapter.specs.SendRRData.Destination.{Opens, Closes, Executes}
-use Rattle.enip_adapter.specs.SendUnitData.{turn_of_item, item_of_body, send_unit_data}
 use Rattle.enip_adapter.specs.Turn.{State, Event, Said, Turned, Answer, turn, turned, begun, with_peer, answers, after, session_of, serve_found, end_found, session_after, shared_after, without_connections, at_moment, sent}
 use Rattle.enip_adapter.specs.Turn.Event.{Begin, End, At, Framed, Long}
 use Rattle.enip_adapter.specs.Turn.Said.{Silent, Sends, Begins, Refuses}
 use Rattle.enip_adapter.specs.Calls.{AdapterState, Held, Call, Meaning, call_meaning, after_call, bytes_found, bytes_held, held_at_beginning, piece_to, piece_meaning, dropped_piece, at_a_moment, after_meaning, events_of_sight}
 use Rattle.enip_adapter.specs.Calls.Call.{Begins_peer, Feeds, Ends_peer, Ticks}
 use Rattle.enip_adapter.specs.Runs.{after_calls, IsForOther, moments_of_calls, is_open_at_all}
+use Rattle.enip_adapter.proofs.CommandLemmas.{Changes, after_command}
 use Rattle.enip_adapter.proofs.ListLemmas.{both, first_with-number, first_with-changed, first_with-removed, first_with-append, first_with-behind}
 
 abbrev connections_of : ℕ → Shared → List Connection
 connections_of peer shared = of_session peer shared.manager.connections
 
--- What another session's frame leaves: this session's connections, the moment, and the next handle.
+-- What a change for another session leaves: this session's connections, and the moment.
 pub record Leaves (peer : ℕ) (old new : Shared) : Type 0 where
   pub connections : connections_of peer new ≡ connections_of peer old
   pub moment : new.moment ≡ old.moment
-  pub next_handle : new.next_handle ≡ old.next_handle
 
 leaves-same : (peer : ℕ) (shared : Shared) → Leaves peer shared shared
-leaves-same peer shared = record { connections = refl; moment = refl; next_handle = refl }
+leaves-same peer shared = record { connections = refl; moment = refl }
 
 abbrev exec_after : Contents → ℕ → List ℕ → Contents
 exec_after objects room request = (exec objects room request).after
@@ -51,80 +47,45 @@ exec_after objects room request = (exec objects room request).after
 abbrev exec_answer : Contents → ℕ → List ℕ → List ℕ
 exec_answer objects room request = (exec objects room request).answer
 
-leaves-routed_to : (peer : ℕ) (shared : Shared) (session : Session) (request : List ℕ) (to : Destination) → session.handle ≢ peer
-    → Leaves peer shared (routed_to shared session request to).shared
-leaves-routed_to peer shared session request (Opens bytes) differ = record {
-  connections = calls-of_other exec_after exec_answer peer (record { manager = shared.manager; router = shared.objects })
-      (Manager_opens shared.moment session.handle bytes ∷ []) (differ, tt) ∙ filter-true (connections_of peer shared);
-  moment = refl;
-  next_handle = refl;
-}
-leaves-routed_to peer shared session request (Closes bytes) differ = record {
-  connections = calls-of_other exec_after exec_answer peer (record { manager = shared.manager; router = shared.objects })
-      (Manager_closes session.handle bytes ∷ []) (differ, tt) ∙ filter-true (connections_of peer shared);
-  moment = refl;
-  next_handle = refl;
-}
-leaves-routed_to peer shared session request Executes differ = record { connections = refl; moment = refl; next_handle = refl }
-
-abbrev Serves : ℕ → Shared → Served → Type 0
-Serves peer shared served = Leaves peer shared served.shared
-
-leaves-body : (peer : ℕ) (shared : Shared) (session : Session) (f : Frame) (body : Result (List ℕ) CpfFault)
-    → session.handle ≢ peer → Serves peer shared (reply_to_body shared session f body)
-leaves-body peer shared session f (Err fault) differ = leaves-same peer shared
-leaves-body peer shared session f (Ok request) differ =
-    both (Serves peer shared) (ltb (length request) 2) _ _ (leaves-same peer shared)
-    (leaves-routed_to peer shared session request (destination_of request) differ)
-
-leaves-item : (peer : ℕ) (shared : Shared) (session : Session) (f : Frame) (body : Result (ℕ × List ℕ) CpfFault)
-    → session.handle ≢ peer → Serves peer shared (item_of_body shared session f body)
-leaves-item peer shared session f (Err fault) differ = leaves-same peer shared
-leaves-item peer shared session f (Ok (id, item)) differ = record {
-  connections = calls-of_other exec_after exec_answer peer (record { manager = shared.manager; router = shared.objects })
-      (Receives shared.moment session.handle id item ∷ []) (differ, tt) ∙ filter-true (connections_of peer shared);
-  moment = refl;
-  next_handle = refl;
-}
+-- One call of the manager for another session.
+leaves-manager : (peer : ℕ) (shared : Shared) (call : Manager_call) → IsOfOther peer call
+    → of_session peer (state_after exec_after exec_answer (record { manager = shared.manager; router = shared.objects }) (call ∷ [])).manager.connections
+    ≡ filter (is_open_after_all (call ∷ [])) (connections_of peer shared)
+leaves-manager peer shared call other =
+    calls-of_other exec_after exec_answer peer (record { manager = shared.manager; router = shared.objects }) (call ∷ []) (other, tt)
 
 leaves-command : (peer : ℕ) (shared : Shared) (session : Session) (f : Frame) → session.handle ≢ peer
-    → Serves peer shared (command_served shared session f)
-unfolding command_served
+    → Leaves peer shared (command_served shared session f).shared
 leaves-command peer shared session f differ =
-    let same : Leaves peer shared shared = leaves-same peer shared in
-    both (Serves peer shared) (not (eqb f.header.options 0)) _ _ same
-    (both (Serves peer shared) (not (eqb f.header.status 0)) _ _ same
-    (both (Serves peer shared) (eqb f.header.command 0x0000) _ _ same
-    (both (Serves peer shared) (eqb f.header.command 0x0004) _ _ same
-    (both (Serves peer shared) (eqb f.header.command 0x0063) _ _ same
-    (both (Serves peer shared) (eqb f.header.command 0x0064) _ _ same
-    (both (Serves peer shared) (eqb f.header.command 0x0065) _ _ same
-    (both (Serves peer shared) (eqb f.header.command 0x0066) _ _ same
-    (both (Serves peer shared) (eqb f.header.command 0x006f) _ _
-    (both (Serves peer shared) (not (is_registered_as session f.header.session)) _ _ same
-    (leaves-body peer shared session f (rr_body_of f.body) differ))
-    (both (Serves peer shared) (eqb f.header.command 0x0070) _ _
-    (both (Serves peer shared) (not (is_registered_as session f.header.session)) _ _ same
-    (leaves-item peer shared session f (unit_body_of f.body) differ))
-    same)))))))))
+    after_command (Leaves peer shared) shared session
+    (record {
+      same = leaves-same peer shared;
+      opens = λ bytes. record {
+        connections = leaves-manager peer shared (Opens shared.moment session.handle bytes) differ ∙ filter-true (connections_of peer shared);
+        moment = refl;
+      };
+      closes = λ bytes. record {
+        connections = leaves-manager peer shared (Closes session.handle bytes) differ ∙ filter-true (connections_of peer shared);
+        moment = refl;
+      };
+      executes = λ objects. record { connections = refl; moment = refl };
+      receives = λ id item. record {
+        connections = leaves-manager peer shared (Receives shared.moment session.handle id item) differ ∙ filter-true (connections_of peer shared);
+        moment = refl;
+      };
+    }) f
 
 leaves-ended : (peer : ℕ) (shared : Shared) (session : ℕ) → session ≢ peer → Leaves peer shared (without_connections shared session)
 leaves-ended peer shared session differ = record {
-  connections = calls-of_other exec_after exec_answer peer (record { manager = shared.manager; router = shared.objects })
-      (Ends session ∷ []) (differ, tt) ∙ filter-true (connections_of peer shared);
+  connections = leaves-manager peer shared (Ends session) differ ∙ filter-true (connections_of peer shared);
   moment = refl;
-  next_handle = refl;
 }
 
 leaves-then : (peer : ℕ) (a b c : Shared) → Leaves peer a b → Leaves peer b c → Leaves peer a c
-leaves-then peer a b c x y = record {
-  connections = y.connections ∙ x.connections;
-  moment = y.moment ∙ x.moment;
-  next_handle = y.next_handle ∙ x.next_handle;
-}
+leaves-then peer a b c x y = record { connections = y.connections ∙ x.connections; moment = y.moment ∙ x.moment }
 
 leaves-after : (peer : ℕ) (shared : Shared) (session : Session) (served : Served) → session.handle ≢ peer
-    → Serves peer shared served → Leaves peer shared (shared_after session served)
+    → Leaves peer shared served.shared → Leaves peer shared (shared_after session served)
 leaves-after peer shared session served differ serves =
     both (Leaves peer shared) served.reaction.close _ _
     (leaves-then peer shared served.shared _ serves (leaves-ended peer served.shared session.handle differ)) serves
@@ -140,7 +101,7 @@ spares-same peer s = record { connections = refl; moment = refl; session = λ se
 
 spares-served : (s : State) (peer other : ℕ) (serve : Session → Served) (o : Option Session) → other ≢ peer
     → session_of s other ≡ o
-    → ((session : Session) → session.handle ≢ peer → Serves peer s.shared (serve session))
+    → ((session : Session) → session.handle ≢ peer → Leaves peer s.shared (serve session).shared)
     → Spares peer s (serve_found s other serve o).state
 spares-served s peer other serve None differ found serves = spares-same peer s
 spares-served s peer other serve (Some session) differ found serves =

@@ -1,11 +1,11 @@
 -- Lists of calls of the adapter.
-use Rattle.std.specs.Prelude.{ℕ, ◌+◌, max, ◌≡◌, ◌≢◌, List, [], ◌∷◌, map, Bool, ⊤}
-use Rattle.std.specs.List.{flat_map, list_all}
+use Rattle.std.specs.Prelude.{ℕ, ◌+◌, max, ◌≡◌, ◌≢◌, ◌≤◌, ◌==◌, List, [], ◌∷◌, ◌++◌, map, filter, Bool, not, ⊤}
+use Rattle.std.specs.List.{flat_map, list_all, list_any}
 use Rattle.cip_manager.specs.declared.connection.Connection.{Connection}
 use Rattle.cip_manager.specs.Connection.{is_open_at}
 use Rattle.enip_adapter.specs.Calls.{AdapterState, Call, Meaning, call_meaning, after_call, call_answer}
 use Rattle.enip_adapter.specs.Calls.Call.{Begins_peer, Feeds, Ends_peer, Ticks}
-use Rattle.enip_adapter.specs.Turn.{Event, Said, Answer, answers}
+use Rattle.enip_adapter.specs.Turn.{State, Event, Said, Answer, turn, answers}
 use Rattle.enip_adapter.specs.Turn.Said.{Silent, Sends, Begins, Refuses}
 
 -- The adapter after calls, one after the other.
@@ -62,3 +62,35 @@ moments_of_calls moment (Ticks now ∷ calls) = max moment now ∷ moments_of_ca
 -- The deadline of the connection is still to come at each of these moments.
 abbrev pub is_open_at_all : List ℕ → Connection → Bool
 is_open_at_all moments connection = list_all (λ moment. is_open_at moment connection) moments
+
+-- The handle that an answer gives out, if it does, before more.
+abbrev pub handle_before : Said → List ℕ → List ℕ
+handle_before Silent more = more
+handle_before (Sends bytes) more = more
+handle_before (Begins handle) more = handle ∷ more
+handle_before (Refuses full) more = more
+
+-- The handles that answers give out.
+abbrev pub handles_in : List Answer → List ℕ
+handles_in [] = []
+handles_in (answer ∷ answers) = handle_before answer.said (handles_in answers)
+
+-- Each is greater than those before it, and the first is n or more.
+abbrev pub RisesFrom : ℕ → List ℕ → Type 0
+RisesFrom n [] = ⊤
+RisesFrom n (m ∷ ms) = (n ≤ m) × RisesFrom (m + 1) ms
+
+-- The connections whose O->T ID none of those before has.
+abbrev pub is_new : List Connection → Connection → Bool
+is_new before connection = not (list_any (λ old. old.o_to_t_id == connection.o_to_t_id) before)
+
+abbrev pub new_connections : List Connection → List Connection → List Connection
+new_connections before connections = filter (is_new before) connections
+
+-- The O->T IDs that events give out: after each, those of the connections that are new.
+abbrev pub ids_of_events : State → List Event → List ℕ
+ids_of_events s [] = []
+ids_of_events s (e ∷ es) =
+    map (λ connection. connection.o_to_t_id)
+    (new_connections s.shared.manager.connections (turn s e).state.shared.manager.connections)
+    ++ ids_of_events (turn s e).state es

@@ -4,10 +4,14 @@
 ghost use Rattle.std.specs.Prelude.{ℕ, List, ◌≡◌, ◌||◌, Some, filter};
 ghost use Rattle.std.specs.List.{flat_map, list_any, AllByRecursion};
 ghost use Rattle.cip_manager.specs.Runs.{of_session};
+ghost use Rattle.cip_objects.specs.Contents.{Contents};
+ghost use Rattle.enip_adapter.specs.declared.adapter.Limits.{Limits};
 ghost use Rattle.enip_adapter.specs.declared.peer.Session.{Session};
-ghost use Rattle.enip_adapter.specs.Turn.{answers, after, session_of};
+ghost use Rattle.enip_adapter.specs.declared.shared.Listen.{Listen};
+ghost use Rattle.enip_adapter.specs.Adapter.{new_adapter};
+ghost use Rattle.enip_adapter.specs.Turn.{Event, answers, after, session_of};
 ghost use Rattle.enip_adapter.specs.Calls.{AdapterState, Call, call_meaning, call_answer, bytes_held};
-ghost use Rattle.enip_adapter.specs.Runs.{after_calls, call_answers, events_of_calls, answers_by_call, spoken, IsForOther, moments_of_calls, is_open_at_all};
+ghost use Rattle.enip_adapter.specs.Runs.{after_calls, call_answers, events_of_calls, answers_by_call, spoken, IsForOther, moments_of_calls, is_open_at_all, RisesFrom, handles_in, ids_of_events};
 
 /// Whatever calls come, for any number of peers, the adapter is where the events lead that they stand for, and the
 /// answers of these events are each call's own, call by call. What calls say is what the events say; a call closes
@@ -36,4 +40,17 @@ pub fn peers_apart()
         of_session peer (after_calls a calls).state.shared.manager.connections
         ≡ filter (is_open_at_all (moments_of_calls a.state.shared.moment calls))
         (of_session peer a.state.shared.manager.connections) }
+{}
+
+/// A session handle that was given out never comes again: those that are given out rise from the next one.
+pub fn handles_rise()
+    ensures { (a : AdapterState) (calls : List Call) →
+        RisesFrom a.state.shared.next_handle (handles_in (call_answers a calls)) }
+{}
+
+/// An O->T ID that was given out never comes again: whatever happens to a new adapter, the IDs of the connections that
+/// open rise from its first one.
+pub fn ids_rise()
+    ensures { (objects : Contents) (listen : Listen) (limits : Limits) (events : List Event) →
+        RisesFrom limits.first_id (ids_of_events (new_adapter objects listen limits).state events) }
 {}
