@@ -3,3 +3,5 @@ pub mod EventLemmas
 pub mod ListLemmas
 pub mod NumberLemmas
 pub mod PeerLemmas
+pub mod RunningLemmas
+pub mod SoundLemmas

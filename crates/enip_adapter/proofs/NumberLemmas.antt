@@ -91,7 +91,7 @@ plain-feed s now peer piece held o =
       next_handle = next-sight (at_state s now) peer (A_long_header h);
     }
 
-next-ended : (s : State) (peer : ℕ) (o : Option Session) → (end_found s peer o).shared.next_handle ≡ s.shared.next_handle
+pub next-ended : (s : State) (peer : ℕ) (o : Option Session) → (end_found s peer o).shared.next_handle ≡ s.shared.next_handle
 next-ended s peer None = refl
 next-ended s peer (Some session) = refl
 

@@ -1,11 +1,14 @@
 -- Lists of calls of the adapter.
-use Rattle.std.specs.Prelude.{ℕ, ◌+◌, max, ◌≡◌, ◌≢◌, ◌≤◌, ◌==◌, List, [], ◌∷◌, ◌++◌, map, filter, Bool, not, ⊤}
+use Rattle.std.specs.Prelude.{ℕ, ◌+◌, max, ◌≡◌, ◌≢◌, ◌≤◌, ◌==◌, List, [], ◌∷◌, ◌++◌, map, filter, take, if◌then◌else◌, Bool, not, ⊤}
 use Rattle.std.specs.List.{flat_map, list_all, list_any}
+use Rattle.cip_bytes.specs.Numbers.{AreBytes}
 use Rattle.cip_manager.specs.declared.connection.Connection.{Connection}
 use Rattle.cip_manager.specs.Connection.{is_open_at}
+use Rattle.enip_wire.specs.Frames.{Frame}
 use Rattle.enip_adapter.specs.Calls.{AdapterState, Call, Meaning, call_meaning, after_call, call_answer}
 use Rattle.enip_adapter.specs.Calls.Call.{Begins_peer, Feeds, Ends_peer, Ticks}
 use Rattle.enip_adapter.specs.Turn.{State, Event, Said, Answer, turn, answers}
+use Rattle.enip_adapter.specs.Turn.Event.{Begin, End, At, Framed, Long}
 use Rattle.enip_adapter.specs.Turn.Said.{Silent, Sends, Begins, Refuses}
 
 -- The adapter after calls, one after the other.
@@ -94,3 +97,33 @@ ids_of_events s (e ∷ es) =
     map (λ connection. connection.o_to_t_id)
     (new_connections s.shared.manager.connections (turn s e).state.shared.manager.connections)
     ++ ids_of_events (turn s e).state es
+
+-- The bytes that a call took of a peer's stream.
+abbrev pub taken_by_call : ℕ → AdapterState → Call → List ℕ
+taken_by_call peer a Begins_peer = []
+taken_by_call peer a (Feeds now other piece) =
+    if other == peer then take (call_meaning a (Feeds now other piece)).taken piece else []
+taken_by_call peer a (Ends_peer other) = []
+taken_by_call peer a (Ticks now) = []
+
+-- The bytes that calls took of it, joined.
+abbrev pub taken_by_calls : ℕ → AdapterState → List Call → List ℕ
+taken_by_calls peer a [] = []
+taken_by_calls peer a (call ∷ calls) = taken_by_call peer a call ++ taken_by_calls peer (after_call a call) calls
+
+-- The whole frames of a peer that are among events.
+abbrev pub frames_of_peer : ℕ → List Event → List Frame
+frames_of_peer peer [] = []
+frames_of_peer peer (Begin ∷ events) = frames_of_peer peer events
+frames_of_peer peer (End other ∷ events) = frames_of_peer peer events
+frames_of_peer peer (At now ∷ events) = frames_of_peer peer events
+frames_of_peer peer (Framed other f ∷ events) =
+    if other == peer then f ∷ frames_of_peer peer events else frames_of_peer peer events
+frames_of_peer peer (Long other header ∷ events) = frames_of_peer peer events
+
+-- A piece is of bytes, and the call does not end this peer.
+abbrev pub GoesOn : ℕ → Call → Type 0
+GoesOn peer Begins_peer = ⊤
+GoesOn peer (Feeds now other piece) = AreBytes piece
+GoesOn peer (Ends_peer other) = other ≢ peer
+GoesOn peer (Ticks now) = ⊤

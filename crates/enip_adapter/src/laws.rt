@@ -1,7 +1,7 @@
 //! What holds for every list of calls of the adapter. Each law is the contract of a function that does nothing, over
 //! the same definitions as the contracts of the calls.
 
-ghost use Rattle.std.specs.Prelude.{ℕ, List, ◌≡◌, ◌||◌, Some, filter};
+ghost use Rattle.std.specs.Prelude.{ℕ, List, ◌∷◌, ◌≡◌, ◌≤◌, ◌||◌, false, Some, filter};
 ghost use Rattle.std.specs.List.{flat_map, list_any, AllByRecursion};
 ghost use Rattle.cip_manager.specs.Runs.{of_session};
 ghost use Rattle.cip_objects.specs.Contents.{Contents};
@@ -10,6 +10,7 @@ ghost use Rattle.enip_adapter.specs.declared.peer.Session.{Session};
 ghost use Rattle.enip_adapter.specs.declared.shared.Listen.{Listen};
 ghost use Rattle.enip_adapter.specs.Adapter.{new_adapter};
 ghost use Rattle.enip_adapter.specs.Turn.{Event, answers, after, session_of};
+ghost use Rattle.enip_adapter.specs.Calls.Call.{Feeds};
 ghost use Rattle.enip_adapter.specs.Calls.{AdapterState, Call, call_meaning, call_answer, bytes_held};
 ghost use Rattle.enip_adapter.specs.Runs.{after_calls, call_answers, events_of_calls, answers_by_call, spoken, IsForOther, moments_of_calls, is_open_at_all, RisesFrom, handles_in, ids_of_events};
 
@@ -53,4 +54,11 @@ pub fn handles_rise()
 pub fn ids_rise()
     ensures { (objects : Contents) (listen : Listen) (limits : Limits) (events : List Event) →
         RisesFrom limits.first_id (ids_of_events (new_adapter objects listen limits).state events) }
+{}
+
+/// A piece of a byte or more is taken in part at least, or the answer is that the peer's connection is closed.
+pub fn progress()
+    ensures { (objects : Contents) (listen : Listen) (limits : Limits) (calls : List Call) (now peer b : ℕ) (bs : List ℕ) →
+        (call_answer (after_calls (new_adapter objects listen limits) calls) (Feeds now peer (b ∷ bs))).close ≡ false →
+        1 ≤ (call_meaning (after_calls (new_adapter objects listen limits) calls) (Feeds now peer (b ∷ bs))).taken }
 {}
