@@ -5,3 +5,4 @@ pub mod NumberLemmas
 pub mod PeerLemmas
 pub mod RunningLemmas
 pub mod SoundLemmas
+pub mod StreamLemmas

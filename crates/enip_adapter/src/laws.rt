@@ -4,15 +4,19 @@
 ghost use Rattle.std.specs.Prelude.{ℕ, List, ◌∷◌, ◌≡◌, ◌≤◌, ◌||◌, false, Some, filter};
 ghost use Rattle.std.specs.List.{flat_map, list_any, AllByRecursion};
 ghost use Rattle.cip_manager.specs.Runs.{of_session};
+ghost use Rattle.enip_wire.specs.Stream.{Cut};
 ghost use Rattle.cip_objects.specs.Contents.{Contents};
 ghost use Rattle.enip_adapter.specs.declared.adapter.Limits.{Limits};
 ghost use Rattle.enip_adapter.specs.declared.peer.Session.{Session};
 ghost use Rattle.enip_adapter.specs.declared.shared.Listen.{Listen};
 ghost use Rattle.enip_adapter.specs.Adapter.{new_adapter};
 ghost use Rattle.enip_adapter.specs.Turn.{Event, answers, after, session_of};
-ghost use Rattle.enip_adapter.specs.Calls.Call.{Feeds};
-ghost use Rattle.enip_adapter.specs.Calls.{AdapterState, Call, call_meaning, call_answer, bytes_held};
-ghost use Rattle.enip_adapter.specs.Runs.{after_calls, call_answers, events_of_calls, answers_by_call, spoken, IsForOther, moments_of_calls, is_open_at_all, RisesFrom, handles_in, ids_of_events};
+ghost use Rattle.enip_adapter.specs.Turn.Said.{Begins};
+ghost use Rattle.enip_adapter.specs.Calls.Call.{Begins_peer, Feeds};
+ghost use Rattle.enip_adapter.specs.Calls.{AdapterState, Call, after_call, call_meaning, call_answer, bytes_held};
+ghost use Rattle.enip_adapter.specs.Runs.{after_calls, call_answers, events_of_calls, answers_by_call, spoken};
+ghost use Rattle.enip_adapter.specs.Runs.{IsForOther, moments_of_calls, is_open_at_all, RisesFrom, handles_in, ids_of_events};
+ghost use Rattle.enip_adapter.specs.Runs.{GoesOn, taken_by_calls, frames_of_peer};
 
 /// Whatever calls come, for any number of peers, the adapter is where the events lead that they stand for, and the
 /// answers of these events are each call's own, call by call. What calls say is what the events say; a call closes
@@ -54,6 +58,18 @@ pub fn handles_rise()
 pub fn ids_rise()
     ensures { (objects : Contents) (listen : Listen) (limits : Limits) (events : List Event) →
         RisesFrom limits.first_id (ids_of_events (new_adapter objects listen limits).state events) }
+{}
+
+/// From its beginning on, whatever other calls come between, what is taken of a peer's stream are the frames that are
+/// served to it, and then the bytes that are held: the frames and the rest of the stream's cut.
+pub fn frames_of_the_stream()
+    ensures { (objects : Contents) (listen : Listen) (limits : Limits) (earlier calls : List Call) (peer : ℕ) →
+        let before = after_calls (new_adapter objects listen limits) earlier in
+        let begun = after_call before Begins_peer in
+        (call_answer before Begins_peer).said ≡ Begins peer →
+        AllByRecursion (GoesOn peer) calls →
+        Cut (taken_by_calls peer begun calls) (frames_of_peer peer (events_of_calls begun calls))
+        (bytes_held (after_calls begun calls).held peer) }
 {}
 
 /// A piece of a byte or more is taken in part at least, or the answer is that the peer's connection is closed.
