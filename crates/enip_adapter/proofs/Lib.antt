@@ -6,3 +6,4 @@ pub mod PeerLemmas
 pub mod RunningLemmas
 pub mod SoundLemmas
 pub mod StreamLemmas
+pub mod CutLemmas

@@ -221,3 +221,14 @@ gone n (m ∷ ms) once = go (eqb m n) refl (gone n ms once.1)
     go : (b : Bool) → eqb m n ≡ b → first_with (λ k. k) n (without_first (λ k. k) n ms) ≡ None → first_with (λ k. k) n (cond b ms (m ∷ without_first (λ k. k) n ms)) ≡ None
     go true t rest = subst (λ k. first_with (λ i. i) k ms ≡ None) (eqb-true m n t) once.0
     go false t rest = ap (λ b. cond b (Some m) (first_with (λ k. k) n (without_first (λ k. k) n ms))) t ∙ rest
+
+-- A change of what was changed.
+pub with_first-twice : {X : Type 0} → (number : X → ℕ) (n : ℕ) (a b : X) (xs : List X) → number a ≡ n
+    → with_first number n b (with_first number n a xs) ≡ with_first number n b xs
+with_first-twice number n a b [] h = refl
+with_first-twice {X} number n a b (x ∷ xs) h = go (eqb (number x) n) refl (with_first-twice number n a b xs h)
+  where
+    go : (t : Bool) → eqb (number x) n ≡ t → with_first number n b (with_first number n a xs) ≡ with_first number n b xs
+        → with_first number n b (cond t (a ∷ xs) (x ∷ with_first number n a xs)) ≡ cond t (b ∷ xs) (x ∷ with_first number n b xs)
+    go true t rest = ap (λ s. cond s (b ∷ xs) (a ∷ with_first number n b xs)) (eq-eqb (number a) n h)
+    go false t rest = ap (λ s. cond s (b ∷ with_first number n a xs) (x ∷ with_first number n b (with_first number n a xs))) t ∙ ap (λ ys. x ∷ ys) rest

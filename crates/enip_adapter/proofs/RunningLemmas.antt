@@ -18,10 +18,10 @@ pub record IsRunning (held : List ℕ) : Type 0 where
 pub running-empty : IsRunning []
 running-empty = record { before = λ h. absurd (omega arith) }
 
-taken_of-short : (held piece : List ℕ) → length held + length piece < 24 → taken_of held piece ≡ length piece
+pub taken_of-short : (held piece : List ℕ) → length held + length piece < 24 → taken_of held piece ≡ length piece
 taken_of-short held piece h = grind (arith, nat_tests)
 
-taken_of-long : (held piece : List ℕ) → 24 ≤ length held + length piece
+pub taken_of-long : (held piece : List ℕ) → 24 ≤ length held + length piece
     → taken_of held piece ≡ min (end_after (number_at 2 2 (held ++ piece)) - length held) (length piece)
 taken_of-long held piece h = grind (arith, nat_tests)
 
@@ -31,7 +31,7 @@ end-joined : (held piece : List ℕ) → 4 ≤ length held
 end-joined held piece h = ap end_after (number_at-append held piece h)
 
 -- more than is held is needed
-end-past : (held piece : List ℕ) → IsRunning held → length held < end_after (number_at 2 2 (held ++ piece))
+pub end-past : (held piece : List ℕ) → IsRunning held → length held < end_after (number_at 2 2 (held ++ piece))
 end-past held piece r =
     elim (cases_lt (length held) 24) [
       | inl short ↦ omega (arith, end_after-least (number_at 2 2 (held ++ piece)))

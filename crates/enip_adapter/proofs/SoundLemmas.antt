@@ -124,6 +124,14 @@ no-session a peer same e =
     numbers-none (λ (p : Session). p.handle) peer a.state.peers
     (ap (first_with (λ m. m) peer) (sym same) ∙ none-numbers (λ (h : Held). h.peer) peer a.held e)
 
+pub entry-of : (a : AdapterState) (peer : ℕ) (session : Session) → IsSound a → session_of a.state peer ≡ Some session
+    → (old : Held) × (first_with (λ (h : Held). h.peer) peer a.held ≡ Some old)
+entry-of a peer session sound e = go (first_with (λ (h : Held). h.peer) peer a.held) refl
+  where
+    go : (o : Option Held) → first_with (λ (h : Held). h.peer) peer a.held ≡ o → (old : Held) × (first_with (λ (h : Held). h.peer) peer a.held ≡ Some old)
+    go None f = let bad : None ≡ Some session = sym (no-session a peer sound.same f) ∙ e in cc
+    go (Some old) f = (old, f)
+
 -- An open peer waits for more bytes.
 abbrev IsReady : ℕ → AdapterState → Type 0
 IsReady peer a = (session : Session) → session_of a.state peer ≡ Some session → session.closed ≡ false → IsRunning (bytes_held a.held peer)
@@ -240,7 +248,7 @@ sound-new objects listen limits = record {
 }
 
 -- A piece is taken in part at least, or dropped.
-taken-piece : (a : AdapterState) (now peer b : ℕ) (bs : List ℕ) → IsSound a → (o : Option Session) → session_of a.state peer ≡ o
+pub taken-piece : (a : AdapterState) (now peer b : ℕ) (bs : List ℕ) → IsSound a → (o : Option Session) → session_of a.state peer ≡ o
     → (answer_of a.state (at_a_moment now (piece_to a.held peer (b ∷ bs) o))).close ≡ false → 1 ≤ (piece_to a.held peer (b ∷ bs) o).taken
 taken-piece a now peer b bs sound None e alive = cc
 taken-piece a now peer b bs sound (Some session) e alive = go session.closed refl alive

@@ -11,7 +11,7 @@ use Rattle.enip_wire.specs.Headers.{header_at}
 use Rattle.enip_wire.specs.Frames.{Frame, frame, IsFrame, IsTooLong, end_after}
 use Rattle.enip_wire.specs.Stream.{Cut, Sight, taken_of, joined_of, sight_of, cleared}
 use Rattle.enip_wire.specs.Stream.Sight.{Nothing_yet, A_frame, A_long_header}
-use Rattle.enip_wire.proofs.FrameLemmas.{number_at-frame, length-frame, end_after-within, IsHeader-header_at}
+use Rattle.enip_wire.proofs.FrameLemmas.{number_at-frame, length-frame, end_after-within, end_after-over, IsHeader-header_at}
 use Rattle.enip_wire.proofs.HeaderLemmas.{header_spelling-header_at}
 use Rattle.enip_wire.proofs.SeeLemmas.{sight_of-short, sight_of-long, sight_of-frame}
 use Rattle.enip_adapter.specs.declared.adapter.Limits.{Limits}
@@ -94,6 +94,22 @@ seen-long bytes h e =
                 elim (cases_eq (length bytes) (24 + number_at 2 2 bytes)) [
                   | inl full ↦ let bad : A_frame _ ≡ A_long_header h = sym (sight_of-frame bytes long within full) ∙ e in cc
                   | inr differs ↦ let bad : Nothing_yet ≡ A_long_header h = sym (sight_of-waits bytes long within differs) ∙ e in cc
+                ]
+          ]
+    ]
+
+-- Where a frame or a long header is seen, the bytes end where it does.
+pub sight-size : (bytes : List ℕ) → (sight_of bytes ≡ Nothing_yet → ⊥) → 24 ≤ length bytes × (length bytes ≤ end_after (number_at 2 2 bytes) → length bytes ≡ end_after (number_at 2 2 bytes))
+sight-size bytes some =
+    elim (cases_lt (length bytes) 24) [
+      | inl short ↦ absurd (some (sight_of-short bytes short))
+      | inr long ↦
+          elim (cases_lt 65511 (number_at 2 2 bytes)) [
+            | inl over ↦ (long, λ most. omega (arith, end_after-over (number_at 2 2 bytes) over))
+            | inr within ↦
+                elim (cases_eq (length bytes) (24 + number_at 2 2 bytes)) [
+                  | inl full ↦ (long, λ most. omega (arith, full, end_after-within (number_at 2 2 bytes) within))
+                  | inr differs ↦ absurd (some (sight_of-waits bytes long within differs))
                 ]
           ]
     ]
@@ -304,3 +320,4 @@ cut-from-beginning objects listen limits earlier calls peer begins goes =
         = no-entry a a.state.shared.next_handle sound.same
         (numbers-none (λ (p : Session). p.handle) a.state.shared.next_handle a.state.peers (next-none a.state.shared.next_handle _ sound.drawn)) in
         cut-calls peer [] (after_call a Begins_peer) calls (sound-call a Begins_peer sound) (at-beginning a.state a.held peer none e) goes
+

@@ -1,5 +1,5 @@
 -- Lists of calls of the adapter.
-use Rattle.std.specs.Prelude.{ℕ, ◌+◌, max, ◌≡◌, ◌≢◌, ◌≤◌, ◌==◌, List, [], ◌∷◌, ◌++◌, map, filter, take, if◌then◌else◌, Bool, not, ⊤}
+use Rattle.std.specs.Prelude.{ℕ, ◌+◌, max, ◌≡◌, ◌≢◌, ◌≤◌, ◌==◌, List, [], ◌∷◌, ◌++◌, map, filter, take, drop, if◌then◌else◌, Bool, true, false, not, ◌||◌, ⊤}
 use Rattle.std.specs.List.{flat_map, list_all, list_any}
 use Rattle.cip_bytes.specs.Numbers.{AreBytes}
 use Rattle.cip_manager.specs.declared.connection.Connection.{Connection}
@@ -127,3 +127,29 @@ GoesOn peer Begins_peer = ⊤
 GoesOn peer (Feeds now other piece) = AreBytes piece
 GoesOn peer (Ends_peer other) = other ≢ peer
 GoesOn peer (Ticks now) = ⊤
+
+-- The pieces of one peer's stream are fed at a moment, each again and again until all of it is taken; where the peer is
+-- closed, what is left is dropped. These are the answers, and the adapter at the end.
+pub data Pours (now peer : ℕ) : AdapterState → List (List ℕ) → List Answer → AdapterState → Type 0 where
+  Ended : {a : AdapterState} → Pours now peer a [] [] a
+  Taken : {a last : AdapterState} {pieces : List (List ℕ)} {answers : List Answer}
+      → Pours now peer a pieces answers last → Pours now peer a ([] ∷ pieces) answers last
+  Went_on : {a last : AdapterState} {b : ℕ} {bs : List ℕ} {pieces : List (List ℕ)} {answers : List Answer}
+      → (call_answer a (Feeds now peer (b ∷ bs))).close ≡ false
+      → Pours now peer (after_call a (Feeds now peer (b ∷ bs)))
+      (drop (call_meaning a (Feeds now peer (b ∷ bs))).taken (b ∷ bs) ∷ pieces) answers last
+      → Pours now peer a ((b ∷ bs) ∷ pieces) (call_answer a (Feeds now peer (b ∷ bs)) ∷ answers) last
+  Closed : {a : AdapterState} {b : ℕ} {bs : List ℕ} {pieces : List (List ℕ)}
+      → (call_answer a (Feeds now peer (b ∷ bs))).close ≡ true
+      → Pours now peer a ((b ∷ bs) ∷ pieces) (call_answer a (Feeds now peer (b ∷ bs)) ∷ [])
+      (after_call a (Feeds now peer (b ∷ bs)))
+
+-- The answers that say something, or close.
+abbrev pub is_silent : Said → Bool
+is_silent Silent = true
+is_silent (Sends bytes) = false
+is_silent (Begins handle) = false
+is_silent (Refuses full) = false
+
+abbrev pub told : List Answer → List Answer
+told answers = filter (λ answer. not (is_silent answer.said) || answer.close) answers

@@ -2,7 +2,7 @@
 //! the same definitions as the contracts of the calls.
 
 ghost use Rattle.std.specs.Prelude.{ℕ, List, ◌∷◌, ◌≡◌, ◌≤◌, ◌||◌, false, Some, filter};
-ghost use Rattle.std.specs.List.{flat_map, list_any, AllByRecursion};
+ghost use Rattle.std.specs.List.{flat_map, concat, list_any, AllByRecursion};
 ghost use Rattle.cip_manager.specs.Runs.{of_session};
 ghost use Rattle.enip_wire.specs.Stream.{Cut};
 ghost use Rattle.cip_objects.specs.Contents.{Contents};
@@ -10,13 +10,13 @@ ghost use Rattle.enip_adapter.specs.declared.adapter.Limits.{Limits};
 ghost use Rattle.enip_adapter.specs.declared.peer.Session.{Session};
 ghost use Rattle.enip_adapter.specs.declared.shared.Listen.{Listen};
 ghost use Rattle.enip_adapter.specs.Adapter.{new_adapter};
-ghost use Rattle.enip_adapter.specs.Turn.{Event, answers, after, session_of};
+ghost use Rattle.enip_adapter.specs.Turn.{Event, Answer, answers, after, session_of};
 ghost use Rattle.enip_adapter.specs.Turn.Said.{Begins};
 ghost use Rattle.enip_adapter.specs.Calls.Call.{Begins_peer, Feeds};
 ghost use Rattle.enip_adapter.specs.Calls.{AdapterState, Call, after_call, call_meaning, call_answer, bytes_held};
 ghost use Rattle.enip_adapter.specs.Runs.{after_calls, call_answers, events_of_calls, answers_by_call, spoken};
 ghost use Rattle.enip_adapter.specs.Runs.{IsForOther, moments_of_calls, is_open_at_all, RisesFrom, handles_in, ids_of_events};
-ghost use Rattle.enip_adapter.specs.Runs.{GoesOn, taken_by_calls, frames_of_peer};
+ghost use Rattle.enip_adapter.specs.Runs.{GoesOn, taken_by_calls, frames_of_peer, Pours, told};
 
 /// Whatever calls come, for any number of peers, the adapter is where the events lead that they stand for, and the
 /// answers of these events are each call's own, call by call. What calls say is what the events say; a call closes
@@ -77,4 +77,25 @@ pub fn progress()
     ensures { (objects : Contents) (listen : Listen) (limits : Limits) (calls : List Call) (now peer b : ℕ) (bs : List ℕ) →
         (call_answer (after_calls (new_adapter objects listen limits) calls) (Feeds now peer (b ∷ bs))).close ≡ false →
         1 ≤ (call_meaning (after_calls (new_adapter objects listen limits) calls) (Feeds now peer (b ∷ bs))).taken }
+{}
+
+/// Where a peer's stream is cut changes nothing: after any calls, two lists of pieces that join to the same bytes, fed
+/// at the same moment, each again and again until all of it is taken or the peer is closed, draw the same answers and
+/// leave the same adapter. Every list of pieces can be fed so.
+pub fn cuts_change_nothing()
+    ensures answers { (objects : Contents) (listen : Listen) (limits : Limits) (calls : List Call) (now peer : ℕ)
+        (pieces others : List (List ℕ)) (answers replies : List Answer) (last end : AdapterState) →
+        concat pieces ≡ concat others →
+        Pours now peer (after_calls (new_adapter objects listen limits) calls) pieces answers last →
+        Pours now peer (after_calls (new_adapter objects listen limits) calls) others replies end →
+        told answers ≡ told replies }
+    ensures adapter { (objects : Contents) (listen : Listen) (limits : Limits) (calls : List Call) (now peer : ℕ)
+        (pieces others : List (List ℕ)) (answers replies : List Answer) (last end : AdapterState) →
+        concat pieces ≡ concat others →
+        Pours now peer (after_calls (new_adapter objects listen limits) calls) pieces answers last →
+        Pours now peer (after_calls (new_adapter objects listen limits) calls) others replies end →
+        last ≡ end }
+    ensures some { (objects : Contents) (listen : Listen) (limits : Limits) (calls : List Call) (now peer : ℕ)
+        (pieces : List (List ℕ)) → (answers : List Answer) × ((last : AdapterState) ×
+        Pours now peer (after_calls (new_adapter objects listen limits) calls) pieces answers last) }
 {}
