@@ -13,6 +13,7 @@ use Rattle.enip_wire.specs.Stream.{Cut, Sight, taken_of, joined_of, sight_of, cl
 use Rattle.enip_wire.specs.Stream.Sight.{Nothing_yet, A_frame, A_long_header}
 use Rattle.enip_wire.proofs.FrameLemmas.{number_at-frame, length-frame, end_after-within, end_after-over, IsHeader-header_at}
 use Rattle.enip_wire.proofs.HeaderLemmas.{header_spelling-header_at}
+use Rattle.enip_wire.proofs.StreamLemmas.{one_cut_lem}
 use Rattle.enip_wire.proofs.SeeLemmas.{sight_of-short, sight_of-long, sight_of-frame}
 use Rattle.enip_adapter.specs.declared.adapter.Limits.{Limits}
 use Rattle.enip_adapter.specs.declared.peer.Session.{Session}
@@ -24,7 +25,7 @@ use Rattle.enip_adapter.specs.Turn.Event.{Begin, End, At, Framed, Long}
 use Rattle.enip_adapter.specs.Turn.Said.{Silent, Sends, Begins, Refuses}
 use Rattle.enip_adapter.specs.Calls.{AdapterState, Held, Call, Meaning, call_meaning, after_call, call_answer, bytes_found, bytes_held, held_at_beginning, piece_to, piece_meaning, dropped_piece, at_a_moment, events_of_sight}
 use Rattle.enip_adapter.specs.Calls.Call.{Begins_peer, Feeds, Ends_peer, Ticks}
-use Rattle.enip_adapter.specs.Runs.{after_calls, events_of_calls, taken_by_call, taken_by_calls, frames_of_peer, GoesOn}
+use Rattle.enip_adapter.specs.Runs.{after_calls, events_of_calls, taken_by_call, taken_by_calls, frames_of_peer, GoesOn, Run, at_beginning, at_end, taken_in, frames_in}
 use Rattle.enip_adapter.proofs.ListLemmas.{both, first_with-number, first_with-changed, first_with-removed, first_with-append, first_with-behind, first_with-set, next-none, numbers-none}
 use Rattle.enip_adapter.proofs.RunningLemmas.{IsRunning, running-empty, running-taken}
 use Rattle.enip_adapter.proofs.SoundLemmas.{IsSound, sound-call, sound-calls, sound-new, no-entry}
@@ -321,3 +322,12 @@ cut-from-beginning objects listen limits earlier calls peer begins goes =
         (numbers-none (λ (p : Session). p.handle) a.state.shared.next_handle a.state.peers (next-none a.state.shared.next_handle _ sound.drawn)) in
         cut-calls peer [] (after_call a Begins_peer) calls (sound-call a Begins_peer sound) (at-beginning a.state a.held peer none e) goes
 
+pub cut-of-run : (peer : ℕ) (run : Run peer)
+    → Cut (taken_in peer run) (frames_in peer run) (bytes_held (at_end peer run).held peer)
+cut-of-run peer run = cut-from-beginning run.objects run.listen run.limits run.earlier run.calls peer run.begins run.goes_on
+
+pub same-runs : (p q : ℕ) (r : Run p) (s : Run q) → taken_in p r ≡ taken_in q s
+    → (frames_in p r ≡ frames_in q s) × (bytes_held (at_end p r).held p ≡ bytes_held (at_end q s).held q)
+same-runs p q r s same =
+    one_cut_lem (taken_in p r) (frames_in p r) (frames_in q s) (bytes_held (at_end p r).held p) (bytes_held (at_end q s).held q)
+    (cut-of-run p r) (subst (λ t. Cut t (frames_in q s) (bytes_held (at_end q s).held q)) (sym same) (cut-of-run q s))

@@ -10,8 +10,8 @@ pub mod SendUnitData
 pub mod Commands
 pub mod Turn
 pub mod Calls
-pub mod Runs
 pub mod Adapter
+pub mod Runs
 pub mod Stored
 pub mod Places
 pub mod Destinations

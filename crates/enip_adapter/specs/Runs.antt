@@ -1,10 +1,14 @@
 -- Lists of calls of the adapter.
 use Rattle.std.specs.Prelude.{ℕ, ◌+◌, max, ◌≡◌, ◌≢◌, ◌≤◌, ◌==◌, List, [], ◌∷◌, ◌++◌, map, filter, take, drop, if◌then◌else◌, Bool, true, false, not, ◌||◌, ⊤}
-use Rattle.std.specs.List.{flat_map, list_all, list_any}
+use Rattle.std.specs.List.{flat_map, list_all, list_any, AllByRecursion}
 use Rattle.cip_bytes.specs.Numbers.{AreBytes}
 use Rattle.cip_manager.specs.declared.connection.Connection.{Connection}
 use Rattle.cip_manager.specs.Connection.{is_open_at}
+use Rattle.cip_objects.specs.Contents.{Contents}
 use Rattle.enip_wire.specs.Frames.{Frame}
+use Rattle.enip_adapter.specs.declared.adapter.Limits.{Limits}
+use Rattle.enip_adapter.specs.declared.shared.Listen.{Listen}
+use Rattle.enip_adapter.specs.Adapter.{new_adapter}
 use Rattle.enip_adapter.specs.Calls.{AdapterState, Call, Meaning, call_meaning, after_call, call_answer}
 use Rattle.enip_adapter.specs.Calls.Call.{Begins_peer, Feeds, Ends_peer, Ticks}
 use Rattle.enip_adapter.specs.Turn.{State, Event, Said, Answer, turn, answers}
@@ -153,3 +157,28 @@ is_silent (Refuses full) = false
 
 abbrev pub told : List Answer → List Answer
 told answers = filter (λ answer. not (is_silent answer.said) || answer.close) answers
+
+-- A peer's run: it begins at an adapter that earlier calls led to from a new one, and then calls come that go on.
+pub record Run (peer : ℕ) : Type 0 where
+  pub objects : Contents
+  pub listen : Listen
+  pub limits : Limits
+  pub earlier : List Call
+  pub calls : List Call
+  pub begins : (call_answer (after_calls (new_adapter objects listen limits) earlier) Begins_peer).said ≡ Begins peer
+  pub goes_on : AllByRecursion (GoesOn peer) calls
+
+-- The adapter at the beginning of the peer, and after the run.
+abbrev pub at_beginning : (peer : ℕ) → Run peer → AdapterState
+at_beginning peer run =
+    after_call (after_calls (new_adapter run.objects run.listen run.limits) run.earlier) Begins_peer
+
+abbrev pub at_end : (peer : ℕ) → Run peer → AdapterState
+at_end peer run = after_calls (at_beginning peer run) run.calls
+
+-- What is taken of the peer's stream in a run, and which frames are served to it.
+abbrev pub taken_in : (peer : ℕ) → Run peer → List ℕ
+taken_in peer run = taken_by_calls peer (at_beginning peer run) run.calls
+
+abbrev pub frames_in : (peer : ℕ) → Run peer → List Frame
+frames_in peer run = frames_of_peer peer (events_of_calls (at_beginning peer run) run.calls)

@@ -16,7 +16,7 @@ ghost use Rattle.enip_adapter.specs.Calls.Call.{Begins_peer, Feeds};
 ghost use Rattle.enip_adapter.specs.Calls.{AdapterState, Call, after_call, call_meaning, call_answer, bytes_held};
 ghost use Rattle.enip_adapter.specs.Runs.{after_calls, call_answers, events_of_calls, answers_by_call, spoken};
 ghost use Rattle.enip_adapter.specs.Runs.{IsForOther, moments_of_calls, is_open_at_all, RisesFrom, handles_in, ids_of_events};
-ghost use Rattle.enip_adapter.specs.Runs.{GoesOn, taken_by_calls, frames_of_peer, Pours, told};
+ghost use Rattle.enip_adapter.specs.Runs.{Run, at_end, taken_in, frames_in, Pours, told};
 
 /// Whatever calls come, for any number of peers, the adapter is where the events lead that they stand for, and the
 /// answers of these events are each call's own, call by call. What calls say is what the events say; a call closes
@@ -63,13 +63,16 @@ pub fn ids_rise()
 /// From its beginning on, whatever other calls come between, what is taken of a peer's stream are the frames that are
 /// served to it, and then the bytes that are held: the frames and the rest of the stream's cut.
 pub fn frames_of_the_stream()
-    ensures { (objects : Contents) (listen : Listen) (limits : Limits) (earlier calls : List Call) (peer : ℕ) →
-        let before = after_calls (new_adapter objects listen limits) earlier in
-        let begun = after_call before Begins_peer in
-        (call_answer before Begins_peer).said ≡ Begins peer →
-        AllByRecursion (GoesOn peer) calls →
-        Cut (taken_by_calls peer begun calls) (frames_of_peer peer (events_of_calls begun calls))
-        (bytes_held (after_calls begun calls).held peer) }
+    ensures { (peer : ℕ) (run : Run peer) →
+        Cut (taken_in peer run) (frames_in peer run) (bytes_held (at_end peer run).held peer) }
+{}
+
+/// So the bytes alone say which frames they are: in any two runs, with pieces, moments and calls for other peers of
+/// their own, where the same bytes are taken the same frames are served, and the same bytes are held.
+pub fn frames_by_bytes_alone()
+    ensures { (peer other : ℕ) (run : Run peer) (second : Run other) → taken_in peer run ≡ taken_in other second →
+        (frames_in peer run ≡ frames_in other second)
+        × (bytes_held (at_end peer run).held peer ≡ bytes_held (at_end other second).held other) }
 {}
 
 /// A piece of a byte or more is taken in part at least, or the answer is that the peer's connection is closed.
