@@ -3,7 +3,6 @@ use Rattle.std.proofs.Common.{not, ltb, eqb, length, ℕ, List, Result, Ok, Err}
 use Rattle.cip_manager.specs.Closing.{close_turn}
 use Rattle.cip_manager.specs.Opening.{open_turn}
 use Rattle.cip_objects.specs.Contents.{Contents}
-use Rattle.cip_objects.specs.Execution.{exec}
 use Rattle.enip_wire.specs.Bodies.{rr_body_of, unit_body_of}
 use Rattle.enip_wire.specs.Frames.{Frame}
 use Rattle.enip_wire.specs.declared.packet.CpfFault.{CpfFault}

@@ -1,34 +1,33 @@
 -- Where a peer's stream is cut changes nothing.
-use Rattle.std.proofs.Common.{◌≡◌, ◌≢◌, ℕ, zero, suc, ◌+◌, ◌-◌, ◌<◌, ◌≤◌, inl, inr, max, min, List, [], ◌∷◌, ◌++◌, Bool, true, false, cond, not, ◌||◌, eqb, length, take, drop, Option, Some, None, refl, sym, ap, subst, ◌∙◌, arith, append_assoc, append-nil, length-append, length-take, length-drop}
+use Rattle.std.proofs.Common.{◌≡◌, ℕ, zero, suc, ◌+◌, ◌-◌, ◌<◌, ◌≤◌, inl, inr, max, min, List, [], ◌∷◌, ◌++◌, Bool, true, false, cond, not, ◌||◌, length, take, drop, Option, Some, None, refl, sym, ap, subst, ◌∙◌, arith, append_assoc, append-nil, length-append, length-take, length-drop}
 use Rattle.std.specs.Prelude.{filter}
-use Rattle.std.specs.List.{flat_map, concat, AllByRecursion}
+use Rattle.std.specs.List.{concat}
 use Rattle.std.proofs.Math.Seq.{take-append-add}
-use Rattle.std.proofs.lemmas.Bool.{cases_lt, eq-eqb, false≢true}
+use Rattle.std.proofs.lemmas.Bool.{cases_lt, false≢true}
 use Rattle.std.proofs.lemmas.List.{take_all}
 use Rattle.cip_bytes.specs.Numbers.{number_at}
 use Rattle.cip_manager.specs.Connection.{is_open_at}
-use Rattle.cip_manager.proofs.ListLemmas.{filter-implied, filter-filter}
+use Rattle.cip_manager.proofs.ListLemmas.{filter-implied}
 use Rattle.cip_objects.specs.Contents.{Contents}
-use Rattle.enip_wire.specs.Frames.{Frame, end_after}
-use Rattle.enip_wire.specs.Stream.{Cut, Sight, taken_of, joined_of, sight_of, cleared}
+use Rattle.enip_wire.specs.Frames.{end_after}
+use Rattle.enip_wire.specs.Stream.{Sight, taken_of, joined_of, sight_of, cleared}
 use Rattle.enip_wire.specs.Stream.Sight.{Nothing_yet, A_frame, A_long_header}
-use Rattle.enip_wire.proofs.StreamLemmas.{one_cut_lem}
 use Rattle.enip_wire.proofs.FrameLemmas.{number_at-append, number_at-take, end_after-least}
 use Rattle.enip_adapter.specs.declared.adapter.Limits.{Limits}
 use Rattle.enip_adapter.specs.declared.peer.Session.{Session}
 use Rattle.enip_adapter.specs.declared.shared.Listen.{Listen}
 use Rattle.enip_adapter.specs.Adapter.{new_adapter}
-use Rattle.enip_adapter.specs.Lookup.{first_with, with_first, without_first}
-use Rattle.enip_adapter.specs.Turn.{State, Event, Said, Turned, Answer, turn, answers, after, session_of}
-use Rattle.enip_adapter.specs.Turn.Event.{Begin, End, At, Framed, Long}
-use Rattle.enip_adapter.specs.Turn.Said.{Silent, Sends, Begins, Refuses}
+use Rattle.enip_adapter.specs.Lookup.{first_with, with_first}
+use Rattle.enip_adapter.specs.Turn.{State, Event, Answer, answers, after, session_of}
+use Rattle.enip_adapter.specs.Turn.Event.{At}
+use Rattle.enip_adapter.specs.Turn.Said.{Silent}
 use Rattle.enip_adapter.specs.Calls.{AdapterState, Held, Call, Meaning, call_meaning, after_call, after_meaning, call_answer, answer_of, bytes_found, bytes_held, piece_to, piece_meaning, dropped_piece, at_a_moment, events_of_sight, last_from}
-use Rattle.enip_adapter.specs.Calls.Call.{Begins_peer, Feeds, Ends_peer, Ticks}
+use Rattle.enip_adapter.specs.Calls.Call.{Feeds}
 use Rattle.enip_adapter.specs.Runs.{after_calls, Pours, told, is_silent}
 use Rattle.enip_adapter.specs.Runs.Pours.{Ended, Taken, Went_on, Closed}
 use Rattle.enip_adapter.proofs.ListLemmas.{first_with-set, with_first-twice}
 use Rattle.enip_adapter.proofs.PeerLemmas.{at_state}
-use Rattle.enip_adapter.proofs.RunningLemmas.{IsRunning, running-empty, running-taken, taken_of-short, taken_of-long, taken_of-within, end-past}
+use Rattle.enip_adapter.proofs.RunningLemmas.{IsRunning, running-taken, taken_of-short, taken_of-long, taken_of-within, end-past}
 use Rattle.enip_adapter.proofs.SoundLemmas.{IsSound, sound-call, sound-calls, sound-new, entry-of, taken-piece}
 use Rattle.enip_adapter.proofs.StreamLemmas.{sight-size}
 

@@ -1,15 +1,14 @@
 -- Each call is the turns of the events that it stands for.
 use Rattle.std.proofs.Common.{◌≡◌, ℕ, List, [], ◌∷◌, ◌++◌, Bool, true, false, cond, ◌||◌, Option, Some, None, refl, sym, ap, ◌∙◌}
 use Rattle.std.specs.List.{flat_map, list_any}
-use Rattle.enip_wire.specs.Stream.{Sight, taken_of, joined_of, sight_of}
+use Rattle.enip_wire.specs.Stream.{Sight}
 use Rattle.enip_wire.specs.Stream.Sight.{Nothing_yet, A_frame, A_long_header}
 use Rattle.enip_adapter.specs.declared.peer.Session.{Session}
 use Rattle.enip_adapter.specs.Turn.{State, Event, Said, Answer, turn, answers, after, session_of}
-use Rattle.enip_adapter.specs.Turn.Event.{Begin, End, At, Framed, Long}
 use Rattle.enip_adapter.specs.Turn.Said.{Silent, Sends, Begins, Refuses}
-use Rattle.enip_adapter.specs.Calls.{AdapterState, Held, Call, Meaning, meaning, call_meaning, after_call, call_answer, answer_of, at_a_moment, piece_to, piece_meaning, dropped_piece, bytes_held, events_of_sight}
+use Rattle.enip_adapter.specs.Calls.{AdapterState, Held, Call, Meaning, call_meaning, after_call, call_answer, answer_of, at_a_moment, piece_to, piece_meaning, dropped_piece, bytes_held, events_of_sight}
 use Rattle.enip_adapter.specs.Calls.Call.{Begins_peer, Feeds, Ends_peer, Ticks}
-use Rattle.enip_adapter.specs.Runs.{after_calls, meanings, call_answers, events_of_calls, answers_by_call, speaks, spoken}
+use Rattle.enip_adapter.specs.Runs.{after_calls, call_answers, events_of_calls, answers_by_call, speaks, spoken}
 
 -- The answers and the state of events, in two parts.
 answers-append : (s : State) (es fs : List Event) → answers s (es ++ fs) ≡ answers s es ++ answers (after s es) fs

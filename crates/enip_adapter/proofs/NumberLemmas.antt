@@ -1,11 +1,10 @@
 -- Session handles and O->T IDs rise.
-use Rattle.std.proofs.Common.{◌≡◌, ◌≢◌, ℕ, ◌+◌, ◌<◌, ◌≤◌, ◌⊎◌, inl, inr, List, [], ◌∷◌, ◌++◌, map, Bool, true, false, cond, not, ◌||◌, eqb, ltb, length, Option, Some, None, refl, sym, ap, subst, ◌∙◌, arith}
+use Rattle.std.proofs.Common.{◌≡◌, ℕ, ◌+◌, ◌<◌, ◌≤◌, List, [], ◌∷◌, ◌++◌, map, Bool, true, false, cond, not, ◌||◌, eqb, ltb, length, Option, Some, None, refl, sym, ap, subst, ◌∙◌, arith}
 use Rattle.std.specs.Prelude.{filter, max, All}
 use Rattle.std.specs.List.{list_any}
 use Rattle.std.proofs.lemmas.Bool.{eq-eqb, ne_eqb}
 use Rattle.std.proofs.lemmas.List.Elements.{All-nil, All-cons, All-head, All-tail, All-push, All-weaker, All-filter, filter-append}
 use Rattle.cip_manager.specs.declared.connection.Connection.{Connection}
-use Rattle.cip_manager.specs.declared.opening.Opening.{Opening}
 use Rattle.cip_manager.specs.Connection.{is_of_session, is_open_at}
 use Rattle.cip_manager.specs.Manager.{ManagerState}
 use Rattle.cip_manager.specs.Opening.{new_connection}
@@ -23,13 +22,13 @@ use Rattle.enip_adapter.specs.declared.shared.Shared.{Shared}
 use Rattle.enip_adapter.specs.Adapter.{new_adapter}
 use Rattle.enip_adapter.specs.Commands.{command_served, long_refused}
 use Rattle.enip_adapter.specs.Replies.{Served, leaving}
-use Rattle.enip_adapter.specs.Turn.{State, Event, Said, Turned, Answer, turn, begun, answers, after, session_of, serve_found, end_found, shared_after, without_connections, at_moment, sent}
+use Rattle.enip_adapter.specs.Turn.{State, Event, Said, Turned, turn, begun, after, session_of, serve_found, end_found, sent}
 use Rattle.enip_adapter.specs.Turn.Event.{Begin, End, At, Framed, Long}
-use Rattle.enip_adapter.specs.Turn.Said.{Silent, Sends, Begins, Refuses}
-use Rattle.enip_adapter.specs.Calls.{AdapterState, Held, Call, Meaning, call_meaning, after_call, call_answer, answer_of, at_a_moment, piece_to, events_of_sight}
+use Rattle.enip_adapter.specs.Turn.Said.{Silent}
+use Rattle.enip_adapter.specs.Calls.{AdapterState, Held, Call, Meaning, call_meaning, after_call, answer_of, at_a_moment, piece_to, events_of_sight}
 use Rattle.enip_adapter.specs.Calls.Call.{Begins_peer, Feeds, Ends_peer, Ticks}
-use Rattle.enip_adapter.specs.Runs.{after_calls, call_answers, handle_before, handles_in, RisesFrom, is_new, new_connections, ids_of_events}
-use Rattle.enip_adapter.proofs.CommandLemmas.{Changes, after_command}
+use Rattle.enip_adapter.specs.Runs.{call_answers, handle_before, handles_in, RisesFrom, is_new, new_connections, ids_of_events}
+use Rattle.enip_adapter.proofs.CommandLemmas.{after_command}
 use Rattle.enip_adapter.proofs.EventLemmas.{of_piece}
 use Rattle.enip_adapter.proofs.ListLemmas.{both}
 use Rattle.enip_adapter.proofs.PeerLemmas.{at_state}

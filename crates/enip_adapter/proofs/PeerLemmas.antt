@@ -1,8 +1,7 @@
 -- Calls leave the peers and the connections that they are not for.
-use Rattle.std.proofs.Common.{◌≡◌, ◌≢◌, ℕ, ◌+◌, List, [], ◌∷◌, ◌++◌, Bool, true, false, cond, not, eqb, ltb, length, Option, Some, None, Result, Ok, Err, refl, sym, ap, subst, ◌∙◌}
-use Rattle.std.specs.Prelude.{filter, max, ◌&&◌}
-use Rattle.std.specs.List.{AllByRecursion, list_all}
-use Rattle.std.proofs.lemmas.Bool.{eqb-true, ne_eqb}
+use Rattle.std.proofs.Common.{◌≡◌, ◌≢◌, ℕ, List, [], ◌∷◌, ◌++◌, Bool, true, false, cond, not, eqb, ltb, length, Option, Some, None, refl, sym, ap, ◌∙◌}
+use Rattle.std.specs.Prelude.{filter, max}
+use Rattle.std.specs.List.{AllByRecursion}
 use Rattle.cip_manager.specs.declared.connection.Connection.{Connection}
 use Rattle.cip_manager.specs.Connection.{is_of_session, is_open_at}
 use Rattle.cip_manager.specs.Runs.{Call as Manager_call, Opens, Closes, Receives, Ends, IsOfOther, of_session, state_after, is_open_after_all}
@@ -10,24 +9,19 @@ use Rattle.cip_manager.proofs.SessionLemmas.{calls-of_other}
 use Rattle.cip_manager.proofs.ListLemmas.{filter-true, filter-filter, filter-swap}
 use Rattle.cip_objects.specs.Contents.{Contents}
 use Rattle.cip_objects.specs.Execution.{exec}
-use Rattle.enip_wire.specs.Bodies.{rr_body_of, unit_body_of}
 use Rattle.enip_wire.specs.Frames.{Frame}
-use Rattle.enip_wire.specs.Stream.{Sight, taken_of, joined_of, sight_of, cleared}
+use Rattle.enip_wire.specs.Stream.{Sight, joined_of, sight_of}
 use Rattle.enip_wire.specs.Stream.Sight.{Nothing_yet, A_frame, A_long_header}
-use Rattle.enip_wire.specs.declared.packet.CpfFault.{CpfFault}
-use Rattle.enip_adapter.specs.declared.adapter.Full.TheVariants.{Places, Handles}
 use Rattle.enip_adapter.specs.declared.peer.Session.{Session}
 use Rattle.enip_adapter.specs.declared.shared.Shared.{Shared}
 use Rattle.enip_adapter.specs.Commands.{command_served, long_refused}
-use Rattle.enip_adapter.specs.Lookup.{first_with, with_first, without_first}
-use Rattle.enip_adapter.specs.Replies.{Served, leaving, silent, refused, is_registered_as}
-use Rattle.enip_adapter.specs.Turn.{State, Event, Said, Turned, Answer, turn, turned, begun, with_peer, answers, after, session_of, serve_found, end_found, session_after, shared_after, without_connections, at_moment, sent}
-use Rattle.enip_adapter.specs.Turn.Event.{Begin, End, At, Framed, Long}
-use Rattle.enip_adapter.specs.Turn.Said.{Silent, Sends, Begins, Refuses}
-use Rattle.enip_adapter.specs.Calls.{AdapterState, Held, Call, Meaning, call_meaning, after_call, bytes_found, bytes_held, held_at_beginning, piece_to, piece_meaning, dropped_piece, at_a_moment, after_meaning, events_of_sight}
+use Rattle.enip_adapter.specs.Lookup.{first_with}
+use Rattle.enip_adapter.specs.Replies.{Served, leaving}
+use Rattle.enip_adapter.specs.Turn.{State, Turned, begun, after, session_of, serve_found, end_found, session_after, shared_after, without_connections, at_moment}
+use Rattle.enip_adapter.specs.Calls.{AdapterState, Held, Call, Meaning, after_call, bytes_found, bytes_held, held_at_beginning, piece_to, events_of_sight}
 use Rattle.enip_adapter.specs.Calls.Call.{Begins_peer, Feeds, Ends_peer, Ticks}
 use Rattle.enip_adapter.specs.Runs.{after_calls, IsForOther, moments_of_calls, is_open_at_all}
-use Rattle.enip_adapter.proofs.CommandLemmas.{Changes, after_command}
+use Rattle.enip_adapter.proofs.CommandLemmas.{after_command}
 use Rattle.enip_adapter.proofs.ListLemmas.{both, first_with-number, first_with-changed, first_with-removed, first_with-append, first_with-behind}
 
 abbrev connections_of : ℕ → Shared → List Connection

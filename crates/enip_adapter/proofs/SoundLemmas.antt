@@ -1,11 +1,9 @@
 -- What holds of every adapter that calls lead to from a new one.
-use Rattle.std.proofs.Common.{◌≡◌, ◌≢◌, ℕ, ◌+◌, ◌<◌, ◌≤◌, List, [], ◌∷◌, ◌++◌, map, Bool, true, false, cond, not, eqb, ltb, length, Option, Some, None, refl, sym, ap, subst, ◌∙◌, arith}
-use Rattle.std.specs.Prelude.{max}
+use Rattle.std.proofs.Common.{◌≡◌, ℕ, ◌+◌, ◌≤◌, List, [], ◌∷◌, ◌++◌, Bool, true, false, cond, not, eqb, ltb, length, Option, Some, None, refl, sym, ap, subst, ◌∙◌}
 use Rattle.std.proofs.lemmas.Bool.{eqb-true, eqb-false}
 use Rattle.std.proofs.lemmas.List.{map-append}
 use Rattle.cip_objects.specs.Contents.{Contents}
-use Rattle.enip_wire.specs.Frames.{Frame}
-use Rattle.enip_wire.specs.Stream.{Sight, taken_of, joined_of, sight_of, cleared}
+use Rattle.enip_wire.specs.Stream.{Sight, joined_of, sight_of, cleared}
 use Rattle.enip_wire.specs.Stream.Sight.{Nothing_yet, A_frame, A_long_header}
 use Rattle.enip_adapter.specs.declared.adapter.Limits.{Limits}
 use Rattle.enip_adapter.specs.declared.peer.Session.{Session}
@@ -14,13 +12,12 @@ use Rattle.enip_adapter.specs.Adapter.{new_adapter}
 use Rattle.enip_adapter.specs.Commands.{command_served, long_refused}
 use Rattle.enip_adapter.specs.Lookup.{first_with, with_first, without_first}
 use Rattle.enip_adapter.specs.Replies.{Served, leaving}
-use Rattle.enip_adapter.specs.Turn.{State, Event, Said, Turned, Answer, turn, begun, new_session, after, session_of, serve_found, end_found, session_after, at_moment}
-use Rattle.enip_adapter.specs.Turn.Event.{Begin, End, At, Framed, Long}
-use Rattle.enip_adapter.specs.Turn.Said.{Silent, Sends, Begins, Refuses}
+use Rattle.enip_adapter.specs.Turn.{State, Turned, begun, after, session_of, serve_found, end_found, session_after}
+use Rattle.enip_adapter.specs.Turn.Said.{Silent}
 use Rattle.enip_adapter.specs.Calls.{AdapterState, Held, Call, Meaning, call_meaning, after_call, bytes_found, bytes_held, held_at_beginning, piece_to, piece_meaning, dropped_piece, at_a_moment, events_of_sight, answer_of, call_answer}
 use Rattle.enip_adapter.specs.Calls.Call.{Begins_peer, Feeds, Ends_peer, Ticks}
 use Rattle.enip_adapter.specs.Runs.{after_calls, IsForOther}
-use Rattle.enip_adapter.proofs.ListLemmas.{both, first_with-number, first_with-set, without_first-none, numbers, numbers-with_first, numbers-without_first, none-numbers, numbers-none, AreDrawn, next-none, drawn-more, drawn-without, gone}
+use Rattle.enip_adapter.proofs.ListLemmas.{both, first_with-number, first_with-set, without_first-none, numbers, numbers-with_first, numbers-without_first, none-numbers, numbers-none, AreDrawn, drawn-more, drawn-without, gone}
 use Rattle.enip_adapter.proofs.NumberLemmas.{next-sight, next-ended}
 use Rattle.enip_adapter.proofs.PeerLemmas.{at_state, held-call, session-call}
 use Rattle.enip_adapter.proofs.RunningLemmas.{IsRunning, running-empty, running-taken, taken_of-some}
