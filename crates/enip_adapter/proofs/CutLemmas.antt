@@ -165,7 +165,7 @@ at-twice s now =
     } } in t) (filter-implied (is_open_at (max s.shared.moment now)) (is_open_at (max s.shared.moment now)) s.shared.manager.connections (λ c h. h))
 
 -- What a piece means to an going peer, by all that has come of the frame.
-abbrev shown : List Held → ℕ → ℕ → List ℕ → ℕ → Meaning
+abbrev pub shown : List Held → ℕ → ℕ → List ℕ → ℕ → Meaning
 shown held peer now bytes n = at_a_moment now (record {
   events = events_of_sight peer (sight_of bytes);
   taken = n;
@@ -173,15 +173,15 @@ shown held peer now bytes n = at_a_moment now (record {
   dropped = false;
 })
 
-record IsOpen (a : AdapterState) (peer : ℕ) : Type 0 where
-  session : Session
-  found : session_of a.state peer ≡ Some session
-  alive : session.closed ≡ false
+pub record IsOpen (a : AdapterState) (peer : ℕ) : Type 0 where
+  pub session : Session
+  pub found : session_of a.state peer ≡ Some session
+  pub alive : session.closed ≡ false
 
-feed-going : (a : AdapterState) (now peer : ℕ) (piece : List ℕ) → IsOpen a peer
+pub feed-open : (a : AdapterState) (now peer : ℕ) (piece : List ℕ) → IsOpen a peer
     → call_meaning a (Feeds now peer piece)
     ≡ shown a.held peer now (joined_of (bytes_held a.held peer) piece) (taken_of (bytes_held a.held peer) piece)
-feed-going a now peer piece live =
+feed-open a now peer piece live =
     ap (λ o. at_a_moment now (piece_to a.held peer piece o)) live.found
     ∙ ap (λ b. at_a_moment now (cond b (dropped_piece a.held) (piece_meaning a.held peer (bytes_held a.held peer) piece))) live.alive
 
@@ -191,9 +191,9 @@ data Front (a : AdapterState) (now peer : ℕ) (piece more : List ℕ) : Type 0 
       → (call_meaning a (Feeds now peer piece)).taken ≤ length piece → Front a now peer piece more
   Waits : IsOpen a peer → sight_of (joined_of (bytes_held a.held peer) piece) ≡ Nothing_yet → Front a now peer piece more
 
-front-going : (a : AdapterState) (now peer : ℕ) (piece more : List ℕ) → IsSound a → IsOpen a peer → (x : Sight)
+front-open : (a : AdapterState) (now peer : ℕ) (piece more : List ℕ) → IsSound a → IsOpen a peer → (x : Sight)
     → sight_of (joined_of (bytes_held a.held peer) piece) ≡ x → (x ≡ Nothing_yet → ⊥) → Front a now peer piece more
-front-going a now peer piece more sound live x seen some =
+front-open a now peer piece more sound live x seen some =
     let running : IsRunning (bytes_held a.held peer) = sound.ready peer live.session live.found live.alive in
     let within : taken_of (bytes_held a.held peer) piece ≤ length piece = taken_of-within (bytes_held a.held peer) piece in
     let n : taken_of (bytes_held a.held peer) (piece ++ more) ≡ taken_of (bytes_held a.held peer) piece
@@ -202,18 +202,18 @@ front-going a now peer piece more sound live x seen some =
     = ap (λ k. bytes_held a.held peer ++ take k (piece ++ more)) n
     ∙ ap (λ s. bytes_held a.held peer ++ s) (take-front (taken_of (bytes_held a.held peer) piece) piece more within) in
     Same
-    (feed-going a now peer (piece ++ more) live
+    (feed-open a now peer (piece ++ more) live
     ∙ (ap (λ b. shown a.held peer now b (taken_of (bytes_held a.held peer) (piece ++ more))) j
-    ∙ (ap (λ k. shown a.held peer now (joined_of (bytes_held a.held peer) piece) k) n ∙ sym (feed-going a now peer piece live))))
-    (subst (λ (m : Meaning). m.taken ≤ length piece) (sym (feed-going a now peer piece live)) within)
+    ∙ (ap (λ k. shown a.held peer now (joined_of (bytes_held a.held peer) piece) k) n ∙ sym (feed-open a now peer piece live))))
+    (subst (λ (m : Meaning). m.taken ≤ length piece) (sym (feed-open a now peer piece live)) within)
 
 front : (a : AdapterState) (now peer : ℕ) (piece more : List ℕ) → IsSound a → Front a now peer piece more
 front a now peer piece more sound = go (session_of a.state peer) refl
   where
     live : IsOpen a peer → (x : Sight) → sight_of (joined_of (bytes_held a.held peer) piece) ≡ x → Front a now peer piece more
     live o Nothing_yet e = Waits o e
-    live o (A_frame f) e = front-going a now peer piece more sound o (A_frame f) e (λ bad. cc)
-    live o (A_long_header h) e = front-going a now peer piece more sound o (A_long_header h) e (λ bad. cc)
+    live o (A_frame f) e = front-open a now peer piece more sound o (A_frame f) e (λ bad. cc)
+    live o (A_long_header h) e = front-open a now peer piece more sound o (A_long_header h) e (λ bad. cc)
 
     gone : call_meaning a (Feeds now peer (piece ++ more)) ≡ at_a_moment now (dropped_piece a.held)
         → call_meaning a (Feeds now peer piece) ≡ at_a_moment now (dropped_piece a.held) → Front a now peer piece more
@@ -263,7 +263,7 @@ has-waited a now peer piece sound live none =
       held = with_first (λ (h : Held). h.peer) peer (record { peer = peer; bytes = bytes_held a.held peer ++ piece }) a.held;
       dropped = false;
     }
-    = feed-going a now peer piece live
+    = feed-open a now peer piece live
     ∙ (ap (λ x. let t : Meaning = record {
       events = At now ∷ events_of_sight peer x;
       taken = taken_of (bytes_held a.held peer) piece;
@@ -315,11 +315,11 @@ is-joined a now peer piece more sound live none =
     = ap bytes_found (first_with-set (λ (h : Held). h.peer) peer e.0 _ a.held e.1 refl) in
     let one : call_meaning a (Feeds now peer (piece ++ more))
     ≡ shown a.held peer now (joined_of (bytes_held a.held peer) (piece ++ more)) (taken_of (bytes_held a.held peer) (piece ++ more))
-    = feed-going a now peer (piece ++ more) live in
+    = feed-open a now peer (piece ++ more) live in
     let two : call_meaning (waiting a now peer (bytes_held a.held peer ++ piece)) (Feeds now peer more)
     ≡ shown (waiting a now peer (bytes_held a.held peer ++ piece)).held peer now (joined_of (bytes_held a.held peer) (piece ++ more))
     (taken_of (bytes_held a.held peer ++ piece) more)
-    = feed-going (waiting a now peer (bytes_held a.held peer ++ piece)) now peer more
+    = feed-open (waiting a now peer (bytes_held a.held peer ++ piece)) now peer more
     (record { session = live.session; found = live.found; alive = live.alive })
     ∙ (ap (λ h. shown (waiting a now peer (bytes_held a.held peer ++ piece)).held peer now (joined_of h more) (taken_of h more)) kept
     ∙ ap (λ b. shown (waiting a now peer (bytes_held a.held peer ++ piece)).held peer now b (taken_of (bytes_held a.held peer ++ piece) more)) bytes) in

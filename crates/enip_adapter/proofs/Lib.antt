@@ -7,3 +7,4 @@ pub mod RunningLemmas
 pub mod SoundLemmas
 pub mod StreamLemmas
 pub mod CutLemmas
+pub mod OwnLemmas

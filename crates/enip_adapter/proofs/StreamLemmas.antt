@@ -34,7 +34,7 @@ AreBytes-none : AreBytes []
 AreBytes-none i = lit< tt
 
 -- No frame is spelled at the front.
-abbrev HasNone : List ℕ → Type 0
+abbrev pub HasNone : List ℕ → Type 0
 HasNone bytes = (f : Frame) (more : List ℕ) → IsFrame f → bytes ≡ frame f ++ more → ⊥
 
 none-running : (bytes : List ℕ) → IsRunning bytes → HasNone bytes
@@ -116,17 +116,17 @@ sight-size bytes some =
     ]
 
 -- These bytes are held of a peer, and begin with no whole frame.
-record IsAt (peer : ℕ) (bytes : List ℕ) (held : List Held) : Type 0 where
-  found : first_with (λ (h : Held). h.peer) peer held ≡ Some (record { peer = peer; bytes = bytes })
-  fits : AreBytes bytes
-  none : HasNone bytes
+pub record IsAt (peer : ℕ) (bytes : List ℕ) (held : List Held) : Type 0 where
+  pub found : first_with (λ (h : Held). h.peer) peer held ≡ Some (record { peer = peer; bytes = bytes })
+  pub fits : AreBytes bytes
+  pub none : HasNone bytes
 
 -- What a call takes of the stream are frames, and what is held then.
-record Advances (peer : ℕ) (bytes taken : List ℕ) (m : Meaning) : Type 0 where
-  left : List ℕ
-  at : IsAt peer left m.held
-  parts : bytes ++ taken ≡ flat_map frame (frames_of_peer peer m.events) ++ left
-  each : AllByRecursion IsFrame (frames_of_peer peer m.events)
+pub record Advances (peer : ℕ) (bytes taken : List ℕ) (m : Meaning) : Type 0 where
+  pub left : List ℕ
+  pub at : IsAt peer left m.held
+  pub parts : bytes ++ taken ≡ flat_map frame (frames_of_peer peer m.events) ++ left
+  pub each : AllByRecursion IsFrame (frames_of_peer peer m.events)
 
 stays : (peer : ℕ) (bytes : List ℕ) (m : Meaning) → IsAt peer bytes m.held → frames_of_peer peer m.events ≡ [] → Advances peer bytes [] m
 stays peer bytes m at none = record {
@@ -197,7 +197,7 @@ advances-own peer now bytes piece held (Some session) at fits ready = go session
         (advances-sight peer now bytes piece held (sight_of (joined_of bytes piece)) refl at fits (subst IsRunning same (ready session refl alive)))
 
 -- A piece for another peer.
-no-frames : (peer other now : ℕ) (x : Sight) → eqb other peer ≡ false → frames_of_peer peer (At now ∷ events_of_sight other x) ≡ []
+pub no-frames : (peer other now : ℕ) (x : Sight) → eqb other peer ≡ false → frames_of_peer peer (At now ∷ events_of_sight other x) ≡ []
 no-frames peer other now Nothing_yet e = refl
 no-frames peer other now (A_frame f) e = ap (λ b. cond b (f ∷ []) []) e
 no-frames peer other now (A_long_header h) e = refl
@@ -224,7 +224,7 @@ at-begun s peer bytes held at =
     (both P (ltb 0xffffffff s.shared.next_handle) _ _ at
     (record { found = first_with-append (λ (h : Held). h.peer) peer _ held _ at.found; fits = at.fits; none = at.none }))
 
-advances-call : (peer : ℕ) (bytes : List ℕ) (a : AdapterState) (c : Call) → IsSound a → IsAt peer bytes a.held → GoesOn peer c
+pub advances-call : (peer : ℕ) (bytes : List ℕ) (a : AdapterState) (c : Call) → IsSound a → IsAt peer bytes a.held → GoesOn peer c
     → Advances peer bytes (taken_by_call peer a c) (call_meaning a c)
 advances-call peer bytes a Begins_peer sound at goes =
     stays peer bytes (call_meaning a Begins_peer) (at-begun a.state peer bytes a.held at) refl
@@ -243,7 +243,7 @@ advances-call peer bytes a (Ends_peer other) sound at goes =
 advances-call peer bytes a (Ticks now) sound at goes = stays peer bytes (call_meaning a (Ticks now)) at refl
 
 -- The frames of events, in two parts.
-frames-append : (peer : ℕ) (es fs : List Event) → frames_of_peer peer (es ++ fs) ≡ frames_of_peer peer es ++ frames_of_peer peer fs
+pub frames-append : (peer : ℕ) (es fs : List Event) → frames_of_peer peer (es ++ fs) ≡ frames_of_peer peer es ++ frames_of_peer peer fs
 frames-append peer [] fs = refl
 frames-append peer (Begin ∷ es) fs = frames-append peer es fs
 frames-append peer (End other ∷ es) fs = frames-append peer es fs
@@ -286,7 +286,7 @@ cut-calls peer bytes a (c ∷ cs) sound at goes =
     (cut-calls peer step.left (after_call a c) cs (sound-call a c sound) step.at goes.1))
 
 -- A peer that begins holds nothing.
-at-beginning : (s : State) (held : List Held) (peer : ℕ) → first_with (λ (h : Held). h.peer) s.shared.next_handle held ≡ None
+pub at-beginning : (s : State) (held : List Held) (peer : ℕ) → first_with (λ (h : Held). h.peer) s.shared.next_handle held ≡ None
     → (begun s).answer.said ≡ Begins peer → IsAt peer [] (held_at_beginning held (begun s).answer.said)
 at-beginning s held peer none =
     let P : Turned → Type 0 = λ t. t.answer.said ≡ Begins peer → IsAt peer [] (held_at_beginning held t.answer.said) in

@@ -68,11 +68,15 @@ pub fn frames_of_the_stream()
 {}
 
 /// So the bytes alone say which frames they are: in any two runs, with pieces, moments and calls for other peers of
-/// their own, where the same bytes are taken the same frames are served, and the same bytes are held.
+/// their own, where the same bytes are taken the same frames are served, and the same bytes are held. Where the peer has
+/// the same handle in both, its session is the same: whether it is registered, and whether it is closed.
 pub fn frames_by_bytes_alone()
-    ensures { (peer other : ℕ) (run : Run peer) (second : Run other) → taken_in peer run ≡ taken_in other second →
+    ensures frames { (peer other : ℕ) (run : Run peer) (second : Run other) →
+        taken_in peer run ≡ taken_in other second →
         (frames_in peer run ≡ frames_in other second)
         × (bytes_held (at_end peer run).held peer ≡ bytes_held (at_end other second).held other) }
+    ensures session { (peer : ℕ) (run second : Run peer) → taken_in peer run ≡ taken_in peer second →
+        session_of (at_end peer run).state peer ≡ session_of (at_end peer second).state peer }
 {}
 
 /// A piece of a byte or more is taken in part at least, or the answer is that the peer's connection is closed.
