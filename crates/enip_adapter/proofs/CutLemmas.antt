@@ -155,14 +155,18 @@ max-twice a b = omega arith
 at-twice : (s : State) (now : ℕ) → at_state (at_state s now) now ≡ at_state s now
 at-twice s now =
     let once : ℕ = max s.shared.moment now in
-    ap (λ m. let t : State = record s { shared = record s.shared {
-      moment = m;
-      manager = record s.shared.manager { connections = filter (is_open_at m) (filter (is_open_at (max s.shared.moment now)) s.shared.manager.connections) };
-    } } in t) (max-twice s.shared.moment now)
-    ∙ ap (λ cs. let t : State = record s { shared = record s.shared {
-      moment = max s.shared.moment now;
-      manager = record s.shared.manager { connections = cs };
-    } } in t) (filter-implied (is_open_at (max s.shared.moment now)) (is_open_at (max s.shared.moment now)) s.shared.manager.connections (λ c h. h))
+    ap (λ m. let t : State = record s {
+      shared = record s.shared {
+        moment = m;
+        manager = record s.shared.manager { connections = filter (is_open_at m) (filter (is_open_at (max s.shared.moment now)) s.shared.manager.connections) };
+      };
+    } in t) (max-twice s.shared.moment now)
+    ∙ ap (λ cs. let t : State = record s {
+      shared = record s.shared {
+        moment = max s.shared.moment now;
+        manager = record s.shared.manager { connections = cs };
+      };
+    } in t) (filter-implied (is_open_at (max s.shared.moment now)) (is_open_at (max s.shared.moment now)) s.shared.manager.connections (λ c h. h))
 
 -- What a piece means to an going peer, by all that has come of the frame.
 abbrev pub shown : List Held → ℕ → ℕ → List ℕ → ℕ → Meaning

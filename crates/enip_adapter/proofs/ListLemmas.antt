@@ -178,8 +178,7 @@ below-more next (m ∷ ms) below = let less : m < next = below.0 in (omega arith
 once-more : (next : ℕ) (ns : List ℕ) → AreOnce ns → AllByRecursion (λ m. m < next) ns → AreOnce (ns ++ next ∷ [])
 once-more next [] once below = (refl, tt)
 once-more next (m ∷ ms) once below =
-    let less : m < next = below.0 in
-    (
+    let less : m < next = below.0 in (
       first_with-behind (λ k. k) m ms (next ∷ []) once.0 ∙ ap (λ b. cond b (Some next) None) (ne_eqb next m (λ e. omega arith)),
       once-more next ms once.1 below.1,
     )

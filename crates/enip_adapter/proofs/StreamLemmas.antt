@@ -70,8 +70,7 @@ seen-frame bytes f fits e =
                       let is : A_frame (record { header = header_at bytes; body = drop 24 bytes }) ≡ A_frame f
                       = sym (sight_of-frame bytes long within full) ∙ e in
                       let same : ◌≡◌ {A = Frame} (record { header = header_at bytes; body = drop 24 bytes }) f = cc in
-                      subst (λ h. IsFrame h × (bytes ≡ frame h)) same
-                      (
+                      subst (λ h. IsFrame h × (bytes ≡ frame h)) same (
                         record {
                           fields = IsHeader-header_at bytes long fits;
                           counted = length-drop 24 bytes ∙ omega (arith, full);
