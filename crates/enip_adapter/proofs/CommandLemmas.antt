@@ -35,7 +35,8 @@ module _ (P : Shared → Type 0) (shared : Shared) (session : Session) (changes 
   after_body : (f : Frame) (body : Result (List ℕ) CpfFault) → P (reply_to_body shared session f body).shared
   after_body f (Err fault) = changes.same
   after_body f (Ok request) =
-      both (λ (s : Served). P s.shared) (ltb (length request) 2) _ _ changes.same (after_routed request (destination_of request))
+      both (λ (s : Served). P s.shared) (ltb (length request) 2) _ _ changes.same
+      (after_routed request (destination_of request))
 
   after_item : (f : Frame) (body : Result (ℕ × List ℕ) CpfFault) → P (item_of_body shared session f body).shared
   after_item f (Err fault) = changes.same

@@ -1,12 +1,15 @@
 -- Each call is the turns of the events that it stands for.
-use Rattle.std.proofs.Common.{◌≡◌, ℕ, List, [], ◌∷◌, ◌++◌, Bool, true, false, cond, ◌||◌, Option, Some, None, refl, sym, ap, ◌∙◌}
+use Rattle.std.proofs.Common.{◌≡◌, ℕ, List, [], ◌∷◌, ◌++◌, Bool, true, false, cond, ◌||◌, Option, Some, None, refl}
+use Rattle.std.proofs.Common.{sym, ap, ◌∙◌}
 use Rattle.std.specs.List.{flat_map, list_any}
 use Rattle.enip_wire.specs.Stream.{Sight}
 use Rattle.enip_wire.specs.Stream.Sight.{Nothing_yet, A_frame, A_long_header}
 use Rattle.enip_adapter.specs.declared.peer.Session.{Session}
 use Rattle.enip_adapter.specs.Turn.{State, Event, Said, Answer, turn, answers, after, session_of}
 use Rattle.enip_adapter.specs.Turn.Said.{Silent, Sends, Begins, Refuses}
-use Rattle.enip_adapter.specs.Calls.{AdapterState, Held, Call, Meaning, call_meaning, after_call, call_answer, answer_of, at_a_moment, piece_to, piece_meaning, dropped_piece, bytes_held, events_of_sight}
+use Rattle.enip_adapter.specs.Calls.{AdapterState, Held, Call, Meaning, call_meaning, after_call, call_answer}
+use Rattle.enip_adapter.specs.Calls.{answer_of, at_a_moment, piece_to, piece_meaning, dropped_piece, bytes_held}
+use Rattle.enip_adapter.specs.Calls.{events_of_sight}
 use Rattle.enip_adapter.specs.Calls.Call.{Begins_peer, Feeds, Ends_peer, Ticks}
 use Rattle.enip_adapter.specs.Runs.{after_calls, call_answers, events_of_calls, answers_by_call, speaks, spoken}
 
@@ -19,10 +22,12 @@ after-append : (s : State) (es fs : List Event) → after s (es ++ fs) ≡ after
 after-append s [] fs = refl
 after-append s (e ∷ es) fs = after-append (turn s e).state es fs
 
-pub state-events : (a : AdapterState) (calls : List Call) → (after_calls a calls).state ≡ after a.state (events_of_calls a calls)
+pub state-events : (a : AdapterState) (calls : List Call) → (after_calls a calls).state
+    ≡ after a.state (events_of_calls a calls)
 state-events a [] = refl
 state-events a (c ∷ cs) =
-    state-events (after_call a c) cs ∙ sym (after-append a.state (call_meaning a c).events (events_of_calls (after_call a c) cs))
+    state-events (after_call a c) cs
+    ∙ sym (after-append a.state (call_meaning a c).events (events_of_calls (after_call a c) cs))
 
 pub answers-events : (a : AdapterState) (calls : List Call)
     → answers a.state (events_of_calls a calls) ≡ flat_map (λ own. own) (answers_by_call a calls)
@@ -40,7 +45,8 @@ pub of_piece : (P : Meaning → Type 0) (now peer : ℕ) (piece : List ℕ) (hel
 of_piece P now peer piece held None drops feeds = drops
 of_piece P now peer piece held (Some session) drops feeds = go session.closed
   where
-    go : (b : Bool) → P (at_a_moment now (cond b (dropped_piece held) (piece_meaning held peer (bytes_held held peer) piece)))
+    go : (b : Bool) → P (at_a_moment now
+        (cond b (dropped_piece held) (piece_meaning held peer (bytes_held held peer) piece)))
     go true = drops
     go false = feeds _ _ _
 
@@ -68,7 +74,8 @@ told-call a (Ends_peer peer) = record { said = refl; close = refl }
 told-call a (Ticks now) = record { said = refl; close = refl }
 
 pub close-call : (a : AdapterState) (c : Call)
-    → (call_answer a c).close ≡ ((call_meaning a c).dropped || list_any (λ x. x.close) (answers a.state (call_meaning a c).events))
+    → (call_answer a c).close
+    ≡ ((call_meaning a c).dropped || list_any (λ x. x.close) (answers a.state (call_meaning a c).events))
 close-call a c = (told-call a c).close
 
 before-append : (said : Said) (xs ys : List Said) → speaks said (xs ++ ys) ≡ speaks said xs ++ ys
@@ -88,5 +95,6 @@ said-events a (c ∷ cs) =
     spoken-append (call_answer a c ∷ []) (call_answers (after_call a c) cs)
     ∙ ap (λ r. r ++ spoken (call_answers (after_call a c) cs)) (told-call a c).said
     ∙ ap (λ r. spoken (answers a.state (call_meaning a c).events) ++ r) (said-events (after_call a c) cs)
-    ∙ sym (spoken-append (answers a.state (call_meaning a c).events) (answers (after_call a c).state (events_of_calls (after_call a c) cs)))
+    ∙ sym (spoken-append (answers a.state (call_meaning a c).events)
+    (answers (after_call a c).state (events_of_calls (after_call a c) cs)))
     ∙ ap spoken (sym (answers-append a.state (call_meaning a c).events (events_of_calls (after_call a c) cs)))

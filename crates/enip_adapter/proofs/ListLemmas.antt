@@ -1,5 +1,6 @@
 -- Look-ups by a number, after a change and after a removal.
-use Rattle.std.proofs.Common.{◌≡◌, ◌≢◌, ℕ, ◌+◌, ◌<◌, ◌≤◌, arith, subst, map, List, [], ◌∷◌, ◌++◌, Bool, true, false, cond, eqb, Some, None, refl, sym, ap, ◌∙◌}
+use Rattle.std.proofs.Common.{◌≡◌, ◌≢◌, ℕ, ◌+◌, ◌<◌, ◌≤◌, arith, subst, map, List, [], ◌∷◌, ◌++◌, Bool, true, false}
+use Rattle.std.proofs.Common.{cond, eqb, Some, None, refl, sym, ap, ◌∙◌}
 use Rattle.std.proofs.lemmas.Bool.{eqb-true, ne_eqb, eq-eqb}
 use Rattle.std.specs.List.{AllByRecursion}
 use Rattle.enip_adapter.specs.Lookup.{first_with, with_first, without_first}
@@ -34,15 +35,18 @@ first_with-changed {X} number n q new (x ∷ xs) e d =
     go true t rest =
         let no : eqb (number new) n ≡ false = ne_eqb (number new) n (λ h. d (sym e ∙ h)) in
         let not_x : eqb (number x) n ≡ false = ne_eqb (number x) n (λ h. d (sym (eqb-true (number x) q t) ∙ h)) in
-        ap (λ b. cond b (Some new) (first_with number n xs)) no ∙ sym (ap (λ b. cond b (Some x) (first_with number n xs)) not_x)
+        ap (λ b. cond b (Some new) (first_with number n xs)) no
+        ∙ sym (ap (λ b. cond b (Some x) (first_with number n xs)) not_x)
     go false t rest = ap (λ r. cond (eqb (number x) n) (Some x) r) rest
 
 pub first_with-set : {X : Type 0} → (number : X → ℕ) (n : ℕ) (x new : X) (xs : List X) → first_with number n xs ≡ Some x
     → number new ≡ n → first_with number n (with_first number n new xs) ≡ Some new
 first_with-set number n x new [] e h = cc
-first_with-set {X} number n x new (y ∷ ys) e h = go (eqb (number y) n) refl (λ f. first_with-set number n x new ys f h) e
+first_with-set {X} number n x new (y ∷ ys) e h = go (eqb (number y) n) refl
+    (λ f. first_with-set number n x new ys f h) e
   where
-    go : (b : Bool) → eqb (number y) n ≡ b → (first_with number n ys ≡ Some x → first_with number n (with_first number n new ys) ≡ Some new)
+    go : (b : Bool) → eqb (number y) n ≡ b
+        → (first_with number n ys ≡ Some x → first_with number n (with_first number n new ys) ≡ Some new)
         → cond b (Some y) (first_with number n ys) ≡ Some x
         → first_with number n (cond b (new ∷ ys) (y ∷ with_first number n new ys)) ≡ Some new
     go true t rest f = ap (λ b. cond b (Some new) (first_with number n ys)) (eq-eqb (number new) n h)
@@ -60,7 +64,8 @@ first_with-removed {X} number n q (x ∷ xs) d = go (eqb (number x) q) refl (fir
         sym (ap (λ b. cond b (Some x) (first_with number n xs)) not_x)
     go false t rest = ap (λ r. cond (eqb (number x) n) (Some x) r) rest
 
-pub first_with-append : {X : Type 0} → (number : X → ℕ) (n : ℕ) (x : X) (xs ys : List X) → first_with number n xs ≡ Some x
+pub first_with-append : {X : Type 0} → (number : X → ℕ) (n : ℕ) (x : X) (xs ys : List X) → first_with number n xs
+    ≡ Some x
     → first_with number n (xs ++ ys) ≡ Some x
 first_with-append number n x [] ys e = cc
 first_with-append {X} number n x (z ∷ zs) ys e = go (eqb (number z) n) (λ f. first_with-append number n x zs ys f) e
@@ -166,12 +171,14 @@ none-below : (next n : ℕ) (ns : List ℕ) → next ≤ n → AllByRecursion (�
 none-below next n [] le below = refl
 none-below next n (m ∷ ms) le below =
     let less : m < next = below.0 in
-    ap (λ b. cond b (Some m) (first_with (λ k. k) n ms)) (ne_eqb m n (λ e. omega arith)) ∙ none-below next n ms le below.1
+    ap (λ b. cond b (Some m) (first_with (λ k. k) n ms)) (ne_eqb m n (λ e. omega arith))
+    ∙ none-below next n ms le below.1
 
 pub next-none : (next : ℕ) (ns : List ℕ) → AreDrawn next ns → first_with (λ m. m) next ns ≡ None
 next-none next ns drawn = none-below next next ns (omega arith) drawn.below
 
-below-more : (next : ℕ) (ns : List ℕ) → AllByRecursion (λ m. m < next) ns → AllByRecursion (λ m. m < next + 1) (ns ++ next ∷ [])
+below-more : (next : ℕ) (ns : List ℕ) → AllByRecursion (λ m. m < next) ns
+    → AllByRecursion (λ m. m < next + 1) (ns ++ next ∷ [])
 below-more next [] below = (omega arith, tt)
 below-more next (m ∷ ms) below = let less : m < next = below.0 in (omega arith, below-more next ms below.1)
 
@@ -179,7 +186,8 @@ once-more : (next : ℕ) (ns : List ℕ) → AreOnce ns → AllByRecursion (λ m
 once-more next [] once below = (refl, tt)
 once-more next (m ∷ ms) once below =
     let less : m < next = below.0 in (
-      first_with-behind (λ k. k) m ms (next ∷ []) once.0 ∙ ap (λ b. cond b (Some next) None) (ne_eqb next m (λ e. omega arith)),
+      first_with-behind (λ k. k) m ms (next ∷ []) once.0
+          ∙ ap (λ b. cond b (Some next) None) (ne_eqb next m (λ e. omega arith)),
       once-more next ms once.1 below.1,
     )
 
@@ -187,16 +195,19 @@ pub drawn-more : (next : ℕ) (ns : List ℕ) → AreDrawn next ns → AreDrawn 
 drawn-more next ns drawn =
     record { once = once-more next ns drawn.once drawn.below; below = below-more next ns drawn.below }
 
-below-without : (next n : ℕ) (ns : List ℕ) → AllByRecursion (λ m. m < next) ns → AllByRecursion (λ m. m < next) (without_first (λ m. m) n ns)
+below-without : (next n : ℕ) (ns : List ℕ) → AllByRecursion (λ m. m < next) ns
+    → AllByRecursion (λ m. m < next) (without_first (λ m. m) n ns)
 below-without next n [] below = tt
 below-without next n (m ∷ ms) below =
     both (AllByRecursion (λ k. k < next)) (eqb m n) _ _ below.1 (below.0, below-without next n ms below.1)
 
-none-without : (m n : ℕ) (ns : List ℕ) → first_with (λ k. k) m ns ≡ None → first_with (λ k. k) m (without_first (λ k. k) n ns) ≡ None
+none-without : (m n : ℕ) (ns : List ℕ) → first_with (λ k. k) m ns ≡ None
+    → first_with (λ k. k) m (without_first (λ k. k) n ns) ≡ None
 none-without m n [] e = refl
 none-without m n (k ∷ ks) e = go (eqb k m) (eqb k n) refl (λ f. none-without m n ks f) e
   where
-    go : (b c : Bool) → eqb k m ≡ b → (first_with (λ i. i) m ks ≡ None → first_with (λ i. i) m (without_first (λ i. i) n ks) ≡ None)
+    go : (b c : Bool) → eqb k m ≡ b
+        → (first_with (λ i. i) m ks ≡ None → first_with (λ i. i) m (without_first (λ i. i) n ks) ≡ None)
         → cond b (Some k) (first_with (λ i. i) m ks) ≡ None
         → first_with (λ i. i) m (cond c ks (k ∷ without_first (λ i. i) n ks)) ≡ None
     go true c t rest f = cc
@@ -217,7 +228,8 @@ pub gone : (n : ℕ) (ns : List ℕ) → AreOnce ns → first_with (λ m. m) n (
 gone n [] once = refl
 gone n (m ∷ ms) once = go (eqb m n) refl (gone n ms once.1)
   where
-    go : (b : Bool) → eqb m n ≡ b → first_with (λ k. k) n (without_first (λ k. k) n ms) ≡ None → first_with (λ k. k) n (cond b ms (m ∷ without_first (λ k. k) n ms)) ≡ None
+    go : (b : Bool) → eqb m n ≡ b → first_with (λ k. k) n (without_first (λ k. k) n ms) ≡ None
+        → first_with (λ k. k) n (cond b ms (m ∷ without_first (λ k. k) n ms)) ≡ None
     go true t rest = subst (λ k. first_with (λ i. i) k ms ≡ None) (eqb-true m n t) once.0
     go false t rest = ap (λ b. cond b (Some m) (first_with (λ k. k) n (without_first (λ k. k) n ms))) t ∙ rest
 
@@ -228,6 +240,8 @@ with_first-twice number n a b [] h = refl
 with_first-twice {X} number n a b (x ∷ xs) h = go (eqb (number x) n) refl (with_first-twice number n a b xs h)
   where
     go : (t : Bool) → eqb (number x) n ≡ t → with_first number n b (with_first number n a xs) ≡ with_first number n b xs
-        → with_first number n b (cond t (a ∷ xs) (x ∷ with_first number n a xs)) ≡ cond t (b ∷ xs) (x ∷ with_first number n b xs)
+        → with_first number n b (cond t (a ∷ xs) (x ∷ with_first number n a xs))
+        ≡ cond t (b ∷ xs) (x ∷ with_first number n b xs)
     go true t rest = ap (λ s. cond s (b ∷ xs) (a ∷ with_first number n b xs)) (eq-eqb (number a) n h)
-    go false t rest = ap (λ s. cond s (b ∷ with_first number n a xs) (x ∷ with_first number n b (with_first number n a xs))) t ∙ ap (λ ys. x ∷ ys) rest
+    go false t rest = ap (λ s. cond s (b ∷ with_first number n a xs)
+        (x ∷ with_first number n b (with_first number n a xs))) t ∙ ap (λ ys. x ∷ ys) rest

@@ -1,5 +1,6 @@
 -- What holds of every adapter that calls lead to from a new one.
-use Rattle.std.proofs.Common.{◌≡◌, ℕ, ◌+◌, ◌≤◌, List, [], ◌∷◌, ◌++◌, Bool, true, false, cond, not, eqb, ltb, length, Option, Some, None, refl, sym, ap, subst, ◌∙◌}
+use Rattle.std.proofs.Common.{◌≡◌, ℕ, ◌+◌, ◌≤◌, List, [], ◌∷◌, ◌++◌, Bool, true, false, cond, not, eqb, ltb, length}
+use Rattle.std.proofs.Common.{Option, Some, None, refl, sym, ap, subst, ◌∙◌}
 use Rattle.std.proofs.lemmas.Bool.{eqb-true, eqb-false}
 use Rattle.std.proofs.lemmas.List.{map-append}
 use Rattle.cip_objects.specs.Contents.{Contents}
@@ -14,10 +15,14 @@ use Rattle.enip_adapter.specs.Lookup.{first_with, with_first, without_first}
 use Rattle.enip_adapter.specs.Replies.{Served, leaving}
 use Rattle.enip_adapter.specs.Turn.{State, Turned, begun, after, session_of, serve_found, end_found, session_after}
 use Rattle.enip_adapter.specs.Turn.Said.{Silent}
-use Rattle.enip_adapter.specs.Calls.{AdapterState, Held, Call, Meaning, call_meaning, after_call, bytes_found, bytes_held, held_at_beginning, piece_to, piece_meaning, dropped_piece, at_a_moment, events_of_sight, answer_of, call_answer}
+use Rattle.enip_adapter.specs.Calls.{AdapterState, Held, Call, Meaning, call_meaning, after_call, bytes_found}
+use Rattle.enip_adapter.specs.Calls.{bytes_held, held_at_beginning, piece_to, piece_meaning, dropped_piece}
+use Rattle.enip_adapter.specs.Calls.{at_a_moment, events_of_sight, answer_of, call_answer}
 use Rattle.enip_adapter.specs.Calls.Call.{Begins_peer, Feeds, Ends_peer, Ticks}
 use Rattle.enip_adapter.specs.Runs.{after_calls, IsForOther}
-use Rattle.enip_adapter.proofs.ListLemmas.{both, first_with-number, first_with-set, without_first-none, numbers, numbers-with_first, numbers-without_first, none-numbers, numbers-none, AreDrawn, drawn-more, drawn-without, gone}
+use Rattle.enip_adapter.proofs.ListLemmas.{both, first_with-number, first_with-set, without_first-none, numbers}
+use Rattle.enip_adapter.proofs.ListLemmas.{numbers-with_first, numbers-without_first, none-numbers, numbers-none}
+use Rattle.enip_adapter.proofs.ListLemmas.{AreDrawn, drawn-more, drawn-without, gone}
 use Rattle.enip_adapter.proofs.NumberLemmas.{next-sight, next-ended}
 use Rattle.enip_adapter.proofs.PeerLemmas.{at_state, held-call, session-call}
 use Rattle.enip_adapter.proofs.RunningLemmas.{IsRunning, running-empty, running-taken, taken_of-some}
@@ -46,8 +51,10 @@ handles-served s peer serve (Some session) e =
 
 handles-sight : (s : State) (peer : ℕ) (x : Sight) → handles (after s (events_of_sight peer x)) ≡ handles s
 handles-sight s peer Nothing_yet = refl
-handles-sight s peer (A_frame f) = handles-served s peer (λ session. command_served s.shared session f) (session_of s peer) refl
-handles-sight s peer (A_long_header h) = handles-served s peer (λ session. leaving s.shared (long_refused session h)) (session_of s peer) refl
+handles-sight s peer (A_frame f) = handles-served s peer (λ session. command_served s.shared session f)
+    (session_of s peer) refl
+handles-sight s peer (A_long_header h) = handles-served s peer (λ session. leaving s.shared (long_refused session h))
+    (session_of s peer) refl
 
 -- What a piece leaves of the numbers.
 record IsFed (s : State) (held : List Held) (m : Meaning) : Type 0 where
@@ -55,10 +62,12 @@ record IsFed (s : State) (held : List Held) (m : Meaning) : Type 0 where
   next_same : (after s m.events).shared.next_handle ≡ s.shared.next_handle
   entries_same : entries m.held ≡ entries held
 
-fed-piece : (s : State) (peer : ℕ) (piece : List ℕ) (held : List Held) (o : Option Session) → IsFed s held (piece_to held peer piece o)
+fed-piece : (s : State) (peer : ℕ) (piece : List ℕ) (held : List Held) (o : Option Session)
+    → IsFed s held (piece_to held peer piece o)
 fed-piece s peer piece held None = record { handles_same = refl; next_same = refl; entries_same = refl }
 fed-piece s peer piece held (Some session) =
-    both (λ (m : Meaning). IsFed s held m) session.closed _ _ (record { handles_same = refl; next_same = refl; entries_same = refl })
+    both (λ (m : Meaning). IsFed s held m) session.closed _ _
+    (record { handles_same = refl; next_same = refl; entries_same = refl })
     (record {
       handles_same = handles-sight s peer (sight_of (joined_of (bytes_held held peer) piece));
       next_same = next-sight s peer (sight_of (joined_of (bytes_held held peer) piece));
@@ -83,7 +92,8 @@ numbers-begun s held same drawn =
     both P (not (ltb (length s.peers) s.places)) _ _ (record { same = same; drawn = drawn })
     (both P (ltb 0xffffffff s.shared.next_handle) _ _ (record { same = same; drawn = drawn })
     (record {
-      same = map-append (λ (h : Held). h.peer) held _ ∙ (ap (λ ns. ns ++ s.shared.next_handle ∷ []) same ∙ sym (map-append (λ (p : Session). p.handle) s.peers _));
+      same = map-append (λ (h : Held). h.peer) held _
+          ∙ (ap (λ ns. ns ++ s.shared.next_handle ∷ []) same ∙ sym (map-append (λ (p : Session). p.handle) s.peers _));
       drawn = subst (AreDrawn (s.shared.next_handle + 1)) (sym (map-append (λ (p : Session). p.handle) s.peers _))
           (drawn-more s.shared.next_handle (handles s) drawn);
     }))
@@ -99,12 +109,16 @@ numbers-call a (Feeds now peer piece) sound =
           (subst (AreDrawn a.state.shared.next_handle) (sym fed.handles_same) sound.drawn);
     }
 numbers-call a (Ends_peer peer) sound =
-    let ended : handles (end_found a.state peer (session_of a.state peer)) ≡ without_first (λ m. m) peer (handles a.state)
+    let ended : handles (end_found a.state peer (session_of a.state peer))
+    ≡ without_first (λ m. m) peer (handles a.state)
     = handles-ended a.state peer (session_of a.state peer) refl in
     record {
-      same = numbers-without_first (λ (h : Held). h.peer) peer a.held ∙ (ap (without_first (λ m. m) peer) sound.same ∙ sym ended);
-      drawn = subst (λ n. AreDrawn n (handles (end_found a.state peer (session_of a.state peer)))) (sym (next-ended a.state peer (session_of a.state peer)))
-          (subst (AreDrawn a.state.shared.next_handle) (sym ended) (drawn-without a.state.shared.next_handle peer (handles a.state) sound.drawn));
+      same = numbers-without_first (λ (h : Held). h.peer) peer a.held
+          ∙ (ap (without_first (λ m. m) peer) sound.same ∙ sym ended);
+      drawn = subst (λ n. AreDrawn n (handles (end_found a.state peer (session_of a.state peer))))
+          (sym (next-ended a.state peer (session_of a.state peer)))
+          (subst (AreDrawn a.state.shared.next_handle) (sym ended)
+          (drawn-without a.state.shared.next_handle peer (handles a.state) sound.drawn));
     }
 numbers-call a (Ticks now) sound = record { same = sound.same; drawn = sound.drawn }
 
@@ -115,7 +129,8 @@ no-entry a peer same e =
     numbers-none (λ (h : Held). h.peer) peer a.held
     (ap (first_with (λ m. m) peer) same ∙ none-numbers (λ (p : Session). p.handle) peer a.state.peers e)
 
-no-session : (a : AdapterState) (peer : ℕ) → entries a.held ≡ handles a.state → first_with (λ (h : Held). h.peer) peer a.held ≡ None
+no-session : (a : AdapterState) (peer : ℕ) → entries a.held ≡ handles a.state
+    → first_with (λ (h : Held). h.peer) peer a.held ≡ None
     → session_of a.state peer ≡ None
 no-session a peer same e =
     numbers-none (λ (p : Session). p.handle) peer a.state.peers
@@ -125,13 +140,15 @@ pub entry-of : (a : AdapterState) (peer : ℕ) (session : Session) → IsSound a
     → (old : Held) × (first_with (λ (h : Held). h.peer) peer a.held ≡ Some old)
 entry-of a peer session sound e = go (first_with (λ (h : Held). h.peer) peer a.held) refl
   where
-    go : (o : Option Held) → first_with (λ (h : Held). h.peer) peer a.held ≡ o → (old : Held) × (first_with (λ (h : Held). h.peer) peer a.held ≡ Some old)
+    go : (o : Option Held) → first_with (λ (h : Held). h.peer) peer a.held ≡ o → (old : Held)
+        × (first_with (λ (h : Held). h.peer) peer a.held ≡ Some old)
     go None f = let bad : None ≡ Some session = sym (no-session a peer sound.same f) ∙ e in cc
     go (Some old) f = (old, f)
 
 -- An open peer waits for more bytes.
 abbrev IsReady : ℕ → AdapterState → Type 0
-IsReady peer a = (session : Session) → session_of a.state peer ≡ Some session → session.closed ≡ false → IsRunning (bytes_held a.held peer)
+IsReady peer a = (session : Session) → session_of a.state peer ≡ Some session → session.closed ≡ false
+    → IsRunning (bytes_held a.held peer)
 
 ready-other : (a : AdapterState) (c : Call) (peer : ℕ) → IsSound a → IsForOther peer c → IsReady peer (after_call a c)
 ready-other a c peer sound other session e alive = go (session_of a.state peer) refl
@@ -140,28 +157,40 @@ ready-other a c peer sound other session e alive = go (session_of a.state peer) 
     go None f =
         subst IsRunning (sym (held-call peer a c other ∙ ap bytes_found (no-entry a peer sound.same f))) running-empty
     go (Some before) f =
-        let same : before ≡ session = (let g : Some before ≡ Some session = sym (session-call peer before a c other f) ∙ e in cc) in
+        let same : before ≡ session =
+        (let g : Some before ≡ Some session = sym (session-call peer before a c other f) ∙ e in cc) in
         subst IsRunning (sym (held-call peer a c other)) (sound.ready peer before f (ap (λ s. s.closed) same ∙ alive))
 
 -- After a piece of its own.
-ready-sight : (s : State) (peer : ℕ) (piece bytes : List ℕ) (held : List Held) (old : Held) (before : Session) (x : Sight)
-    → sight_of (joined_of bytes piece) ≡ x → first_with (λ (h : Held). h.peer) peer held ≡ Some old → session_of s peer ≡ Some before → before.closed ≡ false
+ready-sight : (s : State) (peer : ℕ) (piece bytes : List ℕ) (held : List Held) (old : Held) (before : Session)
+    (x : Sight)
+    → sight_of (joined_of bytes piece) ≡ x → first_with (λ (h : Held). h.peer) peer held ≡ Some old
+    → session_of s peer ≡ Some before → before.closed ≡ false
     → IsRunning bytes
     → IsReady peer (record {
       state = after s (events_of_sight peer x);
-      held = with_first (λ (h : Held). h.peer) peer (record { peer = peer; bytes = cleared x (joined_of bytes piece) }) held;
+      held = with_first (λ (h : Held). h.peer) peer
+          (record { peer = peer; bytes = cleared x (joined_of bytes piece) }) held;
     })
 ready-sight s peer piece bytes held old before x seen entry found alive running session e alive_after =
-    subst IsRunning (sym (ap bytes_found (first_with-set (λ (h : Held). h.peer) peer old _ held entry refl))) (go x seen e)
+    subst IsRunning (sym (ap bytes_found (first_with-set (λ (h : Held). h.peer) peer old _ held entry refl)))
+    (go x seen e)
   where
-    closes : (h : _) → session_of (after s (events_of_sight peer (A_long_header h))) peer ≡ Some session → IsRunning (joined_of bytes piece)
+    closes : (h : _) → session_of (after s (events_of_sight peer (A_long_header h))) peer ≡ Some session
+        → IsRunning (joined_of bytes piece)
     closes h f =
         let served : serve_found s peer (λ p. leaving s.shared (long_refused p h)) (session_of s peer)
         ≡ serve_found s peer (λ p. leaving s.shared (long_refused p h)) (Some before)
         = ap (serve_found s peer (λ p. leaving s.shared (long_refused p h))) found in
-        let shut : (session_of (serve_found s peer (λ p. leaving s.shared (long_refused p h)) (Some before)).state peer) ≡ Some (session_after before (leaving s.shared (long_refused before h)))
-        = ap (λ b. session_of (cond b (let t : Turned = record { state = s; answer = record { said = Silent; close = true } } in t) (serve_found s peer (λ p. leaving s.shared (long_refused p h)) (Some (record before { closed = false })))).state peer) alive
-        ∙ first_with-set (λ (p : Session). p.handle) peer before (session_after before (leaving s.shared (long_refused before h))) s.peers found
+        let shut : (session_of
+        (serve_found s peer (λ p. leaving s.shared (long_refused p h)) (Some before)).state peer)
+        ≡ Some (session_after before (leaving s.shared (long_refused before h)))
+        = ap (λ b. session_of
+        (cond b (let t : Turned = record { state = s; answer = record { said = Silent; close = true } } in t)
+        (serve_found s peer (λ p. leaving s.shared (long_refused p h))
+        (Some (record before { closed = false })))).state peer) alive
+        ∙ first_with-set (λ (p : Session). p.handle) peer before
+        (session_after before (leaving s.shared (long_refused before h))) s.peers found
         (first_with-number (λ (p : Session). p.handle) peer before s.peers found) in
         let same : Some session ≡ Some (session_after before (leaving s.shared (long_refused before h)))
         = sym f ∙ (ap (λ (t : Turned). session_of t.state peer) served ∙ shut) in
@@ -169,13 +198,15 @@ ready-sight s peer piece bytes held old before x seen entry found alive running 
         let closed : session.closed ≡ true = ap (λ (p : Session). p.closed) it in
         cc
 
-    go : (y : Sight) → sight_of (joined_of bytes piece) ≡ y → session_of (after s (events_of_sight peer y)) peer ≡ Some session
+    go : (y : Sight) → sight_of (joined_of bytes piece) ≡ y → session_of (after s (events_of_sight peer y)) peer
+        ≡ Some session
         → IsRunning (cleared y (joined_of bytes piece))
     go Nothing_yet k f = running-taken bytes piece running k
     go (A_frame g) k f = running-empty
     go (A_long_header h) k f = closes h f
 
-ready-own : (a : AdapterState) (now peer : ℕ) (piece : List ℕ) → IsSound a → IsReady peer (after_call a (Feeds now peer piece))
+ready-own : (a : AdapterState) (now peer : ℕ) (piece : List ℕ) → IsSound a
+    → IsReady peer (after_call a (Feeds now peer piece))
 ready-own a now peer piece sound = go (session_of a.state peer) refl
   where
     with_entry : (before : Session) → session_of a.state peer ≡ Some before → before.closed ≡ false
@@ -187,13 +218,17 @@ ready-own a now peer piece sound = go (session_of a.state peer) refl
     with_entry before f alive None g =
         let bad : None ≡ Some before = sym (no-session a peer sound.same g) ∙ f in cc
     with_entry before f alive (Some old) g =
-        ready-sight (at_state a.state now) peer piece (bytes_held a.held peer) a.held old before (sight_of (joined_of (bytes_held a.held peer) piece)) refl
+        ready-sight (at_state a.state now) peer piece (bytes_held a.held peer) a.held old before
+        (sight_of (joined_of (bytes_held a.held peer) piece)) refl
         g f alive (sound.ready peer before f alive)
 
     by_close : (before : Session) → session_of a.state peer ≡ Some before → (b : Bool) → before.closed ≡ b
         → IsReady peer (record {
-          state = after (at_state a.state now) (cond b (piece_to a.held peer piece None) (piece_meaning a.held peer (bytes_held a.held peer) piece)).events;
-          held = (cond b (piece_to a.held peer piece None) (piece_meaning a.held peer (bytes_held a.held peer) piece)).held;
+          state = after (at_state a.state now)
+              (cond b (piece_to a.held peer piece None)
+              (piece_meaning a.held peer (bytes_held a.held peer) piece)).events;
+          held = (cond b (piece_to a.held peer piece None)
+              (piece_meaning a.held peer (bytes_held a.held peer) piece)).held;
         })
     by_close before f true shut = sound.ready peer
     by_close before f false alive = with_entry before f alive (first_with (λ (h : Held). h.peer) peer a.held) refl
@@ -210,8 +245,10 @@ ready-ended : (a : AdapterState) (peer : ℕ) → IsSound a → IsReady peer (af
 ready-ended a peer sound session e alive =
     let n : AreSound (after_call a (Ends_peer peer)) = numbers-call a (Ends_peer peer) sound in
     let none : first_with (λ m. m) peer (handles (after_call a (Ends_peer peer)).state) ≡ None
-    = ap (first_with (λ m. m) peer) (handles-ended a.state peer (session_of a.state peer) refl) ∙ gone peer (handles a.state) sound.drawn.once in
-    let bad : None ≡ Some session = sym (numbers-none (λ (p : Session). p.handle) peer (after_call a (Ends_peer peer)).state.peers none) ∙ e in
+    = ap (first_with (λ m. m) peer) (handles-ended a.state peer (session_of a.state peer) refl)
+    ∙ gone peer (handles a.state) sound.drawn.once in
+    let bad : None ≡ Some session = sym
+    (numbers-none (λ (p : Session). p.handle) peer (after_call a (Ends_peer peer)).state.peers none) ∙ e in
     cc
 
 ready-call : (a : AdapterState) (c : Call) (peer : ℕ) → IsSound a → IsReady peer (after_call a c)
@@ -219,12 +256,14 @@ ready-call a Begins_peer peer sound = ready-other a Begins_peer peer sound tt
 ready-call a (Feeds now other piece) peer sound = go (eqb other peer) refl
   where
     go : (b : Bool) → eqb other peer ≡ b → IsReady peer (after_call a (Feeds now other piece))
-    go true t = subst (λ q. IsReady q (after_call a (Feeds now other piece))) (eqb-true other peer t) (ready-own a now other piece sound)
+    go true t = subst (λ q. IsReady q (after_call a (Feeds now other piece))) (eqb-true other peer t)
+        (ready-own a now other piece sound)
     go false t = ready-other a (Feeds now other piece) peer sound (eqb-false other peer t)
 ready-call a (Ends_peer other) peer sound = go (eqb other peer) refl
   where
     go : (b : Bool) → eqb other peer ≡ b → IsReady peer (after_call a (Ends_peer other))
-    go true t = subst (λ q. IsReady q (after_call a (Ends_peer other))) (eqb-true other peer t) (ready-ended a other sound)
+    go true t = subst (λ q. IsReady q (after_call a (Ends_peer other))) (eqb-true other peer t)
+        (ready-ended a other sound)
     go false t = ready-other a (Ends_peer other) peer sound (eqb-false other peer t)
 ready-call a (Ticks now) peer sound = ready-other a (Ticks now) peer sound tt
 
@@ -245,18 +284,23 @@ sound-new objects listen limits = record {
 }
 
 -- A piece is taken in part at least, or dropped.
-pub taken-piece : (a : AdapterState) (now peer b : ℕ) (bs : List ℕ) → IsSound a → (o : Option Session) → session_of a.state peer ≡ o
-    → (answer_of a.state (at_a_moment now (piece_to a.held peer (b ∷ bs) o))).close ≡ false → 1 ≤ (piece_to a.held peer (b ∷ bs) o).taken
+pub taken-piece : (a : AdapterState) (now peer b : ℕ) (bs : List ℕ) → IsSound a → (o : Option Session)
+    → session_of a.state peer ≡ o
+    → (answer_of a.state (at_a_moment now (piece_to a.held peer (b ∷ bs) o))).close ≡ false
+    → 1 ≤ (piece_to a.held peer (b ∷ bs) o).taken
 taken-piece a now peer b bs sound None e alive = cc
 taken-piece a now peer b bs sound (Some session) e alive = go session.closed refl alive
   where
     go : (c : Bool) → session.closed ≡ c
-        → (answer_of a.state (at_a_moment now (cond c (dropped_piece a.held) (piece_meaning a.held peer (bytes_held a.held peer) (b ∷ bs))))).close ≡ false
+        → (answer_of a.state (at_a_moment now
+        (cond c (dropped_piece a.held) (piece_meaning a.held peer (bytes_held a.held peer) (b ∷ bs))))).close
+        ≡ false
         → 1 ≤ (cond c (dropped_piece a.held) (piece_meaning a.held peer (bytes_held a.held peer) (b ∷ bs))).taken
     go true shut k = cc
     go false lives k = taken_of-some (bytes_held a.held peer) b bs (sound.ready peer session e lives)
 
-pub some-taken : (objects : Contents) (listen : Listen) (limits : Limits) (calls : List Call) (now peer b : ℕ) (bs : List ℕ)
+pub some-taken : (objects : Contents) (listen : Listen) (limits : Limits) (calls : List Call) (now peer b : ℕ)
+    (bs : List ℕ)
     → (call_answer (after_calls (new_adapter objects listen limits) calls) (Feeds now peer (b ∷ bs))).close ≡ false
     → 1 ≤ (call_meaning (after_calls (new_adapter objects listen limits) calls) (Feeds now peer (b ∷ bs))).taken
 some-taken objects listen limits calls now peer b bs alive =

@@ -1,5 +1,6 @@
 -- Lists of calls of the adapter.
-use Rattle.std.specs.Prelude.{ℕ, ◌+◌, max, ◌≡◌, ◌≢◌, ◌≤◌, ◌==◌, List, [], ◌∷◌, ◌++◌, map, filter, take, drop, if◌then◌else◌, Bool, true, false, not, ◌||◌, ⊤}
+use Rattle.std.specs.Prelude.{ℕ, ◌+◌, max, ◌≡◌, ◌≢◌, ◌≤◌, ◌==◌, List, [], ◌∷◌, ◌++◌, map, filter, take, drop}
+use Rattle.std.specs.Prelude.{if◌then◌else◌, Bool, true, false, not, ◌||◌, ⊤}
 use Rattle.std.specs.List.{flat_map, list_all, list_any, AllByRecursion}
 use Rattle.cip_bytes.specs.Numbers.{AreBytes}
 use Rattle.cip_manager.specs.declared.connection.Connection.{Connection}

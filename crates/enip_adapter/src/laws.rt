@@ -15,7 +15,8 @@ ghost use Rattle.enip_adapter.specs.Turn.Said.{Begins};
 ghost use Rattle.enip_adapter.specs.Calls.Call.{Begins_peer, Feeds};
 ghost use Rattle.enip_adapter.specs.Calls.{AdapterState, Call, after_call, call_meaning, call_answer, bytes_held};
 ghost use Rattle.enip_adapter.specs.Runs.{after_calls, call_answers, events_of_calls, answers_by_call, spoken};
-ghost use Rattle.enip_adapter.specs.Runs.{IsForOther, moments_of_calls, is_open_at_all, RisesFrom, handles_in, ids_of_events};
+ghost use Rattle.enip_adapter.specs.Runs.{IsForOther, moments_of_calls, is_open_at_all, RisesFrom, handles_in};
+ghost use Rattle.enip_adapter.specs.Runs.{ids_of_events};
 ghost use Rattle.enip_adapter.specs.Runs.{Run, at_end, taken_in, frames_in, Pours, told};
 
 /// Whatever calls come, for any number of peers, the adapter is where the events lead that they stand for, and the
