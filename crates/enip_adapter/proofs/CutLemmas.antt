@@ -27,7 +27,7 @@ use Rattle.enip_adapter.specs.Calls.{AdapterState, Held, Call, Meaning, call_mea
 use Rattle.enip_adapter.specs.Calls.{call_answer, answer_of, bytes_found, bytes_held, piece_to, piece_meaning}
 use Rattle.enip_adapter.specs.Calls.{dropped_piece, at_a_moment, events_of_sight, last_from}
 use Rattle.enip_adapter.specs.Calls.Call.{Feeds}
-use Rattle.enip_adapter.specs.Runs.{after_calls, Pours, told, is_silent}
+use Rattle.enip_adapter.specs.Runs.{after_calls, Pours, audible_answers, is_silent}
 use Rattle.enip_adapter.specs.Runs.Pours.{Ended, Taken, Went_on, Closed}
 use Rattle.enip_adapter.proofs.ListLemmas.{first_with-set, with_first-twice}
 use Rattle.enip_adapter.proofs.PeerLemmas.{at_state}
@@ -437,24 +437,25 @@ flow-shut now peer a b bs y last e f shut =
     (subst (λ z. Flows now peer a (b ∷ bs) (z ∷ []) (after_call a (Feeds now peer (b ∷ bs)))) e
     (Shut (ap (λ (z : Answer). z.close) e ∙ shut)))
 
--- These bytes flow, and what is told is the same.
+-- These bytes flow, and the same is heard.
 record IsFlow (now peer : ℕ) (a : AdapterState) (bytes : List ℕ) (xs : List Answer) (last : AdapterState) : Type 0 where
   ys : List Answer
   flow : Flows now peer a bytes ys last
-  same : told xs ≡ told ys
+  same : audible_answers xs ≡ audible_answers ys
 
-told-cons : (x : Answer) (xs ys : List Answer) → told xs ≡ told ys → told (x ∷ xs) ≡ told (x ∷ ys)
+told-cons : (x : Answer) (xs ys : List Answer) → audible_answers xs ≡ audible_answers ys
+    → audible_answers (x ∷ xs) ≡ audible_answers (x ∷ ys)
 told-cons x xs ys e = ap (λ zs. cond (not (is_silent x.said) || x.close) (x ∷ zs) zs) e
 
-told-quiet : (x : Answer) (xs : List Answer) → x ≡ quiet → told (x ∷ xs) ≡ told xs
-told-quiet x xs e = ap (λ y. told (y ∷ xs)) e
+told-quiet : (x : Answer) (xs : List Answer) → x ≡ quiet → audible_answers (x ∷ xs) ≡ audible_answers xs
+told-quiet x xs e = ap (λ y. audible_answers (y ∷ xs)) e
 
 -- What flows after a piece that completed nothing flows with it.
 flow-before : {now peer : ℕ} {next last : AdapterState} {more : List ℕ} {ys : List Answer}
     → Flows now peer next more ys last
     → (a : AdapterState) (b : ℕ) (bs : List ℕ) (xs : List Answer) → HasWaited a now peer (b ∷ bs)
     → IsJoined a now peer (b ∷ bs) more next
-    → after_call a (Feeds now peer (b ∷ bs)) ≡ next → told xs ≡ told ys
+    → after_call a (Feeds now peer (b ∷ bs)) ≡ next → audible_answers xs ≡ audible_answers ys
     → IsFlow now peer a ((b ∷ bs) ++ more) (quiet ∷ xs) last
 flow-before {now} {peer} (Stopped {a = next}) a b bs xs waited joined is e = record {
   ys = quiet ∷ [];
@@ -537,7 +538,7 @@ flow-pours {now} {peer} (Closed {a} {b} {bs} {pieces} shut) sound =
     closed-flow now peer a b bs (concat pieces) sound shut (front a now peer (b ∷ bs) (concat pieces) sound)
 
 record AreAlike (xs ys : List Answer) (a b : AdapterState) : Type 0 where
-  answers : told xs ≡ told ys
+  answers : audible_answers xs ≡ audible_answers ys
   adapter : a ≡ b
 
 alike : (now peer : ℕ) (a l m : AdapterState) (pieces others : List (List ℕ)) (xs ys : List Answer) → IsSound a
@@ -547,7 +548,7 @@ alike now peer a l m pieces others xs ys sound e p q =
     let f : IsFlow now peer a (concat pieces) xs l = flow-pours p sound in
     let g : IsFlow now peer a (concat others) ys m = flow-pours q sound in
     let one : AreSame f.ys g.ys l m = one-flow f.flow (subst (λ s. Flows now peer a s g.ys m) (sym e) g.flow) in
-    record { answers = f.same ∙ (ap told one.answers ∙ sym g.same); adapter = one.adapter }
+    record { answers = f.same ∙ (ap audible_answers one.answers ∙ sym g.same); adapter = one.adapter }
 
 module _ (objects : Contents) (listen : Listen) (limits : Limits) (calls : List Call) where
   reached : IsSound (after_calls (new_adapter objects listen limits) calls)
@@ -556,7 +557,8 @@ module _ (objects : Contents) (listen : Listen) (limits : Limits) (calls : List 
   pub cuts-answers : (now peer : ℕ) (pieces others : List (List ℕ)) (xs ys : List Answer) (l m : AdapterState)
       → concat pieces ≡ concat others
       → Pours now peer (after_calls (new_adapter objects listen limits) calls) pieces xs l
-      → Pours now peer (after_calls (new_adapter objects listen limits) calls) others ys m → told xs ≡ told ys
+      → Pours now peer (after_calls (new_adapter objects listen limits) calls) others ys m
+      → audible_answers xs ≡ audible_answers ys
   cuts-answers now peer pieces others xs ys l m e p q =
       (alike now peer (after_calls
       (new_adapter objects listen limits) calls) l m pieces others xs ys reached e p q).answers

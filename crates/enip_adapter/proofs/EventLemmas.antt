@@ -11,7 +11,7 @@ use Rattle.enip_adapter.specs.Calls.{AdapterState, Held, Call, Meaning, call_mea
 use Rattle.enip_adapter.specs.Calls.{answer_of, at_a_moment, piece_to, piece_meaning, dropped_piece, bytes_held}
 use Rattle.enip_adapter.specs.Calls.{events_of_sight}
 use Rattle.enip_adapter.specs.Calls.Call.{Begins_peer, Feeds, Ends_peer, Ticks}
-use Rattle.enip_adapter.specs.Runs.{after_calls, call_answers, events_of_calls, answers_by_call, speaks, spoken}
+use Rattle.enip_adapter.specs.Runs.{after_calls, call_answers, events_of_calls, answers_by_call, said_before, said_in}
 
 -- The answers and the state of events, in two parts.
 answers-append : (s : State) (es fs : List Event) → answers s (es ++ fs) ≡ answers s es ++ answers (after s es) fs
@@ -52,7 +52,7 @@ of_piece P now peer piece held (Some session) drops feeds = go session.closed
 
 -- What a call says is what its events say, and it closes where one of them does, or its piece is dropped.
 record IsTold (s : State) (m : Meaning) : Type 0 where
-  said : spoken (answer_of s m ∷ []) ≡ spoken (answers s m.events)
+  said : said_in (answer_of s m ∷ []) ≡ said_in (answers s m.events)
   close : (answer_of s m).close ≡ (m.dropped || list_any (λ x. x.close) (answers s m.events))
 
 last-or : (b : Bool) → b ≡ (b || false)
@@ -78,23 +78,24 @@ pub close-call : (a : AdapterState) (c : Call)
     ≡ ((call_meaning a c).dropped || list_any (λ x. x.close) (answers a.state (call_meaning a c).events))
 close-call a c = (told-call a c).close
 
-before-append : (said : Said) (xs ys : List Said) → speaks said (xs ++ ys) ≡ speaks said xs ++ ys
+before-append : (said : Said) (xs ys : List Said) → said_before said (xs ++ ys) ≡ said_before said xs ++ ys
 before-append Silent xs ys = refl
 before-append (Sends bytes) xs ys = refl
 before-append (Begins handle) xs ys = refl
 before-append (Refuses full) xs ys = refl
 
-spoken-append : (xs ys : List Answer) → spoken (xs ++ ys) ≡ spoken xs ++ spoken ys
+spoken-append : (xs ys : List Answer) → said_in (xs ++ ys) ≡ said_in xs ++ said_in ys
 spoken-append [] ys = refl
-spoken-append (x ∷ xs) ys = ap (speaks x.said) (spoken-append xs ys) ∙ before-append x.said (spoken xs) (spoken ys)
+spoken-append (x ∷ xs) ys = ap (said_before x.said) (spoken-append xs ys)
+    ∙ before-append x.said (said_in xs) (said_in ys)
 
 pub said-events : (a : AdapterState) (calls : List Call)
-    → spoken (call_answers a calls) ≡ spoken (answers a.state (events_of_calls a calls))
+    → said_in (call_answers a calls) ≡ said_in (answers a.state (events_of_calls a calls))
 said-events a [] = refl
 said-events a (c ∷ cs) =
     spoken-append (call_answer a c ∷ []) (call_answers (after_call a c) cs)
-    ∙ ap (λ r. r ++ spoken (call_answers (after_call a c) cs)) (told-call a c).said
-    ∙ ap (λ r. spoken (answers a.state (call_meaning a c).events) ++ r) (said-events (after_call a c) cs)
+    ∙ ap (λ r. r ++ said_in (call_answers (after_call a c) cs)) (told-call a c).said
+    ∙ ap (λ r. said_in (answers a.state (call_meaning a c).events) ++ r) (said-events (after_call a c) cs)
     ∙ sym (spoken-append (answers a.state (call_meaning a c).events)
     (answers (after_call a c).state (events_of_calls (after_call a c) cs)))
-    ∙ ap spoken (sym (answers-append a.state (call_meaning a c).events (events_of_calls (after_call a c) cs)))
+    ∙ ap said_in (sym (answers-append a.state (call_meaning a c).events (events_of_calls (after_call a c) cs)))

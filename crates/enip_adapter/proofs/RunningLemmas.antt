@@ -64,7 +64,8 @@ taken_of-next held b bs =
       | inl short ↦
           omega (arith, taken_of-short held (b ∷ bs) short, taken_of-short (held ++ b ∷ []) bs (omega arith))
       | inr long ↦
-          let next : taken_of (held ++ b ∷ []) bs ≡ min (end_after (number_at 2 2 ((held ++ b ∷ []) ++ bs)) - length (held ++ b ∷ [])) (length bs)
+          let next : taken_of (held ++ b ∷ []) bs
+          ≡ min (end_after (number_at 2 2 ((held ++ b ∷ []) ++ bs)) - length (held ++ b ∷ [])) (length bs)
           = taken_of-long (held ++ b ∷ []) bs (omega arith) in
           let end : end_after (number_at 2 2 ((held ++ b ∷ []) ++ bs)) ≡ end_after (number_at 2 2 (held ++ b ∷ bs))
           = ap (λ s. end_after (number_at 2 2 s)) whole in
@@ -93,11 +94,13 @@ sight_of-running held r =
       | inr long ↦ waits held long (r.before long)
     ]
   where
-    waits : (bytes : List ℕ) → 24 ≤ length bytes → length bytes < end_after (number_at 2 2 bytes) → sight_of bytes ≡ Nothing_yet
+    waits : (bytes : List ℕ) → 24 ≤ length bytes → length bytes < end_after (number_at 2 2 bytes) → sight_of bytes
+        ≡ Nothing_yet
     waits bytes long before = grind (arith, nat_tests)
 
 pub running-taken : (held piece : List ℕ) → IsRunning held
-    → sight_of (held ++ take (taken_of held piece) piece) ≡ Nothing_yet → IsRunning (held ++ take (taken_of held piece) piece)
+    → sight_of (held ++ take (taken_of held piece) piece) ≡ Nothing_yet
+    → IsRunning (held ++ take (taken_of held piece) piece)
 running-taken held piece r none =
     let after : List ℕ = held ++ take (taken_of held piece) piece in
     let taken : length (take (taken_of held piece) piece) ≡ taken_of held piece
@@ -109,7 +112,8 @@ running-taken held piece r none =
           let same : number_at 2 2 (held ++ take (taken_of held piece) piece) ≡ number_at 2 2 (held ++ piece)
           = ap (λ s. number_at 2 2 s) (sym (take-append-add held piece (taken_of held piece)))
           ∙ number_at-take (length held + taken_of held piece) (held ++ piece) (omega arith) in
-          let end : end_after (number_at 2 2 (held ++ take (taken_of held piece) piece)) ≡ end_after (number_at 2 2 (held ++ piece))
+          let end : end_after (number_at 2 2 (held ++ take (taken_of held piece) piece))
+          ≡ end_after (number_at 2 2 (held ++ piece))
           = ap end_after same in
           let most : length (held ++ take (taken_of held piece) piece) ≤ end_after (number_at 2 2 (held ++ piece))
           = elim (cases_lt (length held + length piece) 24) [
@@ -118,14 +122,18 @@ running-taken held piece r none =
           ] in
           elim (cases_lt 65511 (number_at 2 2 (held ++ take (taken_of held piece) piece))) [
             | inl over ↦
-                let long_one : sight_of (held ++ take (taken_of held piece) piece) ≡ A_long_header (header_at (held ++ take (taken_of held piece) piece))
+                let long_one : sight_of (held ++ take (taken_of held piece) piece)
+                ≡ A_long_header (header_at (held ++ take (taken_of held piece) piece))
                 = sight_of-long (held ++ take (taken_of held piece) piece) long over in
-                let bad : Nothing_yet ≡ A_long_header (header_at (held ++ take (taken_of held piece) piece)) = sym none ∙ long_one in
+                let bad : Nothing_yet
+                ≡ A_long_header (header_at (held ++ take (taken_of held piece) piece)) = sym none ∙ long_one in
                 cc
             | inr within ↦
-                elim (cases_eq (length (held ++ take (taken_of held piece) piece)) (24 + number_at 2 2 (held ++ take (taken_of held piece) piece))) [
+                elim (cases_eq (length (held ++ take (taken_of held piece) piece))
+                (24 + number_at 2 2 (held ++ take (taken_of held piece) piece))) [
                   | inl full ↦
-                      let bad : Nothing_yet ≡ A_frame _ = sym none ∙ sight_of-frame (held ++ take (taken_of held piece) piece) long within full in
+                      let bad : Nothing_yet ≡ A_frame _ = sym none
+                      ∙ sight_of-frame (held ++ take (taken_of held piece) piece) long within full in
                       cc
                   | inr less ↦
                       omega (arith, end_after-within (number_at 2 2 (held ++ take (taken_of held piece) piece)) within)

@@ -38,19 +38,20 @@ events_of_calls a calls = flat_map (λ m. m.events) (meanings a calls)
 -- For each call, the answers to its own events.
 abbrev pub answers_by_call : AdapterState → List Call → List (List Answer)
 answers_by_call a [] = []
-answers_by_call a (call ∷ calls) = answers a.state (call_meaning a call).events ∷ answers_by_call (after_call a call) calls
+answers_by_call a (call ∷ calls) =
+    answers a.state (call_meaning a call).events ∷ answers_by_call (after_call a call) calls
 
 -- What is said before more: a silence is left out.
-abbrev pub speaks : Said → List Said → List Said
-speaks Silent more = more
-speaks (Sends bytes) more = Sends bytes ∷ more
-speaks (Begins handle) more = Begins handle ∷ more
-speaks (Refuses full) more = Refuses full ∷ more
+abbrev pub said_before : Said → List Said → List Said
+said_before Silent more = more
+said_before (Sends bytes) more = Sends bytes ∷ more
+said_before (Begins handle) more = Begins handle ∷ more
+said_before (Refuses full) more = Refuses full ∷ more
 
 -- What answers say.
-abbrev pub spoken : List Answer → List Said
-spoken [] = []
-spoken (answer ∷ answers) = speaks answer.said (spoken answers)
+abbrev pub said_in : List Answer → List Said
+said_in [] = []
+said_in (answer ∷ answers) = said_before answer.said (said_in answers)
 
 -- The call is for another peer than this, or for none.
 abbrev pub IsForOther : ℕ → Call → Type 0
@@ -88,10 +89,11 @@ abbrev pub RisesFrom : ℕ → List ℕ → Type 0
 RisesFrom n [] = ⊤
 RisesFrom n (m ∷ ms) = (n ≤ m) × RisesFrom (m + 1) ms
 
--- The connections whose O->T ID none of those before has.
+-- No connection before has this one's O->T ID.
 abbrev pub is_new : List Connection → Connection → Bool
 is_new before connection = not (list_any (λ old. old.o_to_t_id == connection.o_to_t_id) before)
 
+-- The connections that are new.
 abbrev pub new_connections : List Connection → List Connection → List Connection
 new_connections before connections = filter (is_new before) connections
 
@@ -149,15 +151,16 @@ pub data Pours (now peer : ℕ) : AdapterState → List (List ℕ) → List Answ
       → Pours now peer a ((b ∷ bs) ∷ pieces) (call_answer a (Feeds now peer (b ∷ bs)) ∷ [])
       (after_call a (Feeds now peer (b ∷ bs)))
 
--- The answers that say something, or close.
+-- Nothing is said.
 abbrev pub is_silent : Said → Bool
 is_silent Silent = true
 is_silent (Sends bytes) = false
 is_silent (Begins handle) = false
 is_silent (Refuses full) = false
 
-abbrev pub told : List Answer → List Answer
-told answers = filter (λ answer. not (is_silent answer.said) || answer.close) answers
+-- The answers that say something, or close.
+abbrev pub audible_answers : List Answer → List Answer
+audible_answers answers = filter (λ answer. not (is_silent answer.said) || answer.close) answers
 
 -- A peer's run: it begins at an adapter that earlier calls led to from a new one, and then calls come that go on.
 pub record Run (peer : ℕ) : Type 0 where

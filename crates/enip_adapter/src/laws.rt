@@ -11,13 +11,12 @@ ghost use Rattle.enip_adapter.specs.declared.peer.Session.{Session};
 ghost use Rattle.enip_adapter.specs.declared.shared.Listen.{Listen};
 ghost use Rattle.enip_adapter.specs.Adapter.{new_adapter};
 ghost use Rattle.enip_adapter.specs.Turn.{Event, Answer, answers, after, session_of};
-ghost use Rattle.enip_adapter.specs.Turn.Said.{Begins};
-ghost use Rattle.enip_adapter.specs.Calls.Call.{Begins_peer, Feeds};
-ghost use Rattle.enip_adapter.specs.Calls.{AdapterState, Call, after_call, call_meaning, call_answer, bytes_held};
-ghost use Rattle.enip_adapter.specs.Runs.{after_calls, call_answers, events_of_calls, answers_by_call, spoken};
-ghost use Rattle.enip_adapter.specs.Runs.{IsForOther, moments_of_calls, is_open_at_all, RisesFrom, handles_in};
-ghost use Rattle.enip_adapter.specs.Runs.{ids_of_events};
-ghost use Rattle.enip_adapter.specs.Runs.{Run, at_end, taken_in, frames_in, Pours, told};
+ghost use Rattle.enip_adapter.specs.Calls.Call.{Feeds};
+ghost use Rattle.enip_adapter.specs.Calls.{AdapterState, Call, call_meaning, call_answer, bytes_held};
+ghost use Rattle.enip_adapter.specs.Runs.{after_calls, call_answers, events_of_calls, answers_by_call, said_in};
+ghost use Rattle.enip_adapter.specs.Runs.{IsForOther, moments_of_calls, is_open_at_all};
+ghost use Rattle.enip_adapter.specs.Runs.{RisesFrom, handles_in, ids_of_events};
+ghost use Rattle.enip_adapter.specs.Runs.{Run, at_end, taken_in, frames_in, Pours, audible_answers};
 
 /// Whatever calls come, for any number of peers, the adapter is where the events lead that they stand for, and the
 /// answers of these events are each call's own, call by call. What calls say is what the events say; a call closes
@@ -28,7 +27,7 @@ pub fn answers_of_events()
     ensures answers { (a : AdapterState) (calls : List Call) →
         answers a.state (events_of_calls a calls) ≡ flat_map (λ own. own) (answers_by_call a calls) }
     ensures said { (a : AdapterState) (calls : List Call) →
-        spoken (call_answers a calls) ≡ spoken (answers a.state (events_of_calls a calls)) }
+        said_in (call_answers a calls) ≡ said_in (answers a.state (events_of_calls a calls)) }
     ensures close { (a : AdapterState) (call : Call) → (call_answer a call).close
         ≡ ((call_meaning a call).dropped || list_any (λ x. x.close) (answers a.state (call_meaning a call).events)) }
 {}
@@ -69,8 +68,8 @@ pub fn frames_of_the_stream()
 {}
 
 /// So the bytes alone say which frames they are: in any two runs, with pieces, moments and calls for other peers of
-/// their own, where the same bytes are taken the same frames are served, and the same bytes are held. Where the peer has
-/// the same handle in both, its session is the same: whether it is registered, and whether it is closed.
+/// their own, where the same bytes are taken the same frames are served, and the same bytes are held. Where the peer
+/// has the same handle in both, its session is the same: whether it is registered, and whether it is closed.
 pub fn frames_by_bytes_alone()
     ensures frames { (peer other : ℕ) (run : Run peer) (second : Run other) →
         taken_in peer run ≡ taken_in other second →
@@ -82,9 +81,10 @@ pub fn frames_by_bytes_alone()
 
 /// A piece of a byte or more is taken in part at least, or the answer is that the peer's connection is closed.
 pub fn progress()
-    ensures { (objects : Contents) (listen : Listen) (limits : Limits) (calls : List Call) (now peer b : ℕ) (bs : List ℕ) →
-        (call_answer (after_calls (new_adapter objects listen limits) calls) (Feeds now peer (b ∷ bs))).close ≡ false →
-        1 ≤ (call_meaning (after_calls (new_adapter objects listen limits) calls) (Feeds now peer (b ∷ bs))).taken }
+    ensures { (objects : Contents) (listen : Listen) (limits : Limits) (calls : List Call) (now peer b : ℕ)
+        (bs : List ℕ) → let a = after_calls (new_adapter objects listen limits) calls in
+        (call_answer a (Feeds now peer (b ∷ bs))).close ≡ false →
+        1 ≤ (call_meaning a (Feeds now peer (b ∷ bs))).taken }
 {}
 
 /// Where a peer's stream is cut changes nothing: after any calls, two lists of pieces that join to the same bytes, fed
@@ -96,7 +96,7 @@ pub fn cuts_change_nothing()
         concat pieces ≡ concat others →
         Pours now peer (after_calls (new_adapter objects listen limits) calls) pieces answers last →
         Pours now peer (after_calls (new_adapter objects listen limits) calls) others replies end →
-        told answers ≡ told replies }
+        audible_answers answers ≡ audible_answers replies }
     ensures adapter { (objects : Contents) (listen : Listen) (limits : Limits) (calls : List Call) (now peer : ℕ)
         (pieces others : List (List ℕ)) (answers replies : List Answer) (last end : AdapterState) →
         concat pieces ≡ concat others →
