@@ -11,6 +11,7 @@ pub mod Commands
 pub mod Turn
 pub mod Calls
 pub mod Adapter
+pub mod Runs
 pub mod Stored
 pub mod Places
 pub mod Destinations

@@ -10,6 +10,7 @@
 
 mod adapter;
 mod commands;
+pub mod laws;
 mod peer;
 mod reply;
 mod serving;

@@ -1,7 +1,7 @@
 use Rattle.std.proofs.Common.{arith, ◌++◌}
 use Rattle.cip_objects.specs.Contents.{bytes_at}
 use Rattle.enip_adapter.specs.ListIdentity.{identity_attributes, identity_bytes}
-use Rattle.enip_adapter.proofs.ListLemmas.{joined_more}
+use Rattle.enip_adapter.proofs.IdentityLemmas.{joined_more}
 use Rattle.enip_adapter.proofs.commands.lists.append_identity.Goals as goal
 
 pub loop-attribute-preserved : goal.loop-attribute-preserved

@@ -1,0 +1,62 @@
+-- What a frame leaves of what all peers share, one of a few kinds of change.
+use Rattle.std.proofs.Common.{not, ltb, eqb, length, ℕ, List, Result, Ok, Err}
+use Rattle.cip_manager.specs.Closing.{close_turn}
+use Rattle.cip_manager.specs.Opening.{open_turn}
+use Rattle.cip_objects.specs.Contents.{Contents}
+use Rattle.enip_wire.specs.Bodies.{rr_body_of, unit_body_of}
+use Rattle.enip_wire.specs.Frames.{Frame}
+use Rattle.enip_wire.specs.declared.packet.CpfFault.{CpfFault}
+use Rattle.enip_adapter.specs.declared.peer.Session.{Session}
+use Rattle.enip_adapter.specs.declared.shared.Shared.{Shared}
+use Rattle.enip_adapter.specs.Commands.{command_served}
+use Rattle.enip_adapter.specs.Replies.{Served, is_registered_as}
+use Rattle.enip_adapter.specs.SendRRData.{Destination, destination_of, managed, routed_to, reply_to_body}
+use Rattle.enip_adapter.specs.SendRRData.Destination.{Opens, Closes, Executes}
+use Rattle.enip_adapter.specs.SendUnitData.{turn_of_item, item_of_body}
+use Rattle.enip_adapter.proofs.ListLemmas.{both}
+
+-- What holds of what is shared, and after each change of it by a session.
+pub record Changes (P : Shared → Type 0) (shared : Shared) (session : Session) : Type 0 where
+  pub same : P shared
+  pub opens : (bytes : List ℕ) → P (managed shared (open_turn shared.manager shared.moment session.handle bytes)).shared
+  pub closes : (bytes : List ℕ) → P (managed shared (close_turn shared.manager session.handle bytes)).shared
+  pub executes : (objects : Contents) → P (record shared { objects = objects })
+  pub receives : (id : ℕ) (item : List ℕ) → P (record shared {
+    manager = record shared.manager { connections = (turn_of_item shared session id item).connections };
+    objects = (turn_of_item shared session id item).router;
+  })
+
+module _ (P : Shared → Type 0) (shared : Shared) (session : Session) (changes : Changes P shared session) where
+  after_routed : (request : List ℕ) (to : Destination) → P (routed_to shared session request to).shared
+  after_routed request (Opens bytes) = changes.opens bytes
+  after_routed request (Closes bytes) = changes.closes bytes
+  after_routed request Executes = changes.executes _
+
+  after_body : (f : Frame) (body : Result (List ℕ) CpfFault) → P (reply_to_body shared session f body).shared
+  after_body f (Err fault) = changes.same
+  after_body f (Ok request) =
+      both (λ (s : Served). P s.shared) (ltb (length request) 2) _ _ changes.same
+      (after_routed request (destination_of request))
+
+  after_item : (f : Frame) (body : Result (ℕ × List ℕ) CpfFault) → P (item_of_body shared session f body).shared
+  after_item f (Err fault) = changes.same
+  after_item f (Ok (id, item)) = changes.receives id item
+
+  pub after_command : (f : Frame) → P (command_served shared session f).shared
+  unfolding command_served
+  after_command f =
+      let same : P shared = changes.same in
+      let Q : Served → Type 0 = λ s. P s.shared in
+      both Q (not (eqb f.header.options 0)) _ _ same
+      (both Q (not (eqb f.header.status 0)) _ _ same
+      (both Q (eqb f.header.command 0x0000) _ _ same
+      (both Q (eqb f.header.command 0x0004) _ _ same
+      (both Q (eqb f.header.command 0x0063) _ _ same
+      (both Q (eqb f.header.command 0x0064) _ _ same
+      (both Q (eqb f.header.command 0x0065) _ _ same
+      (both Q (eqb f.header.command 0x0066) _ _ same
+      (both Q (eqb f.header.command 0x006f) _ _
+      (both Q (not (is_registered_as session f.header.session)) _ _ same (after_body f (rr_body_of f.body)))
+      (both Q (eqb f.header.command 0x0070) _ _
+      (both Q (not (is_registered_as session f.header.session)) _ _ same (after_item f (unit_body_of f.body)))
+      same)))))))))

@@ -1,0 +1,314 @@
+-- What a peer's session is, its own frames alone say.
+use Rattle.std.proofs.Common.{◌≡◌, ℕ, List, [], ◌∷◌, ◌++◌, Bool, true, false, cond, not, eqb, ltb, length}
+use Rattle.std.proofs.Common.{Option, Some, None, Result, Ok, Err, refl, sym, ap, subst, ◌∙◌}
+use Rattle.std.specs.List.{AllByRecursion}
+use Rattle.std.proofs.lemmas.Bool.{eqb-true, eqb-false, eq-eqb}
+use Rattle.enip_wire.specs.Bodies.{rr_body_of, unit_body_of}
+use Rattle.enip_wire.specs.Frames.{Frame}
+use Rattle.enip_wire.specs.Stream.{Sight, joined_of, sight_of, cleared}
+use Rattle.enip_wire.specs.Stream.Sight.{Nothing_yet, A_frame, A_long_header}
+use Rattle.enip_wire.specs.declared.packet.CpfFault.{CpfFault}
+use Rattle.enip_adapter.specs.declared.peer.Session.{Session}
+use Rattle.enip_adapter.specs.declared.shared.Shared.{Shared}
+use Rattle.enip_adapter.specs.Adapter.{new_adapter}
+use Rattle.enip_adapter.specs.Commands.{command_served, long_refused}
+use Rattle.enip_adapter.specs.Lookup.{first_with, with_first}
+use Rattle.enip_adapter.specs.Replies.{Served, leaving, is_registered_as}
+use Rattle.enip_adapter.specs.SendRRData.{reply_to_body}
+use Rattle.enip_adapter.specs.SendUnitData.{item_of_body}
+use Rattle.enip_adapter.specs.Turn.{State, Turned, turned, begun, new_session, after, session_of}
+use Rattle.enip_adapter.specs.Turn.{serve_found, session_after, shared_after, sent}
+use Rattle.enip_adapter.specs.Turn.Event.{At}
+use Rattle.enip_adapter.specs.Turn.Said.{Silent, Begins}
+use Rattle.enip_adapter.specs.Calls.{AdapterState, Held, Call, Meaning, call_meaning, after_call, after_meaning}
+use Rattle.enip_adapter.specs.Calls.{bytes_found, bytes_held, piece_to, piece_meaning, dropped_piece, at_a_moment}
+use Rattle.enip_adapter.specs.Calls.{events_of_sight}
+use Rattle.enip_adapter.specs.Calls.Call.{Begins_peer, Feeds, Ends_peer, Ticks}
+use Rattle.enip_adapter.specs.Runs.{after_calls, events_of_calls, frames_of_peer, IsForOther, GoesOn, Run}
+use Rattle.enip_adapter.specs.Runs.{at_beginning, at_end, taken_in, frames_in}
+use Rattle.enip_adapter.proofs.CutLemmas.{feed-open}
+use Rattle.enip_adapter.proofs.ListLemmas.{both, first_with-number, first_with-set, first_with-behind, next-none}
+use Rattle.enip_adapter.proofs.ListLemmas.{numbers-none}
+use Rattle.enip_adapter.proofs.PeerLemmas.{at_state, held-call, session-call}
+use Rattle.enip_adapter.proofs.RunningLemmas.{sight_of-running}
+use Rattle.enip_adapter.proofs.SoundLemmas.{IsSound, sound-call, sound-calls, sound-new, entry-of, no-entry}
+use Rattle.enip_adapter.proofs.StreamLemmas.{frames-append, no-frames, same-runs}
+
+-- What a frame is to its peer hangs on nothing that the peers share, but for its answer.
+record IsAlike (x y : Served) : Type 0 where
+  registered : x.reaction.registered ≡ y.reaction.registered
+  close : x.reaction.close ≡ y.reaction.close
+
+two : (b : Bool) (x y v w : Served) → IsAlike x v → IsAlike y w → IsAlike (cond b x y) (cond b v w)
+two true x y v w p q = p
+two false x y v w p q = q
+
+alike-body : (s t : Shared) (session : Session) (f : Frame) (body : Result (List ℕ) CpfFault)
+    → IsAlike (reply_to_body s session f body) (reply_to_body t session f body)
+alike-body s t session f (Err fault) = record { registered = refl; close = refl }
+alike-body s t session f (Ok request) =
+    two (ltb (length request) 2) _ _ _ _ (record { registered = refl; close = refl })
+    (record { registered = refl; close = refl })
+
+alike-item : (s t : Shared) (session : Session) (f : Frame) (body : Result (ℕ × List ℕ) CpfFault)
+    → IsAlike (item_of_body s session f body) (item_of_body t session f body)
+alike-item s t session f (Err fault) = record { registered = refl; close = refl }
+alike-item s t session f (Ok (id, item)) = record { registered = refl; close = refl }
+
+alike-command : (s t : Shared) (session : Session) (f : Frame)
+    → IsAlike (command_served s session f) (command_served t session f)
+unfolding command_served
+alike-command s t session f =
+    two (not (eqb f.header.options 0)) _ _ _ _ (record { registered = refl; close = refl })
+    (two (not (eqb f.header.status 0)) _ _ _ _ (record { registered = refl; close = refl })
+    (two (eqb f.header.command 0x0000) _ _ _ _ (record { registered = refl; close = refl })
+    (two (eqb f.header.command 0x0004) _ _ _ _ (record { registered = refl; close = refl })
+    (two (eqb f.header.command 0x0063) _ _ _ _ (record { registered = refl; close = refl })
+    (two (eqb f.header.command 0x0064) _ _ _ _ (record { registered = refl; close = refl })
+    (two (eqb f.header.command 0x0065) _ _ _ _ (record { registered = refl; close = refl })
+    (two (eqb f.header.command 0x0066) _ _ _ _ (record { registered = refl; close = refl })
+    (two (eqb f.header.command 0x006f) _ _ _ _
+    (two (not (is_registered_as session f.header.session)) _ _ _ _ (record { registered = refl; close = refl })
+    (alike-body s t session f (rr_body_of f.body)))
+    (two (eqb f.header.command 0x0070) _ _ _ _
+    (two (not (is_registered_as session f.header.session)) _ _ _ _ (record { registered = refl; close = refl })
+    (alike-item s t session f (unit_body_of f.body)))
+    (record { registered = refl; close = refl }))))))))))
+
+-- The session after a frame, and after frames, whatever is shared.
+abbrev step : Shared → Session → Frame → Session
+step shared session f = session_after session (command_served shared session f)
+
+step-same : (s t : Shared) (session : Session) (f : Frame) → step s session f ≡ step t session f
+step-same s t session f =
+    let a : IsAlike (command_served s session f) (command_served t session f) = alike-command s t session f in
+    ap (λ r. let x : Session = record session { registered = r; closed = (command_served s session f).reaction.close } in x) a.registered
+    ∙ ap (λ c. let x : Session = record session { registered = (command_served t session f).reaction.registered; closed = c } in x) a.close
+
+abbrev steps : Shared → Session → List Frame → Session
+steps shared session [] = session
+steps shared session (f ∷ fs) = steps shared (step shared session f) fs
+
+steps-append : (shared : Shared) (session : Session) (fs gs : List Frame) → steps shared session (fs ++ gs)
+    ≡ steps shared (steps shared session fs) gs
+steps-append shared session [] gs = refl
+steps-append shared session (f ∷ fs) gs = steps-append shared (step shared session f) fs gs
+
+steps-same : (s t : Shared) (session : Session) (fs : List Frame) → steps s session fs ≡ steps t session fs
+steps-same s t session [] = refl
+steps-same s t session (f ∷ fs) = ap (λ x. steps s x fs) (step-same s t session f)
+    ∙ steps-same s t (step t session f) fs
+
+-- And with a long header held it is closed.
+abbrev closing : Session → Sight → Session
+closing session Nothing_yet = session
+closing session (A_frame f) = session
+closing session (A_long_header h) = record session { closed = true }
+
+-- The session after a piece of its own, while it is open.
+abbrev served_turn : State → ℕ → (Session → Served) → Session → Turned
+served_turn s peer serve session =
+    turned (record s {
+      shared = shared_after session (serve session);
+      peers = with_first (λ (p : Session). p.handle) peer (session_after session (serve session)) s.peers;
+    }) (sent (serve session).reaction.answer) (serve session).reaction.close
+
+served-open : (s : State) (peer : ℕ) (serve : Session → Served) (session : Session) → session_of s peer ≡ Some session
+    → session.closed ≡ false
+    → session_of (serve_found s peer serve (session_of s peer)).state peer
+    ≡ Some (session_after session (serve session))
+served-open s peer serve session e alive =
+    ap (λ o. session_of (serve_found s peer serve o).state peer) e ∙ go session.closed alive
+  where
+    set : first_with (λ (p : Session). p.handle) peer
+        (with_first (λ (p : Session). p.handle) peer (session_after session (serve session)) s.peers)
+        ≡ Some (session_after session (serve session))
+    set =
+        first_with-set (λ (p : Session). p.handle) peer session (session_after session (serve session)) s.peers e
+        (first_with-number (λ (p : Session). p.handle) peer session s.peers e)
+
+    go : (b : Bool) → b ≡ false
+        → session_of (cond b (turned s Silent true) (served_turn s peer serve session)).state peer
+        ≡ Some (session_after session (serve session))
+    go true bad = cc
+    go false same = set
+
+own-open : (base : Shared) (a : AdapterState) (now peer n : ℕ) (bytes : List ℕ) (session : Session) (old : Held)
+    (x : Sight)
+    → session_of a.state peer ≡ Some session → session.closed ≡ false → first_with (λ (h : Held). h.peer) peer a.held
+    ≡ Some old → sight_of bytes ≡ x
+    → session_of (after (at_state a.state now) (events_of_sight peer x)) peer
+    ≡ Some (closing (steps base session (frames_of_peer peer (At now ∷ events_of_sight peer x)))
+    (sight_of (bytes_held
+    (with_first (λ (h : Held). h.peer) peer (record { peer = peer; bytes = cleared x bytes }) a.held) peer)))
+own-open base a now peer n bytes session old x e alive entry seen =
+    go x seen ∙ ap (λ s. Some
+    (closing (steps base session (frames_of_peer peer (At now ∷ events_of_sight peer x)))
+    (sight_of (bytes_found s))))
+    (sym (first_with-set (λ (h : Held). h.peer) peer old _ a.held entry refl))
+  where
+    go : (y : Sight) → sight_of bytes ≡ y
+        → session_of (after (at_state a.state now) (events_of_sight peer y)) peer
+        ≡ Some (closing (steps base session (frames_of_peer peer (At now ∷ events_of_sight peer y)))
+        (sight_of (cleared y bytes)))
+    go Nothing_yet k = e ∙ ap (λ z. Some (closing session z)) (sym k)
+    go (A_frame f) k =
+        served-open (at_state a.state now) peer (λ p. command_served (at_state a.state now).shared p f) session e alive
+        ∙ (ap (λ p. Some p) (step-same (at_state a.state now).shared base session f)
+        ∙ ap (λ b. Some (steps base session (cond b (f ∷ []) []))) (sym (eq-eqb peer peer refl)))
+    go (A_long_header h) k =
+        served-open (at_state a.state now) peer
+        (λ p. leaving (at_state a.state now).shared (long_refused p h)) session e alive
+        ∙ ap (λ z. Some (closing session z)) (sym k)
+
+-- What calls leave of a session that its frames and what is held say.
+abbrev Says : Shared → ℕ → Session → List Frame → AdapterState → Type 0
+Says base peer session frames a = session_of a.state peer
+    ≡ Some (closing (steps base session frames) (sight_of (bytes_held a.held peer)))
+
+says-own : (base : Shared) (a : AdapterState) (now peer : ℕ) (piece : List ℕ) (session : Session) → IsSound a
+    → Says base peer session [] a
+    → Says base peer session (frames_of_peer peer (call_meaning a (Feeds now peer piece)).events)
+    (after_call a (Feeds now peer piece))
+says-own base a now peer piece session sound says = go (closing session (sight_of (bytes_held a.held peer))) says refl
+  where
+    dropped : (found : Session) → session_of a.state peer ≡ Some found → found.closed ≡ true
+        → call_meaning a (Feeds now peer piece) ≡ at_a_moment now (dropped_piece a.held)
+    dropped found e shut =
+        ap (λ o. at_a_moment now (piece_to a.held peer piece o)) e
+        ∙ ap (λ b. at_a_moment now
+        (cond b (dropped_piece a.held) (piece_meaning a.held peer (bytes_held a.held peer) piece))) shut
+
+    by_close : (found : Session) → session_of a.state peer ≡ Some found
+        → closing session (sight_of (bytes_held a.held peer)) ≡ found
+        → (b : Bool) → found.closed ≡ b
+        → Says base peer session (frames_of_peer peer (call_meaning a (Feeds now peer piece)).events)
+        (after_call a (Feeds now peer piece))
+    by_close found e is true shut =
+        subst (λ (m : Meaning). Says base peer session (frames_of_peer peer m.events) (after_meaning a.state m))
+        (sym (dropped found e shut)) says
+    by_close found e is false alive =
+        let none : sight_of (bytes_held a.held peer)
+        ≡ Nothing_yet = sight_of-running (bytes_held a.held peer) (sound.ready peer found e alive) in
+        let same : session ≡ found = ap (closing session) (sym none) ∙ is in
+        let entry : (old : Held)
+        × (first_with (λ (h : Held). h.peer) peer a.held ≡ Some old) = entry-of a peer found sound e in
+        subst (λ (m : Meaning). Says base peer session (frames_of_peer peer m.events) (after_meaning a.state m))
+        (sym (feed-open a now peer piece (record { session = found; found = e; alive = alive })))
+        (own-open base a now peer 0 (joined_of (bytes_held a.held peer) piece) session entry.0
+        (sight_of (joined_of (bytes_held a.held peer) piece))
+        (e ∙ ap (λ p. Some p) (sym same)) (ap (λ (p : Session). p.closed) same ∙ alive) entry.1 refl)
+
+    go : (found : Session) → session_of a.state peer ≡ Some found
+        → closing session (sight_of (bytes_held a.held peer)) ≡ found
+        → Says base peer session (frames_of_peer peer (call_meaning a (Feeds now peer piece)).events)
+        (after_call a (Feeds now peer piece))
+    go found e is = by_close found e is found.closed refl
+
+says-other : (base : Shared) (peer : ℕ) (session : Session) (a : AdapterState) (c : Call) → IsForOther peer c
+    → Says base peer session [] a → frames_of_peer peer (call_meaning a c).events ≡ []
+    → Says base peer session (frames_of_peer peer (call_meaning a c).events) (after_call a c)
+says-other base peer session a c other says none =
+    session-call peer _ a c other says
+    ∙ (ap (λ b. Some (closing session (sight_of b))) (sym (held-call peer a c other))
+    ∙ ap (λ fs. Some (closing (steps base session fs) (sight_of (bytes_held (after_call a c).held peer)))) (sym none))
+
+none-other : (peer other now : ℕ) (piece : List ℕ) (held : List Held) (o : Option Session) → eqb other peer ≡ false
+    → frames_of_peer peer (at_a_moment now (piece_to held other piece o)).events ≡ []
+none-other peer other now piece held None differ = refl
+none-other peer other now piece held (Some session) differ =
+    both (λ (m : Meaning). frames_of_peer peer (at_a_moment now m).events ≡ []) session.closed _ _ refl
+    (no-frames peer other now (sight_of (joined_of (bytes_held held other) piece)) differ)
+
+says-call : (base : Shared) (peer : ℕ) (session : Session) (a : AdapterState) (c : Call) → IsSound a → GoesOn peer c
+    → Says base peer session [] a
+    → Says base peer session (frames_of_peer peer (call_meaning a c).events) (after_call a c)
+says-call base peer session a Begins_peer sound goes says = says-other base peer session a Begins_peer tt says refl
+says-call base peer session a (Feeds now other piece) sound goes says = go (eqb other peer) refl
+  where
+    go : (b : Bool) → eqb other peer ≡ b
+        → Says base peer session (frames_of_peer peer (call_meaning a (Feeds now other piece)).events)
+        (after_call a (Feeds now other piece))
+    go true t =
+        subst (λ q. Says base peer session (frames_of_peer peer (call_meaning a (Feeds now q piece)).events)
+        (after_call a (Feeds now q piece)))
+        (sym (eqb-true other peer t)) (says-own base a now peer piece session sound says)
+    go false t =
+        says-other base peer session a (Feeds now other piece) (eqb-false other peer t) says
+        (none-other peer other now piece a.held (session_of a.state other) t)
+says-call base peer session a (Ends_peer other) sound goes says = says-other base peer session a
+    (Ends_peer other) goes says refl
+says-call base peer session a (Ticks now) sound goes says = says-other base peer session a (Ticks now) tt says refl
+
+says-calls : (base : Shared) (peer : ℕ) (session : Session) (a : AdapterState) (calls : List Call) → IsSound a
+    → AllByRecursion (GoesOn peer) calls
+    → Says base peer session [] a
+    → Says base peer session (frames_of_peer peer (events_of_calls a calls)) (after_calls a calls)
+says-calls base peer session a [] sound goes says = says
+says-calls base peer session a (c ∷ cs) sound goes says =
+    let fs : List Frame = frames_of_peer peer (call_meaning a c).events in
+    says-calls base peer (steps base session (frames_of_peer peer (call_meaning a c).events)) (after_call a c) cs
+    (sound-call a c sound) goes.1
+    (says-call base peer session a c sound goes.0 says)
+    ∙ ap (λ s. Some (closing s (sight_of (bytes_held (after_calls (after_call a c) cs).held peer))))
+    (sym (steps-append base session (frames_of_peer peer (call_meaning a c).events)
+    (frames_of_peer peer (events_of_calls (after_call a c) cs)))
+    ∙ ap (steps base session)
+    (sym (frames-append peer (call_meaning a c).events (events_of_calls (after_call a c) cs))))
+
+-- A peer that begins.
+begins-next : (s : State) (peer : ℕ) → (begun s).answer.said ≡ Begins peer → s.next_handle ≡ peer
+begins-next s peer =
+    let P : Turned → Type 0 = λ t. t.answer.said ≡ Begins peer → s.next_handle ≡ peer in
+    both P (not (ltb (length s.peers) s.places)) _ _ (λ e. cc)
+    (both P (ltb 0xffffffff s.next_handle) _ _ (λ e. cc)
+    (λ e. let f : Begins s.next_handle ≡ Begins peer = e in cc))
+
+begun-session : (s : State) (peer : ℕ) → session_of s peer ≡ None → (begun s).answer.said ≡ Begins peer
+    → session_of (begun s).state peer ≡ Some (new_session peer)
+begun-session s peer none =
+    let P : Turned → Type 0 = λ t. t.answer.said ≡ Begins peer → session_of t.state peer ≡ Some (new_session peer) in
+    both P (not (ltb (length s.peers) s.places)) _ _ (λ e. cc)
+    (both P (ltb 0xffffffff s.next_handle) _ _ (λ e. cc)
+    (λ e.
+    let same : s.next_handle ≡ peer = (let f : Begins s.next_handle ≡ Begins peer = e in cc) in
+    first_with-behind (λ (p : Session). p.handle) peer s.peers _ none
+    ∙ (ap (λ b. cond b (Some (new_session s.next_handle)) None) (eq-eqb s.next_handle peer same)
+    ∙ ap (λ n. Some (new_session n)) same)))
+
+says-beginning : (base : Shared) (a : AdapterState) (peer : ℕ) → IsSound a → (begun a.state).answer.said ≡ Begins peer
+    → Says base peer (new_session peer) [] (after_call a Begins_peer)
+says-beginning base a peer sound e =
+    let none : session_of a.state peer ≡ None
+    = subst (λ n. session_of a.state n ≡ None) (begins-next a.state peer e)
+    (numbers-none (λ (p : Session). p.handle) a.state.next_handle a.state.peers
+    (next-none a.state.next_handle _ sound.drawn)) in
+    let held : bytes_held (after_call a Begins_peer).held peer ≡ []
+    = held-call peer a Begins_peer tt ∙ ap bytes_found (no-entry a peer sound.same none) in
+    begun-session a.state peer none e ∙ ap (λ b. Some (closing (new_session peer) (sight_of b))) (sym held)
+
+says-run : (base : Shared) (peer : ℕ) (run : Run peer)
+    → Says base peer (new_session peer) (frames_in peer run) (at_end peer run)
+says-run base peer run =
+    let first : AdapterState = after_calls (new_adapter run.objects run.listen run.limits) run.earlier in
+    let sound : IsSound (after_calls (new_adapter run.objects run.listen run.limits) run.earlier)
+    = sound-calls (new_adapter run.objects run.listen run.limits) run.earlier
+    (sound-new run.objects run.listen run.limits) in
+    says-calls base peer (new_session peer) (at_beginning peer run) run.calls
+    (sound-call (after_calls (new_adapter run.objects run.listen run.limits) run.earlier) Begins_peer sound) run.goes_on
+    (says-beginning base (after_calls
+    (new_adapter run.objects run.listen run.limits) run.earlier) peer sound run.begins)
+
+pub same-session : (peer : ℕ) (r s : Run peer) → taken_in peer r ≡ taken_in peer s
+    → session_of (at_end peer r).state peer ≡ session_of (at_end peer s).state peer
+same-session peer r s same =
+    let both_same : (frames_in peer r ≡ frames_in peer s)
+    × (bytes_held (at_end peer r).held peer ≡ bytes_held (at_end peer s).held peer)
+    = same-runs peer peer r s same in
+    let base : Shared = (at_beginning peer r).state.shared in
+    says-run (at_beginning peer r).state.shared peer r
+    ∙ (ap (λ fs. Some (closing (steps (at_beginning peer r).state.shared (new_session peer) fs)
+    (sight_of (bytes_held (at_end peer r).held peer)))) both_same.0
+    ∙ (ap (λ b. Some (closing (steps (at_beginning peer r).state.shared (new_session peer) (frames_in peer s))
+    (sight_of b))) both_same.1
+    ∙ sym (says-run (at_beginning peer r).state.shared peer s)))

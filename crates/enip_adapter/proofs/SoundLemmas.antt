@@ -1,0 +1,310 @@
+-- What holds of every adapter that calls lead to from a new one.
+use Rattle.std.proofs.Common.{◌≡◌, ℕ, ◌+◌, ◌≤◌, List, [], ◌∷◌, ◌++◌, Bool, true, false, cond, not, eqb, ltb, length}
+use Rattle.std.proofs.Common.{Option, Some, None, refl, sym, ap, subst, ◌∙◌}
+use Rattle.std.proofs.lemmas.Bool.{eqb-true, eqb-false}
+use Rattle.std.proofs.lemmas.List.{map-append}
+use Rattle.cip_objects.specs.Contents.{Contents}
+use Rattle.enip_wire.specs.Stream.{Sight, joined_of, sight_of, cleared}
+use Rattle.enip_wire.specs.Stream.Sight.{Nothing_yet, A_frame, A_long_header}
+use Rattle.enip_adapter.specs.declared.adapter.Limits.{Limits}
+use Rattle.enip_adapter.specs.declared.peer.Session.{Session}
+use Rattle.enip_adapter.specs.declared.shared.Listen.{Listen}
+use Rattle.enip_adapter.specs.Adapter.{new_adapter}
+use Rattle.enip_adapter.specs.Commands.{command_served, long_refused}
+use Rattle.enip_adapter.specs.Lookup.{first_with, with_first, without_first}
+use Rattle.enip_adapter.specs.Replies.{Served, leaving}
+use Rattle.enip_adapter.specs.Turn.{State, Turned, begun, after, session_of, serve_found, end_found, session_after}
+use Rattle.enip_adapter.specs.Turn.Said.{Silent}
+use Rattle.enip_adapter.specs.Calls.{AdapterState, Held, Call, Meaning, call_meaning, after_call, bytes_found}
+use Rattle.enip_adapter.specs.Calls.{bytes_held, held_at_beginning, piece_to, piece_meaning, dropped_piece}
+use Rattle.enip_adapter.specs.Calls.{at_a_moment, events_of_sight, answer_of, call_answer}
+use Rattle.enip_adapter.specs.Calls.Call.{Begins_peer, Feeds, Ends_peer, Ticks}
+use Rattle.enip_adapter.specs.Runs.{after_calls, IsForOther}
+use Rattle.enip_adapter.proofs.ListLemmas.{both, first_with-number, first_with-set, without_first-none, numbers}
+use Rattle.enip_adapter.proofs.ListLemmas.{numbers-with_first, numbers-without_first, none-numbers, numbers-none}
+use Rattle.enip_adapter.proofs.ListLemmas.{AreDrawn, drawn-more, drawn-without, gone}
+use Rattle.enip_adapter.proofs.NumberLemmas.{next-sight, next-ended}
+use Rattle.enip_adapter.proofs.PeerLemmas.{at_state, held-call, session-call}
+use Rattle.enip_adapter.proofs.RunningLemmas.{IsRunning, running-empty, running-taken, taken_of-some}
+
+-- The handles of the peers, and the numbers of what is held.
+abbrev pub handles : State → List ℕ
+handles s = numbers (λ (p : Session). p.handle) s.peers
+
+abbrev pub entries : List Held → List ℕ
+entries held = numbers (λ (h : Held). h.peer) held
+
+-- Each peer has one entry, handles differ and were drawn, and an open peer waits for more bytes.
+pub record IsSound (a : AdapterState) : Type 0 where
+  pub same : entries a.held ≡ handles a.state
+  pub drawn : AreDrawn a.state.next_handle (handles a.state)
+  pub ready : (peer : ℕ) (session : Session) → session_of a.state peer ≡ Some session → session.closed ≡ false
+      → IsRunning (bytes_held a.held peer)
+
+handles-served : (s : State) (peer : ℕ) (serve : Session → Served) (o : Option Session) → session_of s peer ≡ o
+    → handles (serve_found s peer serve o).state ≡ handles s
+handles-served s peer serve None e = refl
+handles-served s peer serve (Some session) e =
+    both (λ (t : Turned). handles t.state ≡ handles s) session.closed _ _ refl
+    (numbers-with_first (λ (p : Session). p.handle) peer (session_after session (serve session)) s.peers
+    (first_with-number (λ (p : Session). p.handle) peer session s.peers e))
+
+handles-sight : (s : State) (peer : ℕ) (x : Sight) → handles (after s (events_of_sight peer x)) ≡ handles s
+handles-sight s peer Nothing_yet = refl
+handles-sight s peer (A_frame f) = handles-served s peer (λ session. command_served s.shared session f)
+    (session_of s peer) refl
+handles-sight s peer (A_long_header h) = handles-served s peer (λ session. leaving s.shared (long_refused session h))
+    (session_of s peer) refl
+
+-- What a piece leaves of the numbers.
+record IsFed (s : State) (held : List Held) (m : Meaning) : Type 0 where
+  handles_same : handles (after s m.events) ≡ handles s
+  next_same : (after s m.events).next_handle ≡ s.next_handle
+  entries_same : entries m.held ≡ entries held
+
+fed-piece : (s : State) (peer : ℕ) (piece : List ℕ) (held : List Held) (o : Option Session)
+    → IsFed s held (piece_to held peer piece o)
+fed-piece s peer piece held None = record { handles_same = refl; next_same = refl; entries_same = refl }
+fed-piece s peer piece held (Some session) =
+    both (λ (m : Meaning). IsFed s held m) session.closed _ _
+    (record { handles_same = refl; next_same = refl; entries_same = refl })
+    (record {
+      handles_same = handles-sight s peer (sight_of (joined_of (bytes_held held peer) piece));
+      next_same = next-sight s peer (sight_of (joined_of (bytes_held held peer) piece));
+      entries_same = numbers-with_first (λ (h : Held). h.peer) peer _ held refl;
+    })
+
+handles-ended : (s : State) (peer : ℕ) (o : Option Session) → session_of s peer ≡ o
+    → handles (end_found s peer o) ≡ without_first (λ m. m) peer (handles s)
+handles-ended s peer None e =
+    sym (without_first-none (λ m. m) peer (handles s) (none-numbers (λ (p : Session). p.handle) peer s.peers e))
+handles-ended s peer (Some session) e = numbers-without_first (λ (p : Session). p.handle) peer s.peers
+
+-- The numbers after a call.
+record AreSound (a : AdapterState) : Type 0 where
+  same : entries a.held ≡ handles a.state
+  drawn : AreDrawn a.state.next_handle (handles a.state)
+
+numbers-begun : (s : State) (held : List Held) → entries held ≡ handles s → AreDrawn s.next_handle (handles s)
+    → AreSound (record { state = (begun s).state; held = held_at_beginning held (begun s).answer.said })
+numbers-begun s held same drawn =
+    let P : Turned → Type 0 = λ t. AreSound (record { state = t.state; held = held_at_beginning held t.answer.said }) in
+    both P (not (ltb (length s.peers) s.places)) _ _ (record { same = same; drawn = drawn })
+    (both P (ltb 0xffffffff s.next_handle) _ _ (record { same = same; drawn = drawn })
+    (record {
+      same = map-append (λ (h : Held). h.peer) held _
+          ∙ (ap (λ ns. ns ++ s.next_handle ∷ []) same ∙ sym (map-append (λ (p : Session). p.handle) s.peers _));
+      drawn = subst (AreDrawn (s.next_handle + 1)) (sym (map-append (λ (p : Session). p.handle) s.peers _))
+          (drawn-more s.next_handle (handles s) drawn);
+    }))
+
+numbers-call : (a : AdapterState) (c : Call) → IsSound a → AreSound (after_call a c)
+numbers-call a Begins_peer sound = numbers-begun a.state a.held sound.same sound.drawn
+numbers-call a (Feeds now peer piece) sound =
+    let fed : IsFed (at_state a.state now) a.held (piece_to a.held peer piece (session_of a.state peer))
+    = fed-piece (at_state a.state now) peer piece a.held (session_of a.state peer) in
+    record {
+      same = fed.entries_same ∙ (sound.same ∙ sym fed.handles_same);
+      drawn = subst (λ n. AreDrawn n (handles (after_call a (Feeds now peer piece)).state)) (sym fed.next_same)
+          (subst (AreDrawn a.state.next_handle) (sym fed.handles_same) sound.drawn);
+    }
+numbers-call a (Ends_peer peer) sound =
+    let ended : handles (end_found a.state peer (session_of a.state peer))
+    ≡ without_first (λ m. m) peer (handles a.state)
+    = handles-ended a.state peer (session_of a.state peer) refl in
+    record {
+      same = numbers-without_first (λ (h : Held). h.peer) peer a.held
+          ∙ (ap (without_first (λ m. m) peer) sound.same ∙ sym ended);
+      drawn = subst (λ n. AreDrawn n (handles (end_found a.state peer (session_of a.state peer))))
+          (sym (next-ended a.state peer (session_of a.state peer)))
+          (subst (AreDrawn a.state.next_handle) (sym ended)
+          (drawn-without a.state.next_handle peer (handles a.state) sound.drawn));
+    }
+numbers-call a (Ticks now) sound = record { same = sound.same; drawn = sound.drawn }
+
+-- A peer with no session has no entry, and one with a session has one.
+pub no-entry : (a : AdapterState) (peer : ℕ) → entries a.held ≡ handles a.state → session_of a.state peer ≡ None
+    → first_with (λ (h : Held). h.peer) peer a.held ≡ None
+no-entry a peer same e =
+    numbers-none (λ (h : Held). h.peer) peer a.held
+    (ap (first_with (λ m. m) peer) same ∙ none-numbers (λ (p : Session). p.handle) peer a.state.peers e)
+
+no-session : (a : AdapterState) (peer : ℕ) → entries a.held ≡ handles a.state
+    → first_with (λ (h : Held). h.peer) peer a.held ≡ None
+    → session_of a.state peer ≡ None
+no-session a peer same e =
+    numbers-none (λ (p : Session). p.handle) peer a.state.peers
+    (ap (first_with (λ m. m) peer) (sym same) ∙ none-numbers (λ (h : Held). h.peer) peer a.held e)
+
+pub entry-of : (a : AdapterState) (peer : ℕ) (session : Session) → IsSound a → session_of a.state peer ≡ Some session
+    → (old : Held) × (first_with (λ (h : Held). h.peer) peer a.held ≡ Some old)
+entry-of a peer session sound e = go (first_with (λ (h : Held). h.peer) peer a.held) refl
+  where
+    go : (o : Option Held) → first_with (λ (h : Held). h.peer) peer a.held ≡ o → (old : Held)
+        × (first_with (λ (h : Held). h.peer) peer a.held ≡ Some old)
+    go None f = let bad : None ≡ Some session = sym (no-session a peer sound.same f) ∙ e in cc
+    go (Some old) f = (old, f)
+
+-- An open peer waits for more bytes.
+abbrev IsReady : ℕ → AdapterState → Type 0
+IsReady peer a = (session : Session) → session_of a.state peer ≡ Some session → session.closed ≡ false
+    → IsRunning (bytes_held a.held peer)
+
+ready-other : (a : AdapterState) (c : Call) (peer : ℕ) → IsSound a → IsForOther peer c → IsReady peer (after_call a c)
+ready-other a c peer sound other session e alive = go (session_of a.state peer) refl
+  where
+    go : (o : Option Session) → session_of a.state peer ≡ o → IsRunning (bytes_held (after_call a c).held peer)
+    go None f =
+        subst IsRunning (sym (held-call peer a c other ∙ ap bytes_found (no-entry a peer sound.same f))) running-empty
+    go (Some before) f =
+        let same : before ≡ session =
+        (let g : Some before ≡ Some session = sym (session-call peer before a c other f) ∙ e in cc) in
+        subst IsRunning (sym (held-call peer a c other)) (sound.ready peer before f (ap (λ s. s.closed) same ∙ alive))
+
+-- After a piece of its own.
+ready-sight : (s : State) (peer : ℕ) (piece bytes : List ℕ) (held : List Held) (old : Held) (before : Session)
+    (x : Sight)
+    → sight_of (joined_of bytes piece) ≡ x → first_with (λ (h : Held). h.peer) peer held ≡ Some old
+    → session_of s peer ≡ Some before → before.closed ≡ false
+    → IsRunning bytes
+    → IsReady peer (record {
+      state = after s (events_of_sight peer x);
+      held = with_first (λ (h : Held). h.peer) peer
+          (record { peer = peer; bytes = cleared x (joined_of bytes piece) }) held;
+    })
+ready-sight s peer piece bytes held old before x seen entry found alive running session e alive_after =
+    subst IsRunning (sym (ap bytes_found (first_with-set (λ (h : Held). h.peer) peer old _ held entry refl)))
+    (go x seen e)
+  where
+    closes : (h : _) → session_of (after s (events_of_sight peer (A_long_header h))) peer ≡ Some session
+        → IsRunning (joined_of bytes piece)
+    closes h f =
+        let served : serve_found s peer (λ p. leaving s.shared (long_refused p h)) (session_of s peer)
+        ≡ serve_found s peer (λ p. leaving s.shared (long_refused p h)) (Some before)
+        = ap (serve_found s peer (λ p. leaving s.shared (long_refused p h))) found in
+        let shut : (session_of
+        (serve_found s peer (λ p. leaving s.shared (long_refused p h)) (Some before)).state peer)
+        ≡ Some (session_after before (leaving s.shared (long_refused before h)))
+        = ap (λ b. session_of
+        (cond b (let t : Turned = record { state = s; answer = record { said = Silent; close = true } } in t)
+        (serve_found s peer (λ p. leaving s.shared (long_refused p h))
+        (Some (record before { closed = false })))).state peer) alive
+        ∙ first_with-set (λ (p : Session). p.handle) peer before
+        (session_after before (leaving s.shared (long_refused before h))) s.peers found
+        (first_with-number (λ (p : Session). p.handle) peer before s.peers found) in
+        let same : Some session ≡ Some (session_after before (leaving s.shared (long_refused before h)))
+        = sym f ∙ (ap (λ (t : Turned). session_of t.state peer) served ∙ shut) in
+        let it : session ≡ session_after before (leaving s.shared (long_refused before h)) = cc in
+        let closed : session.closed ≡ true = ap (λ (p : Session). p.closed) it in
+        cc
+
+    go : (y : Sight) → sight_of (joined_of bytes piece) ≡ y → session_of (after s (events_of_sight peer y)) peer
+        ≡ Some session
+        → IsRunning (cleared y (joined_of bytes piece))
+    go Nothing_yet k f = running-taken bytes piece running k
+    go (A_frame g) k f = running-empty
+    go (A_long_header h) k f = closes h f
+
+ready-own : (a : AdapterState) (now peer : ℕ) (piece : List ℕ) → IsSound a
+    → IsReady peer (after_call a (Feeds now peer piece))
+ready-own a now peer piece sound = go (session_of a.state peer) refl
+  where
+    with_entry : (before : Session) → session_of a.state peer ≡ Some before → before.closed ≡ false
+        → (o : Option Held) → first_with (λ (h : Held). h.peer) peer a.held ≡ o
+        → IsReady peer (record {
+          state = after (at_state a.state now) (piece_meaning a.held peer (bytes_held a.held peer) piece).events;
+          held = (piece_meaning a.held peer (bytes_held a.held peer) piece).held;
+        })
+    with_entry before f alive None g =
+        let bad : None ≡ Some before = sym (no-session a peer sound.same g) ∙ f in cc
+    with_entry before f alive (Some old) g =
+        ready-sight (at_state a.state now) peer piece (bytes_held a.held peer) a.held old before
+        (sight_of (joined_of (bytes_held a.held peer) piece)) refl
+        g f alive (sound.ready peer before f alive)
+
+    by_close : (before : Session) → session_of a.state peer ≡ Some before → (b : Bool) → before.closed ≡ b
+        → IsReady peer (record {
+          state = after (at_state a.state now)
+              (cond b (piece_to a.held peer piece None)
+              (piece_meaning a.held peer (bytes_held a.held peer) piece)).events;
+          held = (cond b (piece_to a.held peer piece None)
+              (piece_meaning a.held peer (bytes_held a.held peer) piece)).held;
+        })
+    by_close before f true shut = sound.ready peer
+    by_close before f false alive = with_entry before f alive (first_with (λ (h : Held). h.peer) peer a.held) refl
+
+    go : (o : Option Session) → session_of a.state peer ≡ o
+        → IsReady peer (record {
+          state = after (at_state a.state now) (piece_to a.held peer piece o).events;
+          held = (piece_to a.held peer piece o).held;
+        })
+    go None f = sound.ready peer
+    go (Some before) f = by_close before f before.closed refl
+
+ready-ended : (a : AdapterState) (peer : ℕ) → IsSound a → IsReady peer (after_call a (Ends_peer peer))
+ready-ended a peer sound session e alive =
+    let n : AreSound (after_call a (Ends_peer peer)) = numbers-call a (Ends_peer peer) sound in
+    let none : first_with (λ m. m) peer (handles (after_call a (Ends_peer peer)).state) ≡ None
+    = ap (first_with (λ m. m) peer) (handles-ended a.state peer (session_of a.state peer) refl)
+    ∙ gone peer (handles a.state) sound.drawn.once in
+    let bad : None ≡ Some session = sym
+    (numbers-none (λ (p : Session). p.handle) peer (after_call a (Ends_peer peer)).state.peers none) ∙ e in
+    cc
+
+ready-call : (a : AdapterState) (c : Call) (peer : ℕ) → IsSound a → IsReady peer (after_call a c)
+ready-call a Begins_peer peer sound = ready-other a Begins_peer peer sound tt
+ready-call a (Feeds now other piece) peer sound = go (eqb other peer) refl
+  where
+    go : (b : Bool) → eqb other peer ≡ b → IsReady peer (after_call a (Feeds now other piece))
+    go true t = subst (λ q. IsReady q (after_call a (Feeds now other piece))) (eqb-true other peer t)
+        (ready-own a now other piece sound)
+    go false t = ready-other a (Feeds now other piece) peer sound (eqb-false other peer t)
+ready-call a (Ends_peer other) peer sound = go (eqb other peer) refl
+  where
+    go : (b : Bool) → eqb other peer ≡ b → IsReady peer (after_call a (Ends_peer other))
+    go true t = subst (λ q. IsReady q (after_call a (Ends_peer other))) (eqb-true other peer t)
+        (ready-ended a other sound)
+    go false t = ready-other a (Ends_peer other) peer sound (eqb-false other peer t)
+ready-call a (Ticks now) peer sound = ready-other a (Ticks now) peer sound tt
+
+pub sound-call : (a : AdapterState) (c : Call) → IsSound a → IsSound (after_call a c)
+sound-call a c sound =
+    let n : AreSound (after_call a c) = numbers-call a c sound in
+    record { same = n.same; drawn = n.drawn; ready = λ peer. ready-call a c peer sound }
+
+pub sound-calls : (a : AdapterState) (calls : List Call) → IsSound a → IsSound (after_calls a calls)
+sound-calls a [] sound = sound
+sound-calls a (c ∷ cs) sound = sound-calls (after_call a c) cs (sound-call a c sound)
+
+pub sound-new : (objects : Contents) (listen : Listen) (limits : Limits) → IsSound (new_adapter objects listen limits)
+sound-new objects listen limits = record {
+  same = refl;
+  drawn = record { once = tt; below = tt };
+  ready = λ peer session e alive. cc;
+}
+
+-- A piece is taken in part at least, or dropped.
+pub taken-piece : (a : AdapterState) (now peer b : ℕ) (bs : List ℕ) → IsSound a → (o : Option Session)
+    → session_of a.state peer ≡ o
+    → (answer_of a.state (at_a_moment now (piece_to a.held peer (b ∷ bs) o))).close ≡ false
+    → 1 ≤ (piece_to a.held peer (b ∷ bs) o).taken
+taken-piece a now peer b bs sound None e alive = cc
+taken-piece a now peer b bs sound (Some session) e alive = go session.closed refl alive
+  where
+    go : (c : Bool) → session.closed ≡ c
+        → (answer_of a.state (at_a_moment now
+        (cond c (dropped_piece a.held) (piece_meaning a.held peer (bytes_held a.held peer) (b ∷ bs))))).close
+        ≡ false
+        → 1 ≤ (cond c (dropped_piece a.held) (piece_meaning a.held peer (bytes_held a.held peer) (b ∷ bs))).taken
+    go true shut k = cc
+    go false lives k = taken_of-some (bytes_held a.held peer) b bs (sound.ready peer session e lives)
+
+pub some-taken : (objects : Contents) (listen : Listen) (limits : Limits) (calls : List Call) (now peer b : ℕ)
+    (bs : List ℕ)
+    → (call_answer (after_calls (new_adapter objects listen limits) calls) (Feeds now peer (b ∷ bs))).close ≡ false
+    → 1 ≤ (call_meaning (after_calls (new_adapter objects listen limits) calls) (Feeds now peer (b ∷ bs))).taken
+some-taken objects listen limits calls now peer b bs alive =
+    let a : AdapterState = after_calls (new_adapter objects listen limits) calls in
+    taken-piece (after_calls (new_adapter objects listen limits) calls) now peer b bs
+    (sound-calls (new_adapter objects listen limits) calls (sound-new objects listen limits))
+    (session_of (after_calls (new_adapter objects listen limits) calls).state peer) refl alive

@@ -1,0 +1,379 @@
+-- What is taken of a peer's stream are its frames, and the bytes that are held.
+use Rattle.std.proofs.Common.{◌≡◌, ℕ, ◌+◌, ◌<◌, ◌≤◌, inl, inr, List, [], ◌∷◌, ◌++◌, Bool, true, false, cond, not, eqb}
+use Rattle.std.proofs.Common.{ltb, length, take, drop, Option, Some, None, refl, sym, ap, subst, ◌∙◌, arith}
+use Rattle.std.proofs.Common.{append_assoc, append-nil, length-append, length-drop, lit<}
+use Rattle.std.specs.List.{flat_map, AllByRecursion}
+use Rattle.std.proofs.lemmas.Bool.{eqb-true, eqb-false, eq-eqb, cases_lt, cases_eq}
+use Rattle.std.proofs.lemmas.Bool.Decides.{nat_tests}
+use Rattle.std.proofs.lemmas.Grind.{flat_map-append}
+use Rattle.cip_bytes.specs.Numbers.{number_at, AreBytes}
+use Rattle.cip_bytes.proofs.Bytes.{AreBytes-take, AreBytes-append}
+use Rattle.cip_objects.specs.Contents.{Contents}
+use Rattle.enip_wire.specs.Headers.{header_at}
+use Rattle.enip_wire.specs.Frames.{Frame, frame, IsFrame, IsTooLong, end_after}
+use Rattle.enip_wire.specs.Stream.{Cut, Sight, taken_of, joined_of, sight_of, cleared}
+use Rattle.enip_wire.specs.Stream.Sight.{Nothing_yet, A_frame, A_long_header}
+use Rattle.enip_wire.proofs.FrameLemmas.{number_at-frame, length-frame, end_after-within, end_after-over}
+use Rattle.enip_wire.proofs.FrameLemmas.{IsHeader-header_at}
+use Rattle.enip_wire.proofs.HeaderLemmas.{header_spelling-header_at}
+use Rattle.enip_wire.proofs.StreamLemmas.{one_cut_lem}
+use Rattle.enip_wire.proofs.SeeLemmas.{sight_of-short, sight_of-long, sight_of-frame}
+use Rattle.enip_adapter.specs.declared.adapter.Limits.{Limits}
+use Rattle.enip_adapter.specs.declared.peer.Session.{Session}
+use Rattle.enip_adapter.specs.declared.shared.Listen.{Listen}
+use Rattle.enip_adapter.specs.Adapter.{new_adapter}
+use Rattle.enip_adapter.specs.Lookup.{first_with, with_first}
+use Rattle.enip_adapter.specs.Turn.{State, Event, Turned, begun, session_of}
+use Rattle.enip_adapter.specs.Turn.Event.{Begin, End, At, Framed, Long}
+use Rattle.enip_adapter.specs.Turn.Said.{Begins}
+use Rattle.enip_adapter.specs.Calls.{AdapterState, Held, Call, Meaning, call_meaning, after_call, call_answer}
+use Rattle.enip_adapter.specs.Calls.{bytes_found, bytes_held, held_at_beginning, piece_to, piece_meaning}
+use Rattle.enip_adapter.specs.Calls.{dropped_piece, at_a_moment, events_of_sight}
+use Rattle.enip_adapter.specs.Calls.Call.{Begins_peer, Feeds, Ends_peer, Ticks}
+use Rattle.enip_adapter.specs.Runs.{after_calls, events_of_calls, taken_by_call, taken_by_calls, frames_of_peer}
+use Rattle.enip_adapter.specs.Runs.{GoesOn, Run, at_end, taken_in, frames_in}
+use Rattle.enip_adapter.proofs.ListLemmas.{both, first_with-changed, first_with-removed, first_with-append}
+use Rattle.enip_adapter.proofs.ListLemmas.{first_with-behind, first_with-set, next-none, numbers-none}
+use Rattle.enip_adapter.proofs.RunningLemmas.{IsRunning, running-empty, running-taken}
+use Rattle.enip_adapter.proofs.SoundLemmas.{IsSound, sound-call, sound-calls, sound-new, no-entry}
+
+AreBytes-none : AreBytes []
+AreBytes-none i = lit< tt
+
+-- No frame is spelled at the front.
+abbrev pub HasNone : List ℕ → Type 0
+HasNone bytes = (f : Frame) (more : List ℕ) → IsFrame f → bytes ≡ frame f ++ more → ⊥
+
+none-running : (bytes : List ℕ) → IsRunning bytes → HasNone bytes
+none-running bytes running f more ok e =
+    let says : number_at 2 2 bytes ≡ f.header.length = ap (λ b. number_at 2 2 b) e ∙ number_at-frame f more ok in
+    let size : length bytes ≡ (24 + f.header.length) + length more
+    = ap length e ∙ (length-append (frame f) more ∙ ap (λ n. n + length more) (length-frame f ok)) in
+    let before : length bytes < end_after (number_at 2 2 bytes) = running.before (omega arith) in
+    let end : end_after (number_at 2 2 bytes) ≡ 24 + f.header.length = ap end_after says
+    ∙ end_after-within f.header.length ok.within in
+    omega (arith, before, end, size)
+
+none-long : (bytes : List ℕ) → IsTooLong bytes → HasNone bytes
+none-long bytes over f more ok e =
+    let says : number_at 2 2 bytes ≡ f.header.length = ap (λ b. number_at 2 2 b) e ∙ number_at-frame f more ok in
+    omega (arith, says, over.over, ok.within)
+
+-- What is seen of bytes.
+sight_of-waits : (bytes : List ℕ) → 24 ≤ length bytes → number_at 2 2 bytes ≤ 65511
+    → (length bytes ≡ 24 + number_at 2 2 bytes → ⊥)
+    → sight_of bytes ≡ Nothing_yet
+sight_of-waits bytes long within differs = grind (arith, nat_tests)
+
+seen-frame : (bytes : List ℕ) (f : Frame) → AreBytes bytes → sight_of bytes ≡ A_frame f → IsFrame f × (bytes ≡ frame f)
+seen-frame bytes f fits e =
+    elim (cases_lt (length bytes) 24) [
+      | inl short ↦ let bad : Nothing_yet ≡ A_frame f = sym (sight_of-short bytes short) ∙ e in cc
+      | inr long ↦
+          elim (cases_lt 65511 (number_at 2 2 bytes)) [
+            | inl over ↦ let bad : A_long_header (header_at bytes) ≡ A_frame f = sym (sight_of-long bytes long over)
+                ∙ e in cc
+            | inr within ↦
+                elim (cases_eq (length bytes) (24 + number_at 2 2 bytes)) [
+                  | inl full ↦
+                      let g : Frame = record { header = header_at bytes; body = drop 24 bytes } in
+                      let is : A_frame (record { header = header_at bytes; body = drop 24 bytes }) ≡ A_frame f
+                      = sym (sight_of-frame bytes long within full) ∙ e in
+                      let same : ◌≡◌ {A = Frame} (record { header = header_at bytes; body = drop 24 bytes }) f = cc in
+                      subst (λ h. IsFrame h × (bytes ≡ frame h)) same (
+                        record {
+                          fields = IsHeader-header_at bytes long fits;
+                          counted = length-drop 24 bytes ∙ omega (arith, full);
+                          within = within;
+                        },
+                        sym (header_spelling-header_at bytes long fits),
+                      )
+                  | inr differs ↦ let bad : Nothing_yet ≡ A_frame f = sym (sight_of-waits bytes long within differs)
+                      ∙ e in cc
+                ]
+          ]
+    ]
+
+seen-long : (bytes : List ℕ) (h : _) → sight_of bytes ≡ A_long_header h → IsTooLong bytes
+seen-long bytes h e =
+    elim (cases_lt (length bytes) 24) [
+      | inl short ↦ let bad : Nothing_yet ≡ A_long_header h = sym (sight_of-short bytes short) ∙ e in cc
+      | inr long ↦
+          elim (cases_lt 65511 (number_at 2 2 bytes)) [
+            | inl over ↦ record { header = long; over = over }
+            | inr within ↦
+                elim (cases_eq (length bytes) (24 + number_at 2 2 bytes)) [
+                  | inl full ↦ let bad : A_frame _ ≡ A_long_header h = sym (sight_of-frame bytes long within full)
+                      ∙ e in cc
+                  | inr differs ↦ let bad : Nothing_yet
+                      ≡ A_long_header h = sym (sight_of-waits bytes long within differs) ∙ e in cc
+                ]
+          ]
+    ]
+
+-- Where a frame or a long header is seen, the bytes end where it does.
+pub sight-size : (bytes : List ℕ) → (sight_of bytes ≡ Nothing_yet → ⊥) → 24 ≤ length bytes
+    × (length bytes ≤ end_after (number_at 2 2 bytes) → length bytes ≡ end_after (number_at 2 2 bytes))
+sight-size bytes some =
+    elim (cases_lt (length bytes) 24) [
+      | inl short ↦ absurd (some (sight_of-short bytes short))
+      | inr long ↦
+          elim (cases_lt 65511 (number_at 2 2 bytes)) [
+            | inl over ↦ (long, λ most. omega (arith, end_after-over (number_at 2 2 bytes) over))
+            | inr within ↦
+                elim (cases_eq (length bytes) (24 + number_at 2 2 bytes)) [
+                  | inl full ↦ (long, λ most. omega (arith, full, end_after-within (number_at 2 2 bytes) within))
+                  | inr differs ↦ absurd (some (sight_of-waits bytes long within differs))
+                ]
+          ]
+    ]
+
+-- These bytes are held of a peer, and begin with no whole frame.
+pub record IsAt (peer : ℕ) (bytes : List ℕ) (held : List Held) : Type 0 where
+  pub found : first_with (λ (h : Held). h.peer) peer held ≡ Some (record { peer = peer; bytes = bytes })
+  pub fits : AreBytes bytes
+  pub none : HasNone bytes
+
+-- What a call takes of the stream are frames, and what is held then.
+pub record Advances (peer : ℕ) (bytes taken : List ℕ) (m : Meaning) : Type 0 where
+  pub left : List ℕ
+  pub at : IsAt peer left m.held
+  pub parts : bytes ++ taken ≡ flat_map frame (frames_of_peer peer m.events) ++ left
+  pub each : AllByRecursion IsFrame (frames_of_peer peer m.events)
+
+stays : (peer : ℕ) (bytes : List ℕ) (m : Meaning) → IsAt peer bytes m.held → frames_of_peer peer m.events ≡ []
+    → Advances peer bytes [] m
+stays peer bytes m at none = record {
+  left = bytes;
+  at = at;
+  parts = append-nil bytes ∙ ap (λ fs. flat_map frame fs ++ bytes) (sym none);
+  each = subst (AllByRecursion IsFrame) (sym none) tt;
+}
+
+-- A piece of its own, while it is open.
+advances-sight : (peer now : ℕ) (bytes piece : List ℕ) (held : List Held) (x : Sight)
+    → sight_of (joined_of bytes piece) ≡ x
+    → IsAt peer bytes held → AreBytes piece → IsRunning bytes
+    → Advances peer bytes (take (taken_of bytes piece) piece) (at_a_moment now (record {
+      events = events_of_sight peer x;
+      taken = taken_of bytes piece;
+      held = with_first (λ (h : Held). h.peer) peer
+          (record { peer = peer; bytes = cleared x (joined_of bytes piece) }) held;
+      dropped = false;
+    }))
+advances-sight peer now bytes piece held Nothing_yet seen at fits running = record {
+  left = joined_of bytes piece;
+  at = record {
+    found = first_with-set (λ (h : Held). h.peer) peer _ _ held at.found refl;
+    fits = AreBytes-append bytes (take (taken_of bytes piece) piece) at.fits
+        (AreBytes-take (taken_of bytes piece) piece fits);
+    none = none-running (joined_of bytes piece) (running-taken bytes piece running seen);
+  };
+  parts = refl;
+  each = tt;
+}
+advances-sight peer now bytes piece held (A_frame f) seen at fits running =
+    let whole : AreBytes (joined_of bytes piece)
+    = AreBytes-append bytes (take (taken_of bytes piece) piece) at.fits
+    (AreBytes-take (taken_of bytes piece) piece fits) in
+    let is : IsFrame f × (joined_of bytes piece ≡ frame f) = seen-frame (joined_of bytes piece) f whole seen in
+    let own : cond (eqb peer peer) (f ∷ []) [] ≡ f ∷ [] = ap (λ b. cond b (f ∷ []) []) (eq-eqb peer peer refl) in
+    record {
+      left = [];
+      at = record {
+        found = first_with-set (λ (h : Held). h.peer) peer _ _ held at.found refl;
+        fits = AreBytes-none;
+        none = none-running [] running-empty;
+      };
+      parts = is.1 ∙ (sym (append-nil (frame f))
+          ∙ (sym (append-nil (frame f ++ [])) ∙ ap (λ fs. flat_map frame fs ++ []) (sym own)));
+      each = subst (AllByRecursion IsFrame) (sym own) (is.0, tt);
+    }
+advances-sight peer now bytes piece held (A_long_header h) seen at fits running = record {
+  left = joined_of bytes piece;
+  at = record {
+    found = first_with-set (λ (h : Held). h.peer) peer _ _ held at.found refl;
+    fits = AreBytes-append bytes (take (taken_of bytes piece) piece) at.fits
+        (AreBytes-take (taken_of bytes piece) piece fits);
+    none = none-long (joined_of bytes piece) (seen-long (joined_of bytes piece) h seen);
+  };
+  parts = refl;
+  each = tt;
+}
+
+advances-own : (peer now : ℕ) (bytes piece : List ℕ) (held : List Held) (o : Option Session) → IsAt peer bytes held
+    → AreBytes piece
+    → ((session : Session) → o ≡ Some session → session.closed ≡ false → IsRunning (bytes_held held peer))
+    → Advances peer bytes (take (piece_to held peer piece o).taken piece) (at_a_moment now (piece_to held peer piece o))
+advances-own peer now bytes piece held None at fits ready = stays peer bytes
+    (at_a_moment now (dropped_piece held)) at refl
+advances-own peer now bytes piece held (Some session) at fits ready = go session.closed refl
+  where
+    go : (b : Bool) → session.closed ≡ b
+        → Advances peer bytes
+        (take (cond b (dropped_piece held) (piece_meaning held peer (bytes_held held peer) piece)).taken piece)
+        (at_a_moment now (cond b (dropped_piece held) (piece_meaning held peer (bytes_held held peer) piece)))
+    go true shut = stays peer bytes (at_a_moment now (dropped_piece held)) at refl
+    go false alive =
+        let same : bytes_held held peer ≡ bytes = ap bytes_found at.found in
+        subst (λ h. Advances peer bytes (take (taken_of h piece) piece)
+        (at_a_moment now (piece_meaning held peer h piece))) (sym same)
+        (advances-sight peer now bytes piece held (sight_of (joined_of bytes piece)) refl at fits
+        (subst IsRunning same (ready session refl alive)))
+
+-- A piece for another peer.
+pub no-frames : (peer other now : ℕ) (x : Sight) → eqb other peer ≡ false
+    → frames_of_peer peer (At now ∷ events_of_sight other x) ≡ []
+no-frames peer other now Nothing_yet e = refl
+no-frames peer other now (A_frame f) e = ap (λ b. cond b (f ∷ []) []) e
+no-frames peer other now (A_long_header h) e = refl
+
+advances-other : (peer other now : ℕ) (bytes piece : List ℕ) (held : List Held) (o : Option Session)
+    → IsAt peer bytes held → eqb other peer ≡ false
+    → Advances peer bytes [] (at_a_moment now (piece_to held other piece o))
+advances-other peer other now bytes piece held None at differ = stays peer bytes
+    (at_a_moment now (dropped_piece held)) at refl
+advances-other peer other now bytes piece held (Some session) at differ =
+    both (λ (m : Meaning). Advances peer bytes [] (at_a_moment now m)) session.closed _ _
+    (stays peer bytes (at_a_moment now (dropped_piece held)) at refl)
+    (stays peer bytes (at_a_moment now (piece_meaning held other (bytes_held held other) piece))
+    (record {
+      found = first_with-changed (λ (h : Held). h.peer) peer other _ held refl (eqb-false other peer differ) ∙ at.found;
+      fits = at.fits;
+      none = at.none;
+    })
+    (no-frames peer other now (sight_of (joined_of (bytes_held held other) piece)) differ))
+
+at-begun : (s : State) (peer : ℕ) (bytes : List ℕ) (held : List Held) → IsAt peer bytes held
+    → IsAt peer bytes (held_at_beginning held (begun s).answer.said)
+at-begun s peer bytes held at =
+    let P : Turned → Type 0 = λ t. IsAt peer bytes (held_at_beginning held t.answer.said) in
+    both P (not (ltb (length s.peers) s.places)) _ _ at
+    (both P (ltb 0xffffffff s.next_handle) _ _ at
+    (record { found = first_with-append (λ (h : Held). h.peer) peer _ held _ at.found; fits = at.fits; none = at.none }))
+
+pub advances-call : (peer : ℕ) (bytes : List ℕ) (a : AdapterState) (c : Call) → IsSound a → IsAt peer bytes a.held
+    → GoesOn peer c
+    → Advances peer bytes (taken_by_call peer a c) (call_meaning a c)
+advances-call peer bytes a Begins_peer sound at goes =
+    stays peer bytes (call_meaning a Begins_peer) (at-begun a.state peer bytes a.held at) refl
+advances-call peer bytes a (Feeds now other piece) sound at goes = go (eqb other peer) refl
+  where
+    go : (b : Bool) → eqb other peer ≡ b
+        → Advances peer bytes (cond b (take (call_meaning a (Feeds now other piece)).taken piece) [])
+        (call_meaning a (Feeds now other piece))
+    go true t =
+        let same : peer ≡ other = sym (eqb-true other peer t) in
+        subst (λ q. Advances peer bytes (take (call_meaning a (Feeds now q piece)).taken piece)
+        (call_meaning a (Feeds now q piece))) same
+        (advances-own peer now bytes piece a.held (session_of a.state peer) at goes
+        (λ session. sound.ready peer session))
+    go false t = advances-other peer other now bytes piece a.held (session_of a.state other) at t
+advances-call peer bytes a (Ends_peer other) sound at goes =
+    stays peer bytes (call_meaning a (Ends_peer other))
+    (record { found = first_with-removed (λ (h : Held). h.peer) peer other a.held goes ∙ at.found; fits = at.fits; none = at.none }) refl
+advances-call peer bytes a (Ticks now) sound at goes = stays peer bytes (call_meaning a (Ticks now)) at refl
+
+-- The frames of events, in two parts.
+pub frames-append : (peer : ℕ) (es fs : List Event) → frames_of_peer peer (es ++ fs)
+    ≡ frames_of_peer peer es ++ frames_of_peer peer fs
+frames-append peer [] fs = refl
+frames-append peer (Begin ∷ es) fs = frames-append peer es fs
+frames-append peer (End other ∷ es) fs = frames-append peer es fs
+frames-append peer (At now ∷ es) fs = frames-append peer es fs
+frames-append peer (Framed other f ∷ es) fs = go (eqb other peer) (frames-append peer es fs)
+  where
+    go : (b : Bool) → frames_of_peer peer (es ++ fs) ≡ frames_of_peer peer es ++ frames_of_peer peer fs
+        → cond b (f ∷ frames_of_peer peer (es ++ fs)) (frames_of_peer peer (es ++ fs))
+        ≡ cond b (f ∷ frames_of_peer peer es) (frames_of_peer peer es) ++ frames_of_peer peer fs
+    go true e = ap (λ gs. f ∷ gs) e
+    go false e = e
+frames-append peer (Long other h ∷ es) fs = frames-append peer es fs
+
+each-append : (fs gs : List Frame) → AllByRecursion IsFrame fs → AllByRecursion IsFrame gs
+    → AllByRecursion IsFrame (fs ++ gs)
+each-append [] gs a b = b
+each-append (f ∷ fs) gs a b = (a.0, each-append fs gs a.1 b)
+
+then-cut : (bytes taken more left rest : List ℕ) (fs gs : List Frame) → bytes ++ taken ≡ flat_map frame fs ++ left
+    → AllByRecursion IsFrame fs → Cut (left ++ more) gs rest → Cut (bytes ++ (taken ++ more)) (fs ++ gs) rest
+then-cut bytes taken more left rest fs gs first each cut = record {
+  parts = sym (append_assoc bytes taken more) ∙ (ap (λ s. s ++ more) first
+      ∙ (append_assoc (flat_map frame fs) left more ∙ (ap (λ s. flat_map frame fs ++ s) cut.parts
+      ∙ (sym (append_assoc (flat_map frame fs) (flat_map frame gs) rest)
+      ∙ ap (λ s. s ++ rest) (sym (flat_map-append frame fs gs))))));
+  each = each-append fs gs each cut.each;
+  no_more = cut.no_more;
+}
+
+cut-calls : (peer : ℕ) (bytes : List ℕ) (a : AdapterState) (calls : List Call) → IsSound a → IsAt peer bytes a.held
+    → AllByRecursion (GoesOn peer) calls
+    → Cut (bytes ++ taken_by_calls peer a calls) (frames_of_peer peer (events_of_calls a calls))
+    (bytes_held (after_calls a calls).held peer)
+cut-calls peer bytes a [] sound at goes =
+    let same : bytes_held a.held peer ≡ bytes = ap bytes_found at.found in
+    subst (λ r. Cut (bytes ++ []) [] r) (sym same) (record { parts = append-nil bytes; each = tt; no_more = at.none })
+cut-calls peer bytes a (c ∷ cs) sound at goes =
+    let step : Advances peer bytes (taken_by_call peer a c)
+    (call_meaning a c) = advances-call peer bytes a c sound at goes.0 in
+    subst (λ fs. Cut (bytes ++ (taken_by_call peer a c ++ taken_by_calls peer (after_call a c) cs)) fs
+    (bytes_held (after_calls (after_call a c) cs).held peer))
+    (sym (frames-append peer (call_meaning a c).events (events_of_calls (after_call a c) cs)))
+    (then-cut bytes (taken_by_call peer a c)
+    (taken_by_calls peer (after_call a c) cs) step.left _ _ _ step.parts step.each
+    (cut-calls peer step.left (after_call a c) cs (sound-call a c sound) step.at goes.1))
+
+-- A peer that begins holds nothing.
+pub at-beginning : (s : State) (held : List Held) (peer : ℕ)
+    → first_with (λ (h : Held). h.peer) s.next_handle held ≡ None
+    → (begun s).answer.said ≡ Begins peer → IsAt peer [] (held_at_beginning held (begun s).answer.said)
+at-beginning s held peer none =
+    let P : Turned → Type 0 = λ t. t.answer.said ≡ Begins peer → IsAt peer [] (held_at_beginning held t.answer.said) in
+    both P (not (ltb (length s.peers) s.places)) _ _ (λ e. cc)
+    (both P (ltb 0xffffffff s.next_handle) _ _ (λ e. cc)
+    (λ e.
+    let same : s.next_handle ≡ peer = (let f : Begins s.next_handle ≡ Begins peer = e in cc) in
+    record {
+      found = first_with-behind (λ (h : Held). h.peer) peer held _
+          (subst (λ n. first_with (λ (h : Held). h.peer) n held ≡ None) same none)
+          ∙ (ap (λ b. cond b (Some (record { peer = s.next_handle; bytes = [] })) None)
+          (eq-eqb s.next_handle peer same)
+          ∙ ap (λ n. Some (let h : Held = record { peer = n; bytes = [] } in h)) same);
+      fits = AreBytes-none;
+      none = none-running [] running-empty;
+    }))
+
+pub cut-from-beginning : (objects : Contents) (listen : Listen) (limits : Limits) (earlier calls : List Call) (peer : ℕ)
+    → (call_answer (after_calls (new_adapter objects listen limits) earlier) Begins_peer).said ≡ Begins peer
+    → AllByRecursion (GoesOn peer) calls
+    → Cut (taken_by_calls peer (after_call (after_calls (new_adapter objects listen limits) earlier) Begins_peer) calls)
+    (frames_of_peer peer (events_of_calls
+    (after_call (after_calls (new_adapter objects listen limits) earlier) Begins_peer) calls))
+    (bytes_held (after_calls
+    (after_call (after_calls (new_adapter objects listen limits) earlier) Begins_peer) calls).held peer)
+cut-from-beginning objects listen limits earlier calls peer begins goes =
+    from (after_calls (new_adapter objects listen limits) earlier)
+    (sound-calls (new_adapter objects listen limits) earlier (sound-new objects listen limits)) begins
+  where
+    from : (a : AdapterState) → IsSound a → (begun a.state).answer.said ≡ Begins peer
+        → Cut (taken_by_calls peer (after_call a Begins_peer) calls)
+        (frames_of_peer peer (events_of_calls (after_call a Begins_peer) calls))
+        (bytes_held (after_calls (after_call a Begins_peer) calls).held peer)
+    from a sound e =
+        let none : first_with (λ (h : Held). h.peer) a.state.next_handle a.held ≡ None
+        = no-entry a a.state.next_handle sound.same
+        (numbers-none (λ (p : Session). p.handle) a.state.next_handle a.state.peers
+        (next-none a.state.next_handle _ sound.drawn)) in
+        cut-calls peer [] (after_call a Begins_peer) calls (sound-call a Begins_peer sound)
+        (at-beginning a.state a.held peer none e) goes
+
+pub cut-of-run : (peer : ℕ) (run : Run peer)
+    → Cut (taken_in peer run) (frames_in peer run) (bytes_held (at_end peer run).held peer)
+cut-of-run peer run = cut-from-beginning run.objects run.listen run.limits run.earlier run.calls peer run.begins run.goes_on
+
+pub same-runs : (p q : ℕ) (r : Run p) (s : Run q) → taken_in p r ≡ taken_in q s
+    → (frames_in p r ≡ frames_in q s) × (bytes_held (at_end p r).held p ≡ bytes_held (at_end q s).held q)
+same-runs p q r s same =
+    one_cut_lem (taken_in p r) (frames_in p r) (frames_in q s) (bytes_held (at_end p r).held p)
+    (bytes_held (at_end q s).held q)
+    (cut-of-run p r) (subst (λ t. Cut t (frames_in q s) (bytes_held (at_end q s).held q)) (sym same) (cut-of-run q s))

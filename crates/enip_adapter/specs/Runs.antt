@@ -1,0 +1,188 @@
+-- Lists of calls of the adapter.
+use Rattle.std.specs.Prelude.{ℕ, ◌+◌, max, ◌≡◌, ◌≢◌, ◌≤◌, ◌==◌, List, [], ◌∷◌, ◌++◌, map, filter, take, drop}
+use Rattle.std.specs.Prelude.{if◌then◌else◌, Bool, true, false, not, ◌||◌, ⊤}
+use Rattle.std.specs.List.{flat_map, list_all, list_any, AllByRecursion}
+use Rattle.cip_bytes.specs.Numbers.{AreBytes}
+use Rattle.cip_manager.specs.declared.connection.Connection.{Connection}
+use Rattle.cip_manager.specs.Connection.{is_open_at}
+use Rattle.cip_objects.specs.Contents.{Contents}
+use Rattle.enip_wire.specs.Frames.{Frame}
+use Rattle.enip_adapter.specs.declared.adapter.Limits.{Limits}
+use Rattle.enip_adapter.specs.declared.shared.Listen.{Listen}
+use Rattle.enip_adapter.specs.Adapter.{new_adapter}
+use Rattle.enip_adapter.specs.Calls.{AdapterState, Call, Meaning, call_meaning, after_call, call_answer}
+use Rattle.enip_adapter.specs.Calls.Call.{Begins_peer, Feeds, Ends_peer, Ticks}
+use Rattle.enip_adapter.specs.Turn.{State, Event, Said, Answer, turn, answers}
+use Rattle.enip_adapter.specs.Turn.Event.{Begin, End, At, Framed, Long}
+use Rattle.enip_adapter.specs.Turn.Said.{Silent, Sends, Begins, Refuses}
+
+-- The adapter after calls, one after the other.
+abbrev pub after_calls : AdapterState → List Call → AdapterState
+after_calls a [] = a
+after_calls a (call ∷ calls) = after_calls (after_call a call) calls
+
+-- What each call means.
+abbrev pub meanings : AdapterState → List Call → List Meaning
+meanings a [] = []
+meanings a (call ∷ calls) = call_meaning a call ∷ meanings (after_call a call) calls
+
+-- What each call answers.
+abbrev pub call_answers : AdapterState → List Call → List Answer
+call_answers a [] = []
+call_answers a (call ∷ calls) = call_answer a call ∷ call_answers (after_call a call) calls
+
+-- All events that calls stand for, in their order.
+abbrev pub events_of_calls : AdapterState → List Call → List Event
+events_of_calls a calls = flat_map (λ m. m.events) (meanings a calls)
+
+-- For each call, the answers to its own events.
+abbrev pub answers_by_call : AdapterState → List Call → List (List Answer)
+answers_by_call a [] = []
+answers_by_call a (call ∷ calls) =
+    answers a.state (call_meaning a call).events ∷ answers_by_call (after_call a call) calls
+
+-- What is said before more: a silence is left out.
+abbrev pub said_before : Said → List Said → List Said
+said_before Silent more = more
+said_before (Sends bytes) more = Sends bytes ∷ more
+said_before (Begins handle) more = Begins handle ∷ more
+said_before (Refuses full) more = Refuses full ∷ more
+
+-- What answers say.
+abbrev pub said_in : List Answer → List Said
+said_in [] = []
+said_in (answer ∷ answers) = said_before answer.said (said_in answers)
+
+-- The call is for another peer than this, or for none.
+abbrev pub IsForOther : ℕ → Call → Type 0
+IsForOther peer Begins_peer = ⊤
+IsForOther peer (Feeds now other piece) = other ≢ peer
+IsForOther peer (Ends_peer other) = other ≢ peer
+IsForOther peer (Ticks now) = ⊤
+
+-- The moments that count at the feeds and ticks of calls: each is the greatest so far.
+abbrev pub moments_of_calls : ℕ → List Call → List ℕ
+moments_of_calls moment [] = []
+moments_of_calls moment (Begins_peer ∷ calls) = moments_of_calls moment calls
+moments_of_calls moment (Feeds now peer piece ∷ calls) = max moment now ∷ moments_of_calls (max moment now) calls
+moments_of_calls moment (Ends_peer peer ∷ calls) = moments_of_calls moment calls
+moments_of_calls moment (Ticks now ∷ calls) = max moment now ∷ moments_of_calls (max moment now) calls
+
+-- The deadline of the connection is still to come at each of these moments.
+abbrev pub is_open_at_all : List ℕ → Connection → Bool
+is_open_at_all moments connection = list_all (λ moment. is_open_at moment connection) moments
+
+-- The handle that an answer gives out, if it does, before more.
+abbrev pub handle_before : Said → List ℕ → List ℕ
+handle_before Silent more = more
+handle_before (Sends bytes) more = more
+handle_before (Begins handle) more = handle ∷ more
+handle_before (Refuses full) more = more
+
+-- The handles that answers give out.
+abbrev pub handles_in : List Answer → List ℕ
+handles_in [] = []
+handles_in (answer ∷ answers) = handle_before answer.said (handles_in answers)
+
+-- Each is greater than those before it, and the first is n or more.
+abbrev pub RisesFrom : ℕ → List ℕ → Type 0
+RisesFrom n [] = ⊤
+RisesFrom n (m ∷ ms) = (n ≤ m) × RisesFrom (m + 1) ms
+
+-- No connection before has this one's O->T ID.
+abbrev pub is_new : List Connection → Connection → Bool
+is_new before connection = not (list_any (λ old. old.o_to_t_id == connection.o_to_t_id) before)
+
+-- The connections that are new.
+abbrev pub new_connections : List Connection → List Connection → List Connection
+new_connections before connections = filter (is_new before) connections
+
+-- The O->T IDs that events give out: after each, those of the connections that are new.
+abbrev pub ids_of_events : State → List Event → List ℕ
+ids_of_events s [] = []
+ids_of_events s (e ∷ es) =
+    map (λ connection. connection.o_to_t_id)
+    (new_connections s.shared.manager.connections (turn s e).state.shared.manager.connections)
+    ++ ids_of_events (turn s e).state es
+
+-- The bytes that a call took of a peer's stream.
+abbrev pub taken_by_call : ℕ → AdapterState → Call → List ℕ
+taken_by_call peer a Begins_peer = []
+taken_by_call peer a (Feeds now other piece) =
+    if other == peer then take (call_meaning a (Feeds now other piece)).taken piece else []
+taken_by_call peer a (Ends_peer other) = []
+taken_by_call peer a (Ticks now) = []
+
+-- The bytes that calls took of it, joined.
+abbrev pub taken_by_calls : ℕ → AdapterState → List Call → List ℕ
+taken_by_calls peer a [] = []
+taken_by_calls peer a (call ∷ calls) = taken_by_call peer a call ++ taken_by_calls peer (after_call a call) calls
+
+-- The whole frames of a peer that are among events.
+abbrev pub frames_of_peer : ℕ → List Event → List Frame
+frames_of_peer peer [] = []
+frames_of_peer peer (Begin ∷ events) = frames_of_peer peer events
+frames_of_peer peer (End other ∷ events) = frames_of_peer peer events
+frames_of_peer peer (At now ∷ events) = frames_of_peer peer events
+frames_of_peer peer (Framed other f ∷ events) =
+    if other == peer then f ∷ frames_of_peer peer events else frames_of_peer peer events
+frames_of_peer peer (Long other header ∷ events) = frames_of_peer peer events
+
+-- A piece is of bytes, and the call does not end this peer.
+abbrev pub GoesOn : ℕ → Call → Type 0
+GoesOn peer Begins_peer = ⊤
+GoesOn peer (Feeds now other piece) = AreBytes piece
+GoesOn peer (Ends_peer other) = other ≢ peer
+GoesOn peer (Ticks now) = ⊤
+
+-- The pieces of one peer's stream are fed at a moment, each again and again until all of it is taken; where the peer is
+-- closed, what is left is dropped. These are the answers, and the adapter at the end.
+pub data Pours (now peer : ℕ) : AdapterState → List (List ℕ) → List Answer → AdapterState → Type 0 where
+  Ended : {a : AdapterState} → Pours now peer a [] [] a
+  Taken : {a last : AdapterState} {pieces : List (List ℕ)} {answers : List Answer}
+      → Pours now peer a pieces answers last → Pours now peer a ([] ∷ pieces) answers last
+  Went_on : {a last : AdapterState} {b : ℕ} {bs : List ℕ} {pieces : List (List ℕ)} {answers : List Answer}
+      → (call_answer a (Feeds now peer (b ∷ bs))).close ≡ false
+      → Pours now peer (after_call a (Feeds now peer (b ∷ bs)))
+      (drop (call_meaning a (Feeds now peer (b ∷ bs))).taken (b ∷ bs) ∷ pieces) answers last
+      → Pours now peer a ((b ∷ bs) ∷ pieces) (call_answer a (Feeds now peer (b ∷ bs)) ∷ answers) last
+  Closed : {a : AdapterState} {b : ℕ} {bs : List ℕ} {pieces : List (List ℕ)}
+      → (call_answer a (Feeds now peer (b ∷ bs))).close ≡ true
+      → Pours now peer a ((b ∷ bs) ∷ pieces) (call_answer a (Feeds now peer (b ∷ bs)) ∷ [])
+      (after_call a (Feeds now peer (b ∷ bs)))
+
+-- Nothing is said.
+abbrev pub is_silent : Said → Bool
+is_silent Silent = true
+is_silent (Sends bytes) = false
+is_silent (Begins handle) = false
+is_silent (Refuses full) = false
+
+-- The answers that say something, or close.
+abbrev pub audible_answers : List Answer → List Answer
+audible_answers answers = filter (λ answer. not (is_silent answer.said) || answer.close) answers
+
+-- A peer's run: it begins at an adapter that earlier calls led to from a new one, and then calls come that go on.
+pub record Run (peer : ℕ) : Type 0 where
+  pub objects : Contents
+  pub listen : Listen
+  pub limits : Limits
+  pub earlier : List Call
+  pub calls : List Call
+  pub begins : (call_answer (after_calls (new_adapter objects listen limits) earlier) Begins_peer).said ≡ Begins peer
+  pub goes_on : AllByRecursion (GoesOn peer) calls
+
+-- The adapter at the beginning of the peer, and after the run.
+abbrev pub at_beginning : (peer : ℕ) → Run peer → AdapterState
+at_beginning peer run =
+    after_call (after_calls (new_adapter run.objects run.listen run.limits) run.earlier) Begins_peer
+
+abbrev pub at_end : (peer : ℕ) → Run peer → AdapterState
+at_end peer run = after_calls (at_beginning peer run) run.calls
+
+-- What is taken of the peer's stream in a run, and which frames are served to it.
+abbrev pub taken_in : (peer : ℕ) → Run peer → List ℕ
+taken_in peer run = taken_by_calls peer (at_beginning peer run) run.calls
+
+abbrev pub frames_in : (peer : ℕ) → Run peer → List Frame
+frames_in peer run = frames_of_peer peer (events_of_calls (at_beginning peer run) run.calls)

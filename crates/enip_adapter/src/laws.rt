@@ -1,0 +1,109 @@
+//! What holds for every list of calls of the adapter. Each law is the contract of a function that does nothing, over
+//! the same definitions as the contracts of the calls.
+
+ghost use Rattle.std.specs.Prelude.{ℕ, List, ◌∷◌, ◌≡◌, ◌≤◌, ◌||◌, false, Some, filter};
+ghost use Rattle.std.specs.List.{flat_map, concat, list_any, AllByRecursion};
+ghost use Rattle.cip_manager.specs.Runs.{of_session};
+ghost use Rattle.enip_wire.specs.Stream.{Cut};
+ghost use Rattle.cip_objects.specs.Contents.{Contents};
+ghost use Rattle.enip_adapter.specs.declared.adapter.Limits.{Limits};
+ghost use Rattle.enip_adapter.specs.declared.peer.Session.{Session};
+ghost use Rattle.enip_adapter.specs.declared.shared.Listen.{Listen};
+ghost use Rattle.enip_adapter.specs.Adapter.{new_adapter};
+ghost use Rattle.enip_adapter.specs.Turn.{Event, Answer, answers, after, session_of};
+ghost use Rattle.enip_adapter.specs.Calls.Call.{Feeds};
+ghost use Rattle.enip_adapter.specs.Calls.{AdapterState, Call, call_meaning, call_answer, bytes_held};
+ghost use Rattle.enip_adapter.specs.Runs.{after_calls, call_answers, events_of_calls, answers_by_call, said_in};
+ghost use Rattle.enip_adapter.specs.Runs.{IsForOther, moments_of_calls, is_open_at_all};
+ghost use Rattle.enip_adapter.specs.Runs.{RisesFrom, handles_in, ids_of_events};
+ghost use Rattle.enip_adapter.specs.Runs.{Run, at_end, taken_in, frames_in, Pours, audible_answers};
+
+/// Whatever calls come, for any number of peers, the adapter is where the events lead that they stand for, and the
+/// answers of these events are each call's own, call by call. What calls say is what the events say; a call closes
+/// where one of its events does, or where its piece is dropped.
+pub fn answers_of_events()
+    ensures state { (a : AdapterState) (calls : List Call) →
+        (after_calls a calls).state ≡ after a.state (events_of_calls a calls) }
+    ensures answers { (a : AdapterState) (calls : List Call) →
+        answers a.state (events_of_calls a calls) ≡ flat_map (λ own. own) (answers_by_call a calls) }
+    ensures said { (a : AdapterState) (calls : List Call) →
+        said_in (call_answers a calls) ≡ said_in (answers a.state (events_of_calls a calls)) }
+    ensures close { (a : AdapterState) (call : Call) → (call_answer a call).close
+        ≡ ((call_meaning a call).dropped || list_any (λ x. x.close) (answers a.state (call_meaning a call).events)) }
+{}
+
+/// Calls for other peers, of those that begin, and ticks leave what a peer's session is and which bytes of its next
+/// frame came. They leave a session exactly those of its connections whose deadline no moment reached, each with its
+/// count, kept reply and deadline.
+pub fn peers_apart()
+    ensures session { (peer : ℕ) (session : Session) (a : AdapterState) (calls : List Call) →
+        AllByRecursion (IsForOther peer) calls → session_of a.state peer ≡ Some session →
+        session_of (after_calls a calls).state peer ≡ Some session }
+    ensures held { (peer : ℕ) (a : AdapterState) (calls : List Call) → AllByRecursion (IsForOther peer) calls →
+        bytes_held (after_calls a calls).held peer ≡ bytes_held a.held peer }
+    ensures connections { (peer : ℕ) (a : AdapterState) (calls : List Call) → AllByRecursion (IsForOther peer) calls →
+        of_session peer (after_calls a calls).state.shared.manager.connections
+        ≡ filter (is_open_at_all (moments_of_calls a.state.shared.moment calls))
+        (of_session peer a.state.shared.manager.connections) }
+{}
+
+/// A session handle that was given out never comes again: those that are given out rise from the next one.
+pub fn handles_rise()
+    ensures { (a : AdapterState) (calls : List Call) →
+        RisesFrom a.state.next_handle (handles_in (call_answers a calls)) }
+{}
+
+/// An O->T ID that was given out never comes again: whatever happens to a new adapter, the IDs of the connections that
+/// open rise from its first one.
+pub fn ids_rise()
+    ensures { (objects : Contents) (listen : Listen) (limits : Limits) (events : List Event) →
+        RisesFrom limits.first_id (ids_of_events (new_adapter objects listen limits).state events) }
+{}
+
+/// From its beginning on, whatever other calls come between, what is taken of a peer's stream are the frames that are
+/// served to it, and then the bytes that are held: the frames and the rest of the stream's cut.
+pub fn frames_of_the_stream()
+    ensures { (peer : ℕ) (run : Run peer) →
+        Cut (taken_in peer run) (frames_in peer run) (bytes_held (at_end peer run).held peer) }
+{}
+
+/// So the bytes alone say which frames they are: in any two runs, with pieces, moments and calls for other peers of
+/// their own, where the same bytes are taken the same frames are served, and the same bytes are held. Where the peer
+/// has the same handle in both, its session is the same: whether it is registered, and whether it is closed.
+pub fn frames_by_bytes_alone()
+    ensures frames { (peer other : ℕ) (run : Run peer) (second : Run other) →
+        taken_in peer run ≡ taken_in other second →
+        (frames_in peer run ≡ frames_in other second)
+        × (bytes_held (at_end peer run).held peer ≡ bytes_held (at_end other second).held other) }
+    ensures session { (peer : ℕ) (run second : Run peer) → taken_in peer run ≡ taken_in peer second →
+        session_of (at_end peer run).state peer ≡ session_of (at_end peer second).state peer }
+{}
+
+/// A piece of a byte or more is taken in part at least, or the answer is that the peer's connection is closed.
+pub fn progress()
+    ensures { (objects : Contents) (listen : Listen) (limits : Limits) (calls : List Call) (now peer b : ℕ)
+        (bs : List ℕ) → let a = after_calls (new_adapter objects listen limits) calls in
+        (call_answer a (Feeds now peer (b ∷ bs))).close ≡ false →
+        1 ≤ (call_meaning a (Feeds now peer (b ∷ bs))).taken }
+{}
+
+/// Where a peer's stream is cut changes nothing: after any calls, two lists of pieces that join to the same bytes, fed
+/// at the same moment, each again and again until all of it is taken or the peer is closed, draw the same answers and
+/// leave the same adapter. Every list of pieces can be fed so.
+pub fn cuts_change_nothing()
+    ensures answers { (objects : Contents) (listen : Listen) (limits : Limits) (calls : List Call) (now peer : ℕ)
+        (pieces others : List (List ℕ)) (answers replies : List Answer) (last end : AdapterState) →
+        concat pieces ≡ concat others →
+        Pours now peer (after_calls (new_adapter objects listen limits) calls) pieces answers last →
+        Pours now peer (after_calls (new_adapter objects listen limits) calls) others replies end →
+        audible_answers answers ≡ audible_answers replies }
+    ensures adapter { (objects : Contents) (listen : Listen) (limits : Limits) (calls : List Call) (now peer : ℕ)
+        (pieces others : List (List ℕ)) (answers replies : List Answer) (last end : AdapterState) →
+        concat pieces ≡ concat others →
+        Pours now peer (after_calls (new_adapter objects listen limits) calls) pieces answers last →
+        Pours now peer (after_calls (new_adapter objects listen limits) calls) others replies end →
+        last ≡ end }
+    ensures some { (objects : Contents) (listen : Listen) (limits : Limits) (calls : List Call) (now peer : ℕ)
+        (pieces : List (List ℕ)) → (answers : List Answer) × ((last : AdapterState) ×
+        Pours now peer (after_calls (new_adapter objects listen limits) calls) pieces answers last) }
+{}
