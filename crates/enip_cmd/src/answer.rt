@@ -75,11 +75,20 @@ fn run<R: Read + Drop, W: Write + Drop>(
     ensures accepted { IfOk result (λ _. IsAccepted config.now) }
     ensures refused { IfErr result (IsFaultOf config.now) }
 {
+    let adapter = adapter_from(alloc, config)?;
+    let mut desk = Desk::new(alloc, adapter, output)?;
+    read_lines(alloc, input, &mut desk)
+}
+
+/// The adapter of a configuration.
+pub(crate) fn adapter_from(alloc: Global, config: &[u8]) -> Result<Adapter, Fault>
+    ensures accepted { IfOk result (λ _. IsAccepted config.now) }
+    ensures refused { IfErr result (IsFaultOf config.now) }
+{
     let configuration = Configuration::from_bytes(alloc, config)?;
     let objects = Objects::new(alloc, &configuration.objects)?;
     let adapter = adapter_of(alloc, objects, &configuration)?;
-    let mut desk = Desk::new(alloc, adapter, output)?;
-    read_lines(alloc, input, &mut desk)
+    Ok(adapter)
 }
 
 /// The adapter of a configuration, over its objects.

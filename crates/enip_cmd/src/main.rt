@@ -8,6 +8,7 @@ pub mod file;
 pub mod input_lines;
 pub mod lines;
 pub mod number;
+pub mod serve;
 pub mod show;
 #[cfg(test)]
 mod tests;
@@ -20,11 +21,15 @@ use file::File;
 use std::alloc::Global;
 use std::convert::AsStr;
 use std::io::Read;
+use std::net::TcpListener;
 use std::process::ExitCode;
 use words::{Word, words};
 
 /// The exit status where the words are refused.
 const WORDS_REFUSED: u8 = 2;
+
+/// How many connections are served where that is not said: more than can come.
+const ALL: &str = "18446744073709551615";
 
 const PROGRAM: &str = "enip";
 
@@ -39,6 +44,22 @@ fn words_of<'a>(alloc: Global) -> Result<Command<'a>, Fault> {
         .about("Answers frames that are given as lines of hexadecimal digits")
         .long_about(ABOUT_ANSWER)
         .arg(config)?;
+    let config = Arg::new(alloc, "CONFIG")
+        .required(true)
+        .help("The configuration of the device, a TOML file");
+    let address = Arg::new(alloc, "ADDRESS")
+        .required(true)
+        .help("Where to listen, as 127.0.0.1:44818; port 0 takes a free one");
+    let count = Arg::new(alloc, "count")
+        .long("count")
+        .value_name("N")
+        .help("How many connections to serve; all that come, where it is left out");
+    let serve = Command::new(alloc, "serve")
+        .about("Serves the device on a socket, one connection after another")
+        .long_about(ABOUT_SERVE)
+        .arg(config)?
+        .arg(address)?
+        .arg(count)?;
     let show = Command::new(alloc, "show")
         .about("Prints the fields of frames that are given as lines of hexadecimal digits")
         .long_about(ABOUT_SHOW);
@@ -49,9 +70,17 @@ fn words_of<'a>(alloc: Global) -> Result<Command<'a>, Fault> {
             .subcommand_required(true)
             .arg_required_else_help(true)
             .subcommand(answer)?
+            .subcommand(serve)?
             .subcommand(show)?,
     )
 }
+
+const ABOUT_SERVE: &str = "Serves the device on a socket, one connection after another
+
+Prints where it listens on standard error, once it does. A client that resets, sends garbage or leaves in mid-frame
+ends its own connection alone. While a connection is open, later ones wait.
+
+Exit status, and the line on standard error, as of `enip answer`; 5 `device` also where the address cannot be bound.";
 
 const ABOUT_SHOW: &str = "Prints the fields of frames that are given as lines of hexadecimal digits
 
@@ -98,29 +127,46 @@ What `configuration N` means, by the first that holds of
 fn run(rt: &HostRuntime, words: &[Word], matches: &ArgMatches<'_>) -> Result<u8, Fault> {
     match matches.subcommand() {
         Some(("answer", matches)) => {
-            let text = matches.get_str("CONFIG").unwrap_or("");
-            let word = words.iter().find(|word| word.as_str() == text);
-            run_answer(
-                rt,
-                word.map_or(text.as_bytes(), |word| word.bytes.as_slice()),
-            )
+            let config = read_config(rt, words, matches.get_str("CONFIG").unwrap_or(""))?;
+            Ok(answer::answer_bytes(
+                rt.alloc(),
+                config.as_slice(),
+                rt.stdin(),
+                rt.stdout(),
+                rt.stderr(),
+            ))
+        }
+        Some(("serve", matches)) => {
+            let Ok(count) = matches.get_str("count").unwrap_or(ALL).parse::<u64>() else {
+                let _ = eprintln!(rt; "error: --count takes a number");
+                return Ok(WORDS_REFUSED);
+            };
+            let config = read_config(rt, words, matches.get_str("CONFIG").unwrap_or(""))?;
+            let address = matches.get_str("ADDRESS").unwrap_or("");
+            run_serve(rt, config.as_slice(), address, count)
         }
         Some(("show", _)) => Ok(show::show(rt.alloc(), rt.stdin(), rt.stdout(), rt.stderr())),
         _ => Ok(WORDS_REFUSED),
     }
 }
 
-/// `enip answer CONFIG`. The file's name need not be text.
-fn run_answer(rt: &HostRuntime, name: &[u8]) -> Result<u8, Fault> {
+/// The bytes of the configuration that a word names. The file's name need not be text.
+fn read_config(rt: &HostRuntime, words: &[Word], text: &str) -> Result<Vec<u8>, Fault> {
+    let word = words.iter().find(|word| word.as_str() == text);
+    let name = word.map_or(text.as_bytes(), |word| word.bytes.as_slice());
     let mut config = Vec::new(rt.alloc());
     File::open(name)?.read_to_end(&mut config)?;
-    Ok(answer::answer_bytes(
-        rt.alloc(),
-        config.as_slice(),
-        rt.stdin(),
-        rt.stdout(),
-        rt.stderr(),
-    ))
+    Ok(config)
+}
+
+/// `enip serve`, for so many connections.
+fn run_serve(rt: &HostRuntime, config: &[u8], address: &str, count: u64) -> Result<u8, Fault> {
+    let mut adapter = answer::adapter_from(rt.alloc(), config)?;
+    let listener = TcpListener::bind(rt, address)?;
+    let bound = listener.local_addr()?;
+    eprintln!(rt; "listening on {bound}")?;
+    serve::serve_connections(rt, &listener, &mut adapter, count)?;
+    Ok(0)
 }
 
 /// Reads the words of the command line, and runs the command.
