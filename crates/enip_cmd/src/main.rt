@@ -47,13 +47,12 @@ fn words_of<'a>(alloc: Global) -> Result<Command<'a>, Fault> {
     let config = Arg::new(alloc, "CONFIG")
         .required(true)
         .help("The configuration of the device, a TOML file");
-    let address = Arg::new(alloc, "ADDRESS")
-        .required(true)
-        .help("Where to listen, as 127.0.0.1:44818; port 0 takes a free one");
-    let count = Arg::new(alloc, "count")
-        .long("count")
-        .value_name("N")
-        .help("How many connections to serve; all that come, where it is left out");
+    let address = Arg::new(alloc, "ADDRESS").required(true).help(
+        "Where to listen, as 127.0.0.1:44818; port 0 takes a free one",
+    );
+    let count = Arg::new(alloc, "count").long("count").value_name("N").help(
+        "How many connections to serve; all that come, where it is left out",
+    );
     let serve = Command::new(alloc, "serve")
         .about("Serves the device on a socket, one connection after another")
         .long_about(ABOUT_SERVE)

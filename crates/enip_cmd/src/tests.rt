@@ -4,7 +4,8 @@ mod connections;
 pub(crate) mod devices;
 mod rows;
 
-use super::answer::{answer, answer_bytes};
+use super::answer::{adapter_from, answer, answer_bytes};
+use super::serve::serve_connections;
 use connections::{CONNECTIONS, FULL_TABLES, LIMITS, OPENINGS};
 use devices::{
     BrokenReader, BrokenWriter, CountingWriter, FullWriter, PieceReader, WatchingReader,
@@ -12,6 +13,8 @@ use devices::{
 use rows::{ROWS, Row};
 use std::alloc::Global;
 use std::cell::Cell;
+use std::io::{Read, Write};
+use std::net::{Shutdown, TcpListener, TcpStream};
 use std::test::Fail;
 
 const DEMO: &str = "vendor = 4660
@@ -145,6 +148,29 @@ fn first_other(alloc: Global, rows: &[Row]) -> Result<Option<&'static str>, Fail
         }
     }
     Ok(None)
+}
+
+#[test]
+fn on_a_socket(rt: HostRuntime) -> Result<(), Fail> {
+    let mut adapter = adapter_from(rt.alloc(), DEMO.as_bytes())
+        .ok()
+        .ok_or("an adapter")?;
+    let listener = TcpListener::bind(&rt, "127.0.0.1:0")?;
+    let mut peer = TcpStream::connect(&rt, listener.local_addr()?)?;
+    // RegisterSession, and the front of another.
+    let register =
+        b"\x65\0\x04\0\0\0\0\0\0\0\0\0\x01\x02\x03\x04\x05\x06\x07\x08\0\0\0\0\x01\0\0\0";
+    peer.write_all(register.as_slice())?;
+    peer.write_all(&register[..13])?;
+    peer.shutdown(Shutdown::Write)?;
+    assert!(rt; serve_connections(&rt, &listener, &mut adapter, 1).is_ok());
+    let mut answer = Vec::new(rt.alloc());
+    peer.read_to_end(&mut answer)?;
+    let registered =
+        b"\x65\0\x04\0\x01\0\0\0\0\0\0\0\x01\x02\x03\x04\x05\x06\x07\x08\0\0\0\0\x01\0\0\0";
+    assert_eq!(rt; answer.as_slice(), registered.as_slice());
+    assert_eq!(rt; adapter.free(), (4, 16));
+    Ok(())
 }
 
 #[test]
