@@ -13,6 +13,8 @@ mod commands;
 mod peer;
 mod reply;
 mod serving;
+#[cfg(test)]
+mod serving_tests;
 mod shared;
 
 pub use adapter::{Adapter, Fed, Full, Limits};

@@ -26,29 +26,29 @@ returns c =
     = ap (λ l. adapter_in c.self.inside.limit c.self.inside.next_handle c.feed_places-outcome.new.shared l) kept ∙ fed.state in
     elim c.if-outcome.branch [
       | then-outcome w ↦ (
-          (refl, (λ _. tt), ap (λ s. s.0) w.self-is ∙ same),
-          record {
-            state = tt;
-            taken = fed.taken;
-            answer = said_then c.feed_places-outcome.result.answered c.feed_places-outcome.new.answer.items c.if-outcome.result w.as_slice.result
-                w.if-outcome.true w.result-is w.as_slice.ensures.value ∙ ap (λ a. a.said) fed.answer;
-            close = ap (λ a. a.close) fed.answer;
-            within = c.feed_places-outcome.ensures.within;
-            progress = c.feed_places-outcome.ensures.progress;
-            fits = rw w.result-is w.as_slice.ensures.fits;
-          }
-        )
+        (refl, (λ _. tt), ap (λ s. s.0) w.self-is ∙ same),
+        record {
+          state = tt;
+          taken = fed.taken;
+          answer = said_then c.feed_places-outcome.result.answered c.feed_places-outcome.new.answer.items c.if-outcome.result w.as_slice.result
+              w.if-outcome.true w.result-is w.as_slice.ensures.value ∙ ap (λ a. a.said) fed.answer;
+          close = ap (λ a. a.close) fed.answer;
+          within = c.feed_places-outcome.ensures.within;
+          progress = c.feed_places-outcome.ensures.progress;
+          fits = rw w.result-is w.as_slice.ensures.fits;
+        },
+      )
       | else-outcome w ↦ (
-          (refl, (λ _. tt), ap (λ s. s.0) w.self-is ∙ same),
-          record {
-            state = tt;
-            taken = fed.taken;
-            answer = said_else c.feed_places-outcome.result.answered c.feed_places-outcome.new.answer.items c.if-outcome.result
-                w.if-outcome.false w.result-is ∙ ap (λ a. a.said) fed.answer;
-            close = ap (λ a. a.close) fed.answer;
-            within = c.feed_places-outcome.ensures.within;
-            progress = c.feed_places-outcome.ensures.progress;
-            fits = rw w.result-is tt;
-          }
-        )
+        (refl, (λ _. tt), ap (λ s. s.0) w.self-is ∙ same),
+        record {
+          state = tt;
+          taken = fed.taken;
+          answer = said_else c.feed_places-outcome.result.answered c.feed_places-outcome.new.answer.items c.if-outcome.result
+              w.if-outcome.false w.result-is ∙ ap (λ a. a.said) fed.answer;
+          close = ap (λ a. a.close) fed.answer;
+          within = c.feed_places-outcome.ensures.within;
+          progress = c.feed_places-outcome.ensures.progress;
+          fits = rw w.result-is tt;
+        },
+      )
     ]
