@@ -14,6 +14,8 @@ pub mod laws;
 mod peer;
 mod reply;
 mod serving;
+#[cfg(test)]
+mod serving_tests;
 mod shared;
 
 pub use adapter::{Adapter, Fed, Full, Limits};
