@@ -1,11 +1,11 @@
 -- Feeding a piece again and again.
-use Rattle.std.proofs.Common.{◌≡◌, ℕ, zero, suc, ◌+◌, ◌-◌, ◌<◌, ◌≤◌, List, [], ◌∷◌, ◌++◌, length, take, drop, true, false, Option, Some, None, Ok, Err, refl, sym, ap, subst, ◌∙◌, arith, append-nil, length-drop}
+use Rattle.std.proofs.Common.{◌≡◌, ℕ, suc, ◌+◌, ◌<◌, ◌≤◌, List, [], length, drop, Bool, false, Option, Some, None, refl, sym, ap, subst, ◌∙◌, arith, length-drop}
 use Rattle.std.proofs.lemmas.List.{drop-drop, drop_all}
 use Rattle.std.proofs.KnownBytes.{Appends-nil, Appends-trans}
 use Rattle.std.specs.Io.KnownBytes.{Appends, Consumes, Keeps}
-use Rattle.enip_adapter.specs.Calls.{AdapterState, Call, call_meaning, call_answer, after_call}
+use Rattle.enip_adapter.specs.Calls.{AdapterState, call_meaning, call_answer, after_call}
 use Rattle.enip_adapter.specs.Calls.Call.{Feeds}
-use Rattle.enip_adapter.specs.Serving.{Feeding, feeds, fed_more, next_answer, bytes_said, GoesOn, AllGoOn, FedWhole, FedToClose, FedToFault, AppendsFront}
+use Rattle.enip_adapter.specs.Serving.{Feeding, feeds, fed_more, bytes_said, GoesOn, AllGoOn, FedWhole}
 
 -- So many bytes of a piece were fed, each feed went on, and what they answered was written.
 pub record HasFed (now peer : ℕ) (a : AdapterState) (piece : List ℕ) (fed : ℕ) (new : AdapterState) (before after : Option (List ℕ)) : Type 0 where
@@ -31,7 +31,7 @@ all_fed now peer a new piece fed before after past h = record {
   written = h.written;
 }
 
--- the state of a feeding that went on so far
+-- what feeding came to, by its rest and its adapter
 at_feeding : (now peer : ℕ) (a : AdapterState) (piece rest : List ℕ) (k : ℕ) (seen : AdapterState)
     → (feeds now peer a piece k).rest ≡ rest → seen ≡ (feeds now peer a piece k).adapter
     → feeds now peer a piece k ≡ record { adapter = seen; rest = rest; sent = (feeds now peer a piece k).sent }
@@ -39,10 +39,11 @@ at_feeding now peer a piece rest k seen is at =
     ap (λ r. let f : Feeding = record { adapter = (feeds now peer a piece k).adapter; rest = r; sent = (feeds now peer a piece k).sent } in f) is
     ∙ ap (λ s. let f : Feeding = record { adapter = s; rest = rest; sent = (feeds now peer a piece k).sent } in f) (sym at)
 
--- What one more call of feed adds, seen at the rest and the adapter that it was made with.
+-- The bytes that one more feed answers, told by the rest and the adapter that it is made with.
 abbrev pub more_answer : ℕ → ℕ → AdapterState → List ℕ → List ℕ
 more_answer now peer seen rest = bytes_said (call_answer seen (Feeds now peer rest)).said
 
+-- it goes on where that call does not close
 goes_on : (now peer : ℕ) (a seen : AdapterState) (piece rest : List ℕ) (k : ℕ)
     → feeds now peer a piece k ≡ record { adapter = seen; rest = rest; sent = (feeds now peer a piece k).sent }
     → 0 < length rest → (call_answer seen (Feeds now peer rest)).close ≡ false → GoesOn now peer (feeds now peer a piece k)
@@ -50,66 +51,24 @@ goes_on now peer a seen piece rest k is some going =
     subst (GoesOn now peer) (sym is) (record { some = some; open_then = going })
 
 -- one more feed that goes on
-pub more_fed : (now peer : ℕ) (a seen new : AdapterState) (piece rest : List ℕ) (fed taken : ℕ) (before between after : Option (List ℕ))
+pub more_fed : (now peer : ℕ) (a seen new : AdapterState) (piece rest : List ℕ) (fed taken : ℕ) (close : Bool) (before between after : Option (List ℕ))
     → HasFed now peer a piece fed seen before between → fed < length piece → rest ≡ drop fed piece
     → new ≡ after_call seen (Feeds now peer rest)
     → taken ≡ (call_meaning seen (Feeds now peer rest)).taken
-    → (call_answer seen (Feeds now peer rest)).close ≡ false
+    → close ≡ (call_answer seen (Feeds now peer rest)).close → close ≡ false
     → Appends between after (more_answer now peer seen rest)
     → HasFed now peer a piece (fed + taken) new before after
-more_fed now peer a seen new piece rest fed taken before between after h below same state number going written =
+more_fed now peer a seen new piece rest fed taken close before between after h below same state number closes going written =
     let is : feeds now peer a piece h.count ≡ record { adapter = seen; rest = rest; sent = (feeds now peer a piece h.count).sent }
     = at_feeding now peer a piece rest h.count seen (h.rest ∙ sym same) h.adapter in
     let some : 0 < length rest = omega (arith, ap length same, length-drop fed piece, below) in
     record {
       count = suc h.count;
-      each = (h.each, goes_on now peer a seen piece rest h.count is some going);
+      each = (h.each, goes_on now peer a seen piece rest h.count is some (sym closes ∙ going));
       rest = ap (λ f. (fed_more now peer f).rest) is ∙ ap (λ n. drop n rest) (sym number) ∙ ap (drop taken) same ∙ drop-drop taken fed piece;
       adapter = state ∙ ap (λ f. (fed_more now peer f).adapter) (sym is);
       written = subst (Appends before after) (ap (λ f. (fed_more now peer f).sent) (sym is))
           (Appends-trans before between after (feeds now peer a piece h.count).sent (more_answer now peer seen rest) h.written written);
-    }
-
--- one more feed that closes
-pub closed_at : (now peer : ℕ) (a seen new : AdapterState) (piece rest : List ℕ) (fed : ℕ) (before between after : Option (List ℕ))
-    → HasFed now peer a piece fed seen before between → fed < length piece → rest ≡ drop fed piece
-    → new ≡ after_call seen (Feeds now peer rest)
-    → (call_answer seen (Feeds now peer rest)).close ≡ true
-    → Appends between after (more_answer now peer seen rest)
-    → FedToClose now peer a piece new before after
-closed_at now peer a seen new piece rest fed before between after h below same state close written =
-    let is : feeds now peer a piece h.count ≡ record { adapter = seen; rest = rest; sent = (feeds now peer a piece h.count).sent }
-    = at_feeding now peer a piece rest h.count seen (h.rest ∙ sym same) h.adapter in
-    record {
-      count = h.count;
-      each = h.each;
-      some = omega (arith, length-drop fed piece, below, ap length h.rest);
-      close = ap (λ f. (next_answer now peer f).close) is ∙ close;
-      adapter = state ∙ ap (λ f. (fed_more now peer f).adapter) (sym is);
-      written = subst (Appends before after) (ap (λ f. (fed_more now peer f).sent) (sym is))
-          (Appends-trans before between after (feeds now peer a piece h.count).sent (more_answer now peer seen rest) h.written written);
-    }
-
--- one more feed, whose answer could not be written
-pub fault_at : (now peer : ℕ) (a seen new : AdapterState) (piece rest : List ℕ) (fed : ℕ) (before between after : Option (List ℕ))
-    → HasFed now peer a piece fed seen before between → fed < length piece → rest ≡ drop fed piece
-    → new ≡ after_call seen (Feeds now peer rest)
-    → AppendsFront between after (more_answer now peer seen rest)
-    → FedToFault now peer a piece new before after
-fault_at now peer a seen new piece rest fed before between after h below same state written =
-    let is : feeds now peer a piece h.count ≡ record { adapter = seen; rest = rest; sent = (feeds now peer a piece h.count).sent }
-    = at_feeding now peer a piece rest h.count seen (h.rest ∙ sym same) h.adapter in
-    let said : bytes_said (next_answer now peer (feeds now peer a piece h.count)).said ≡ more_answer now peer seen rest
-    = ap (λ f. bytes_said (next_answer now peer f).said) is in
-    record {
-      count = h.count;
-      each = h.each;
-      some = omega (arith, length-drop fed piece, below, ap length h.rest);
-      adapter = state ∙ ap (λ f. (fed_more now peer f).adapter) (sym is);
-      front = written.0;
-      not_all = omega (arith, ap length said, written.1);
-      written = subst (λ bytes. Appends before after ((feeds now peer a piece h.count).sent ++ take written.0 bytes)) (sym said)
-          (Appends-trans before between after (feeds now peer a piece h.count).sent (take written.0 (more_answer now peer seen rest)) h.written written.2);
     }
 
 -- a read of no byte

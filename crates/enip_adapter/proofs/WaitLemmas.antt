@@ -1,6 +1,6 @@
 -- Between calls a reader of an open peer holds neither a whole frame nor a header that is too long.
-use Rattle.std.proofs.Common.{◌≡◌, ℕ, zero, suc, ◌<◌, List, [], ◌∷◌, ◌++◌, length, take, drop, All, inl, inr, append-nil, subst, arith}
-use Rattle.std.specs.Prelude.{◌⊎◌, remove}
+use Rattle.std.proofs.Common.{ℕ, zero, suc, ◌<◌, List, [], ◌∷◌, ◌++◌, length, take, drop, All, inl, inr, append-nil, subst, arith}
+use Rattle.std.specs.Prelude.{remove}
 use Rattle.std.proofs.lemmas.List.Elements.{All-nil, All-cons, All-append, All-take, All-drop}
 use Rattle.enip_wire.specs.Frames.{Stops}
 use Rattle.enip_wire.specs.Stream.{Takes}

@@ -6,10 +6,10 @@ use Rattle.enip_adapter.specs.declared.serving.Served.{Served}
 use Rattle.enip_adapter.specs.declared.serving.Served.TheVariants.{More, Input, Closed}
 use Rattle.enip_adapter.specs.declared.serving.ServeFault.{ServeFault}
 use Rattle.enip_adapter.specs.declared.serving.ServeFault.TheVariants.{Read, Write}
-use Rattle.enip_adapter.specs.Calls.{AdapterState, Call, call_meaning, call_answer, after_call}
+use Rattle.enip_adapter.specs.Calls.{AdapterState, call_meaning, call_answer, after_call}
 use Rattle.enip_adapter.specs.Calls.Call.{Feeds}
 use Rattle.enip_adapter.specs.Turn.{Said, Answer, session_of}
-use Rattle.enip_adapter.specs.Turn.Said.{Silent, Sends, Begins, Refuses}
+use Rattle.enip_adapter.specs.Turn.Said.{Sends}
 
 -- The number of why serving failed.
 abbrev pub serve_fault_number : ServeFault → ℕ
@@ -67,7 +67,8 @@ AllGoOn now peer a piece zero = ⊤
 AllGoOn now peer a piece (suc k) = AllGoOn now peer a piece k × GoesOn now peer (feeds now peer a piece k)
 
 -- A piece was fed to its end, and each answer was written.
-pub record FedWhole (now peer : ℕ) (a : AdapterState) (piece : List ℕ) (new : AdapterState) (before after : Option (List ℕ)) : Type 0 where
+pub record FedWhole (now peer : ℕ) (a : AdapterState) (piece : List ℕ) (new : AdapterState)
+    (before after : Option (List ℕ)) : Type 0 where
   pub count : ℕ
   pub each : AllGoOn now peer a piece count
   pub whole : (feeds now peer a piece count).rest ≡ []
@@ -75,7 +76,8 @@ pub record FedWhole (now peer : ℕ) (a : AdapterState) (piece : List ℕ) (new 
   pub written : Appends before after (feeds now peer a piece count).sent
 
 -- A piece was fed until a feed closed, and each answer was written, also that of the feed that closed.
-pub record FedToClose (now peer : ℕ) (a : AdapterState) (piece : List ℕ) (new : AdapterState) (before after : Option (List ℕ)) : Type 0 where
+pub record FedToClose (now peer : ℕ) (a : AdapterState) (piece : List ℕ) (new : AdapterState)
+    (before after : Option (List ℕ)) : Type 0 where
   pub count : ℕ
   pub each : AllGoOn now peer a piece count
   pub some : 0 < length (feeds now peer a piece count).rest
@@ -84,7 +86,8 @@ pub record FedToClose (now peer : ℕ) (a : AdapterState) (piece : List ℕ) (ne
   pub written : Appends before after (feeds now peer a piece (suc count)).sent
 
 -- A piece was fed until an answer could not be written: those before it were, and a front of it that is not all of it.
-pub record FedToFault (now peer : ℕ) (a : AdapterState) (piece : List ℕ) (new : AdapterState) (before after : Option (List ℕ)) : Type 0 where
+pub record FedToFault (now peer : ℕ) (a : AdapterState) (piece : List ℕ) (new : AdapterState)
+    (before after : Option (List ℕ)) : Type 0 where
   pub count : ℕ
   pub each : AllGoOn now peer a piece count
   pub some : 0 < length (feeds now peer a piece count).rest
@@ -95,7 +98,8 @@ pub record FedToFault (now peer : ℕ) (a : AdapterState) (piece : List ℕ) (ne
       ++ take front (bytes_said (next_answer now peer (feeds now peer a piece count)).said))
 
 -- A piece was fed to its end, or closed, or met a fault of the writer.
-abbrev pub IsFedAll : {E : Type 0} → ℕ → ℕ → AdapterState → List ℕ → AdapterState → Option (List ℕ) → Option (List ℕ) → Result Bool E → Type 0
+abbrev pub IsFedAll : {E : Type 0} → ℕ → ℕ → AdapterState → List ℕ → AdapterState
+    → Option (List ℕ) → Option (List ℕ) → Result Bool E → Type 0
 IsFedAll now peer a piece new before after (Ok false) = FedWhole now peer a piece new before after
 IsFedAll now peer a piece new before after (Ok true) = FedToClose now peer a piece new before after
 IsFedAll now peer a piece new before after (Err e) = FedToFault now peer a piece new before after
@@ -115,11 +119,14 @@ pub record Ends : Type 0 where
 -- What serving does to a peer that is served, by what it answers; the moment is the reader's after the read.
 abbrev pub IsServed : ℕ → ℕ → Ends → Ends → Result Served ServeFault → Type 0
 IsServed now peer old new (Ok More) =
-    (bytes : List ℕ) × IsRead old.left new.left bytes × FedWhole now peer old.adapter bytes new.adapter old.written new.written
+    (bytes : List ℕ) × IsRead old.left new.left bytes
+    × FedWhole now peer old.adapter bytes new.adapter old.written new.written
 IsServed now peer old new (Ok Closed) =
-    (bytes : List ℕ) × IsRead old.left new.left bytes × FedToClose now peer old.adapter bytes new.adapter old.written new.written
+    (bytes : List ℕ) × IsRead old.left new.left bytes
+    × FedToClose now peer old.adapter bytes new.adapter old.written new.written
 IsServed now peer old new (Err Write) =
-    (bytes : List ℕ) × IsRead old.left new.left bytes × FedToFault now peer old.adapter bytes new.adapter old.written new.written
+    (bytes : List ℕ) × IsRead old.left new.left bytes
+    × FedToFault now peer old.adapter bytes new.adapter old.written new.written
 IsServed now peer old new (Ok Input) = Keeps old.left new.left × IsAtEnd new.left
 IsServed now peer old new (Err Read) = Keeps old.left new.left
 

@@ -1,6 +1,7 @@
 //! The adapter: its peers, and the calls that change it.
 
-ghost use Rattle.std.specs.Prelude.{ℕ, ◌≡◌, ◌==◌, ◌<◌, ◌≤◌, ◌-◌, length, All, IfOk, IfSome, false};
+ghost use Rattle.std.specs.Prelude.{ℕ, ◌≡◌, ◌==◌, ◌<◌, ◌≤◌, ◌-◌, length, false};
+ghost use Rattle.std.specs.Prelude.{All, IfOk, IfSome};
 ghost use Rattle.std.specs.Borrow.{sem};
 ghost use Rattle.std.specs.Io.BufRead.{Rests};
 ghost use Rattle.std.specs.List.{position};
@@ -163,7 +164,8 @@ impl Adapter {
     }
 
     /// Takes bytes of the piece that came from a peer at a moment, in microseconds, up to the end of one frame, and
-    /// serves the frame. For a peer that is closed or not held it takes none and answers `close`.
+    /// serves the frame. For a peer that is closed or not held it takes none and answers `close`. Of a piece of a byte
+    /// or more it takes some, or answers `close`.
     ///
     /// The greatest moment so far counts; connections whose deadline is at or before it end first.
     pub fn feed(&mut self, now: u64, peer: &Peer, piece: &[u8]) -> Fed<'_>

@@ -1,10 +1,12 @@
 //! The adapter over a reader and a writer.
 
-ghost use Rattle.std.specs.Prelude.{◌≡◌, ◌+◌, ◌<◌, ◌≤◌, length, if◌then◌else◌, true, false, IfOk, MatchResult};
+ghost use Rattle.std.specs.Prelude.{◌≡◌, ◌+◌, ◌<◌, ◌≤◌, length, if◌then◌else◌, true, false};
+ghost use Rattle.std.specs.Prelude.{IfOk, MatchResult};
 ghost use Rattle.std.specs.Io.KnownBytes.{Appends};
 ghost use Rattle.enip_wire.specs.Devices.{failures_in};
 ghost use Rattle.enip_adapter.specs.Calls.{Call, call_meaning, call_answer, after_call};
-ghost use Rattle.enip_adapter.specs.Serving.{serve_fault_number, is_peer_served, bytes_said, AppendsFront, IsFedAll, IsServed, IfNothingFed, read_faults, write_faults};
+ghost use Rattle.enip_adapter.specs.Serving.{serve_fault_number, is_peer_served, read_faults, write_faults};
+ghost use Rattle.enip_adapter.specs.Serving.{bytes_said, AppendsFront, IsFedAll, IsServed, IfNothingFed};
 
 use crate::adapter::Adapter;
 use crate::peer::Peer;
@@ -105,7 +107,8 @@ fn feed_all<W: Sink>(
     writer: &mut W,
 ) -> Result<bool, Failed>
     requires { W.failures writer.old < u64.MAX }
-    ensures fed { IsFedAll now peer.now adapter.old piece.now adapter.new (W.written writer.old) (W.written writer.new) result }
+    ensures fed { IsFedAll now peer.now adapter.old piece.now adapter.new
+        (W.written writer.old) (W.written writer.new) result }
     ensures failures { W.failures writer.new ≡ W.failures writer.old + failures_in result }
 {
     let mut fed = 0;
@@ -142,8 +145,10 @@ fn feed_once<W: Sink>(
 ) -> Result<Step, Failed>
     requires { W.failures writer.old < u64.MAX }
     ensures state { adapter.new ≡ after_call adapter.old (Call.Feeds now peer.now piece.now) }
-    ensures taken { IfOk result (λ step. step.taken ≡ (call_meaning adapter.old (Call.Feeds now peer.now piece.now)).taken) }
-    ensures close { IfOk result (λ step. step.close ≡ (call_answer adapter.old (Call.Feeds now peer.now piece.now)).close) }
+    ensures taken { IfOk result (λ step. step.taken
+        ≡ (call_meaning adapter.old (Call.Feeds now peer.now piece.now)).taken) }
+    ensures close { IfOk result (λ step. step.close
+        ≡ (call_answer adapter.old (Call.Feeds now peer.now piece.now)).close) }
     ensures within { IfOk result (λ step. step.taken ≤ length piece.now) }
     ensures progress { IfOk result (λ step. 0 < length piece.now → step.close ≡ false → 0 < step.taken) }
     ensures bytes { MatchResult result

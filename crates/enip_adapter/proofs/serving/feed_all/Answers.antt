@@ -1,4 +1,4 @@
-use Rattle.std.proofs.Common.{◌≡◌, ◌+◌, ◌-◌, ◌<◌, ◌≤◌, length, take, drop, sym, ap, ◌∙◌, arith, length-drop}
+use Rattle.std.proofs.Common.{◌≡◌, ◌-◌, length, take, drop, ap, arith, length-drop}
 use Rattle.cip_bytes.proofs.Bytes.{rest_slice}
 use Rattle.enip_adapter.proofs.ServeLemmas.{more_fed}
 use Rattle.enip_adapter.proofs.serving.feed_all.Goals as goal
@@ -11,8 +11,8 @@ loop-fed-preserved g c =
       within = omega (arith, c.in_ok-step.ensures.within, ap length same, length-drop c.loop-fed.fed c.args.piece.now, c.loop-fed.invariant.within);
       failures = omega (arith, c.in_ok-step.ensures.failures, c.loop-fed.invariant.failures);
       so_far = more_fed c.args.now c.args.peer.now c.args.adapter.now c.loop-fed.adapter c.feed_once.new.adapter c.args.piece.now
-          (take (length c.args.piece.now - c.loop-fed.fed) (drop c.loop-fed.fed c.args.piece.now)) c.loop-fed.fed c.in_ok-step.step.taken
+          (take (length c.args.piece.now - c.loop-fed.fed) (drop c.loop-fed.fed c.args.piece.now)) c.loop-fed.fed c.in_ok-step.step.taken c.in_ok-step.step.close
           (g.W.Sink.written c.args.writer.now) (g.W.Sink.written c.loop-fed.writer) (g.W.Sink.written c.feed_once.new.writer)
           c.loop-fed.invariant.so_far c.loop-fed-test.true same c.feed_once.ensures.state c.in_ok-step.ensures.taken
-          (sym c.in_ok-step.ensures.close ∙ c.if-step.false) c.in_ok-step.ensures.bytes;
+          c.in_ok-step.ensures.close c.if-step.false c.in_ok-step.ensures.bytes;
     }

@@ -1,6 +1,4 @@
-use Rattle.std.proofs.Common.{ℕ, ◌≡◌, ◌≤◌, ◌-◌, length, drop}
-use Rattle.std.specs.Io.KnownBytes.{Appends}
-use Rattle.enip_adapter.specs.Serving.{feeds, AllGoOn}
+use Rattle.std.proofs.Common.{◌≡◌, ◌≤◌, ◌-◌, length}
 use Rattle.enip_adapter.proofs.ServeLemmas.{HasFed}
 use Rattle.enip_adapter.proofs.serving.feed_all.Given as goal
 

@@ -1,6 +1,5 @@
-use Rattle.std.proofs.Common.{◌≡◌, sym, ap, ◌∙◌, get_or, length, not, Option, Some, None}
+use Rattle.std.proofs.Common.{◌≡◌, sym, ap, ◌∙◌, get_or, length, not, Some, None}
 use Rattle.enip_adapter.specs.declared.peer.Place.{Place}
-use Rattle.enip_adapter.specs.declared.peer.Session.{Session}
 use Rattle.enip_adapter.specs.Adapter.{state_in}
 use Rattle.enip_adapter.specs.Lookup.{IsFirstWith}
 use Rattle.enip_adapter.specs.Turn.{session_of}
