@@ -1,5 +1,5 @@
 -- A peer that begins, and one that ends.
-use Rattle.std.proofs.Common.{◌≡◌, ℕ, ◌+◌, ◌<◌, ltb, not, List, [], ◌∷◌, ◌++◌, Bool, true, false, cond, Option, Some, None, length, map, get_or, refl, sym, ap, subst, ◌∙◌, arith, rules, All, ◌≤◌}
+use Rattle.std.proofs.Common.{◌≡◌, ℕ, ◌+◌, ◌<◌, ltb, not, List, [], ◌∷◌, ◌++◌, Bool, true, false, cond, Some, None, length, map, get_or, sym, ap, ◌∙◌, rules, All, ◌≤◌}
 use Rattle.std.specs.Prelude.{remove}
 use Rattle.std.proofs.lemmas.List.Elements.{All-head, All-tail}
 use Rattle.enip_adapter.specs.declared.adapter.Full.TheVariants.{Places, Handles}
@@ -7,14 +7,13 @@ use Rattle.enip_adapter.specs.declared.peer.Place.{Place}
 use Rattle.enip_adapter.specs.declared.peer.Session.{Session}
 use Rattle.enip_adapter.specs.declared.shared.Shared.{Shared}
 use Rattle.enip_adapter.specs.Adapter.{adapter_in, state_in, session_in, held_in}
-use Rattle.enip_adapter.specs.Calls.{AdapterState, Held, after_call, after_meaning, call_meaning, meaning, held_at_beginning}
+use Rattle.enip_adapter.specs.Calls.{AdapterState, Held, after_call, held_at_beginning}
 use Rattle.enip_adapter.specs.Calls.Call.{Begins_peer, Ends_peer}
-use Rattle.enip_adapter.specs.Lookup.{first_with, without_first, IsFirstWith}
-use Rattle.enip_adapter.specs.Turn.{State, Event, Said, Turned, turn, turned, begun, with_peer, new_session, session_of, end_found, without_connections}
-use Rattle.enip_adapter.specs.Turn.Event.{Begin}
+use Rattle.enip_adapter.specs.Lookup.{without_first, IsFirstWith}
+use Rattle.enip_adapter.specs.Turn.{State, Turned, turned, with_peer, new_session, session_of, end_found, without_connections}
 use Rattle.enip_adapter.specs.Turn.Said.{Begins, Refuses}
 use Rattle.enip_adapter.proofs.FeedLemmas.{handle_of, finds, session_found, found_item}
-use Rattle.enip_adapter.proofs.LookupLemmas.{first-Some, first-None, slice_get-past, remove-past, slice_get-within}
+use Rattle.enip_adapter.proofs.LookupLemmas.{first-Some, first-None, slice_get-past, remove-past}
 use Rattle.enip_adapter.proofs.MapLemmas.{map-without_first, map-append_one}
 
 -- A peer that ends at the place where it is found.

@@ -1,5 +1,5 @@
 -- A piece for a peer, by where its place is.
-use Rattle.std.proofs.Common.{◌≡◌, ℕ, ◌<◌, List, [], ◌∷◌, Bool, true, false, cond, eqb, Option, Some, None, length, map, get_or, refl, sym, ap, subst, ◌∙◌}
+use Rattle.std.proofs.Common.{◌≡◌, ℕ, ◌<◌, List, Bool, true, false, cond, eqb, Option, Some, None, length, map, get_or, refl, sym, ap, subst, ◌∙◌}
 use Rattle.std.specs.Prelude.{slice_set}
 use Rattle.std.specs.List.{position}
 use Rattle.std.specs.Option.{option_map}
@@ -11,16 +11,17 @@ use Rattle.enip_adapter.specs.declared.peer.Session.{Session}
 use Rattle.enip_adapter.specs.declared.shared.Shared.{Shared}
 use Rattle.std.specs.Borrow.{Bor}
 use Rattle.enip_adapter.specs.Adapter.{adapter_in, state_in, session_in, held_in, feed_said}
-use Rattle.enip_adapter.specs.Calls.{AdapterState, Held, Meaning, piece_to, piece_meaning, dropped_piece, after_meaning, answer_of, events_of_sight, bytes_held, bytes_found, last_from, after_call, call_meaning, call_answer}
+use Rattle.enip_adapter.specs.Calls.{AdapterState, Held, Meaning, piece_to, piece_meaning, dropped_piece, events_of_sight, bytes_held, bytes_found, last_from, after_call, call_meaning, call_answer}
 use Rattle.enip_adapter.specs.Calls.Call.{Feeds}
 use Rattle.enip_adapter.specs.Commands.{command_served, long_refused, sight_served}
 use Rattle.enip_adapter.specs.Lookup.{first_with, with_first, IsFirstWith}
 use Rattle.enip_adapter.specs.Places.{IsFed, piece_at}
 use Rattle.enip_adapter.specs.Replies.{Served, leaving, silent, written}
-use Rattle.enip_adapter.specs.Turn.{State, Event, Answer, Turned, Said, turn, turned, after, answers, session_of, serve_found, session_after, shared_after, sent, at_moment}
-use Rattle.enip_adapter.specs.Turn.Said.{Silent, Sends}
+use Rattle.enip_adapter.specs.Turn.{State, Answer, turned, after, answers, session_of, serve_found, session_after, shared_after, sent, at_moment}
+use Rattle.enip_adapter.specs.Turn.Said.{Silent}
 use Rattle.enip_adapter.proofs.LookupLemmas.{first-Some, first-None, slice_get-past, slice_get-within}
-use Rattle.enip_adapter.proofs.MapLemmas.{map-first_with, map-with_first, with_first-same, first_with-number}
+use Rattle.enip_adapter.proofs.MapLemmas.{map-first_with, map-with_first}
+use Rattle.enip_adapter.proofs.ListLemmas.{with_first-same, first_with-number}
 
 abbrev pub handle_of : Place → ℕ
 handle_of p = p.session.handle

@@ -4,9 +4,9 @@ use Rattle.enip_wire.specs.Stream.{Sight, taken_of, joined_of, sight_of, cleared
 use Rattle.enip_wire.specs.Stream.Sight.{Nothing_yet, A_frame, A_long_header}
 use Rattle.enip_adapter.specs.declared.peer.Session.{Session}
 use Rattle.enip_adapter.specs.Lookup.{first_with, with_first, without_first}
-use Rattle.enip_adapter.specs.Turn.{State, Event, Said, Answer, turn, answers, after, session_of, at_moment}
+use Rattle.enip_adapter.specs.Turn.{State, Event, Said, Answer, turn, answers, after, session_of}
 use Rattle.enip_adapter.specs.Turn.Event.{Begin, End, At, Framed, Long}
-use Rattle.enip_adapter.specs.Turn.Said.{Silent, Sends, Begins, Refuses}
+use Rattle.enip_adapter.specs.Turn.Said.{Silent, Begins}
 
 -- The bytes that have come of a peer's next frame.
 pub record Held : Type 0 where

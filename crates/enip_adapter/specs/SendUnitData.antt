@@ -1,5 +1,5 @@
 -- SendUnitData, 0x0070 (Volume 2, encapsulation commands; Volume 1, transport class 3).
-use Rattle.std.specs.Prelude.{ℕ, List, if◌then◌else◌, not, Result, Ok, Err, option_map, false}
+use Rattle.std.specs.Prelude.{ℕ, List, if◌then◌else◌, not, Result, Ok, Err, option_map}
 use Rattle.cip_manager.specs.Items.{Reply, ItemTurn, item_turn}
 use Rattle.cip_objects.specs.Contents.{Contents}
 use Rattle.cip_objects.specs.Execution.{exec}

@@ -1,7 +1,7 @@
 //! Worked rows over devices in memory, and devices that fail.
 
+use crate::tests::demo;
 use crate::{Adapter, Limits, Listen, Peer, ServeFault, Served, serve};
-use cip_objects::{AssemblyConfig, Config, CounterConfig, Objects};
 use enip_wire::{MemorySink, MemorySource, Sink, Source};
 use std::alloc::Global;
 use std::process::Abort;
@@ -34,32 +34,7 @@ const LONG: &[u8] = b"\0\0\xe8\xff\0\0\0\0\0\0\0\0\x01\x02\x03\x04\x05\x06\x07\x
 const REFUSED: &[u8] = b"\0\0\0\0\0\0\0\0\x65\0\0\0\x01\x02\x03\x04\x05\x06\x07\x08\0\0\0\0";
 
 /// An adapter over the objects of the demo configuration, whose first session is 1.
-fn demo(alloc: Global) -> Result<Adapter, Fail> {
-    let mut assemblies = Vec::new(alloc);
-    assemblies.push(AssemblyConfig {
-        instance: 100,
-        settable: true,
-        members: Vec::from_slice(alloc, &[1, 2, 1])?,
-    })?;
-    let config = Config {
-        vendor: 4660,
-        device_type: 43,
-        product_code: 7,
-        major: 2,
-        minor: 5,
-        serial: 16_909_060,
-        name: String::from_str(alloc, "Demo")?,
-        status: 0,
-        state: 3,
-        counter: CounterConfig {
-            value: 0,
-            limit: 100,
-        },
-        assemblies,
-    };
-    let objects = Objects::new(alloc, &config)
-        .ok()
-        .ok_or("the objects are made")?;
+fn adapter(alloc: Global) -> Result<Adapter, Fail> {
     let listen = Listen {
         address: [127, 0, 0, 1],
         port: 44_818,
@@ -70,19 +45,19 @@ fn demo(alloc: Global) -> Result<Adapter, Fail> {
         first_handle: 1,
         first_id: 1,
     };
-    Ok(Adapter::new(alloc, objects, listen, limits)?)
+    Ok(Adapter::new(alloc, demo(alloc)?, listen, limits)?)
 }
 
 /// The same, and its first peer.
-fn demo_with_peer(alloc: Global) -> Result<(Adapter, Peer), Fail> {
-    let mut adapter = demo(alloc)?;
+fn adapter_with_peer(alloc: Global) -> Result<(Adapter, Peer), Fail> {
+    let mut adapter = adapter(alloc)?;
     let peer = adapter.begin().ok().ok_or("a place is free")?;
     Ok((adapter, peer))
 }
 
 /// The same, and connection 1 is opened at moment 0.
 fn demo_with_connection(alloc: Global) -> Result<(Adapter, Peer), Fail> {
-    let (mut adapter, peer) = demo_with_peer(alloc)?;
+    let (mut adapter, peer) = adapter_with_peer(alloc)?;
     let _ = adapter.feed(0, &peer, REGISTER);
     let _ = adapter.feed(0, &peer, OPEN);
     Ok((adapter, peer))
@@ -99,7 +74,7 @@ fn value(adapter: &Adapter) -> Result<u8, Fail> {
 
 #[test]
 fn more_and_then_the_end(rt: HostRuntime) -> Result<(), Fail> {
-    let (mut adapter, peer) = demo_with_peer(rt.alloc())?;
+    let (mut adapter, peer) = adapter_with_peer(rt.alloc())?;
     let mut reader = MemorySource::new(REGISTER, &[]);
     let mut bytes = [0; 64];
     let mut writer = MemorySink::new(&mut bytes);
@@ -150,7 +125,7 @@ fn serve_with_failure_after(
     front: &[u8],
     answer: &[u8],
 ) -> Result<(), Fail> {
-    let (mut adapter, peer) = demo_with_peer(alloc)?;
+    let (mut adapter, peer) = adapter_with_peer(alloc)?;
     let mut input = Vec::from_slice(alloc, REGISTER)?;
     input.extend_from_slice(OPEN)?;
     let mut reader = MemorySource::new(input.as_slice(), &[]);
@@ -208,7 +183,7 @@ fn a_reply_that_was_not_written_is_kept(rt: HostRuntime) -> Result<(), Fail> {
 
 #[test]
 fn the_reader_fails(rt: HostRuntime) -> Result<(), Fail> {
-    let (mut adapter, peer) = demo_with_peer(rt.alloc())?;
+    let (mut adapter, peer) = adapter_with_peer(rt.alloc())?;
     let mut reader = MemorySource::new(REGISTER, &[])
         .with_largest_count(27)
         .with_failure_after(1);
@@ -235,7 +210,7 @@ fn the_reader_fails(rt: HostRuntime) -> Result<(), Fail> {
 
 #[test]
 fn a_closed_peer_is_not_read(rt: HostRuntime) -> Result<(), Fail> {
-    let (mut adapter, peer) = demo_with_peer(rt.alloc())?;
+    let (mut adapter, peer) = adapter_with_peer(rt.alloc())?;
     let mut input = Vec::from_slice(rt.alloc(), LONG)?;
     input.extend_from_slice(REGISTER)?;
     let mut reader = MemorySource::new(input.as_slice(), &[]);

@@ -2,7 +2,7 @@
 ghost use Rattle.std.specs.Prelude.{◌≡◌, ◌≤◌};
 
 use crate::*;
-use cip_objects::{Config, CounterConfig, Objects};
+use cip_objects::{AssemblyConfig, Config, CounterConfig, Objects};
 use std::alloc::Global;
 use std::test::Fail;
 
@@ -46,7 +46,14 @@ const ADDED: [u8; 30] = [
     0xb1, 0x00, 0x0a, 0x00, 0x01, 0x00, 0xb2, 0x00, 0x00, 0x00, 0x05, 0x00, 0x00, 0x00,
 ];
 
-fn demo(alloc: Global) -> Result<Objects, Fail> {
+/// The objects of the demo configuration.
+pub(crate) fn demo(alloc: Global) -> Result<Objects, Fail> {
+    let mut assemblies = Vec::new(alloc);
+    assemblies.push(AssemblyConfig {
+        instance: 100,
+        settable: true,
+        members: Vec::from_slice(alloc, &[1, 2, 1])?,
+    })?;
     let config = Config {
         vendor: 0x1234,
         device_type: 43,
@@ -61,7 +68,7 @@ fn demo(alloc: Global) -> Result<Objects, Fail> {
             value: 0,
             limit: 100,
         },
-        assemblies: Vec::new(alloc),
+        assemblies,
     };
     Ok(
         Objects::new(alloc, &config)

@@ -1,4 +1,4 @@
-use Rattle.std.proofs.Common.{◌≡◌, ℕ, rules, arith, ◌+◌, List, [], ◌∷◌, length, map, ltb, true, false, All, subst, refl, sym, ap, ◌∙◌}
+use Rattle.std.proofs.Common.{◌≡◌, rules, arith, ◌+◌, [], ◌∷◌, length, map, ltb, true, false, All, subst, refl, ap, ◌∙◌}
 use Rattle.std.proofs.lemmas.Bool.{lt-ltb}
 use Rattle.std.proofs.lemmas.List.{length-map, length-append}
 use Rattle.enip_adapter.specs.Adapter.{adapter_in, session_in}

@@ -1,4 +1,4 @@
-use Rattle.std.proofs.Common.{rules, arith}
+use Rattle.std.proofs.Common.{arith}
 use Rattle.enip_adapter.proofs.adapter.Adapter.free.Goals as goal
 
 pub overflow_cast-result : goal.overflow_cast-result
