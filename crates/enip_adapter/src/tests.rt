@@ -96,9 +96,10 @@ fn adapter(alloc: Global, first_handle: u32) -> Result<Adapter, Fail>
 
 /// A frame with context 1 to 8.
 fn frame(alloc: Global, command: u16, session: u32, data: &[u8]) -> Result<Vec<u8>, Fail> {
+    let length = u16::try_from(data.len()).ok().ok_or("a frame")?;
     let mut bytes = Vec::new(alloc);
     bytes.extend_from_slice(&command.to_le_bytes())?;
-    bytes.extend_from_slice(&(data.len() as u16).to_le_bytes())?;
+    bytes.extend_from_slice(&length.to_le_bytes())?;
     bytes.extend_from_slice(&session.to_le_bytes())?;
     bytes.extend_from_slice(&[0, 0, 0, 0, 1, 2, 3, 4, 5, 6, 7, 8, 0, 0, 0, 0])?;
     bytes.extend_from_slice(data)?;
