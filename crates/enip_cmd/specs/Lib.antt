@@ -1,3 +1,4 @@
 pub mod Statuses
 pub mod Digits
 pub mod Lines
+pub mod Configured

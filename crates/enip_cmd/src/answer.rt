@@ -3,6 +3,8 @@
 ghost use Rattle.std.specs.Prelude.{◌≡◌, ◌≤◌, true, false, IfOk, IfErr, Some, length};
 ghost use Rattle.enip_config.specs.declared.fault.Refusal.{Refusal};
 ghost use Rattle.enip_config.specs.Told.{IsRefused, IsInRange};
+ghost use Rattle.enip_adapter.specs.Adapter.{new_adapter};
+ghost use Rattle.enip_cmd.specs.Configured.{IsAdapterOf, limits_of, listen_of};
 ghost use Rattle.enip_cmd.specs.Digits.{bytes_spelled};
 ghost use Rattle.enip_cmd.specs.Lines.{spells_bytes, IsRefusedLine};
 ghost use Rattle.enip_cmd.specs.Statuses.{IsOfDevices, IsStatus, IsAccepted, IsFaultOf};
@@ -80,8 +82,9 @@ fn run<R: Read + Drop, W: Write + Drop>(
     read_lines(alloc, input, &mut desk)
 }
 
-/// The adapter of a configuration.
+/// The adapter that the bytes of a configuration tell.
 pub(crate) fn adapter_from(alloc: Global, config: &[u8]) -> Result<Adapter, Fault>
+    ensures made { IfOk result (IsAdapterOf config.now) }
     ensures accepted { IfOk result (λ _. IsAccepted config.now) }
     ensures refused { IfErr result (IsFaultOf config.now) }
 {
@@ -98,7 +101,9 @@ fn adapter_of(
     configuration: &Configuration,
 ) -> Result<Adapter, Fault>
     requires { IsInRange configuration.now }
-    ensures { IfErr result IsOfDevices }
+    ensures made { IfOk result (λ adapter. adapter
+        ≡ new_adapter objects (listen_of configuration.now) (limits_of configuration.now)) }
+    ensures refused { IfErr result IsOfDevices }
 {
     let listen = Listen {
         address: configuration.address,
