@@ -1,7 +1,8 @@
 -- Calls of an originator in any order, and what is seen of them.
 use Rattle.std.specs.Prelude.{◌≡◌, ℕ, if◌then◌else◌, Option, Some, None, List, [], ◌∷◌}
 use Rattle.cip_class3.specs.Item.{sequence_count_of}
-use Rattle.cip_class3.specs.OriginatorRule.{OriginatorState, submit_refusal, with_next_request, is_reply, after_item, after_give_up}
+use Rattle.cip_class3.specs.OriginatorRule.{OriginatorState, submit_refusal, with_next_request, is_reply, after_item}
+use Rattle.cip_class3.specs.OriginatorRule.{after_give_up}
 use Rattle.cip_class3.specs.declared.originator.Refused.{Refused}
 
 -- a call
@@ -33,7 +34,8 @@ seen_of_submit (Some why) count later = later
 
 -- what is seen of a call, and then later
 abbrev pub seen_of_call : OriginatorState → Call → List Event → List Event
-seen_of_call originator (Submit request) later = seen_of_submit (submit_refusal originator request) originator.next later
+seen_of_call originator (Submit request) later =
+    seen_of_submit (submit_refusal originator request) originator.next later
 seen_of_call originator Resend later = later
 seen_of_call originator (Receive bytes) later =
     if is_reply originator.t_to_o_size originator.phase bytes then Accepted (sequence_count_of bytes) ∷ later else later

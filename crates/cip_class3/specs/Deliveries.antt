@@ -1,5 +1,6 @@
 -- Requests that reach a target, each once and then again any number of times, and what each of them does.
-use Rattle.std.specs.Prelude.{ℕ, suc, ◌+◌, ◌≤◌, ◌<◌, ◌^◌, Option, Some, None, List, [], ◌∷◌, ◌++◌, length, map, replicate}
+use Rattle.std.specs.Prelude.{ℕ, suc, ◌+◌, ◌≤◌, ◌<◌, ◌^◌, Option, Some, None, List, [], ◌∷◌, ◌++◌, length, map}
+use Rattle.std.specs.Prelude.{replicate}
 use Rattle.std.specs.List.{flat_map, AllByRecursion}
 use Rattle.cip_class3.specs.Item.{item, NeighboursDiffer}
 use Rattle.cip_class3.specs.TargetRule.{TargetState, Kept, TargetStep, kept_bytes, target_step}
@@ -36,7 +37,11 @@ pub record AreDelivered (target : TargetState) (deliveries : List Delivery) : Ty
 
 -- what an item is answered with: the kept bytes, or nothing where it was dropped
 abbrev pub answer_to : {M : Type 0} → TargetStep M → Option (List ℕ)
-answer_to done = elim done.received [ Dropped ↦ None | Repeated ↦ Some (kept_bytes done.target.held) | Executed ↦ Some (kept_bytes done.target.held) ]
+answer_to done = elim done.received [
+  | Dropped ↦ None
+  | Repeated ↦ Some (kept_bytes done.target.held)
+  | Executed ↦ Some (kept_bytes done.target.held)
+]
 
 module _ {M : Type 0} (after : M → ℕ → List ℕ → M) (answer : M → ℕ → List ℕ → List ℕ) where
   -- the router after the target took each of the items
@@ -49,12 +54,14 @@ module _ {M : Type 0} (after : M → ℕ → List ℕ → M) (answer : M → ℕ
   abbrev pub answers_to : TargetState → M → List (List ℕ) → List (Option (List ℕ))
   answers_to target router [] = []
   answers_to target router (bytes ∷ items) =
-      let done = target_step after answer target router bytes in answer_to done ∷ answers_to done.target done.router items
+      let done = target_step after answer target router bytes in
+      answer_to done ∷ answers_to done.target done.router items
 
   -- the router after it executed each of the requests once, in this order
   abbrev pub router_after_requests : ℕ → M → List (List ℕ) → M
   router_after_requests room router [] = router
-  router_after_requests room router (request ∷ requests) = router_after_requests room (after router room request) requests
+  router_after_requests room router (request ∷ requests) =
+      router_after_requests room (after router room request) requests
 
   -- each time that a request came, its count with the reply of its one execution
   abbrev pub answers_once : ℕ → M → List Delivery → List (Option (List ℕ))

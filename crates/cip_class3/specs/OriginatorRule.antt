@@ -1,5 +1,6 @@
 -- The originator's end of a class 3 connection (Volume 1, transport class 3, sequence counts).
-use Rattle.std.specs.Prelude.{ℕ, ◌+◌, ◌%◌, ◌==◌, nat_lt, nat_le, Bool, true, false, ◌&&◌, if◌then◌else◌, Option, Some, None, List, length, slice_index}
+use Rattle.std.specs.Prelude.{ℕ, ◌+◌, ◌%◌, ◌==◌, nat_lt, nat_le, Bool, true, false, ◌&&◌, if◌then◌else◌, Option, Some}
+use Rattle.std.specs.Prelude.{None, List, length, slice_index}
 use Rattle.cip_message.specs.Reply.{reply_service}
 use Rattle.cip_class3.specs.Item.{item, sequence_count_of, message_of}
 use Rattle.cip_class3.specs.declared.originator.Stage.{Stage}
@@ -46,12 +47,20 @@ form_refusal o_to_t_size request =
 
 -- why a request is not taken now, if it isn't
 abbrev pub submit_refusal : OriginatorState → List ℕ → Option Refused
-submit_refusal originator request = elim originator.phase [ Idle ↦ form_refusal originator.o_to_t_size request | Waiting _ _ ↦ Some refusals.Busy | GivenUp ↦ Some refusals.GivenUp ]
+submit_refusal originator request = elim originator.phase [
+  | Idle ↦ form_refusal originator.o_to_t_size request
+  | Waiting _ _ ↦ Some refusals.Busy
+  | GivenUp ↦ Some refusals.GivenUp
+]
 
 -- the request waits with the next count, and the count after it is the next one, modulo 65,536
 abbrev pub with_next_request : OriginatorState → List ℕ → OriginatorState
 with_next_request originator request =
-    record originator { phase = Waiting originator.next request; next = (originator.next + 1) % 65536; tries = originator.tries + 1 }
+    record originator {
+      phase = Waiting originator.next request;
+      next = (originator.next + 1) % 65536;
+      tries = originator.tries + 1;
+    }
 
 -- the item of the request that waits
 abbrev pub waiting_item : Phase → Option (List ℕ)
@@ -77,7 +86,8 @@ idle_again originator = record originator { phase = Idle; tries = 0 }
 
 -- after an item came
 abbrev pub after_item : OriginatorState → List ℕ → OriginatorState
-after_item originator bytes = if is_reply originator.t_to_o_size originator.phase bytes then idle_again originator else originator
+after_item originator bytes =
+    if is_reply originator.t_to_o_size originator.phase bytes then idle_again originator else originator
 
 -- the reply that was accepted of an item, if one was
 abbrev pub accepted_reply : OriginatorState → List ℕ → Option (List ℕ)

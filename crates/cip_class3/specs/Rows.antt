@@ -2,7 +2,8 @@
 use Rattle.std.specs.Prelude.{◌≡◌, ℕ, true, false, Some, None, List, [], ◌∷◌, replicate, refl}
 use Rattle.cip_class3.specs.Item.{item, sequence_count_of}
 use Rattle.cip_class3.specs.TargetRule.{is_held}
-use Rattle.cip_class3.specs.OriginatorRule.{OriginatorState, Waiting, originator_at_opening, submit_refusal, with_next_request, is_reply}
+use Rattle.cip_class3.specs.OriginatorRule.{OriginatorState, Waiting, originator_at_opening, submit_refusal}
+use Rattle.cip_class3.specs.OriginatorRule.{with_next_request, is_reply}
 use Rattle.cip_class3.specs.declared.originator.Refused.TheVariants.{Busy, TooLong, NoRequest}
 
 -- service 0x32 at class 0x64, instance 1, with the number 5

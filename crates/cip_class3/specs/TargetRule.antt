@@ -1,5 +1,6 @@
 -- The target's end of a class 3 connection (Volume 1, transport class 3, sequence counts).
-use Rattle.std.specs.Prelude.{ℕ, ◌≤◌, ◌-◌, ◌==◌, nat_le, Bool, false, not, ◌&&◌, IsTrue, if◌then◌else◌, Option, Some, None, List, [], length}
+use Rattle.std.specs.Prelude.{ℕ, ◌≤◌, ◌-◌, ◌==◌, nat_le, Bool, false, not, ◌&&◌, IsTrue, if◌then◌else◌, Option, Some}
+use Rattle.std.specs.Prelude.{None, List, [], length}
 use Rattle.cip_class3.specs.Item.{item, sequence_count_of, message_of}
 use Rattle.cip_class3.specs.declared.target.Received.{Received}
 use Rattle.cip_class3.specs.declared.target.Received.TheVariants.{Dropped, Repeated, Executed}
@@ -60,7 +61,8 @@ module _ {M : Type 0} (after : M → ℕ → List ℕ → M) (answer : M → ℕ
   abbrev pub target_step : TargetState → M → List ℕ → TargetStep M
   target_step target router bytes =
       if is_of_size target bytes then
-      (if is_held target.held (sequence_count_of bytes) then step_of Repeated target router else after_execution target router bytes)
+      (if is_held target.held (sequence_count_of bytes) then step_of Repeated target router
+      else after_execution target router bytes)
       else step_of Dropped target router
 
 -- an item that isn't dropped: a count and a request, within the O->T size

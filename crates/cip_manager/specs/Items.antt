@@ -1,5 +1,6 @@
 -- Items that come on connections (Volume 1, Connection Manager and transport class 3).
-use Rattle.std.specs.Prelude.{◌≡◌, ℕ, ◌<◌, Bool, false, if◌then◌else◌, List, [], ◌∷◌, length, slice_index_or, find, Option, Some, None, MatchOption}
+use Rattle.std.specs.Prelude.{◌≡◌, ℕ, ◌<◌, Bool, false, if◌then◌else◌, List, [], ◌∷◌, length, slice_index_or, find}
+use Rattle.std.specs.Prelude.{Option, Some, None, MatchOption}
 use Rattle.cip_class3.specs.declared.target.Received.{Received}
 use Rattle.cip_class3.specs.TargetRule.{target_step, is_of_size, kept_bytes}
 use Rattle.cip_manager.specs.declared.connection.Connection.{Connection}

@@ -7,7 +7,8 @@ ghost use Rattle.cip_message.specs.declared.key.Device.{Device};
 ghost use Rattle.cip_manager.specs.declared.connection.Connection.{Connection};
 ghost use Rattle.cip_manager.specs.Connection.{is_named};
 ghost use Rattle.cip_manager.specs.Manager.{no_connection};
-ghost use Rattle.cip_manager.specs.Runs.{Call, State, state_after, ids_drawn, CountsFrom, IsOfOther, of_session, is_open_after_all, is_spared, AreApart};
+ghost use Rattle.cip_manager.specs.Runs.{Call, State, state_after, ids_drawn, CountsFrom, IsOfOther, of_session};
+ghost use Rattle.cip_manager.specs.Runs.{is_open_after_all, is_spared, AreApart};
 
 use cip_objects::Router;
 

@@ -1,5 +1,6 @@
 //! The open connections, and the calls that change them (Volume 1, Connection Manager).
-ghost use Rattle.std.specs.Prelude.{◌≡◌, ◌≢◌, ◌≤◌, ◌-◌, ◌<◌, ◌^◌, ◌&&◌, nat_lt, not, [], ◌∷◌, length, is_some, IfNone, IfSome, IfOk, OnOk};
+ghost use Rattle.std.specs.Prelude.{◌≡◌, ◌≢◌, ◌≤◌, ◌-◌, ◌<◌, ◌^◌, ◌&&◌, nat_lt, not, [], ◌∷◌, length, is_some, IfNone};
+ghost use Rattle.std.specs.Prelude.{IfSome, IfOk, OnOk};
 ghost use Rattle.std.specs.List.{list_any, position};
 ghost use Rattle.std.specs.Option.{option_map};
 ghost use Rattle.std.specs.Borrow.{sem};

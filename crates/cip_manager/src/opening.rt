@@ -2,7 +2,8 @@
 ghost use Rattle.std.specs.Prelude.{◌≡◌, ◌==◌, ◌&&◌, nat_le, not, [], ◌∷◌, is_some, OnOk};
 ghost use Rattle.cip_message.specs.Open.{view};
 ghost use Rattle.cip_manager.specs.Check.{demand, refusal_by, first_failure};
-ghost use Rattle.cip_manager.specs.Opening.{direction_of, opening_of, is_point_to_point, are_point_to_point, is_size, key_in, key_refusal, is_message_router, names_message_router, CanBeOpened};
+ghost use Rattle.cip_manager.specs.Opening.{direction_of, opening_of, is_point_to_point, are_point_to_point, is_size};
+ghost use Rattle.cip_manager.specs.Opening.{key_in, key_refusal, is_message_router, names_message_router, CanBeOpened};
 
 use crate::connection::Triad;
 use cip_message::{Device, Key, OpenPath, OpenRequest, Parameters, Path, read_open_path};

@@ -2,7 +2,8 @@
 ghost use Rattle.std.specs.Prelude.{◌≡◌, ◌≤◌, ◌<◌, ◌+◌, [], ◌∷◌, ◌++◌, length};
 ghost use Rattle.arrayvec.specs.ArrayVec.{array_vec_len};
 ghost use Rattle.cip_manager.specs.Opening.{open_success};
-ghost use Rattle.cip_manager.specs.Replies.{service_code, close_success, reply_of_service, length_reply, failure_reply, triad_bytes};
+ghost use Rattle.cip_manager.specs.Replies.{service_code, close_success, reply_of_service, length_reply, failure_reply};
+ghost use Rattle.cip_manager.specs.Replies.{triad_bytes};
 
 use crate::connection::Triad;
 use crate::opening::Opening;

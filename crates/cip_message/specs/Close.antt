@@ -1,5 +1,6 @@
 -- The data of a Forward_Close request (Volume 1, Connection Manager).
-use Rattle.std.specs.Prelude.{◌≡◌, ℕ, ◌+◌, ◌*◌, ◌/◌, ◌%◌, ◌<◌, ◌≤◌, ◌^◌, List, [], ◌∷◌, ◌++◌, length, slice_index, drop, Result, Ok, Err, nat_lt, if◌then◌else◌}
+use Rattle.std.specs.Prelude.{◌≡◌, ℕ, ◌+◌, ◌*◌, ◌/◌, ◌%◌, ◌<◌, ◌≤◌, ◌^◌, List, [], ◌∷◌, ◌++◌, length, slice_index, drop}
+use Rattle.std.specs.Prelude.{Result, Ok, Err, nat_lt, if◌then◌else◌}
 use Rattle.cip_bytes.specs.Numbers.{le, AreBytes, number_at}
 use Rattle.cip_message.specs.declared.close.CloseRequest.{CloseRequest}
 use Rattle.cip_message.specs.declared.open.LengthFault.{LengthFault}
@@ -29,7 +30,8 @@ pub record IsClose (c : Close) : Type 0 where
 -- name the connection, path size in words, reserved, path
 abbrev pub close_with : ℕ → Close → List ℕ
 close_with reserved c =
-    c.priority_and_tick_time ∷ c.timeout_ticks ∷ [] ++ le 2 c.connection_serial ++ le 2 c.originator_vendor ++ le 4 c.originator_serial
+    c.priority_and_tick_time ∷ c.timeout_ticks ∷ [] ++ le 2 c.connection_serial ++ le 2 c.originator_vendor
+    ++ le 4 c.originator_serial
     ++ (length c.path / 2) ∷ reserved ∷ [] ++ c.path
 
 -- b is a spelling of the close request c

@@ -1,6 +1,7 @@
 -- The electronic key (Volume 1, appendix on segments: key segment, format 4) and the rule by which a
 -- device answers it (Volume 1, Connection Manager).
-use Rattle.std.specs.Prelude.{◌≡◌, ◌⊎◌, ℕ, ◌+◌, ◌-◌, ◌<◌, ◌≤◌, ◌^◌, Bool, ◌&&◌, ◌||◌, ◌==◌, IsTrue, List, [], ◌∷◌, ◌++◌, length, slice_index, Option, Some, None, nat_lt, nat_le, if◌then◌else◌}
+use Rattle.std.specs.Prelude.{◌≡◌, ◌⊎◌, ℕ, ◌+◌, ◌-◌, ◌<◌, ◌≤◌, ◌^◌, Bool, ◌&&◌, ◌||◌, ◌==◌, IsTrue, List, [], ◌∷◌, ◌++◌}
+use Rattle.std.specs.Prelude.{length, slice_index, Option, Some, None, nat_lt, nat_le, if◌then◌else◌}
 use Rattle.cip_bytes.specs.Numbers.{le, number_at}
 use Rattle.cip_message.specs.declared.key.Key.{Key}
 use Rattle.cip_message.specs.declared.key.Device.{Device}

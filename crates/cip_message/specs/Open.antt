@@ -1,5 +1,6 @@
 -- The data of a Forward_Open request (Volume 1, Connection Manager).
-use Rattle.std.specs.Prelude.{◌≡◌, ℕ, ◌+◌, ◌*◌, ◌/◌, ◌%◌, ◌<◌, ◌≤◌, ◌^◌, Bool, List, [], ◌∷◌, ◌++◌, length, slice_index, drop, Result, Ok, Err, nat_lt, nat_le, if◌then◌else◌}
+use Rattle.std.specs.Prelude.{◌≡◌, ℕ, ◌+◌, ◌*◌, ◌/◌, ◌%◌, ◌<◌, ◌≤◌, ◌^◌, Bool, List, [], ◌∷◌, ◌++◌, length, slice_index}
+use Rattle.std.specs.Prelude.{drop, Result, Ok, Err, nat_lt, nat_le, if◌then◌else◌}
 use Rattle.cip_bytes.specs.Numbers.{le, AreBytes, number_at}
 use Rattle.cip_message.specs.declared.open.OpenRequest.{OpenRequest}
 use Rattle.cip_message.specs.declared.open.LengthFault.{LengthFault}
@@ -58,7 +59,8 @@ front o =
 -- the fields from the timeout multiplier on, with the three reserved bytes behind it
 abbrev pub back : ℕ → Open → List ℕ
 back reserved o =
-    o.timeout_multiplier ∷ [] ++ le 3 reserved ++ le 4 o.o_to_t_rpi ++ le 2 o.o_to_t_parameters ++ le 4 o.t_to_o_rpi ++ le 2 o.t_to_o_parameters
+    o.timeout_multiplier ∷ [] ++ le 3 reserved ++ le 4 o.o_to_t_rpi ++ le 2 o.o_to_t_parameters ++ le 4 o.t_to_o_rpi
+    ++ le 2 o.t_to_o_parameters
     ++ o.transport ∷ (length o.path / 2) ∷ []
 
 -- its spellings, one for each value of the reserved bytes: the fields, and then the path
@@ -73,7 +75,8 @@ pub record SpellsOpen (o : Open) (b : List ℕ) : Type 0 where
 
 -- an open request that spells a front of a text is the only one that does
 abbrev pub OneOpen : Type 0
-OneOpen = (o q : Open) (a b x y : List ℕ) → SpellsOpen o a → SpellsOpen q b → a ++ x ≡ b ++ y → (o ≡ q) × (a ≡ b) × (x ≡ y)
+OneOpen = (o q : Open) (a b x y : List ℕ) → SpellsOpen o a → SpellsOpen q b → a ++ x ≡ b ++ y
+    → (o ≡ q) × (a ≡ b) × (x ≡ y)
 
 -- the spelling that is written, with 0 in the reserved bytes
 abbrev pub «open» : Open → List ℕ

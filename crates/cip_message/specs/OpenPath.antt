@@ -1,6 +1,7 @@
 -- The path of a Forward_Open request (Volume 1, Connection Manager): an electronic key, if there is
 -- one, and then the path of what is connected to.
-use Rattle.std.specs.Prelude.{◌≡◌, ℕ, ◌==◌, List, [], ◌++◌, length, slice_index, take, drop, Option, Some, None, Result, Ok, Err, IfSome, nat_lt, if◌then◌else◌}
+use Rattle.std.specs.Prelude.{◌≡◌, ℕ, ◌==◌, List, [], ◌++◌, length, slice_index, take, drop, Option, Some, None, Result}
+use Rattle.std.specs.Prelude.{Ok, Err, IfSome, nat_lt, if◌then◌else◌}
 use Rattle.cip_message.specs.declared.path.Path.{Path}
 use Rattle.cip_message.specs.declared.path.PathFault.{PathFault}
 use Rattle.cip_message.specs.declared.key.Key.{Key}

@@ -54,7 +54,8 @@ IsPath p b = AreSegments (segments p) b
 -- the first bytes of segments
 abbrev pub IsFirstByte : ℕ → Type 0
 IsFirstByte x =
-    (x ≡ 0x20) ⊎ ((x ≡ 0x21) ⊎ ((x ≡ 0x24) ⊎ ((x ≡ 0x25) ⊎ ((x ≡ 0x26) ⊎ ((x ≡ 0x28) ⊎ ((x ≡ 0x29) ⊎ ((x ≡ 0x30) ⊎ (x ≡ 0x31))))))))
+    (x ≡ 0x20) ⊎ ((x ≡ 0x21) ⊎ ((x ≡ 0x24) ⊎ ((x ≡ 0x25) ⊎ ((x ≡ 0x26) ⊎ ((x ≡ 0x28)
+    ⊎ ((x ≡ 0x29) ⊎ ((x ≡ 0x30) ⊎ (x ≡ 0x31))))))))
 
 -- the bytes begin with the first byte of no segment
 pub record BeginsNone (b : List ℕ) : Type 0 where

@@ -1,5 +1,6 @@
 -- Reading a path from left to right. What it means is said in `Path`, without an order of steps.
-use Rattle.std.specs.Prelude.{ℕ, ◌*◌, ◌/◌, ◌%◌, ◌&&◌, Bool, true, false, List, [], ◌∷◌, length, drop, slice_index, Option, Some, None, Result, Ok, Err, nat_lt, ◌==◌, if◌then◌else◌}
+use Rattle.std.specs.Prelude.{ℕ, ◌*◌, ◌/◌, ◌%◌, ◌&&◌, Bool, true, false, List, [], ◌∷◌, length, drop, slice_index}
+use Rattle.std.specs.Prelude.{Option, Some, None, Result, Ok, Err, nat_lt, ◌==◌, if◌then◌else◌}
 use Rattle.cip_bytes.specs.Numbers.{number_at}
 use Rattle.cip_bytes.specs.Reading.{◌>>=◌}
 use Rattle.cip_message.specs.declared.path.Segment.{Segment}

@@ -1,5 +1,6 @@
 -- The shortest spelling of a path: each value in the least width that holds it, and pad bytes 0.
-use Rattle.std.specs.Prelude.{◌≡◌, ℕ, ◌+◌, ◌<◌, ◌≤◌, ◌^◌, ◌↔◌, List, [], ◌∷◌, ◌++◌, length, Option, Some, None, nat_lt, if◌then◌else◌, IfSome}
+use Rattle.std.specs.Prelude.{◌≡◌, ℕ, ◌+◌, ◌<◌, ◌≤◌, ◌^◌, ◌↔◌, List, [], ◌∷◌, ◌++◌, length, Option, Some, None, nat_lt}
+use Rattle.std.specs.Prelude.{if◌then◌else◌, IfSome}
 use Rattle.cip_bytes.specs.Numbers.{le}
 use Rattle.cip_message.specs.Path.{IsSegment, IsPath}
 use Rattle.cip_message.specs.declared.path.Segment.{Segment}
@@ -20,7 +21,8 @@ short_optional first (Some v) = short16 first v
 
 -- class, instance, attribute if any, member if any
 unfoldable pub short : Path → List ℕ
-short p = short16 0x20 p.class ++ short32 0x24 p.instance ++ short_optional 0x30 p.attribute ++ short_optional 0x28 p.member
+short p =
+    short16 0x20 p.class ++ short32 0x24 p.instance ++ short_optional 0x30 p.attribute ++ short_optional 0x28 p.member
 
 -- the values are within the ranges of their fields
 pub record FitsPath (p : Path) : Type 0 where
@@ -37,4 +39,5 @@ pub record IsShortest (p : Path) : Type 0 where
 
 -- a segment that spells a front of a text is the only one that does
 abbrev pub OneSegment : Type 0
-OneSegment = (g h : Segment) (a b x y : List ℕ) → IsSegment g a → IsSegment h b → a ++ x ≡ b ++ y → (g ≡ h) × (a ≡ b) × (x ≡ y)
+OneSegment = (g h : Segment) (a b x y : List ℕ) → IsSegment g a → IsSegment h b → a ++ x ≡ b ++ y
+    → (g ≡ h) × (a ≡ b) × (x ≡ y)

@@ -1,5 +1,6 @@
 -- Requests of the message router (Volume 1, message router request format).
-use Rattle.std.specs.Prelude.{◌≡◌, ℕ, ◌*◌, ◌/◌, ◌%◌, ◌<◌, ◌≤◌, ◌^◌, List, [], ◌∷◌, ◌++◌, length, take, drop, Result, Ok, Err, nat_lt, if◌then◌else◌}
+use Rattle.std.specs.Prelude.{◌≡◌, ℕ, ◌*◌, ◌/◌, ◌%◌, ◌<◌, ◌≤◌, ◌^◌, List, [], ◌∷◌, ◌++◌, length, take, drop, Result, Ok}
+use Rattle.std.specs.Prelude.{Err, nat_lt, if◌then◌else◌}
 use Rattle.cip_bytes.specs.Numbers.{AreBytes}
 use Rattle.cip_message.specs.declared.request.RequestView.{RequestView}
 use Rattle.cip_message.specs.declared.request.RequestFault.{RequestFault}

@@ -166,6 +166,7 @@ fn first_segment(bytes: &[u8]) -> Result<(Segment, &[u8]), PathFault>
 }
 
 /// The class, which comes first, and what follows it. (Volume 1, order of logical segments.)
+#[inline(always)]
 #[tactic(auto, unfolding(crate::specs::PathReading::class_of))]
 fn class(bytes: &[u8]) -> Result<(u16, &[u8]), PathFault>
     ensures { Gives (λ x. (x.0, x.1.now)) result (class_of bytes.now) }
@@ -177,6 +178,7 @@ fn class(bytes: &[u8]) -> Result<(u16, &[u8]), PathFault>
 }
 
 /// The instance, which follows the class, and what follows it.
+#[inline(always)]
 #[tactic(auto, unfolding(crate::specs::PathReading::instance_of))]
 fn instance(bytes: &[u8]) -> Result<(u32, &[u8]), PathFault>
     ensures { Gives (λ x. (x.0, x.1.now)) result (instance_of bytes.now) }
@@ -188,6 +190,7 @@ fn instance(bytes: &[u8]) -> Result<(u32, &[u8]), PathFault>
 }
 
 /// The attribute at the front, if one stands there. Another segment is left where it is.
+#[inline(always)]
 #[tactic(auto, unfolding(crate::specs::PathReading::attribute_of))]
 fn attribute(bytes: &[u8]) -> Result<(Option<u16>, &[u8]), PathFault>
     ensures { Gives (λ x. (x.0, x.1.now)) result (attribute_of bytes.now) }
@@ -202,6 +205,7 @@ fn attribute(bytes: &[u8]) -> Result<(Option<u16>, &[u8]), PathFault>
 }
 
 /// The member at the front, if one stands there. Another segment is left where it is.
+#[inline(always)]
 #[tactic(auto, unfolding(crate::specs::PathReading::member_of))]
 fn member(bytes: &[u8]) -> Result<(Option<u16>, &[u8]), PathFault>
     ensures { Gives (λ x. (x.0, x.1.now)) result (member_of bytes.now) }
@@ -216,6 +220,7 @@ fn member(bytes: &[u8]) -> Result<(Option<u16>, &[u8]), PathFault>
 }
 
 /// The path, where nothing follows it. What follows is told from a segment out of order first.
+#[inline(always)]
 #[tactic(auto, unfolding(crate::specs::PathReading::whole_of))]
 fn whole(path: Path, bytes: &[u8]) -> Result<Path, PathFault>
     ensures { result ≡ whole_of path bytes.now }
@@ -228,6 +233,7 @@ fn whole(path: Path, bytes: &[u8]) -> Result<Path, PathFault>
 }
 
 /// The path that the bytes spell, all of the bytes.
+#[inline(always)]
 pub fn read_path(bytes: &[u8]) -> Result<Path, PathFault>
     // What is read is spelled so, and what is spelled so is read.
     ensures path { (p : Path) → (result ≡ Ok p) ↔ IsPath p bytes.now }
@@ -239,6 +245,7 @@ pub fn read_path(bytes: &[u8]) -> Result<Path, PathFault>
 }
 
 /// The path that the bytes spell, as a computation.
+#[inline(always)]
 #[tactic(auto, unfolding(crate::specs::PathReading::path_of))]
 fn path_at(bytes: &[u8]) -> Result<Path, PathFault>
     ensures { result ≡ path_of bytes.now }

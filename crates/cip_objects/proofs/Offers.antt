@@ -19,7 +19,7 @@ table b1 b4 b6 b100 z o x =
     cond b1 (single z o (GetAttributesAll ∷ GetAttributeList ∷ GetAttributeSingle ∷ []))
     (cond b4 (cond z (Some (GetAttributeSingle ∷ [])) (option_map (λ _. assembly_services) x))
     (cond b6 (cond o (Some []) None)
-    (cond b100 (single z o (GetAttributeList ∷ GetAttributeSingle ∷ SetAttributeSingle ∷ Add ∷ Clear ∷ [])) None)))
+    (cond b100 (single z o (Add ∷ Clear ∷ GetAttributeList ∷ GetAttributeSingle ∷ SetAttributeSingle ∷ [])) None)))
 
 -- the service of this code among them
 abbrev pub offered : ℕ → Option (List Service) → Result Service Refusal

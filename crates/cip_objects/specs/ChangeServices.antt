@@ -1,12 +1,14 @@
 -- The services that change, each by its first check that fails (Volume 1, common services; Add and Clear are the
 -- counter's own).
-use Rattle.std.specs.Prelude.{ℕ, ◌+◌, ◌%◌, ◌^◌, Bool, ◌==◌, not, ◌||◌, nat_le, List, [], ◌++◌, take, drop, length, Result, Ok, Err}
+use Rattle.std.specs.Prelude.{ℕ, ◌+◌, ◌%◌, ◌^◌, Bool, ◌==◌, not, ◌||◌, nat_le, List, [], ◌++◌, take, drop, length}
+use Rattle.std.specs.Prelude.{Result, Ok, Err}
 use Rattle.std.specs.Option.{ok_or}
 use Rattle.byteorder.specs.Endian.{little_number}
 use Rattle.cip_message.specs.declared.path.Path.{Path}
 use Rattle.cip_bytes.specs.Numbers.{le}
 use Rattle.cip_objects.specs.declared.status.Refusal.{Refusal}
-use Rattle.cip_objects.specs.declared.status.Refusal.TheVariants.{AttributeNotSupported, AttributeNotSettable, InvalidAttributeValue, InvalidParameter}
+use Rattle.cip_objects.specs.declared.status.Refusal.TheVariants.{AttributeNotSupported, AttributeNotSettable}
+use Rattle.cip_objects.specs.declared.status.Refusal.TheVariants.{InvalidAttributeValue, InvalidParameter}
 use Rattle.cip_bytes.specs.Reading.{◌>>=◌, ◌>>◌}
 use Rattle.cip_objects.specs.Check.{demand, exactly}
 use Rattle.cip_objects.specs.Contents.{Contents, value_at, bytes_at, udint_at, with_value}
@@ -56,18 +58,21 @@ set_member m path content = do
   span ← named_member m.shapes path
   all ← ok_or (settable_size m.shapes ASSEMBLY path.instance 3) AttributeNotSettable
   exactly span.size content
-  change (with_value m ASSEMBLY path.instance 3 (with_bytes_at (bytes_at m ASSEMBLY path.instance 3) span.offset content)) []
+  change (with_value m ASSEMBLY path.instance 3
+      (with_bytes_at (bytes_at m ASSEMBLY path.instance 3) span.offset content)) []
 
 -- the counter once it was added to
 abbrev pub after_add : Contents → ℕ → Contents
-after_add m total = with_value (with_value m COUNTER 1 1 (le 4 total)) COUNTER 1 3 (le 4 ((udint_at m COUNTER 1 3 + 1) % 2 ^ 32))
+after_add m total =
+    with_value (with_value m COUNTER 1 1 (le 4 total)) COUNTER 1 3 (le 4 ((udint_at m COUNTER 1 3 + 1) % 2 ^ 32))
 
 -- Add: the value grows by the number in the data, unless it came over the limit
 unfoldable pub add : Contents → List ℕ → Result Change Refusal
 add m content = do
   exactly 4 content
   demand (nat_le (udint_at m COUNTER 1 1 + little_number 4 content) (udint_at m COUNTER 1 2)) InvalidParameter
-  change (after_add m (udint_at m COUNTER 1 1 + little_number 4 content)) (le 4 (udint_at m COUNTER 1 1 + little_number 4 content))
+  change (after_add m (udint_at m COUNTER 1 1 + little_number 4 content))
+      (le 4 (udint_at m COUNTER 1 1 + little_number 4 content))
 
 -- Clear: the value is 0, and the old one is answered
 unfoldable pub clear : Contents → List ℕ → Result Change Refusal

@@ -11,4 +11,5 @@ demand false refusal = Err refusal
 -- the data of a service that takes exactly this many bytes
 abbrev pub exactly : ℕ → List ℕ → Result (Unit {0}) Refusal
 exactly size content =
-    if nat_lt (length content) size then Err NotEnoughData else (if nat_lt size (length content) then Err TooMuchData else Ok tt)
+    if nat_lt (length content) size then Err NotEnoughData
+    else (if nat_lt size (length content) then Err TooMuchData else Ok tt)

@@ -1,11 +1,13 @@
 -- What a configuration makes, and what is refused: the first check that fails.
-use Rattle.std.specs.Prelude.{ℕ, Bool, false, ◌==◌, ◌||◌, nat_lt, if◌then◌else◌, List, [], ◌∷◌, length, map, sum, replicate, Option, Some, None}
+use Rattle.std.specs.Prelude.{ℕ, Bool, false, ◌==◌, ◌||◌, nat_lt, if◌then◌else◌, List, [], ◌∷◌, length, map, sum}
+use Rattle.std.specs.Prelude.{replicate, Option, Some, None}
 use Rattle.std.specs.List.{list_any}
 use Rattle.std.specs.String.{string_bytes}
 use Rattle.cip_objects.specs.declared.config.Config.{Config}
 use Rattle.cip_objects.specs.declared.config.AssemblyConfig.{AssemblyConfig}
 use Rattle.cip_objects.specs.declared.config.ConfigFault.{ConfigFault}
-use Rattle.cip_objects.specs.declared.config.ConfigFault.TheVariants.{Name, Size, Members, DoubleInstance, Limit, Memory}
+use Rattle.cip_objects.specs.declared.config.ConfigFault.TheVariants.{Name, Size, Members, DoubleInstance, Limit}
+use Rattle.cip_objects.specs.declared.config.ConfigFault.TheVariants.{Memory}
 use Rattle.cip_objects.specs.Limits.{LONGEST_DATA}
 use Rattle.cip_objects.specs.Contents.{Contents}
 use Rattle.cip_objects.specs.Entries.{IdentityValues, Block, CounterValues, contents_of}
@@ -65,7 +67,12 @@ identity_of c = record {
 
 -- an assembly of a configuration: its data begin as zeros
 abbrev pub block_of : AssemblyConfig → Block
-block_of a = record { instance = a.instance; settable = a.settable; members = a.members.items; content = replicate (sum a.members.items) 0 }
+block_of a = record {
+  instance = a.instance;
+  settable = a.settable;
+  members = a.members.items;
+  content = replicate (sum a.members.items) 0;
+}
 
 -- the counter of a configuration: nothing was added yet
 abbrev pub counter_of : Config → CounterValues

@@ -33,16 +33,31 @@ with_value m class instance attribute value = record m { values = insert m.value
 -- how such values are stored
 abbrev pub key_code : Coded Key
 key_code =
-    code_by (ℕ × (ℕ × ℕ)) (coded× coded_ℕ (coded× coded_ℕ coded_ℕ)) (λ k. (k.class, (k.instance, k.attribute))) (λ p. key p.0 p.1.0 p.1.1) (λ _. refl)
+    code_by (ℕ × (ℕ × ℕ)) (coded× coded_ℕ (coded× coded_ℕ coded_ℕ)) (λ k. (k.class, (k.instance, k.attribute)))
+    (λ p. key p.0 p.1.0 p.1.1) (λ _. refl)
 
 abbrev pub shape_code : Coded Shape
 shape_code =
-    code_by (ℕ × (Bool × List ℕ)) (coded× coded_ℕ (coded× coded_bool (coded_list coded_ℕ))) (λ s. (s.instance, (s.settable, s.members))) (λ p. record { instance = p.0; settable = p.1.0; members = p.1.1 }) (λ _. refl)
+    code_by (ℕ × (Bool × List ℕ)) (coded× coded_ℕ (coded× coded_bool (coded_list coded_ℕ)))
+    (λ s. (s.instance, (s.settable, s.members))) (λ p. record { instance = p.0; settable = p.1.0; members = p.1.1 })
+    (λ _. refl)
 
 abbrev pub device_code : Coded Device
 device_code =
-    code_by (ℕ × (ℕ × (ℕ × (ℕ × ℕ)))) (coded× coded_ℕ (coded× coded_ℕ (coded× coded_ℕ (coded× coded_ℕ coded_ℕ)))) (λ d. (d.vendor, (d.device_type, (d.product_code, (d.major, d.minor))))) (λ p. record { vendor = p.0; device_type = p.1.0; product_code = p.1.1.0; major = p.1.1.1.0; minor = p.1.1.1.1 }) (λ _. refl)
+    code_by (ℕ × (ℕ × (ℕ × (ℕ × ℕ)))) (coded× coded_ℕ (coded× coded_ℕ (coded× coded_ℕ (coded× coded_ℕ coded_ℕ))))
+    (λ d. (d.vendor, (d.device_type, (d.product_code, (d.major, d.minor)))))
+    (λ p. record {
+      vendor = p.0;
+      device_type = p.1.0;
+      product_code = p.1.1.0;
+      major = p.1.1.1.0;
+      minor = p.1.1.1.1;
+    })
+    (λ _. refl)
 
 abbrev pub contents_code : Coded Contents
 contents_code =
-    code_by (ObjectMap × (List Shape × Device)) (coded× (code key_code (coded_list coded_ℕ)) (coded× (coded_list shape_code) device_code)) (λ m. (m.values, (m.shapes, m.device))) (λ p. record { values = p.0; shapes = p.1.0; device = p.1.1 }) (λ _. refl)
+    code_by (ObjectMap × (List Shape × Device))
+    (coded× (code key_code (coded_list coded_ℕ)) (coded× (coded_list shape_code) device_code))
+    (λ m. (m.values, (m.shapes, m.device))) (λ p. record { values = p.0; shapes = p.1.0; device = p.1.1 })
+    (λ _. refl)

@@ -57,8 +57,8 @@ services_at destinations.Identity =
 services_at (destinations.Assembly place) = assembly_services
 services_at destinations.ConnectionManager = []
 services_at destinations.Counter =
-    services.GetAttributeList ∷ services.GetAttributeSingle ∷ services.SetAttributeSingle ∷ services.Add
-    ∷ services.Clear ∷ []
+    services.Add ∷ services.Clear ∷ services.GetAttributeList ∷ services.GetAttributeSingle
+    ∷ services.SetAttributeSingle ∷ []
 
 -- an assembly stands at this place, the first of its number
 abbrev pub IsPlace : List Shape → ℕ → Type 0

@@ -1,6 +1,7 @@
 -- What the object map holds, instance by instance (Volume 1: Identity and Assembly objects; the counter is the
 -- vendor's own).
-use Rattle.std.specs.Prelude.{ℕ, ◌<◌, Bool, List, [], ◌∷◌, ◌++◌, Option, Some, None, ◌==◌, if◌then◌else◌, length, sum, map, max}
+use Rattle.std.specs.Prelude.{ℕ, ◌<◌, Bool, List, [], ◌∷◌, ◌++◌, Option, Some, None, ◌==◌, if◌then◌else◌, length, sum}
+use Rattle.std.specs.Prelude.{map, max}
 use Rattle.std.specs.List.{flat_map}
 use Rattle.std.specs.FinMap.{from_entries}
 use Rattle.byteorder.specs.Endian.{little_bytes}
@@ -96,11 +97,18 @@ abbrev pub shape_of : Block → Shape
 shape_of b = record { instance = b.instance; settable = b.settable; members = b.members }
 
 abbrev pub device_of : IdentityValues → Device
-device_of d = record { vendor = d.vendor; device_type = d.device_type; product_code = d.product_code; major = d.major; minor = d.minor }
+device_of d = record {
+  vendor = d.vendor;
+  device_type = d.device_type;
+  product_code = d.product_code;
+  major = d.major;
+  minor = d.minor;
+}
 
 -- the contents that these values make
 unfoldable pub contents_of : IdentityValues → List Block → CounterValues → Contents
-contents_of d bs c = record { values = from_entries (entries_of d bs c); shapes = map shape_of bs; device = device_of d }
+contents_of d bs c =
+    record { values = from_entries (entries_of d bs c); shapes = map shape_of bs; device = device_of d }
 
 -- the assembly of this instance number: the first, if one stood twice
 abbrev pub block_at : ℕ → List Block → Option Block

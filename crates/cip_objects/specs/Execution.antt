@@ -7,7 +7,9 @@ use Rattle.cip_message.specs.PathReading.{path_of}
 use Rattle.cip_message.specs.Request.{Request, request_of}
 use Rattle.cip_message.specs.Reply.{reply, reply_of_fields}
 use Rattle.cip_objects.specs.declared.service.Service.{Service}
-use Rattle.cip_objects.specs.declared.service.Service.TheVariants.{GetAttributesAll, GetAttributeList, GetAttributeSingle, SetAttributeSingle, GetMember, SetMember, Add, Clear}
+use Rattle.cip_objects.specs.declared.service.Service.TheVariants.{GetAttributesAll, GetAttributeList}
+use Rattle.cip_objects.specs.declared.service.Service.TheVariants.{GetAttributeSingle, SetAttributeSingle, GetMember}
+use Rattle.cip_objects.specs.declared.service.Service.TheVariants.{SetMember, Add, Clear}
 use Rattle.cip_objects.specs.declared.status.Status.{Status}
 use Rattle.cip_objects.specs.declared.status.Completion.{Completion}
 use Rattle.cip_objects.specs.declared.status.Completion.TheVariants.{Whole}
@@ -15,7 +17,8 @@ use Rattle.cip_objects.specs.declared.status.Refusal.{Refusal}
 use Rattle.cip_objects.specs.declared.status.Refusal.TheVariants.{PathSizeInvalid, PathSegmentError, ReplyDataTooLarge}
 use Rattle.cip_bytes.specs.Reading.{◌>>=◌}
 use Rattle.cip_objects.specs.Contents.{Contents}
-use Rattle.cip_objects.specs.ReadServices.{Answer, service_at, get_attribute_single, get_attributes_all, get_attribute_list, get_member}
+use Rattle.cip_objects.specs.ReadServices.{Answer, service_at, get_attribute_single, get_attributes_all}
+use Rattle.cip_objects.specs.ReadServices.{get_attribute_list, get_member}
 use Rattle.cip_objects.specs.ChangeServices.{Change, set_attribute_single, set_member, add, clear}
 use Rattle.cip_message.specs.Reply.{reply_service}
 use Rattle.cip_objects.specs.Status.{status_code, completion_status, refusal_status}
@@ -80,7 +83,8 @@ outcome m text = do
 
 -- a reply of this status: the service of the request with bit 7, no additional words
 abbrev pub reply_to : List ℕ → Status → List ℕ → List ℕ
-reply_to text status content = reply (reply_of_fields (reply_service (slice_index text 0)) (status_code status) [] content)
+reply_to text status content =
+    reply (reply_of_fields (reply_service (slice_index text 0)) (status_code status) [] content)
 
 -- the map after a request and its reply
 pub record Executed : Type 0 where

@@ -29,7 +29,8 @@ same_ok x y e = cc
 
 by_test : (over : Bool) (room : ℕ) (text : List ℕ) (o : Outcome) (x : Executed)
     → nat_lt room (length (reply_of_outcome text o)) ≡ over
-    → (cond {A = Result (List ℕ) Refusal} over (Err ReplyDataTooLarge) (Ok (reply_of_outcome text o)) >>= λ answer. Ok (record { after = o.after; answer = answer }))
+    → (cond {A = Result (List ℕ) Refusal} over (Err ReplyDataTooLarge) (Ok (reply_of_outcome text o))
+    >>= λ answer. Ok (record { after = o.after; answer = answer }))
     ≡ Ok x → IsOutcome room text (Ok o) x
 by_test true room text o x e f = absurd (cc)
 by_test false room text o x e f =
@@ -43,7 +44,8 @@ by_test false room text o x e f =
     }
 
 -- what isn't refused is an outcome with its reply
-pub is_outcome : (room : ℕ) (text : List ℕ) (r : Result Outcome Refusal) (x : Executed) → (r >>= with_reply room text) ≡ Ok x → IsOutcome room text r x
+pub is_outcome : (room : ℕ) (text : List ℕ) (r : Result Outcome Refusal) (x : Executed)
+    → (r >>= with_reply room text) ≡ Ok x → IsOutcome room text r x
 is_outcome room text (Ok o) x e = by_test (nat_lt room (length (reply_of_outcome text o))) room text o x refl e
 is_outcome room text (Err s) x e = absurd (cc)
 
@@ -51,18 +53,22 @@ not_too_large : (c : Completion) → status_code (completion_status c) ≡ REPLY
 not_too_large Whole e = omega arith
 not_too_large Partial e = omega arith
 
-too_large : (m : Contents) (room : ℕ) (text : List ℕ) (r : Result Outcome Refusal) (q : Result Executed Refusal) → (r >>= with_reply room text) ≡ q → general_status (or_refusal m text q).answer ≡ REPLY_TOO_LARGE → (or_refusal m text q).after ≡ m
+too_large : (m : Contents) (room : ℕ) (text : List ℕ) (r : Result Outcome Refusal) (q : Result Executed Refusal)
+    → (r >>= with_reply room text) ≡ q → general_status (or_refusal m text q).answer ≡ REPLY_TOO_LARGE
+    → (or_refusal m text q).after ≡ m
 too_large m room text r (Err s) e f = refl
 too_large m room text r (Ok x) e f =
     let p = is_outcome room text r x e in
     absurd (not_too_large p.made.status (subst (λ a. general_status a ≡ REPLY_TOO_LARGE) p.answer f))
 
 -- a reply that is too large goes with the contents as they were
-pub exec_too_large : (m : Contents) (room : ℕ) (text : List ℕ) → general_status (exec m room text).answer ≡ REPLY_TOO_LARGE → (exec m room text).after ≡ m
+pub exec_too_large : (m : Contents) (room : ℕ) (text : List ℕ)
+    → general_status (exec m room text).answer ≡ REPLY_TOO_LARGE → (exec m room text).after ≡ m
 unfolding exec
 exec_too_large m room text e = too_large m room text (outcome m text) (outcome m text >>= with_reply room text) refl e
 
-begins : (m : Contents) (room : ℕ) (text : List ℕ) (r : Result Outcome Refusal) (q : Result Executed Refusal) → (r >>= with_reply room text) ≡ q → IsReplyTo text (or_refusal m text q).answer
+begins : (m : Contents) (room : ℕ) (text : List ℕ) (r : Result Outcome Refusal) (q : Result Executed Refusal)
+    → (r >>= with_reply room text) ≡ q → IsReplyTo text (or_refusal m text q).answer
 begins m room text r (Err s) e = record { head = omega arith; service = refl }
 begins m room text r (Ok x) e =
     let p = is_outcome room text r x e in
@@ -73,9 +79,11 @@ pub exec_begins : (m : Contents) (room : ℕ) (text : List ℕ) → IsReplyTo te
 unfolding exec
 exec_begins m room text = begins m room text (outcome m text) (outcome m text >>= with_reply room text) refl
 
-within : (m : Contents) (room : ℕ) (text : List ℕ) (r : Result Outcome Refusal) (q : Result Executed Refusal) → 8 ≤ room → (r >>= with_reply room text) ≡ q → length (or_refusal m text q).answer ≤ room
+within : (m : Contents) (room : ℕ) (text : List ℕ) (r : Result Outcome Refusal) (q : Result Executed Refusal)
+    → 8 ≤ room → (r >>= with_reply room text) ≡ q → length (or_refusal m text q).answer ≤ room
 within m room text r (Err s) h e = omega arith
-within m room text r (Ok x) h e = let p = is_outcome room text r x e in subst (λ a. length a ≤ room) (sym p.answer) p.fits
+within m room text r (Ok x) h e =
+    let p = is_outcome room text r x e in subst (λ a. length a ≤ room) (sym p.answer) p.fits
 
 -- each reply is within its room
 pub exec_within : (m : Contents) (room : ℕ) (text : List ℕ) → 8 ≤ room → length (exec m room text).answer ≤ room

@@ -4,7 +4,9 @@ use Rattle.cip_message.specs.declared.path.Path.{Path}
 use Rattle.cip_message.specs.PathReading.{path_of}
 use Rattle.cip_message.specs.Request.{request_of}
 use Rattle.cip_objects.specs.declared.service.Service.{Service}
-use Rattle.cip_objects.specs.declared.service.Service.TheVariants.{GetAttributesAll, GetAttributeList, GetAttributeSingle, SetAttributeSingle, GetMember, SetMember, Add, Clear}
+use Rattle.cip_objects.specs.declared.service.Service.TheVariants.{GetAttributesAll, GetAttributeList}
+use Rattle.cip_objects.specs.declared.service.Service.TheVariants.{GetAttributeSingle, SetAttributeSingle, GetMember}
+use Rattle.cip_objects.specs.declared.service.Service.TheVariants.{SetMember, Add, Clear}
 use Rattle.cip_objects.specs.declared.status.Status.TheVariants.{Success}
 use Rattle.cip_objects.specs.Contents.{Contents, value_at}
 use Rattle.cip_objects.specs.Execution.{Outcome, perform, reply_to, exec, run}

@@ -16,7 +16,8 @@ key class instance attribute = record { class = class; instance = instance; attr
 -- by class, then instance, then attribute
 abbrev pub key_cmp : Key → Key → Ordering
 key_cmp a b =
-    ordering_then (nat_cmp a.class b.class) (ordering_then (nat_cmp a.instance b.instance) (nat_cmp a.attribute b.attribute))
+    ordering_then (nat_cmp a.class b.class)
+    (ordering_then (nat_cmp a.instance b.instance) (nat_cmp a.attribute b.attribute))
 
 abbrev pub ObjectMap : Type 0
 ObjectMap = FinMap key_cmp (List ℕ)

@@ -1,5 +1,6 @@
 -- The services that read, each by its first check that fails (Volume 1, common services).
-use Rattle.std.specs.Prelude.{ℕ, ◌+◌, ◌*◌, Bool, true, false, ◌&&◌, ◌==◌, nat_le, if◌then◌else◌, List, [], ◌∷◌, ◌++◌, length, take, drop, Option, Some, None, is_some, Result, Ok, Err}
+use Rattle.std.specs.Prelude.{ℕ, ◌+◌, ◌*◌, Bool, true, false, ◌&&◌, ◌==◌, nat_le, if◌then◌else◌, List, [], ◌∷◌, ◌++◌}
+use Rattle.std.specs.Prelude.{length, take, drop, Option, Some, None, is_some, Result, Ok, Err}
 use Rattle.std.specs.Option.{ok_or}
 use Rattle.std.specs.List.{flat_map}
 use Rattle.byteorder.specs.Endian.{little_number}
@@ -10,7 +11,8 @@ use Rattle.cip_objects.specs.declared.service.Service.{Service}
 use Rattle.cip_objects.specs.declared.status.Completion.{Completion}
 use Rattle.cip_objects.specs.declared.status.Completion.TheVariants.{Whole, Partial}
 use Rattle.cip_objects.specs.declared.status.Refusal.{Refusal}
-use Rattle.cip_objects.specs.declared.status.Refusal.TheVariants.{PathDestinationUnknown, ServiceNotSupported, AttributeNotSupported, InvalidMemberId, NotEnoughData}
+use Rattle.cip_objects.specs.declared.status.Refusal.TheVariants.{PathDestinationUnknown, ServiceNotSupported}
+use Rattle.cip_objects.specs.declared.status.Refusal.TheVariants.{AttributeNotSupported, InvalidMemberId, NotEnoughData}
 use Rattle.cip_bytes.specs.Reading.{◌>>=◌, ◌>>◌}
 use Rattle.cip_objects.specs.Check.{demand, exactly}
 use Rattle.cip_objects.specs.Contents.{Contents, value_at, bytes_at}
@@ -80,7 +82,8 @@ unfoldable pub get_attribute_list : Contents → Path → List ℕ → Result An
 get_attribute_list m path content = do
   demand (nat_le 2 (length content)) NotEnoughData
   exactly (2 + 2 * little_number 2 content) content
-  answer (list_completion (all_there m path (words_of (drop 2 content)))) (le 2 (little_number 2 content) ++ flat_map (list_entry m path) (words_of (drop 2 content)))
+  answer (list_completion (all_there m path (words_of (drop 2 content))))
+      (le 2 (little_number 2 content) ++ flat_map (list_entry m path) (words_of (drop 2 content)))
 
 -- whether the attribute is the data of an assembly
 abbrev pub is_data : Option ℕ → Bool

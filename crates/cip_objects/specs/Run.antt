@@ -1,5 +1,6 @@
 -- The counter over a run of requests: its value is the sum of what was added since it was last cleared.
-use Rattle.std.specs.Prelude.{◌≡◌, ℕ, ◌+◌, ◌%◌, ◌^◌, ◌<◌, ◌≤◌, Bool, false, ◌&&◌, ◌==◌, if◌then◌else◌, List, [], ◌∷◌, Option, Some, None, option_map, unwrap_or, is_some, Result, Ok, Err}
+use Rattle.std.specs.Prelude.{◌≡◌, ℕ, ◌+◌, ◌%◌, ◌^◌, ◌<◌, ◌≤◌, Bool, false, ◌&&◌, ◌==◌, if◌then◌else◌, List, [], ◌∷◌}
+use Rattle.std.specs.Prelude.{Option, Some, None, option_map, unwrap_or, is_some, Result, Ok, Err}
 use Rattle.byteorder.specs.Endian.{little_number}
 use Rattle.cip_message.specs.declared.path.Path.{Path}
 use Rattle.cip_message.specs.declared.path.PathFault.{PathFault}
@@ -75,4 +76,5 @@ pub record Counts (m : Contents) (requests : List (ℕ × List ℕ)) (ran : Ran)
 -- For every list of requests: the counter's value is what was added since it was last cleared, never over its limit,
 -- and its additions count those that were accepted, modulo 2^32.
 abbrev pub counter_law : Type 0
-counter_law = (m : Contents) (requests : List (ℕ × List ℕ)) → IsCounter m → AllBytes requests → Counts m requests (run m requests)
+counter_law = (m : Contents) (requests : List (ℕ × List ℕ)) → IsCounter m → AllBytes requests
+    → Counts m requests (run m requests)

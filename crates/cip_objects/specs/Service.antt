@@ -1,7 +1,9 @@
 -- The services and their codes (Volume 1, common services; 0x32 and 0x33 are the counter's own).
 use Rattle.std.specs.Prelude.{ℕ, List, [], ◌∷◌, Option, Some, None, ◌==◌, if◌then◌else◌}
 use Rattle.cip_objects.specs.declared.service.Service.{Service}
-use Rattle.cip_objects.specs.declared.service.Service.TheVariants.{GetAttributesAll, GetAttributeList, GetAttributeSingle, SetAttributeSingle, GetMember, SetMember, Add, Clear}
+use Rattle.cip_objects.specs.declared.service.Service.TheVariants.{GetAttributesAll, GetAttributeList}
+use Rattle.cip_objects.specs.declared.service.Service.TheVariants.{GetAttributeSingle, SetAttributeSingle, GetMember}
+use Rattle.cip_objects.specs.declared.service.Service.TheVariants.{SetMember, Add, Clear}
 
 abbrev pub service_code : Service → ℕ
 service_code GetAttributesAll = 0x01

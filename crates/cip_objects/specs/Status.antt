@@ -5,7 +5,12 @@ use Rattle.cip_objects.specs.declared.status.Completion.{Completion}
 use Rattle.cip_objects.specs.declared.status.Completion.TheVariants.{Whole, Partial}
 use Rattle.cip_objects.specs.declared.status.Refusal.{Refusal}
 use Rattle.cip_objects.specs.declared.status.Refusal.TheVariants as refusals
-use Rattle.cip_objects.specs.declared.status.Status.TheVariants.{Success, ConnectionFailure, PathSegmentError, PathDestinationUnknown, ServiceNotSupported, InvalidAttributeValue, AttributeListError, AttributeNotSettable, ReplyDataTooLarge, NotEnoughData, AttributeNotSupported, TooMuchData, InvalidParameter, PathSizeInvalid, InvalidMemberId}
+use Rattle.cip_objects.specs.declared.status.Status.TheVariants.{Success, ConnectionFailure, PathSegmentError}
+use Rattle.cip_objects.specs.declared.status.Status.TheVariants.{PathDestinationUnknown, ServiceNotSupported}
+use Rattle.cip_objects.specs.declared.status.Status.TheVariants.{InvalidAttributeValue, AttributeListError}
+use Rattle.cip_objects.specs.declared.status.Status.TheVariants.{AttributeNotSettable, ReplyDataTooLarge, NotEnoughData}
+use Rattle.cip_objects.specs.declared.status.Status.TheVariants.{AttributeNotSupported, TooMuchData, InvalidParameter}
+use Rattle.cip_objects.specs.declared.status.Status.TheVariants.{PathSizeInvalid, InvalidMemberId}
 
 abbrev pub status_code : Status → ℕ
 status_code Success = 0x00

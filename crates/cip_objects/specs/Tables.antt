@@ -1,8 +1,11 @@
 -- The constant tables beside the object map: what the configuration fixes for good. Which services an instance
 -- of a class has, which attributes can be set, and where the members of an assembly lie.
-use Rattle.std.specs.Prelude.{ℕ, ◌-◌, Bool, List, [], ◌∷◌, Option, Some, None, option_map, ◌==◌, ◌&&◌, ◌||◌, if◌then◌else◌, nat_lt, length, slice_index, sum, take}
+use Rattle.std.specs.Prelude.{ℕ, ◌-◌, Bool, List, [], ◌∷◌, Option, Some, None, option_map, ◌==◌, ◌&&◌, ◌||◌}
+use Rattle.std.specs.Prelude.{if◌then◌else◌, nat_lt, length, slice_index, sum, take}
 use Rattle.cip_objects.specs.declared.service.Service.{Service}
-use Rattle.cip_objects.specs.declared.service.Service.TheVariants.{GetAttributesAll, GetAttributeList, GetAttributeSingle, SetAttributeSingle, GetMember, SetMember, Add, Clear}
+use Rattle.cip_objects.specs.declared.service.Service.TheVariants.{GetAttributesAll, GetAttributeList}
+use Rattle.cip_objects.specs.declared.service.Service.TheVariants.{GetAttributeSingle, SetAttributeSingle, GetMember}
+use Rattle.cip_objects.specs.declared.service.Service.TheVariants.{SetMember, Add, Clear}
 use Rattle.cip_objects.specs.declared.assembly.Span.{Span}
 
 -- what stays of an assembly: its instance number, whether its data can be set, its members' sizes in bytes
@@ -44,10 +47,11 @@ unfoldable pub services_of : List Shape → ℕ → ℕ → Option (List Service
 services_of shapes class instance =
     if class == IDENTITY then class_or_first instance (GetAttributesAll ∷ GetAttributeList ∷ GetAttributeSingle ∷ [])
     else (if class == ASSEMBLY then
-    (if instance == 0 then Some (GetAttributeSingle ∷ []) else option_map (λ _. assembly_services) (shape_at instance shapes))
+    (if instance == 0 then Some (GetAttributeSingle ∷ [])
+    else option_map (λ _. assembly_services) (shape_at instance shapes))
     else (if class == CONNECTION_MANAGER then (if instance == 1 then Some [] else None)
     else (if class == COUNTER then
-    class_or_first instance (GetAttributeList ∷ GetAttributeSingle ∷ SetAttributeSingle ∷ Add ∷ Clear ∷ [])
+    class_or_first instance (Add ∷ Clear ∷ GetAttributeList ∷ GetAttributeSingle ∷ SetAttributeSingle ∷ [])
     else None)))
 
 abbrev pub size_if_settable : Option Shape → Option ℕ

@@ -14,6 +14,7 @@ use byteorder::{ByteOrder, LittleEndian};
 
 impl Objects {
     /// Set_Attribute_Single.
+    #[inline(always)]
     #[tactic(auto, unfolding(crate::specs::ChangeServices::set_attribute_single))]
     pub(crate) fn set_attribute_single(
         &mut self,
@@ -38,6 +39,7 @@ impl Objects {
     }
 
     /// Sets what can be set to data of its length.
+    #[inline(always)]
     fn set(&mut self, settable: Settable, data: &[u8]) -> Result<(), Refusal>
         requires there { IsThere self.old.shapes (destination_of settable) }
         requires whole { HasSize self.old settable }
@@ -84,6 +86,7 @@ impl Objects {
     }
 
     /// Add: answers the new value.
+    #[inline(always)]
     #[tactic(auto, unfolding(crate::specs::ChangeServices::add))]
     pub(crate) fn add(&mut self, data: &[u8]) -> Result<u32, Refusal>
         ensures change_left { change_left (le 4) self.new result ≡ add self.old «data».now }

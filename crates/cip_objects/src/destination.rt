@@ -25,13 +25,13 @@ static ASSEMBLY_SERVICES: [Service; 5] = [
     Service::SetMember,
 ];
 
-/// The services of the counter's instance.
+/// The services of the counter's instance, its own first: they are found soonest.
 static COUNTER_SERVICES: [Service; 5] = [
+    Service::Add,
+    Service::Clear,
     Service::GetAttributeList,
     Service::GetAttributeSingle,
     Service::SetAttributeSingle,
-    Service::Add,
-    Service::Clear,
 ];
 
 /// What the class and the instance of a path lead to. Where there is none, the path's destination is unknown: 0x05.

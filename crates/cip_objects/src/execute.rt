@@ -17,6 +17,7 @@ use cip_message::{RequestView, read_path, reply_service};
 
 impl Objects {
     /// Performs a service that the instance has, and appends the data of its reply.
+    #[inline(always)]
     fn perform(
         &mut self,
         service: Service,

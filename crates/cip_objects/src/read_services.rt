@@ -76,13 +76,17 @@ impl Objects {
             result reply.new.items }
     {
         // this profile ends there (ours)
-        for attribute in [1, 2, 3, 4, 5, 6, 7].iter() {
-            self.append_value(destination, *attribute, room, reply)?;
-        }
-        Ok(())
+        self.append_value(destination, 1, room, reply)?;
+        self.append_value(destination, 2, room, reply)?;
+        self.append_value(destination, 3, room, reply)?;
+        self.append_value(destination, 4, room, reply)?;
+        self.append_value(destination, 5, room, reply)?;
+        self.append_value(destination, 6, room, reply)?;
+        self.append_value(destination, 7, room, reply)
     }
 
     /// Appends the value of an attribute, nothing where there is no such attribute.
+    #[inline(always)]
     fn append_value(
         &self,
         destination: Destination,

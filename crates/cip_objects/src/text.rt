@@ -6,6 +6,7 @@ use crate::router::{REPLY_LIMIT, ReplyBuf};
 use crate::status::Refusal;
 
 /// Appends bytes to a reply, where it then has at most `room` bytes.
+#[inline(always)]
 pub(crate) fn append(bytes: &[u8], room: usize, reply: &mut ReplyBuf) -> Result<(), Refusal>
     requires { room ≤ REPLY_LIMIT }
     ensures { Writes room (reply.old.items ++ bytes.now) result reply.new.items }

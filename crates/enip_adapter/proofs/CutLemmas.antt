@@ -31,10 +31,10 @@ use Rattle.enip_adapter.specs.Runs.{after_calls, Pours, audible_answers, is_sile
 use Rattle.enip_adapter.specs.Runs.Pours.{Ended, Taken, Went_on, Closed}
 use Rattle.enip_adapter.proofs.ListLemmas.{first_with-set, with_first-twice}
 use Rattle.enip_adapter.proofs.PeerLemmas.{at_state}
-use Rattle.enip_adapter.proofs.RunningLemmas.{IsRunning, running-taken, taken_of-short, taken_of-long}
-use Rattle.enip_adapter.proofs.RunningLemmas.{taken_of-within, end-past}
+use Rattle.enip_wire.proofs.RunningLemmas.{IsRunning, running-taken, taken_of-short, taken_of-long}
+use Rattle.enip_wire.proofs.RunningLemmas.{taken_of-within, end-past}
 use Rattle.enip_adapter.proofs.SoundLemmas.{IsSound, sound-call, sound-calls, sound-new, entry-of, taken-piece}
-use Rattle.enip_adapter.proofs.StreamLemmas.{sight-size}
+use Rattle.enip_wire.proofs.SightLemmas.{sight-size}
 
 -- A piece of bytes is fed again and again, until all of it is taken or the peer is closed.
 data Flows (now peer : ℕ) : AdapterState → List ℕ → List Answer → AdapterState → Type 0 where

@@ -3,11 +3,11 @@ pub mod EventLemmas
 pub mod ListLemmas
 pub mod NumberLemmas
 pub mod PeerLemmas
-pub mod RunningLemmas
 pub mod SoundLemmas
 pub mod StreamLemmas
 pub mod CutLemmas
 pub mod OwnLemmas
+pub mod CloseLemmas
 pub mod LookupLemmas
 pub mod MapLemmas
 pub mod FeedLemmas

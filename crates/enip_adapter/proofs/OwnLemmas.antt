@@ -30,7 +30,7 @@ use Rattle.enip_adapter.proofs.CutLemmas.{feed-open}
 use Rattle.enip_adapter.proofs.ListLemmas.{both, first_with-number, first_with-set, first_with-behind, next-none}
 use Rattle.enip_adapter.proofs.ListLemmas.{numbers-none}
 use Rattle.enip_adapter.proofs.PeerLemmas.{at_state, held-call, session-call}
-use Rattle.enip_adapter.proofs.RunningLemmas.{sight_of-running}
+use Rattle.enip_wire.proofs.RunningLemmas.{sight_of-running}
 use Rattle.enip_adapter.proofs.SoundLemmas.{IsSound, sound-call, sound-calls, sound-new, entry-of, no-entry}
 use Rattle.enip_adapter.proofs.StreamLemmas.{frames-append, no-frames, same-runs}
 
@@ -76,7 +76,7 @@ alike-command s t session f =
     (record { registered = refl; close = refl }))))))))))
 
 -- The session after a frame, and after frames, whatever is shared.
-abbrev step : Shared → Session → Frame → Session
+abbrev pub step : Shared → Session → Frame → Session
 step shared session f = session_after session (command_served shared session f)
 
 step-same : (s t : Shared) (session : Session) (f : Frame) → step s session f ≡ step t session f
@@ -85,11 +85,11 @@ step-same s t session f =
     ap (λ r. let x : Session = record session { registered = r; closed = (command_served s session f).reaction.close } in x) a.registered
     ∙ ap (λ c. let x : Session = record session { registered = (command_served t session f).reaction.registered; closed = c } in x) a.close
 
-abbrev steps : Shared → Session → List Frame → Session
+abbrev pub steps : Shared → Session → List Frame → Session
 steps shared session [] = session
 steps shared session (f ∷ fs) = steps shared (step shared session f) fs
 
-steps-append : (shared : Shared) (session : Session) (fs gs : List Frame) → steps shared session (fs ++ gs)
+pub steps-append : (shared : Shared) (session : Session) (fs gs : List Frame) → steps shared session (fs ++ gs)
     ≡ steps shared (steps shared session fs) gs
 steps-append shared session [] gs = refl
 steps-append shared session (f ∷ fs) gs = steps-append shared (step shared session f) fs gs
@@ -100,20 +100,20 @@ steps-same s t session (f ∷ fs) = ap (λ x. steps s x fs) (step-same s t sessi
     ∙ steps-same s t (step t session f) fs
 
 -- And with a long header held it is closed.
-abbrev closing : Session → Sight → Session
+abbrev pub closing : Session → Sight → Session
 closing session Nothing_yet = session
 closing session (A_frame f) = session
 closing session (A_long_header h) = record session { closed = true }
 
 -- The session after a piece of its own, while it is open.
-abbrev served_turn : State → ℕ → (Session → Served) → Session → Turned
+abbrev pub served_turn : State → ℕ → (Session → Served) → Session → Turned
 served_turn s peer serve session =
     turned (record s {
       shared = shared_after session (serve session);
       peers = with_first (λ (p : Session). p.handle) peer (session_after session (serve session)) s.peers;
     }) (sent (serve session).reaction.answer) (serve session).reaction.close
 
-served-open : (s : State) (peer : ℕ) (serve : Session → Served) (session : Session) → session_of s peer ≡ Some session
+pub served-open : (s : State) (peer : ℕ) (serve : Session → Served) (session : Session) → session_of s peer ≡ Some session
     → session.closed ≡ false
     → session_of (serve_found s peer serve (session_of s peer)).state peer
     ≡ Some (session_after session (serve session))
@@ -162,7 +162,7 @@ own-open base a now peer n bytes session old x e alive entry seen =
         ∙ ap (λ z. Some (closing session z)) (sym k)
 
 -- What calls leave of a session that its frames and what is held say.
-abbrev Says : Shared → ℕ → Session → List Frame → AdapterState → Type 0
+abbrev pub Says : Shared → ℕ → Session → List Frame → AdapterState → Type 0
 Says base peer session frames a = session_of a.state peer
     ≡ Some (closing (steps base session frames) (sight_of (bytes_held a.held peer)))
 
@@ -220,7 +220,7 @@ none-other peer other now piece held (Some session) differ =
     both (λ (m : Meaning). frames_of_peer peer (at_a_moment now m).events ≡ []) session.closed _ _ refl
     (no-frames peer other now (sight_of (joined_of (bytes_held held other) piece)) differ)
 
-says-call : (base : Shared) (peer : ℕ) (session : Session) (a : AdapterState) (c : Call) → IsSound a → GoesOn peer c
+pub says-call : (base : Shared) (peer : ℕ) (session : Session) (a : AdapterState) (c : Call) → IsSound a → GoesOn peer c
     → Says base peer session [] a
     → Says base peer session (frames_of_peer peer (call_meaning a c).events) (after_call a c)
 says-call base peer session a Begins_peer sound goes says = says-other base peer session a Begins_peer tt says refl
@@ -276,7 +276,7 @@ begun-session s peer none =
     ∙ (ap (λ b. cond b (Some (new_session s.next_handle)) None) (eq-eqb s.next_handle peer same)
     ∙ ap (λ n. Some (new_session n)) same)))
 
-says-beginning : (base : Shared) (a : AdapterState) (peer : ℕ) → IsSound a → (begun a.state).answer.said ≡ Begins peer
+pub says-beginning : (base : Shared) (a : AdapterState) (peer : ℕ) → IsSound a → (begun a.state).answer.said ≡ Begins peer
     → Says base peer (new_session peer) [] (after_call a Begins_peer)
 says-beginning base a peer sound e =
     let none : session_of a.state peer ≡ None
@@ -287,7 +287,7 @@ says-beginning base a peer sound e =
     = held-call peer a Begins_peer tt ∙ ap bytes_found (no-entry a peer sound.same none) in
     begun-session a.state peer none e ∙ ap (λ b. Some (closing (new_session peer) (sight_of b))) (sym held)
 
-says-run : (base : Shared) (peer : ℕ) (run : Run peer)
+pub says-run : (base : Shared) (peer : ℕ) (run : Run peer)
     → Says base peer (new_session peer) (frames_in peer run) (at_end peer run)
 says-run base peer run =
     let first : AdapterState = after_calls (new_adapter run.objects run.listen run.limits) run.earlier in

@@ -25,7 +25,7 @@ use Rattle.enip_adapter.proofs.ListLemmas.{numbers-with_first, numbers-without_f
 use Rattle.enip_adapter.proofs.ListLemmas.{AreDrawn, drawn-more, drawn-without, gone}
 use Rattle.enip_adapter.proofs.NumberLemmas.{next-sight, next-ended}
 use Rattle.enip_adapter.proofs.PeerLemmas.{at_state, held-call, session-call}
-use Rattle.enip_adapter.proofs.RunningLemmas.{IsRunning, running-empty, running-taken, taken_of-some}
+use Rattle.enip_wire.proofs.RunningLemmas.{IsRunning, running-empty, running-taken, taken_of-some}
 
 -- The handles of the peers, and the numbers of what is held.
 abbrev pub handles : State → List ℕ

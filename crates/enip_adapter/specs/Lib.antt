@@ -15,4 +15,5 @@ pub mod Runs
 pub mod Stored
 pub mod Places
 pub mod Destinations
+pub mod Buffers
 pub mod Serving

@@ -1,5 +1,6 @@
 -- Lists whose items are known by a number.
-use Rattle.std.specs.Prelude.{ℕ, List, [], ◌∷◌, ◌==◌, if◌then◌else◌, Option, Some, None, ◌≡◌, slice_get, slice_set, remove}
+use Rattle.std.specs.Prelude.{ℕ, List, [], ◌∷◌, ◌==◌, if◌then◌else◌, Option, Some, None, ◌≡◌, slice_get, slice_set}
+use Rattle.std.specs.Prelude.{remove}
 
 -- The first item with this number.
 abbrev pub first_with : {X : Type 0} → (X → ℕ) → ℕ → List X → Option X
@@ -18,7 +19,8 @@ without_first number n (x ∷ xs) = if number x == n then xs else x ∷ without_
 
 -- Where the first item with a number is, or past the end, if there is none: it is what is found there, and
 -- a change or a removal is made there.
-pub record IsFoundAt {X : Type 0} (item : Option X) (changed : X → List X) (removed : List X) (xs : List X) (i : ℕ) : Type 0 where
+pub record IsFoundAt {X : Type 0} (item : Option X) (changed : X → List X) (removed : List X) (xs : List X) (i : ℕ)
+    : Type 0 where
   pub found : item ≡ slice_get xs i
   pub set : (y : X) → changed y ≡ slice_set xs i y
   pub taken : removed ≡ remove xs i

@@ -9,7 +9,8 @@ use Rattle.enip_adapter.specs.Replies.{written}
 use Rattle.enip_adapter.specs.Turn.{Answer, session_of, sent}
 
 -- What is shared, the places, the outcome and the buffer after a piece for a peer are these.
-pub record IsFed (limit next_handle : ℕ) (shared : Shared) (places : List Place) (m : Meaning) (left : Shared) (kept : List Place) (outcome : Outcome) (bytes : List ℕ) : Type 0 where
+pub record IsFed (limit next_handle : ℕ) (shared : Shared) (places : List Place) (m : Meaning) (left : Shared)
+    (kept : List Place) (outcome : Outcome) (bytes : List ℕ) : Type 0 where
   pub adapter : adapter_in limit next_handle left kept ≡ after_meaning (state_in limit next_handle shared places) m
   pub taken : outcome.taken ≡ m.taken
   pub answer : ◌≡◌ {A = Answer} (record { said = sent (written outcome.answered bytes); close = outcome.close })

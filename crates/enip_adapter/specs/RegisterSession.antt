@@ -3,7 +3,8 @@ use Rattle.std.specs.Prelude.{ℕ, List, ◌++◌, length, ◌==◌, not, if◌t
 use Rattle.cip_bytes.specs.Numbers.{le, number_at}
 use Rattle.enip_wire.specs.Frames.{Frame}
 use Rattle.enip_adapter.specs.declared.peer.Session.{Session}
-use Rattle.enip_adapter.specs.declared.reply.Status.TheVariants.{Success, UnsupportedCommand, PoorlyFormedData, InvalidLength, UnsupportedRevision}
+use Rattle.enip_adapter.specs.declared.reply.Status.TheVariants.{Success, UnsupportedCommand, PoorlyFormedData}
+use Rattle.enip_adapter.specs.declared.reply.Status.TheVariants.{InvalidLength, UnsupportedRevision}
 use Rattle.enip_adapter.specs.Replies.{Reaction, reply, answered, refused}
 
 -- Protocol version 1, no option flags.

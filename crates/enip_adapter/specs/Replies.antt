@@ -5,7 +5,8 @@ use Rattle.enip_wire.specs.Frames.{frame}
 use Rattle.enip_adapter.specs.declared.peer.Session.{Session}
 use Rattle.enip_adapter.specs.declared.shared.Shared.{Shared}
 use Rattle.enip_adapter.specs.declared.reply.Status.{Status}
-use Rattle.enip_adapter.specs.declared.reply.Status.TheVariants.{Success, UnsupportedCommand, PoorlyFormedData, InvalidSession, InvalidLength, UnsupportedRevision}
+use Rattle.enip_adapter.specs.declared.reply.Status.TheVariants.{Success, UnsupportedCommand, PoorlyFormedData}
+use Rattle.enip_adapter.specs.declared.reply.Status.TheVariants.{InvalidSession, InvalidLength, UnsupportedRevision}
 
 -- The number of a status in a header.
 abbrev pub status_code : Status → ℕ

@@ -15,7 +15,8 @@ use Rattle.enip_adapter.specs.Replies.{Served, leaving, silent, reply, is_regist
 -- What an item leaves, the objects being the router behind the connections.
 abbrev pub turn_of_item : Shared → Session → ℕ → List ℕ → ItemTurn Contents
 turn_of_item shared session id item =
-    item_turn (λ objects room request. (exec objects room request).after) (λ objects room request. (exec objects room request).answer)
+    item_turn (λ objects room request. (exec objects room request).after)
+    (λ objects room request. (exec objects room request).answer)
     shared.manager.connections shared.moment session.handle id item shared.objects
 
 -- A SendUnitData with the T->O ID, and the count and reply that are held.
@@ -26,7 +27,8 @@ unit_reply asked answer = reply asked asked.session Success (unit_text answer.id
 -- (ours).
 abbrev pub served_item : Shared → Session → Frame → ItemTurn Contents → Served
 served_item shared session f turn =
-    leaving (record shared { manager = record shared.manager { connections = turn.connections }; objects = turn.router })
+    leaving
+    (record shared { manager = record shared.manager { connections = turn.connections }; objects = turn.router })
     (record (silent session) { answer = option_map (unit_reply f.header) turn.reply })
 
 abbrev pub item_of_body : Shared → Session → Frame → Result (ℕ × List ℕ) CpfFault → Served

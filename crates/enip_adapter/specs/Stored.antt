@@ -15,7 +15,8 @@ use Rattle.enip_adapter.specs.Turn.{State}
 
 abbrev pub session_code : Coded Session
 session_code =
-    code_by (ℕ × (Bool × Bool)) (coded× coded_ℕ (coded× coded_bool coded_bool)) (λ s. (s.handle, (s.registered, s.closed)))
+    code_by (ℕ × (Bool × Bool)) (coded× coded_ℕ (coded× coded_bool coded_bool))
+    (λ s. (s.handle, (s.registered, s.closed)))
     (λ p. record { handle = p.0; registered = p.1.0; closed = p.1.1 }) (λ _. refl)
 
 abbrev pub kept_code : Coded Kept
@@ -26,7 +27,8 @@ kept_code =
 abbrev pub target_code : Coded TargetState
 target_code =
     code_by (ℕ × (ℕ × Option Kept)) (coded× coded_ℕ (coded× coded_ℕ (coded_option kept_code)))
-    (λ t. (t.o_to_t_size, (t.t_to_o_size, t.held))) (λ p. record { o_to_t_size = p.0; t_to_o_size = p.1.0; held = p.1.1 })
+    (λ t. (t.o_to_t_size, (t.t_to_o_size, t.held)))
+    (λ p. record { o_to_t_size = p.0; t_to_o_size = p.1.0; held = p.1.1 })
     (λ _. refl)
 
 abbrev pub triad_code : Coded Triad
@@ -52,7 +54,8 @@ connection_code =
 
 abbrev pub manager_code : Coded ManagerState
 manager_code =
-    code_by (ℕ × (ℕ × (Device × List Connection))) (coded× coded_ℕ (coded× coded_ℕ (coded× device_code (coded_list connection_code))))
+    code_by (ℕ × (ℕ × (Device × List Connection)))
+    (coded× coded_ℕ (coded× coded_ℕ (coded× device_code (coded_list connection_code))))
     (λ m. (m.places, (m.next_id, (m.device, m.connections))))
     (λ p. record { places = p.0; next_id = p.1.0; device = p.1.1.0; connections = p.1.1.1 }) (λ _. refl)
 
@@ -77,7 +80,8 @@ state_code =
 
 abbrev pub held_code : Coded Held
 held_code =
-    code_by (ℕ × List ℕ) (coded× coded_ℕ (coded_list coded_ℕ)) (λ h. (h.peer, h.bytes)) (λ p. record { peer = p.0; bytes = p.1 })
+    code_by (ℕ × List ℕ) (coded× coded_ℕ (coded_list coded_ℕ)) (λ h. (h.peer, h.bytes))
+    (λ p. record { peer = p.0; bytes = p.1 })
     (λ _. refl)
 
 abbrev pub adapter_code : Coded AdapterState

@@ -1,5 +1,6 @@
 -- The adapter's turn: what each event leaves and answers.
-use Rattle.std.specs.Prelude.{ℕ, ◌+◌, max, List, [], ◌∷◌, ◌++◌, length, nat_lt, not, if◌then◌else◌, Bool, true, false, Option, Some, None}
+use Rattle.std.specs.Prelude.{ℕ, ◌+◌, max, List, [], ◌∷◌, ◌++◌, length, nat_lt, not, if◌then◌else◌, Bool, true, false}
+use Rattle.std.specs.Prelude.{Option, Some, None}
 use Rattle.cip_manager.specs.Closing.{without_overdue, without_session}
 use Rattle.enip_wire.specs.Frames.{Frame}
 use Rattle.enip_wire.specs.declared.header.Header.{Header}

@@ -12,7 +12,7 @@ use crate::peer::{Outcome, Peer, Place, Session};
 use crate::reply::{Answer, LONGEST_ANSWER};
 use crate::shared::{Listen, Shared};
 use cip_manager::Manager;
-use cip_objects::Objects;
+use cip_objects::{Objects, ReplyBuf};
 use enip_wire::FrameReader;
 use std::alloc::{AllocError, Global};
 use std::marker::Model;
@@ -71,6 +71,8 @@ pub struct Adapter {
     shared: Shared,
     places: Vec<Place>,
     free: Vec<FrameReader>,
+    // Where a router writes; what it held before counts for nothing.
+    reply: ReplyBuf,
     answer: Answer,
 }
 
@@ -131,6 +133,7 @@ impl Adapter {
             },
             places,
             free,
+            reply: ReplyBuf::new(),
             answer: Answer::new(),
         })
     }
@@ -184,6 +187,7 @@ impl Adapter {
             &mut self.places,
             peer.handle,
             piece,
+            &mut self.reply,
             &mut self.answer,
         );
         Fed {
@@ -260,18 +264,22 @@ fn feed_places(
     places: &mut [Place],
     handle: u32,
     piece: &[u8],
+    reply: &mut ReplyBuf,
     answer: &mut Answer,
 ) -> Outcome
     requires { All IsWaiting places.old }
     ensures fed { (limit next_handle : ℕ) → IsFed limit next_handle shared.old places.old
-        (piece_at limit next_handle shared.old places.old handle piece.now) shared.new places.new result answer.new.items }
+        (piece_at limit next_handle shared.old places.old handle piece.now)
+        shared.new places.new result answer.new.items }
     ensures size { length places.new ≡ length places.old }
     ensures within { result.taken ≤ length piece.now }
     ensures progress { 0 < length piece.now → result.close ≡ false → 0 < result.taken }
     ensures waiting { All IsWaiting places.new }
 {
     match index_of(places, handle) {
-        Some(index) if !places[index].session.closed => places[index].feed(shared, piece, answer),
+        Some(index) if !places[index].session.closed => places[index].feed(
+            shared, piece, reply, answer,
+        ),
         _ => Outcome::DROPPED,
     }
 }

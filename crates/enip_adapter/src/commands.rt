@@ -14,6 +14,7 @@ ghost use Rattle.enip_adapter.specs.declared.reply.Status.TheVariants.{InvalidLe
 use crate::peer::Session;
 use crate::reply::{Answer, Reaction, Status, refuse};
 use crate::shared::Shared;
+use cip_objects::ReplyBuf;
 use enip_wire::{FrameView, Header};
 use items::send_unit_data;
 use lists::{list_identity, list_interfaces, list_services};
@@ -36,12 +37,13 @@ const SEND_RR_DATA: u16 = 0x006f;
 
 const SEND_UNIT_DATA: u16 = 0x0070;
 
-/// Serves a whole frame.
+/// Serves a whole frame. A router writes into `reply`, whose old content is dropped.
 #[tactic(auto, unfolding(crate::specs::Commands::command_served))]
 pub(crate) fn serve(
     shared: &mut Shared,
     session: &mut Session,
     frame: FrameView<'_>,
+    reply: &mut ReplyBuf,
     answer: &mut Answer,
 ) -> Reaction
     ensures session { session.new ≡ record session.old {
@@ -63,7 +65,7 @@ pub(crate) fn serve(
         LIST_INTERFACES => list_interfaces(&frame.header, answer),
         REGISTER_SESSION => register_session(session, frame, answer),
         UNREGISTER_SESSION => return unregister_session(*session, &frame.header),
-        SEND_RR_DATA => send_rr_data(shared, *session, frame, answer),
+        SEND_RR_DATA => send_rr_data(shared, *session, frame, reply, answer),
         SEND_UNIT_DATA => return send_unit_data(shared, *session, frame, answer),
         // every other command is unsupported (ours)
         _ => refuse(&frame.header, Status::UnsupportedCommand, answer),

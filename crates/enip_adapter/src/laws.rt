@@ -1,7 +1,7 @@
 //! What holds for every list of calls of the adapter. Each law is the contract of a function that does nothing, over
 //! the same definitions as the contracts of the calls.
 
-ghost use Rattle.std.specs.Prelude.{ℕ, List, ◌∷◌, ◌≡◌, ◌≤◌, ◌||◌, false, Some, filter};
+ghost use Rattle.std.specs.Prelude.{ℕ, List, [], ◌∷◌, ◌++◌, ◌≡◌, ◌≤◌, ◌||◌, not, false, Some, filter};
 ghost use Rattle.std.specs.List.{flat_map, concat, list_any, AllByRecursion};
 ghost use Rattle.cip_manager.specs.Runs.{of_session};
 ghost use Rattle.enip_wire.specs.Stream.{Cut};
@@ -12,11 +12,12 @@ ghost use Rattle.enip_adapter.specs.declared.shared.Listen.{Listen};
 ghost use Rattle.enip_adapter.specs.Adapter.{new_adapter};
 ghost use Rattle.enip_adapter.specs.Turn.{Event, Answer, answers, after, session_of};
 ghost use Rattle.enip_adapter.specs.Calls.Call.{Feeds};
-ghost use Rattle.enip_adapter.specs.Calls.{AdapterState, Call, call_meaning, call_answer, bytes_held};
+ghost use Rattle.enip_adapter.specs.Calls.{AdapterState, Call, call_meaning, after_call, call_answer, bytes_held};
 ghost use Rattle.enip_adapter.specs.Runs.{after_calls, call_answers, events_of_calls, answers_by_call, said_in};
 ghost use Rattle.enip_adapter.specs.Runs.{IsForOther, moments_of_calls, is_open_at_all};
 ghost use Rattle.enip_adapter.specs.Runs.{RisesFrom, handles_in, ids_of_events};
 ghost use Rattle.enip_adapter.specs.Runs.{Run, at_end, taken_in, frames_in, Pours, audible_answers};
+ghost use Rattle.enip_adapter.specs.Serving.{is_peer_served};
 
 /// Whatever calls come, for any number of peers, the adapter is where the events lead that they stand for, and the
 /// answers of these events are each call's own, call by call. What calls say is what the events say; a call closes
@@ -77,6 +78,21 @@ pub fn frames_by_bytes_alone()
         × (bytes_held (at_end peer run).held peer ≡ bytes_held (at_end other second).held other) }
     ensures session { (peer : ℕ) (run second : Run peer) → taken_in peer run ≡ taken_in peer second →
         session_of (at_end peer run).state peer ≡ session_of (at_end peer second).state peer }
+{}
+
+/// A stream closes its peer at one byte, whatever its pieces, the moments and the calls for other peers. Where one run
+/// has closed the peer, no run takes a byte more of the stream, and each that took as many has closed it; so two runs
+/// over one stream that have both closed it took the same. An answer closes just where the peer is closed after it.
+pub fn closes_at_one_byte()
+    ensures last { (peer : ℕ) (run second : Run peer) (more : List ℕ) →
+        is_peer_served (at_end peer run) peer ≡ false → taken_in peer second ≡ taken_in peer run ++ more →
+        (more ≡ []) × (is_peer_served (at_end peer second) peer ≡ false) }
+    ensures same { (peer : ℕ) (run second : Run peer) (rest later : List ℕ) →
+        taken_in peer run ++ rest ≡ taken_in peer second ++ later →
+        is_peer_served (at_end peer run) peer ≡ false → is_peer_served (at_end peer second) peer ≡ false →
+        taken_in peer run ≡ taken_in peer second }
+    ensures told { (a : AdapterState) (now peer : ℕ) (piece : List ℕ) → (call_answer a (Feeds now peer piece)).close
+        ≡ not (is_peer_served (after_call a (Feeds now peer piece)) peer) }
 {}
 
 /// A piece of a byte or more is taken in part at least, or the answer is that the peer's connection is closed.

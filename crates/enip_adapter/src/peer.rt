@@ -11,6 +11,7 @@ ghost use Rattle.enip_adapter.specs.Replies.{written};
 use crate::commands::{refuse_long, serve};
 use crate::reply::{Answer, Reaction};
 use crate::shared::Shared;
+use cip_objects::ReplyBuf;
 use enip_wire::{FrameReader, Held};
 use std::marker::Model;
 
@@ -69,8 +70,14 @@ impl Outcome {
 }
 
 impl Place {
-    /// Takes bytes of a piece up to the end of one frame, and serves the frame.
-    pub(crate) fn feed(&mut self, shared: &mut Shared, piece: &[u8], answer: &mut Answer) -> Outcome
+    /// Takes bytes of a piece up to the end of one frame, and serves the frame. A router writes into `reply`.
+    pub(crate) fn feed(
+        &mut self,
+        shared: &mut Shared,
+        piece: &[u8],
+        reply: &mut ReplyBuf,
+        answer: &mut Answer,
+    ) -> Outcome
         requires { Stops self.old.reader → ⊥ }
         ensures session { self.new.session ≡ session_after self.old.session
             (sight_served shared.old self.old.session (sight_of (joined_of self.old.reader piece.now))) }
@@ -79,10 +86,10 @@ impl Place {
         ensures shared { shared.new ≡ shared_after self.old.session
             (sight_served shared.old self.old.session (sight_of (joined_of self.old.reader piece.now))) }
         ensures taken { result.taken ≡ taken_of self.old.reader piece.now }
-        ensures answer { written result.answered answer.new.items
-            ≡ (sight_served shared.old self.old.session (sight_of (joined_of self.old.reader piece.now))).reaction.answer }
-        ensures close { result.close
-            ≡ (sight_served shared.old self.old.session (sight_of (joined_of self.old.reader piece.now))).reaction.close }
+        ensures answer { written result.answered answer.new.items ≡ (sight_served shared.old self.old.session
+            (sight_of (joined_of self.old.reader piece.now))).reaction.answer }
+        ensures close { result.close ≡ (sight_served shared.old self.old.session
+            (sight_of (joined_of self.old.reader piece.now))).reaction.close }
         ensures within { result.taken ≤ length piece.now }
         ensures progress { 0 < length piece.now → 0 < result.taken }
         ensures waiting { IsWaiting self.new }
@@ -91,7 +98,7 @@ impl Place {
         let reaction = match held {
             Held::More => Reaction::SILENT,
             Held::Frame(frame) => {
-                let reaction = serve(shared, &mut self.session, frame, answer);
+                let reaction = serve(shared, &mut self.session, frame, reply, answer);
                 self.reader.clear();
                 reaction
             }

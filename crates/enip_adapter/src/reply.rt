@@ -1,12 +1,11 @@
 //! Frames that answer. (Volume 2, encapsulation header.)
 
-ghost use Rattle.std.specs.Prelude.{◌≡◌, ◌≤◌, length, []};
-ghost use Rattle.arrayvec.specs.ArrayVec.{array_vec_len};
+ghost use Rattle.std.specs.Prelude.{◌≡◌, ◌≤◌, ◌+◌, ◌++◌, length, take, []};
 ghost use Rattle.enip_wire.specs.Headers.{header_spelling};
 ghost use Rattle.enip_adapter.specs.Replies.{reply, reply_header};
 
-use arrayvec::ArrayVec;
 use enip_wire::Header;
+use std::marker::Model;
 
 /// The room of the reply to an unconnected request, in bytes.
 pub(crate) const UNCONNECTED_ROOM: usize = 504;
@@ -24,8 +23,69 @@ pub(crate) const LONGEST_DATA: usize = PACKET_HEAD + LONGEST_ITEM;
 /// The longest answer, in bytes.
 pub const LONGEST_ANSWER: usize = Header::SIZE + LONGEST_DATA;
 
-/// One answer, a whole frame.
-pub(crate) type Answer = ArrayVec<u8, LONGEST_ANSWER>;
+/// One answer, a whole frame, written over the one before it.
+#[derive(Drop)]
+pub(crate) struct Answer {
+    /// How many bytes of the block it has.
+    size: usize,
+    block: [u8; LONGEST_ANSWER],
+}
+
+impl Model for Answer {
+    ghost use Rattle.std.specs.Prelude.{take};
+    ghost use Rattle.enip_adapter.specs.Buffers.{Buffer, IsWithin};
+    ghost use Rattle.enip_adapter.specs.declared.reply.TheConstants.{LONGEST_ANSWER};
+
+    ghost Value = { Buffer };
+
+    ghost view = { λ answer. record { items = take answer.size answer.block } };
+
+    ghost invariant = { λ answer. IsWithin LONGEST_ANSWER answer.size answer.block };
+}
+
+impl Answer {
+    /// A blank one.
+    pub(crate) fn new() -> Answer
+        ensures { result.items ≡ [] }
+    {
+        Answer {
+            size: 0,
+            block: [0; LONGEST_ANSWER],
+        }
+    }
+
+    /// The bytes that were written last.
+    pub(crate) fn as_slice(&self) -> &[u8]
+        ensures value { result.now ≡ self.now.items }
+        ensures fits { length result.now ≤ LONGEST_ANSWER }
+    {
+        &self.block[..self.size]
+    }
+
+    /// Writes a frame: its header, and its data in two parts.
+    #[inline(always)]
+    fn write(&mut self, header: &Header, front: &[u8], rest: &[u8])
+        requires { length front.now + length rest.now ≤ LONGEST_DATA }
+        ensures { self.new.items ≡ header_spelling header.now ++ (front.now ++ rest.now) }
+    {
+        let size = place(&mut self.block, 0, &header.write());
+        let size = place(&mut self.block, size, front);
+        self.size = place(&mut self.block, size, rest);
+    }
+}
+
+/// Copies a text into a block behind its first bytes, and answers where it ends.
+#[inline(always)]
+fn place(block: &mut [u8], size: usize, text: &[u8]) -> usize
+    requires { size + length text.now ≤ length block.old }
+    ensures end { result ≡ size + length text.now }
+    ensures text { take result block.new ≡ take size block.old ++ text.now }
+    ensures size { length block.new ≡ length block.old }
+{
+    let end = size + text.len();
+    block[size..end].copy_from_slice(text);
+    end
+}
 
 /// The status in the header of an answer. (Volume 2, encapsulation status.)
 #[derive(Clone, Copy, Debug, PartialEq, Eq)]
@@ -61,48 +121,42 @@ impl Reaction {
     };
 }
 
-/// Writes the header of a reply with so many bytes of data: command and context of what asked, no options.
-pub(crate) fn begin_reply(
-    asked: &Header,
-    session: u32,
-    status: Status,
-    count: usize,
-    answer: &mut Answer,
-)
+/// The header of a reply with so many bytes of data: command and context of what asked, no options.
+#[inline(always)]
+fn header_of(asked: &Header, session: u32, status: Status, count: usize) -> Header
     requires { count ≤ LONGEST_DATA }
-    ensures header { answer.new.items ≡ header_spelling (reply_header asked.now session status count) }
-    ensures size { array_vec_len answer.new ≡ 24 }
+    ensures { result ≡ reply_header asked.now session status count }
 {
-    let header = Header {
+    Header {
         command: asked.command,
         length: count as u16,
         session,
         status: status as u32,
         context: asked.context,
         options: 0,
-    };
-    answer.clear();
-    let _ = answer.try_extend_from_slice(&header.write());
+    }
 }
 
-/// Writes a whole reply.
+/// Writes a whole reply, whose data are given in two parts.
+#[inline(always)]
 pub(crate) fn write_reply(
     asked: &Header,
     session: u32,
     status: Status,
-    bytes: &[u8],
+    front: &[u8],
+    rest: &[u8],
     answer: &mut Answer,
 )
-    requires { length bytes.now ≤ LONGEST_DATA }
-    ensures { answer.new.items ≡ reply asked.now session status bytes.now }
+    requires { length front.now + length rest.now ≤ LONGEST_DATA }
+    ensures { answer.new.items ≡ reply asked.now session status (front.now ++ rest.now) }
 {
-    begin_reply(asked, session, status, bytes.len(), answer);
-    let _ = answer.try_extend_from_slice(bytes);
+    let header = header_of(asked, session, status, front.len() + rest.len());
+    answer.write(&header, front, rest);
 }
 
 /// Refuses a frame: no data, and the session field of what asked.
 pub(crate) fn refuse(asked: &Header, status: Status, answer: &mut Answer)
     ensures { answer.new.items ≡ reply asked.now asked.now.session status [] }
 {
-    write_reply(asked, asked.session, status, &[], answer);
+    write_reply(asked, asked.session, status, &[], &[], answer);
 }

@@ -3,7 +3,7 @@
 use crate::tests::demo;
 use crate::{Adapter, Limits, Listen, Peer, ServeFault, Served, serve};
 use enip_wire::{MemorySink, MemorySource, Sink, Source};
-use std::alloc::Global;
+use std::alloc::{AllocError, Global};
 use std::process::Abort;
 use std::test::Fail;
 
@@ -33,19 +33,22 @@ const LONG: &[u8] = b"\0\0\xe8\xff\0\0\0\0\0\0\0\0\x01\x02\x03\x04\x05\x06\x07\x
 
 const REFUSED: &[u8] = b"\0\0\0\0\0\0\0\0\x65\0\0\0\x01\x02\x03\x04\x05\x06\x07\x08\0\0\0\0";
 
+/// Where the adapters of these tests listen, and what they have room for.
+const LISTEN: Listen = Listen {
+    address: [127, 0, 0, 1],
+    port: 44_818,
+};
+
+const LIMITS: Limits = Limits {
+    peers: 9,
+    connections: 16,
+    first_handle: 1,
+    first_id: 1,
+};
+
 /// An adapter over the objects of the demo configuration, whose first session is 1.
 fn adapter(alloc: Global) -> Result<Adapter, Fail> {
-    let listen = Listen {
-        address: [127, 0, 0, 1],
-        port: 44_818,
-    };
-    let limits = Limits {
-        peers: 9,
-        connections: 16,
-        first_handle: 1,
-        first_id: 1,
-    };
-    Ok(Adapter::new(alloc, demo(alloc)?, listen, limits)?)
+    Ok(Adapter::new(alloc, demo(alloc)?, LISTEN, LIMITS)?)
 }
 
 /// The same, and its first peer.
@@ -237,6 +240,42 @@ fn a_closed_peer_is_not_read(rt: HostRuntime) -> Result<(), Fail> {
         Ok(Served::Closed)
     );
     assert_eq!(rt; reader.reads(), 0);
+    Ok(())
+}
+
+/// A session with all that needs room: a peer, frames in pieces, a connection, kept bytes and answers. `new` takes all
+/// memory, so this ends well whichever growth after the objects is refused, each in turn by
+/// `rt try --test --fail-alloc N -- serving_tests::only_new_takes_memory`.
+#[test]
+fn only_new_takes_memory(rt: HostRuntime) -> Result<(), Fail> {
+    let objects = demo(rt.alloc())?;
+    let again = demo(rt.alloc())?;
+    let mut adapter = match Adapter::new(rt.alloc(), objects, LISTEN, LIMITS) {
+        Ok(adapter) => adapter,
+        Err(AllocError) => Adapter::new(rt.alloc(), again, LISTEN, LIMITS)?,
+    };
+    let peer = adapter.begin().ok().ok_or("a place is free")?;
+    let mut reader = MemorySource::new(REGISTER, &[]);
+    let mut bytes = [0; 64];
+    let mut writer = MemorySink::new(&mut bytes);
+    assert_eq!(rt;
+        serve(&mut adapter, &peer, &mut reader, &mut writer),
+        Ok(Served::More)
+    );
+    assert_eq!(rt; writer.written(), REGISTERED);
+    assert!(rt; adapter.feed(0, &peer, OPEN).answer.is_some());
+    assert_eq!(rt; adapter.free(), (8, 15));
+    // A request in two pieces, and its repeat in one.
+    assert!(rt; adapter.feed(0, &peer, &ADD[..30]).answer.is_none());
+    assert_eq!(rt; adapter.feed(0, &peer, &ADD[30..]).answer, Some(ADDED));
+    assert_eq!(rt; adapter.feed(0, &peer, ADD).answer, Some(ADDED));
+    assert_eq!(rt; value(&adapter)?, 5);
+    adapter.tick(20_000_000);
+    assert_eq!(rt; adapter.free(), (8, 16));
+    let fed = adapter.feed(0, &peer, LONG);
+    assert_eq!(rt; (fed.answer, fed.close), (Some(REFUSED), true));
+    adapter.end(peer);
+    assert_eq!(rt; adapter.free(), (9, 16));
     Ok(())
 }
 

@@ -1,3 +1,4 @@
 pub mod StatusLemmas
 pub mod DigitLemmas
 pub mod LineLemmas
+pub mod PathLemmas

@@ -2,3 +2,4 @@ pub mod Statuses
 pub mod Digits
 pub mod Lines
 pub mod Configured
+pub mod Asking

@@ -1,5 +1,6 @@
 -- The lines that `enip answer` reads.
-use Rattle.std.specs.Prelude.{◌≡◌, ◌⊎◌, ◌+◌, ◌<◌, ◌^◌, ℕ, Bool, false, List, [], ◌∷◌, ◌++◌, codes, slice_index, length, take, nat_lt, ◌-◌, ◌==◌, ◌&&◌, if◌then◌else◌}
+use Rattle.std.specs.Prelude.{◌≡◌, ◌⊎◌, ◌+◌, ◌<◌, ◌^◌, ℕ, Bool, false, List, [], ◌∷◌, ◌++◌, codes, slice_index, length}
+use Rattle.std.specs.Prelude.{take, nat_lt, ◌-◌, ◌==◌, ◌&&◌, if◌then◌else◌}
 use Rattle.std.specs.Option.{option_map_or}
 use Rattle.std.specs.Str.Parse.{IsNumeral, digits_value}
 use Rattle.enip_cmd.specs.Digits.{bytes_spelled}
@@ -23,7 +24,8 @@ abbrev pub Says : List ℕ → Line → Type 0
 Says text Nothing = IsSkipped text
 Says text (Piece number piece) = text ≡ digit number ∷ 32 ∷ piece.now
 Says text (End number) = text ≡ codes "end " ++ digit number ∷ []
-Says text (Now moment) = (digits : List ℕ) × (text ≡ codes "now " ++ digits) × IsNumeral 10 digits × (digits_value 10 digits ≡ moment) × (moment < 2 ^ 64)
+Says text (Now moment) = (digits : List ℕ) × (text ≡ codes "now " ++ digits) × IsNumeral 10 digits
+    × (digits_value 10 digits ≡ moment) × (moment < 2 ^ 64)
 
 -- Whether a text spells a byte or more.
 abbrev pub spells_bytes : List ℕ → Bool
@@ -37,4 +39,5 @@ IsRefusedLine text =
 
 -- A line without the carriage return at its end.
 abbrev pub without_return : List ℕ → List ℕ
-without_return text = if nat_lt 0 (length text) && slice_index text (length text - 1) == 13 then take (length text - 1) text else text
+without_return text =
+    if nat_lt 0 (length text) && slice_index text (length text - 1) == 13 then take (length text - 1) text else text

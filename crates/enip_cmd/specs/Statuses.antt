@@ -1,9 +1,13 @@
 -- How a program ends.
-use Rattle.std.specs.Prelude.{◌≡◌, ◌⊎◌, ℕ, List, ⊤, None}
+use Rattle.std.specs.Prelude.{◌≡◌, ◌⊎◌, ℕ, List, ⊤, Result, Ok, Err}
 use Rattle.std.specs.declared.io.ErrorKind.{ErrorKind}
 use Rattle.std.specs.declared.io.ErrorKind.TheVariants.{OutOfMemory}
 use Rattle.enip_cmd.specs.declared.fault.Fault.{Fault}
 use Rattle.enip_cmd.specs.declared.fault.Fault.TheVariants.{Configuration as Refused, Line, Device, Memory}
+use Rattle.enip_cmd.specs.declared.asking.Replied.{Replied}
+use Rattle.enip_cmd.specs.declared.asking.Replied.TheVariants as replied
+use Rattle.enip_cmd.specs.declared.asking.Stop.{Stop as AskingStop}
+use Rattle.enip_cmd.specs.declared.asking.Stop.TheVariants as asking
 use Rattle.enip_cmd.specs.declared.show.Stop.{Stop}
 use Rattle.enip_cmd.specs.declared.show.Stop.TheVariants.{Program}
 use Rattle.enip_config.specs.declared.configuration.Configuration.{Configuration}
@@ -21,6 +25,21 @@ exit_status Memory = 5
 -- The exit statuses of `enip answer`, once its words are read.
 abbrev pub IsStatus : ℕ → Type 0
 IsStatus status = (status ≡ 0) ⊎ ((status ≡ 3) ⊎ ((status ≡ 4) ⊎ (status ≡ 5)))
+
+-- The exit status of a program that told a reply, and of one that told none.
+abbrev pub replied_status : Replied → ℕ
+replied_status replied.Done = 0
+replied_status replied.Refused = 6
+
+abbrev pub stop_status : AskingStop → ℕ
+stop_status asking.Hex = 2
+stop_status (asking.Client fault) = 7
+stop_status (asking.Program fault) = exit_status fault
+
+-- The exit status of a program that asked: that of what was told, or of why nothing was.
+abbrev pub asking_status : Result Replied AskingStop → ℕ
+asking_status (Ok replied) = replied_status replied
+asking_status (Err stop) = stop_status stop
 
 -- A device or memory failed.
 abbrev pub IsOfDevices : Fault → Type 0

@@ -39,7 +39,8 @@ impl<'a> Line<'a> {
 
 /// The number that decimal digits spell, one digit or more.
 fn decimal(digits: &[u8]) -> Option<u64>
-    ensures { SomeIff result (IsNumeral 10 digits.now × (digits_value 10 digits.now < 2 ^ 64)) (digits_value 10 digits.now) }
+    ensures { SomeIff result (IsNumeral 10 digits.now × (digits_value 10 digits.now < 2 ^ 64))
+        (digits_value 10 digits.now) }
 {
     if digits.is_empty() {
         return None;

@@ -5,7 +5,8 @@ use Rattle.enip_config.specs.declared.known.TableKind.{TableKind}
 use Rattle.enip_config.specs.declared.known.TableKind.TheVariants.{Text, Counter, Assembly}
 use Rattle.enip_config.specs.declared.key.NumberKey.{NumberKey}
 use Rattle.enip_config.specs.declared.key.NumberKey.TheVariants.{Vendor, DeviceType, ProductCode, Major, Minor, Serial}
-use Rattle.enip_config.specs.declared.key.NumberKey.TheVariants.{Status, State, Port, Peers, Connections, FirstHandle, FirstId, CounterValue}
+use Rattle.enip_config.specs.declared.key.NumberKey.TheVariants.{Status, State, Port, Peers, Connections, FirstHandle}
+use Rattle.enip_config.specs.declared.key.NumberKey.TheVariants.{FirstId, CounterValue}
 use Rattle.enip_config.specs.declared.key.NumberKey.TheVariants.{CounterLimit}
 use Rattle.enip_config.specs.Keys.{row, instance_row}
 use Rattle.toml.specs.Data.{Data, array, table, Items, no_items, item, Members, no_members, member}

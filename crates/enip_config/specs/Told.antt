@@ -13,7 +13,8 @@ use Rattle.enip_config.specs.declared.fault.Refusal.{Refusal}
 use Rattle.enip_config.specs.declared.fault.Refusal.TheVariants.{NotToml, BadValue, UnknownKey}
 use Rattle.enip_config.specs.declared.key.NumberKey.{NumberKey}
 use Rattle.enip_config.specs.declared.key.NumberKey.TheVariants.{Vendor, DeviceType, ProductCode, Major, Minor, Serial}
-use Rattle.enip_config.specs.declared.key.NumberKey.TheVariants.{Status, State, Port, Peers, Connections, FirstHandle, FirstId, CounterValue}
+use Rattle.enip_config.specs.declared.key.NumberKey.TheVariants.{Status, State, Port, Peers, Connections, FirstHandle}
+use Rattle.enip_config.specs.declared.key.NumberKey.TheVariants.{FirstId, CounterValue}
 use Rattle.enip_config.specs.declared.key.NumberKey.TheVariants.{CounterLimit}
 use Rattle.enip_config.specs.Known.{has_unknown_key}
 use Rattle.enip_config.specs.Keys.{row, number_of, name_of, address_of, assemblies_of}

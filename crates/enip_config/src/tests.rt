@@ -47,7 +47,8 @@ fn all_that_can_be_said(rt: HostRuntime) -> Result<(), Fail> {
     let alloc = rt.alloc();
     let mut text = String::from_str(alloc, LEAST)?;
     text.push_str(
-        "status = 1\nstate = 2\naddress = [127, 0, 0, 1]\nport = 3\npeers = 16\nconnections = 64\nfirst_handle = 5\nfirst_id = 6\n",
+        "status = 1\nstate = 2\naddress = [127, 0, 0, 1]\nport = 3\npeers = 16\nconnections = 64\nfirst_handle = 5\n\
+        first_id = 6\n",
     )?;
     text.push_str("[counter]\nvalue = 99\nlimit = 100\n")?;
     text.push_str("[[assembly]]\ninstance = 100\nsettable = true\nmembers = [1, 2, 1]\n")?;

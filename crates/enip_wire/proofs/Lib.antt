@@ -9,3 +9,5 @@ pub mod ItemLemmas
 pub mod BodyLemmas
 pub mod WriteLemmas
 pub mod Rows
+pub mod RunningLemmas
+pub mod SightLemmas

@@ -1,5 +1,5 @@
 -- How many bytes of a piece a reader takes.
-use Rattle.std.proofs.Common.{◌≡◌, ℕ, ◌+◌, ◌-◌, ◌<◌, ◌≤◌, inl, inr, min, List, ◌++◌, length, take, refl, sym, ap, subst, ◌∙◌, arith, length-append, length-take}
+use Rattle.std.proofs.Common.{◌≡◌, ℕ, zero, suc, append-nil, ◌+◌, ◌-◌, ◌<◌, ◌≤◌, inl, inr, min, List, ◌++◌, length, take, refl, sym, ap, subst, ◌∙◌, arith, length-append, length-take}
 use Rattle.std.proofs.Math.Seq.{take-append-add}
 use Rattle.std.proofs.lemmas.Bool.{cases_lt}
 use Rattle.std.proofs.lemmas.List.{take-append-le, take-take}
@@ -98,3 +98,12 @@ IsFresh-after held piece n fresh takes =
                 takes.least (k - length held) less (subst Stops same stops)
           ];
     }
+
+-- where neither a whole frame nor a too long header is held, of a byte or more some are taken
+pub some_taken : (held piece : List ℕ) (n : ℕ) → (Stops held → ⊥) → Takes held piece n → 0 < length piece → 0 < n
+some_taken held piece (suc n) running takes some = omega arith
+some_taken held piece zero running takes some =
+    elim takes.ends [
+      | inl stops ↦ absurd (running (subst Stops (append-nil held) stops))
+      | inr whole ↦ omega (arith, whole, some)
+    ]

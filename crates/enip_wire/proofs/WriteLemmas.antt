@@ -35,22 +35,11 @@ length-texts views k d h =
     = ap length (flat_map-map item item_of (take k views)) in
     omega (arith, length-flat_map-take (λ v. item (item_of v)) views k d h)
 
-pub rr_parts : (old bytes mid new : List ℕ)
-    → mid ≡ old ++ (0 ∷ 0 ∷ 0 ∷ 0 ∷ 0 ∷ 0 ∷ 2 ∷ 0 ∷ 0 ∷ 0 ∷ 0 ∷ 0 ∷ []) → new ≡ mid ++ item (unconnected_data bytes)
-    → new ≡ old ++ rr_text bytes
-rr_parts old bytes mid new e f =
-    f ∙ ap (λ xs. xs ++ item (unconnected_data bytes)) e
-    ∙ append_assoc old (0 ∷ 0 ∷ 0 ∷ 0 ∷ 0 ∷ 0 ∷ 2 ∷ 0 ∷ 0 ∷ 0 ∷ 0 ∷ 0 ∷ []) (item (unconnected_data bytes))
-    ∙ ap (λ x. old ++ ((0 ∷ 0 ∷ 0 ∷ 0 ∷ 0 ∷ 0 ∷ 2 ∷ 0 ∷ 0 ∷ 0 ∷ 0 ∷ 0 ∷ []) ++ x)) (sym (append-nil (item (unconnected_data bytes))))
-
-pub unit_parts : (old : List ℕ) (id : ℕ) (bytes mid next new : List ℕ)
-    → mid ≡ old ++ (0 ∷ 0 ∷ 0 ∷ 0 ∷ 0 ∷ 0 ∷ 2 ∷ 0 ∷ 161 ∷ 0 ∷ 4 ∷ 0 ∷ []) → next ≡ mid ++ le 4 id
-    → new ≡ next ++ item (connected_data bytes) → new ≡ old ++ unit_text id bytes
-unit_parts old id bytes mid next new e f g =
-    g ∙ ap (λ xs. xs ++ item (connected_data bytes)) f ∙ append_assoc mid (le 4 id) (item (connected_data bytes))
-    ∙ ap (λ xs. xs ++ (le 4 id ++ item (connected_data bytes))) e
-    ∙ append_assoc old (0 ∷ 0 ∷ 0 ∷ 0 ∷ 0 ∷ 0 ∷ 2 ∷ 0 ∷ 161 ∷ 0 ∷ 4 ∷ 0 ∷ []) (le 4 id ++ item (connected_data bytes))
-    ∙ ap (λ x. old ++ ((0 ∷ 0 ∷ 0 ∷ 0 ∷ 0 ∷ 0 ∷ 2 ∷ 0 ∷ 161 ∷ 0 ∷ 4 ∷ 0 ∷ []) ++ (le 4 id ++ x))) (sym (append-nil (item (connected_data bytes))))
+-- a text whose front was written first
+pub joined : (old front bytes mid new text : List ℕ) → mid ≡ old ++ front → new ≡ mid ++ bytes → text ≡ front ++ bytes
+    → new ≡ old ++ text
+joined old front bytes mid new text e f g =
+    f ∙ ap (λ xs. xs ++ bytes) e ∙ append_assoc old front bytes ∙ ap (λ xs. old ++ xs) (sym g)
 
 -- there is room for the next item
 pub room_for : (old out : List ℕ) (views : List ItemView) (k : ℕ) (d : ItemView) (spare cap : ℕ)

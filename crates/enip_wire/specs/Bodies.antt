@@ -1,4 +1,5 @@
-use Rattle.std.specs.Prelude.{if◌then◌else◌, nat_lt, ◌==◌, ◌&&◌, ℕ, List, [], ◌∷◌, ◌≡◌, ◌≢◌, ◌<◌, ◌≤◌, ◌^◌, ◌++◌, ◌⊎◌, length, drop, Result, Ok, Err, refl}
+use Rattle.std.specs.Prelude.{if◌then◌else◌, nat_lt, ◌==◌, ◌&&◌, ℕ, List, [], ◌∷◌, ◌≡◌, ◌≢◌, ◌<◌, ◌≤◌, ◌^◌, ◌++◌, ◌⊎◌}
+use Rattle.std.specs.Prelude.{length, drop, Result, Ok, Err, refl}
 use Rattle.enip_wire.specs.declared.packet.CpfFault.{CpfFault}
 use Rattle.enip_wire.specs.declared.packet.CpfFault.TheVariants.{Short, Trailing, Interface, Address, Data}
 use Rattle.cip_bytes.specs.Numbers.{le, number_at}
@@ -107,12 +108,15 @@ unfoldable pub unit_body_of : List ℕ → Result (ℕ × List ℕ) CpfFault
 unit_body_of text = body_items_of text >>= unit_items_of
 
 -- A SendRRData with eight bytes of data; one with a byte behind its items; one that is cut short.
-rr_row : rr_body_of (0 ∷ 0 ∷ 0 ∷ 0 ∷ 0 ∷ 0 ∷ 2 ∷ 0 ∷ 0 ∷ 0 ∷ 0 ∷ 0 ∷ 0xb2 ∷ 0 ∷ 8 ∷ 0 ∷ 0x0e ∷ 3 ∷ 0x20 ∷ 1 ∷ 0x24 ∷ 1 ∷ 0x30 ∷ 1 ∷ [])
+rr_row : rr_body_of
+    (0 ∷ 0 ∷ 0 ∷ 0 ∷ 0 ∷ 0 ∷ 2 ∷ 0 ∷ 0 ∷ 0 ∷ 0 ∷ 0 ∷ 0xb2 ∷ 0 ∷ 8 ∷ 0
+    ∷ 0x0e ∷ 3 ∷ 0x20 ∷ 1 ∷ 0x24 ∷ 1 ∷ 0x30 ∷ 1 ∷ [])
     ≡ Ok (0x0e ∷ 3 ∷ 0x20 ∷ 1 ∷ 0x24 ∷ 1 ∷ 0x30 ∷ 1 ∷ [])
 unfolding rr_body_of
 rr_row = refl
 
-rr_row_trailing : rr_body_of (0 ∷ 0 ∷ 0 ∷ 0 ∷ 0 ∷ 0 ∷ 2 ∷ 0 ∷ 0 ∷ 0 ∷ 0 ∷ 0 ∷ 0xb2 ∷ 0 ∷ 1 ∷ 0 ∷ 5 ∷ 6 ∷ []) ≡ Err Trailing
+rr_row_trailing : rr_body_of (0 ∷ 0 ∷ 0 ∷ 0 ∷ 0 ∷ 0 ∷ 2 ∷ 0 ∷ 0 ∷ 0 ∷ 0 ∷ 0 ∷ 0xb2 ∷ 0 ∷ 1 ∷ 0 ∷ 5 ∷ 6 ∷ [])
+    ≡ Err Trailing
 unfolding rr_body_of
 rr_row_trailing = refl
 
@@ -121,7 +125,8 @@ unfolding rr_body_of
 rr_row_short = refl
 
 -- A SendUnitData on connection 0x01020304.
-unit_row : unit_body_of (0 ∷ 0 ∷ 0 ∷ 0 ∷ 0 ∷ 0 ∷ 2 ∷ 0 ∷ 0xa1 ∷ 0 ∷ 4 ∷ 0 ∷ 4 ∷ 3 ∷ 2 ∷ 1 ∷ 0xb1 ∷ 0 ∷ 2 ∷ 0 ∷ 7 ∷ 9 ∷ [])
+unit_row : unit_body_of
+    (0 ∷ 0 ∷ 0 ∷ 0 ∷ 0 ∷ 0 ∷ 2 ∷ 0 ∷ 0xa1 ∷ 0 ∷ 4 ∷ 0 ∷ 4 ∷ 3 ∷ 2 ∷ 1 ∷ 0xb1 ∷ 0 ∷ 2 ∷ 0 ∷ 7 ∷ 9 ∷ [])
     ≡ Ok (0x01020304, 7 ∷ 9 ∷ [])
 unfolding unit_body_of
 unit_row = refl

@@ -1,4 +1,5 @@
-use Rattle.std.specs.Prelude.{if◌then◌else◌, nat_lt, ◌==◌, ◌+◌, ◌-◌, min, ℕ, List, [], ◌∷◌, ◌≡◌, ◌<◌, ◌≤◌, ◌++◌, ◌⊎◌, length, take, drop}
+use Rattle.std.specs.Prelude.{if◌then◌else◌, nat_lt, ◌==◌, ◌+◌, ◌-◌, min, ℕ, List, [], ◌∷◌, ◌≡◌, ◌<◌, ◌≤◌, ◌++◌, ◌⊎◌}
+use Rattle.std.specs.Prelude.{length, take, drop}
 use Rattle.std.specs.List.{flat_map, AllByRecursion}
 use Rattle.enip_wire.specs.declared.reader.FrameView.{FrameView}
 use Rattle.enip_wire.specs.declared.reader.Held.{Held}

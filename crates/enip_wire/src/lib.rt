@@ -3,7 +3,8 @@
 //!
 //! [`FrameReader`] gathers one frame at a time from the pieces of a stream; [`Header`] is the 24 bytes in front of
 //! a frame's data. [`cpf_items`], [`rr_body`] and [`unit_body`] read such data and lend what they find;
-//! [`write_items`], [`write_rr_body`] and [`write_unit_body`] append them. [`Source`] and [`Sink`] are where bytes come
+//! [`write_items`], [`write_rr_body`] and [`write_unit_body`] append them, [`rr_front`] and [`unit_front`] give what
+//! stands in front of their data. [`Source`] and [`Sink`] are where bytes come
 //! from and go to, [`MemorySource`] and [`MemorySink`] those over memory.
 //!
 //! Each reader answers exactly the value that the bytes spell, or the first fault. Each writer appends exactly one
@@ -31,7 +32,7 @@ pub use cip_bytes::Full;
 pub use device::{Failed, MemorySink, MemorySource, Sink, Source, write_all};
 pub use header::Header;
 pub use packet::{
-    CpfFault, ItemView, Items, cpf_items, rr_body, unit_body, write_items, write_rr_body,
-    write_unit_body,
+    CpfFault, ItemView, Items, cpf_items, rr_body, rr_front, unit_body, unit_front, write_items,
+    write_rr_body, write_unit_body,
 };
 pub use reader::{FrameReader, FrameView, Held, LONGEST_BODY};

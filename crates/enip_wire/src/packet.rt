@@ -20,7 +20,7 @@ ghost use Rattle.enip_wire.specs.Bodies.{body_items_of, data_of, rr_body_of, uni
 
 use arrayvec::ArrayVec;
 use byteorder::{ByteOrder, LittleEndian};
-use cip_bytes::{Full, append, append_u16, append_u32};
+use cip_bytes::{Full, append, append_u16};
 use std::marker::Model;
 use thiserror::Error;
 
@@ -47,12 +47,10 @@ const ITEM_HEAD: usize = 4;
 /// How many bytes the connection ID of a connected address has.
 const CONNECTION_ID: usize = 4;
 
-/// The front of a SendRRData that is written: interface 0, timeout 0, two items, and the null address.
-const RR_FRONT: [u8; BODY_HEAD + COUNT + ITEM_HEAD] = [0, 0, 0, 0, 0, 0, 2, 0, 0, 0, 0, 0];
+/// How many bytes of a body that is written stand in front of its data.
+const RR_FRONT: usize = BODY_HEAD + COUNT + ITEM_HEAD + ITEM_HEAD;
 
-/// The front of a SendUnitData that is written: interface 0, timeout 0, two items, and the connected address up to
-/// its connection ID.
-const UNIT_FRONT: [u8; BODY_HEAD + COUNT + ITEM_HEAD] = [0, 0, 0, 0, 0, 0, 2, 0, 0xa1, 0, 4, 0];
+const UNIT_FRONT: usize = RR_FRONT + CONNECTION_ID;
 
 /// Why a text is no list of items, or no body: the first of these that is met, from 1 on.
 /// (Volume 2, common packet format.)
@@ -335,12 +333,11 @@ pub fn write_rr_body<const N: usize>(out: &mut ArrayVec<u8, N>, data: &[u8]) -> 
     ensures err { OnErr result (out.new ≡ out.old) }
 {
     let room = out.remaining_capacity();
-    let before = RR_FRONT.len() + ITEM_HEAD;
-    if room < before || room - before < data.len() {
+    if room < RR_FRONT || room - RR_FRONT < data.len() {
         return Err(Full);
     }
-    append(out, &RR_FRONT);
-    append_item(out, UNCONNECTED_DATA, data);
+    append(out, &rr_front(data.len() as u16));
+    append(out, data);
     Ok(())
 }
 
@@ -361,14 +358,36 @@ pub fn write_unit_body<const N: usize>(
     ensures err { OnErr result (out.new ≡ out.old) }
 {
     let room = out.remaining_capacity();
-    let before = UNIT_FRONT.len() + CONNECTION_ID + ITEM_HEAD;
-    if room < before || room - before < data.len() {
+    if room < UNIT_FRONT || room - UNIT_FRONT < data.len() {
         return Err(Full);
     }
-    append(out, &UNIT_FRONT);
-    append_u32(out, id);
-    append_item(out, CONNECTED_DATA, data);
+    append(out, &unit_front(id, data.len() as u16));
+    append(out, data);
     Ok(())
+}
+
+/// The body of a SendRRData up to its data, of which there are so many bytes: interface 0, timeout 0, two items, the
+/// null address, and the type and length of the unconnected data. (Volume 2, SendRRData.)
+#[inline(always)]
+pub fn rr_front(size: u16) -> [u8; RR_FRONT]
+    ensures { (bytes : List ℕ) → length bytes ≡ size → rr_text bytes ≡ result ++ bytes }
+{
+    let [low, high] = size.to_le_bytes();
+    [0, 0, 0, 0, 0, 0, 2, 0, 0, 0, 0, 0, 0xb2, 0, low, high]
+}
+
+/// The body of a SendUnitData up to its data, of which there are so many bytes: interface 0, timeout 0, two items, the
+/// connected address with the connection ID, and the type and length of the connected data.
+/// (Volume 2, SendUnitData.)
+#[inline(always)]
+pub fn unit_front(id: u32, size: u16) -> [u8; UNIT_FRONT]
+    ensures { (bytes : List ℕ) → length bytes ≡ size → unit_text id bytes ≡ result ++ bytes }
+{
+    let [low, high] = size.to_le_bytes();
+    let [a, b, c, d] = id.to_le_bytes();
+    [
+        0, 0, 0, 0, 0, 0, 2, 0, 0xa1, 0, 4, 0, a, b, c, d, 0xb1, 0, low, high,
+    ]
 }
 
 /// Whether there is room for the items.

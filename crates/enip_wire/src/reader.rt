@@ -126,6 +126,14 @@ impl FrameReader {
         (taken, self.state())
     }
 
+    /// The bytes that are held, lent.
+    pub fn bytes(&self) -> &[u8]
+        ensures lent { result.now ≡ self.now }
+        ensures bound { length self.now ≤ 65535 }
+    {
+        &self.buffer[..self.len]
+    }
+
     /// Drops what is held.
     pub fn clear(&mut self)
         ensures { self.new ≡ [] }

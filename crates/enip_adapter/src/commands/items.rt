@@ -8,13 +8,9 @@ ghost use Rattle.enip_adapter.specs.SendUnitData.{send_unit_data};
 ghost use Rattle.enip_adapter.specs.declared.reply.Status.TheVariants.{Success};
 
 use crate::peer::Session;
-use crate::reply::{Answer, LONGEST_ITEM, Reaction, Status, begin_reply};
+use crate::reply::{Answer, LONGEST_ITEM, Reaction, Status, write_reply};
 use crate::shared::Shared;
-use enip_wire::{FrameView, Header, unit_body, write_unit_body};
-
-/// The bytes of a packet in front of a connection's item: interface 4, timeout 2, count 2, connected address 8, type and
-/// length of the data item 4.
-const CONNECTED_HEAD: usize = 20;
+use enip_wire::{FrameView, Header, unit_body, unit_front};
 
 /// SendUnitData: no answer to another session, to a packet that is none, and where no connection answers (ours).
 pub(super) fn send_unit_data(
@@ -48,16 +44,11 @@ pub(super) fn send_unit_data(
 }
 
 /// Writes a whole SendUnitData that answers, with the T->O connection ID, and the count and reply that are held.
+#[inline(always)]
 fn write_unit_reply(asked: &Header, id: u32, kept: &[u8], answer: &mut Answer)
     requires { length kept.now ≤ LONGEST_ITEM }
     ensures { answer.new.items ≡ reply asked.now asked.now.session Success (unit_text id kept.now) }
 {
-    begin_reply(
-        asked,
-        asked.session,
-        Status::Success,
-        CONNECTED_HEAD + kept.len(),
-        answer,
-    );
-    let _ = write_unit_body(answer, id, kept);
+    let front = unit_front(id, kept.len() as u16);
+    write_reply(asked, asked.session, Status::Success, &front, kept, answer);
 }

@@ -10,7 +10,7 @@ ghost use Rattle.enip_adapter.specs.ListServices.{services_text};
 ghost use Rattle.enip_adapter.specs.Replies.{reply};
 ghost use Rattle.enip_adapter.specs.declared.reply.Status.TheVariants.{Success};
 
-use crate::reply::{Answer, Status, begin_reply, write_reply};
+use crate::reply::{Answer, Status, write_reply};
 use crate::shared::{Listen, Shared};
 use arrayvec::ArrayVec;
 use byteorder::{BigEndian, ByteOrder, LittleEndian};
@@ -55,14 +55,28 @@ const INTERFACES: [u8; 2] = [0, 0];
 pub(super) fn list_services(asked: &Header, answer: &mut Answer)
     ensures { answer.new.items ≡ reply asked.now asked.now.session Success services_text }
 {
-    write_reply(asked, asked.session, Status::Success, &SERVICES, answer);
+    write_reply(
+        asked,
+        asked.session,
+        Status::Success,
+        &[],
+        &SERVICES,
+        answer,
+    );
 }
 
 /// ListInterfaces.
 pub(super) fn list_interfaces(asked: &Header, answer: &mut Answer)
     ensures { answer.new.items ≡ reply asked.now asked.now.session Success interfaces_text }
 {
-    write_reply(asked, asked.session, Status::Success, &INTERFACES, answer);
+    write_reply(
+        asked,
+        asked.session,
+        Status::Success,
+        &[],
+        &INTERFACES,
+        answer,
+    );
 }
 
 /// ListIdentity: protocol version 1, the socket address, and the attributes of the Identity object.
@@ -81,15 +95,8 @@ fn write_identity(asked: &Header, item: &[u8], answer: &mut Answer)
     requires { length item.now ≤ ITEM_SIZE }
     ensures { answer.new.items ≡ reply asked.now asked.now.session Success (text_of_item item.now) }
 {
-    begin_reply(
-        asked,
-        asked.session,
-        Status::Success,
-        IDENTITY_HEAD + item.len(),
-        answer,
-    );
-    let _ = answer.try_extend_from_slice(&item_head(item.len() as u16));
-    let _ = answer.try_extend_from_slice(item);
+    let front = item_head(item.len() as u16);
+    write_reply(asked, asked.session, Status::Success, &front, item, answer);
 }
 
 /// The count of items, 1, and the type and the length of an identity item.

@@ -1,19 +1,20 @@
 //! SendRRData: unconnected requests.
 
 ghost use Rattle.std.specs.Prelude.{◌≡◌, ◌≤◌, length, Some};
+ghost use Rattle.cip_message.specs.PathReading.{path_of};
 ghost use Rattle.enip_wire.specs.Bodies.{rr_text};
 ghost use Rattle.enip_wire.specs.Stream.{frame_of};
 ghost use Rattle.enip_adapter.specs.Replies.{reply};
-ghost use Rattle.enip_adapter.specs.SendRRData.{send_rr_data, routed, destination_of, manager_service, is_manager};
-ghost use Rattle.enip_adapter.specs.Destinations.{destination};
+ghost use Rattle.enip_adapter.specs.SendRRData.{send_rr_data, routed, destination_of, is_manager};
+ghost use Rattle.enip_adapter.specs.Destinations.{destination, is_path_of_manager};
 ghost use Rattle.enip_adapter.specs.declared.reply.Status.TheVariants.{Success};
 
 use crate::peer::Session;
-use crate::reply::{Answer, Status, UNCONNECTED_ROOM, begin_reply, refuse};
+use crate::reply::{Answer, Status, UNCONNECTED_ROOM, refuse, write_reply};
 use crate::shared::Shared;
 use cip_message::{Path, RequestView, read_path};
 use cip_objects::{ReplyBuf, Router};
-use enip_wire::{FrameView, Header, rr_body, write_rr_body};
+use enip_wire::{FrameView, Header, rr_body, rr_front};
 
 /// The class of the Connection Manager. (Volume 1, class codes.)
 const CONNECTION_MANAGER: u16 = 0x06;
@@ -21,10 +22,6 @@ const CONNECTION_MANAGER: u16 = 0x06;
 const FORWARD_OPEN: u8 = 0x54;
 
 const FORWARD_CLOSE: u8 = 0x4e;
-
-/// The bytes of a packet in front of an unconnected request or reply: interface 4, timeout 2, count 2, null address 4,
-/// type and length of the data item 4.
-const UNCONNECTED_HEAD: usize = 16;
 
 /// Where a request goes.
 #[derive(Clone, Copy, Debug)]
@@ -45,15 +42,22 @@ impl<'a> Destination<'a> {
         let Ok(request) = RequestView::read(request) else {
             return Destination::Objects;
         };
-        match read_path(request.path) {
+        match request.service {
             // class 0x06, instance 1 (objects)
-            Ok(path) if is_manager(path) => match request.service {
-                FORWARD_OPEN => Destination::Open(request.data),
-                FORWARD_CLOSE => Destination::Close(request.data),
-                _ => Destination::Objects,
-            },
+            FORWARD_OPEN if is_to_manager(request.path) => Destination::Open(request.data),
+            FORWARD_CLOSE if is_to_manager(request.path) => Destination::Close(request.data),
             _ => Destination::Objects,
         }
+    }
+}
+
+/// Whether these bytes spell the path of the Connection Manager's one instance.
+fn is_to_manager(path: &[u8]) -> bool
+    ensures { result ≡ is_path_of_manager (path_of path.now) }
+{
+    match read_path(path) {
+        Ok(path) => is_manager(path),
+        Err(_) => false,
     }
 }
 
@@ -69,6 +73,7 @@ pub(super) fn send_rr_data(
     shared: &mut Shared,
     session: Session,
     frame: FrameView<'_>,
+    reply: &mut ReplyBuf,
     answer: &mut Answer,
 )
     ensures shared { shared.new ≡ (send_rr_data shared.old session (frame_of frame.entry)).shared }
@@ -81,8 +86,7 @@ pub(super) fn send_rr_data(
     // a packet with a request of two bytes at least: 0x0003 (SendRRData)
     match rr_body(frame.body) {
         Ok(request) if request.len() >= 2 => {
-            let mut reply = ReplyBuf::new();
-            route(shared, session, request, &mut reply);
+            route(shared, session, request, reply);
             write_rr_reply(&frame.header, reply.as_slice(), answer);
         }
         _ => refuse(&frame.header, Status::PoorlyFormedData, answer),
@@ -108,16 +112,18 @@ fn route(shared: &mut Shared, session: Session, request: &[u8], reply: &mut Repl
 }
 
 /// Writes a whole reply to a SendRRData, with the reply of the router as its data item.
+#[inline(always)]
 fn write_rr_reply(asked: &Header, router_reply: &[u8], answer: &mut Answer)
     requires { length router_reply.now ≤ UNCONNECTED_ROOM }
     ensures { answer.new.items ≡ reply asked.now asked.now.session Success (rr_text router_reply.now) }
 {
-    begin_reply(
+    let front = rr_front(router_reply.len() as u16);
+    write_reply(
         asked,
         asked.session,
         Status::Success,
-        UNCONNECTED_HEAD + router_reply.len(),
+        &front,
+        router_reply,
         answer,
     );
-    let _ = write_rr_body(answer, router_reply);
 }

@@ -54,7 +54,7 @@ fn answer_version(asked: &Header, session: u32, status: Status, answer: &mut Ans
 {
     let mut version = [0; REGISTER_DATA];
     LittleEndian::write_u16(&mut version[0..2], PROTOCOL_VERSION);
-    write_reply(asked, session, status, &version, answer)
+    write_reply(asked, session, status, &[], &version, answer)
 }
 
 impl Session {

@@ -32,7 +32,8 @@ fn worked_rows(rt: HostRuntime) -> Result<(), Fail> {
     let rows = [
         (REQUEST, REQUEST_SHOWN),
         (
-            "7000 1e00 01000000 00000000 0102030405060708 00000000 00000000 0000 0200 a100 0400 44332211 b100 0a00 0100 b2000000 05000000",
+            "7000 1e00 01000000 00000000 0102030405060708 00000000 00000000 0000 0200 a100 0400 44332211 b100 0a00 \
+            0100 b2000000 05000000",
             "frame 0x0070 length 30 session 1 status 0x00000000 context 0102030405060708 options 0
 item 0x00a1 length 4
 item 0x00b1 length 10
@@ -52,7 +53,8 @@ reply 0xb2 status 0x00 extended - data 05000000
         ),
         // Class, instance, attribute and member of 16 bits, and an instance of 32 bits.
         (
-            "6f00 2200 01000000 00000000 0102030405060708 00000000 00000000 0000 0200 0000 0000 b200 1200 1808 21000401 25000302 31000201 29000103",
+            "6f00 2200 01000000 00000000 0102030405060708 00000000 00000000 0000 0200 0000 0000 b200 1200 1808 \
+            21000401 25000302 31000201 29000103",
             "frame 0x006f length 34 session 1 status 0x00000000 context 0102030405060708 options 0
 item 0x0000 length 0
 item 0x00b2 length 18
@@ -60,7 +62,8 @@ request 0x18 class 260 instance 515 attribute 258 member 769 data -
 ",
         ),
         (
-            "6f00 1c00 01000000 00000000 0102030405060708 00000000 00000000 0000 0200 0000 0000 b200 0c00 0e05 21ff0104 26ff04030201",
+            "6f00 1c00 01000000 00000000 0102030405060708 00000000 00000000 0000 0200 0000 0000 b200 0c00 0e05 \
+            21ff0104 26ff04030201",
             "frame 0x006f length 28 session 1 status 0x00000000 context 0102030405060708 options 0
 item 0x0000 length 0
 item 0x00b2 length 12
@@ -69,7 +72,8 @@ request 0x0e class 1025 instance 16909060 attribute - member - data -
         ),
         // The greatest service of a request, and the least of a reply.
         (
-            "6f00 1600 01000000 00000000 0102030405060708 00000000 00000000 0000 0200 0000 0000 b200 0600 7f02 2001 2401",
+            "6f00 1600 01000000 00000000 0102030405060708 00000000 00000000 0000 0200 0000 0000 b200 0600 7f02 2001 \
+            2401",
             "frame 0x006f length 22 session 1 status 0x00000000 context 0102030405060708 options 0
 item 0x0000 length 0
 item 0x00b2 length 6
@@ -86,7 +90,8 @@ reply 0x80 status 0x00 extended - data -
         ),
         // Two additional status words.
         (
-            "6f00 1900 01000000 00000000 0102030405060708 00000000 00000000 0000 0200 0000 0000 b200 0900 d4ff0102 1503 0a0b 0c",
+            "6f00 1900 01000000 00000000 0102030405060708 00000000 00000000 0000 0200 0000 0000 b200 0900 d4ff0102 \
+            1503 0a0b 0c",
             "frame 0x006f length 25 session 1 status 0x00000000 context 0102030405060708 options 0
 item 0x0000 length 0
 item 0x00b2 length 9
@@ -95,7 +100,8 @@ reply 0xd4 status 0x01 extended 03150b0a data 0c
         ),
         // Types of items of 16 bits.
         (
-            "6f00 1e00 01000000 00000000 0102030405060708 00000000 00000000 0000 0300 0000 0000 b200 0600 0102 2001 2401 0180 0400 01020304",
+            "6f00 1e00 01000000 00000000 0102030405060708 00000000 00000000 0000 0300 0000 0000 b200 0600 0102 2001 \
+            2401 0180 0400 01020304",
             "frame 0x006f length 30 session 1 status 0x00000000 context 0102030405060708 options 0
 item 0x0000 length 0
 item 0x00b2 length 6
@@ -105,7 +111,8 @@ request 0x01 class 1 instance 1 attribute - member - data -
         ),
         // A count of 16 bits, and an item with a connection of 32 bits.
         (
-            "7000 1c00 01000000 00000000 0102030405060708 00000000 00000000 0000 0200 a100 0400 fefdfcfb b100 0800 ffff 0102 2001 2401",
+            "7000 1c00 01000000 00000000 0102030405060708 00000000 00000000 0000 0200 a100 0400 fefdfcfb b100 0800 \
+            ffff 0102 2001 2401",
             "frame 0x0070 length 28 session 1 status 0x00000000 context 0102030405060708 options 0
 item 0x00a1 length 4
 item 0x00b1 length 8
@@ -115,7 +122,10 @@ request 0x01 class 1 instance 1 attribute - member - data -
         ),
         // Several frames, and the last line has no end.
         (
-            "6500 0000 01000000 00000000 0102030405060708 00000000\n0400 0000 02000000 00000000 0807060504030201 00000000\r\n6f00 0000 03000000 00000000 0102030405060708 00000000\n6300 0000 04000000 00000000 0102030405060708 00000000",
+            "6500 0000 01000000 00000000 0102030405060708 00000000\n\
+            0400 0000 02000000 00000000 0807060504030201 00000000\r\n\
+            6f00 0000 03000000 00000000 0102030405060708 00000000\n\
+            6300 0000 04000000 00000000 0102030405060708 00000000",
             "frame 0x0065 length 0 session 1 status 0x00000000 context 0102030405060708 options 0
 frame 0x0004 length 0 session 2 status 0x00000000 context 0807060504030201 options 0
 frame 0x006f length 0 session 3 status 0x00000000 context 0102030405060708 options 0
@@ -125,7 +135,8 @@ frame 0x0063 length 0 session 4 status 0x00000000 context 0102030405060708 optio
         ),
         // A member is set, in a path of all four kinds of segment.
         (
-            "6f00 1c00 01000000 00000000 0102030405060708 00000000 00000000 0000 0200 0000 0000 b200 0c00 1904 2004 2464 3003 2802 aabb",
+            "6f00 1c00 01000000 00000000 0102030405060708 00000000 00000000 0000 0200 0000 0000 b200 0c00 1904 2004 \
+            2464 3003 2802 aabb",
             "frame 0x006f length 28 session 1 status 0x00000000 context 0102030405060708 options 0
 item 0x0000 length 0
 item 0x00b2 length 12
@@ -134,7 +145,8 @@ request 0x19 class 4 instance 100 attribute 3 member 2 data aabb
         ),
         // An item behind the second is shown, and ignored.
         (
-            "6f00 1c00 01000000 00000000 0102030405060708 00000000 00000000 0000 0300 0000 0000 b200 0600 0102 2001 2401 0000 0200 ffff",
+            "6f00 1c00 01000000 00000000 0102030405060708 00000000 00000000 0000 0300 0000 0000 b200 0600 0102 2001 \
+            2401 0000 0200 ffff",
             "frame 0x006f length 28 session 1 status 0x00000000 context 0102030405060708 options 0
 item 0x0000 length 0
 item 0x00b2 length 6
@@ -144,7 +156,8 @@ request 0x01 class 1 instance 1 attribute - member - data -
         ),
         // An opening is refused, with an additional status word.
         (
-            "6f00 2000 01000000 00000000 0102030405060708 00000000 00000000 0000 0200 0000 0000 b200 1000 d4000101 0001 0100 4200 78563412 0000",
+            "6f00 2000 01000000 00000000 0102030405060708 00000000 00000000 0000 0200 0000 0000 b200 1000 d4000101 \
+            0001 0100 4200 78563412 0000",
             "frame 0x006f length 32 session 1 status 0x00000000 context 0102030405060708 options 0
 item 0x0000 length 0
 item 0x00b2 length 16

@@ -1,0 +1,159 @@
+-- An opening that nothing refuses leaves the item world's opening.
+use Rattle.std.proofs.Common.{◌≡◌, ℕ, ◌<◌, ◌^◌, false, List, [], Result, Ok, Err, refl, ap, ◌∙◌, subst, arith}
+use Rattle.cip_message.specs.Reply.{Reply, reply_of, reply_of_fields}
+use Rattle.cip_manager.specs.declared.reply.Service.TheVariants.{ForwardOpen}
+use Rattle.cip_manager.specs.declared.opening.Opening.{Opening}
+use Rattle.cip_manager.specs.Manager.{Turn}
+use Rattle.cip_manager.specs.Opening.{opening_of, opening_check, decided_opening, read_opening_turn, open_success}
+use Rattle.cip_manager.specs.Replies.{failure_reply, open_success_data}
+use Rattle.cip_objects.specs.Contents.{Contents}
+use Rattle.enip_wire.specs.Bodies.{rr_text}
+use Rattle.enip_wire.specs.Frames.{Frame, frame}
+use Rattle.enip_wire.proofs.WriteLemmas.{rr_again}
+use Rattle.enip_adapter.specs.declared.adapter.Limits.{Limits}
+use Rattle.enip_adapter.specs.declared.peer.Session.{Session}
+use Rattle.enip_adapter.specs.declared.shared.Listen.{Listen}
+use Rattle.enip_adapter.specs.declared.shared.Shared.{Shared}
+use Rattle.enip_adapter.specs.Adapter.{new_shared}
+use Rattle.enip_adapter.specs.Calls.{AdapterState}
+use Rattle.enip_adapter.specs.Calls.Call.{Feeds}
+use Rattle.enip_adapter.specs.RegisterSession.{register_session, version_one}
+use Rattle.enip_adapter.specs.Replies.{Served, leaving, replied}
+use Rattle.enip_adapter.specs.SendRRData.{Routed, routed, routed_to, managed}
+use Rattle.enip_adapter.specs.Turn.{new_session}
+use Rattle.enip_client.specs.Calls.{registers, opens, after_lending}
+use Rattle.enip_client.specs.Client.{ClientState, new_client, fed, with_state}
+use Rattle.enip_client.specs.Frames.{register_frame, request_frame, open_request, open_asked, sent as framed}
+use Rattle.enip_client.specs.Hears.{hears, opening_turn, answer_in, answer_read, Turned}
+use Rattle.enip_client.specs.Hears.News.{Registered, Opened}
+use Rattle.enip_client.specs.declared.wants.Wants.{Wants}
+use Rattle.enip_bench.specs.CountingOpening.{ARefusal, IsWanted, is_registered_news, is_opened_news, exchange}
+use Rattle.enip_bench.proofs.AdapterShows.{registered_as, request-served}
+use Rattle.enip_bench.proofs.FeedLemmas.{IsHeardWhole, client-fed, is_framed, is_rr}
+use Rattle.enip_bench.proofs.OpeningParts.{single, IsSingleFed, single-fed, heard-done, heard-refused, register-served, goes-to-manager, open-read}
+
+-- the client that waits for its session, and the one that has it
+abbrev pub registering : Wants → ClientState
+registering wants = with_state (new_client wants) (after_lending (new_client wants).state (registers (new_client wants).state))
+
+abbrev pub registered : Wants → ℕ → ClientState
+registered wants peer =
+    record { state = (hears (registering wants).state (framed 0x0065 peer 1 version_one)).state; held = [] }
+
+module _ (objects : Contents) (listen : Listen) (limits : Limits) (wants : Wants) (next peer : ℕ) where
+  abbrev shared : Shared
+  shared = new_shared objects listen limits
+
+  abbrev pub begun_single : Session → AdapterState
+  begun_single session = single limits.peers next (new_shared objects listen limits) session
+
+  pub first-exchange : peer < 2 ^ 32 →
+      exchange (record { adapter = begun_single (new_session peer); client = new_client wants }) peer is_registered_news
+      (registers (new_client wants).state)
+      ≡ Ok (record { adapter = begun_single (registered_as peer); client = registered wants peer })
+  first-exchange below =
+      let answer : Frame = framed 0x0065 peer 1 version_one in
+      let done : IsSingleFed limits.peers next shared (new_session peer) (register_frame 1)
+      (leaving shared (register_session (new_session peer) (register_frame 1)))
+      = single-fed limits.peers next shared (new_session peer) (register_frame 1)
+      (leaving shared (register_session (new_session peer) (register_frame 1))) refl
+      (is_framed 0x0065 0 1 version_one (omega arith) (omega arith) (omega arith))
+      (register-served shared (new_session peer) 1) refl in
+      let whole : IsHeardWhole (registering wants) answer (fed (registering wants) (frame answer))
+      = client-fed (registering wants) answer refl refl
+      (is_framed 0x0065 peer 1 version_one (omega arith) below (omega arith)) in
+      heard-done is_registered_news (begun_single (new_session peer)) (begun_single (registered_as peer)) (registering wants)
+      (registered wants peer) (Feeds 0 peer (frame (register_frame 1))) (frame answer) Registered done.adapter done.said
+      whole.client whole.news refl
+
+  -- the client that waits for its connection
+  abbrev pub connecting : ClientState
+  connecting = with_state (registered wants peer)
+      (after_lending (registered wants peer).state (opens (registered wants peer).state))
+
+  abbrev pub asked : Opening
+  asked = opening_of (open_asked wants)
+
+  abbrev pub checked : Result (Unit {0}) ℕ
+  checked = opening_check (new_shared objects listen limits).manager asked
+
+  -- what the Connection Manager does with the client's request, by what the checks said
+  abbrev pub decided : Result (Unit {0}) ℕ → Turn
+  decided r = decided_opening (new_shared objects listen limits).manager 0 peer asked r
+
+  abbrev open_served : Turn → Served
+  open_served turn = leaving (managed shared turn).shared
+      (replied (registered_as peer) (request_frame peer 2 (open_request wants)).header (rr_text (managed shared turn).reply))
+
+  routed-open : IsWanted wants → routed shared (registered_as peer) (open_request wants) ≡ managed shared (decided checked)
+  routed-open is = ap (routed_to shared (registered_as peer) (open_request wants)) (goes-to-manager wants)
+      ∙ ap (λ r. managed shared (read_opening_turn shared.manager 0 peer r)) (open-read wants is)
+
+  open-fed : IsWanted wants → peer < 2 ^ 32 →
+      IsSingleFed limits.peers next shared (registered_as peer) (request_frame peer 2 (open_request wants))
+      (open_served (decided checked))
+  open-fed is below =
+      single-fed limits.peers next shared (registered_as peer) (request_frame peer 2 (open_request wants))
+      (open_served (decided checked)) refl (is_rr peer 2 (open_request wants) below (omega arith))
+      (request-served shared peer 2 (open_request wants) (omega arith) (omega arith)
+      ∙ ap (λ (x : Routed). leaving x.shared
+      (replied (registered_as peer) (request_frame peer 2 (open_request wants)).header (rr_text x.reply))) (routed-open is))
+      refl
+
+  -- the reply to an opening that succeeds, as it is read
+  abbrev pub success : Reply
+  success = reply_of_fields 0xd4 0 []
+      (open_success_data (new_shared objects listen limits).manager.next_id asked.t_to_o_id asked.triad asked.o_to_t.rpi asked.t_to_o.rpi)
+
+  abbrev success_bytes : List ℕ
+  success_bytes = open_success (new_shared objects listen limits).manager.next_id asked
+
+  success-read : reply_of success_bytes ≡ Ok success
+  unfolding reply_of
+  success-read = refl
+
+  refusal-heard : (extended : ℕ) →
+      is_opened_news (opening_turn connecting.state
+      (answer_read 0x54 (failure_reply ForwardOpen extended asked.triad) (reply_of (failure_reply ForwardOpen extended asked.triad)))).news
+      ≡ false
+  unfolding reply_of
+  refusal-heard extended = refl
+
+  -- the client whose connection is open
+  abbrev pub opened : ClientState
+  opened = record { state = (opening_turn connecting.state (answer_read 0x54 success_bytes (Ok success))).state; held = [] }
+
+  pub second-exchange : IsWanted wants → peer < 2 ^ 32 → (r : Result (Unit {0}) ℕ) → checked ≡ r →
+      exchange (record { adapter = begun_single (registered_as peer); client = registered wants peer }) peer is_opened_news
+      (opens (registered wants peer).state)
+      ≡ elim r [
+        | Ok done ↦ Ok (record { adapter = single limits.peers next (managed shared (decided (Ok tt))).shared (registered_as peer); client = opened })
+        | Err extended ↦ Err ARefusal
+      ]
+  second-exchange is below (Err extended) check =
+      let f : Frame = request_frame peer 2 (open_request wants) in
+      let reply : List ℕ = failure_reply ForwardOpen extended asked.triad in
+      let answer : Frame = request_frame peer 2 reply in
+      let done : IsSingleFed limits.peers next shared (registered_as peer) f (open_served (decided (Err extended)))
+      = subst (λ r. IsSingleFed limits.peers next shared (registered_as peer) f (open_served (decided r))) check (open-fed is below) in
+      let whole : IsHeardWhole connecting answer (fed connecting (frame answer))
+      = client-fed connecting answer refl refl (is_rr peer 2 reply below (omega arith)) in
+      heard-refused is_opened_news (begun_single (registered_as peer)) connecting (Feeds 0 peer (frame f)) (frame answer)
+      (hears connecting.state answer).news done.said whole.news
+      (ap (λ b. is_opened_news (opening_turn connecting.state (answer_in 0x54 b)).news) (rr_again reply (omega arith))
+      ∙ refusal-heard extended)
+  second-exchange is below (Ok done) check =
+      let f : Frame = request_frame peer 2 (open_request wants) in
+      let answer : Frame = request_frame peer 2 success_bytes in
+      let fed_once : IsSingleFed limits.peers next shared (registered_as peer) f (open_served (decided (Ok tt)))
+      = subst (λ r. IsSingleFed limits.peers next shared (registered_as peer) f (open_served (decided r))) check (open-fed is below) in
+      let whole : IsHeardWhole connecting answer (fed connecting (frame answer))
+      = client-fed connecting answer refl refl (is_rr peer 2 success_bytes below (omega arith)) in
+      let turn : hears connecting.state answer ≡ opening_turn connecting.state (answer_read 0x54 success_bytes (Ok success))
+      = ap (λ b. opening_turn connecting.state (answer_in 0x54 b)) (rr_again success_bytes (omega arith))
+      ∙ ap (λ r. opening_turn connecting.state (answer_read 0x54 success_bytes r)) success-read in
+      heard-done is_opened_news (begun_single (registered_as peer))
+      (single limits.peers next (managed shared (decided (Ok tt))).shared (registered_as peer)) connecting opened
+      (Feeds 0 peer (frame f)) (frame answer) Opened fed_once.adapter fed_once.said
+      (whole.client ∙ ap (λ (t : Turned). (let x : ClientState = record { state = t.state; held = [] } in x)) turn)
+      (whole.news ∙ ap (λ (t : Turned). t.news) turn) refl

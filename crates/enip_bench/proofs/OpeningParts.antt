@@ -1,0 +1,164 @@
+-- The parts of an opening: a peer that begins, an exchange, and the Forward_Open that the client writes.
+use Rattle.std.proofs.Common.{◌≡◌, ℕ, ◌+◌, ◌%◌, ◌<◌, ◌^◌, Bool, true, false, not, cond, ltb, Some, None, List, [], ◌∷◌, ◌++◌, length, Result, Ok, Err, refl, ap, ap₂, sym, ◌∙◌, subst, arith, ltb-false}
+use Rattle.std.proofs.lemmas.Bool.{eq-eqb}
+use Rattle.cip_bytes.proofs.Bytes.{le2_again, le4_again}
+use Rattle.cip_message.specs.Open.{«open», open_of, open_fields}
+use Rattle.cip_message.specs.PathReading.{path_of, class_of, instance_of, attribute_of, member_of, whole_of, segment_of}
+use Rattle.cip_message.specs.Request.{request_of}
+use Rattle.cip_message.proofs.Opens.{same_open}
+use Rattle.cip_manager.specs.Check.{demand, first_failure}
+use Rattle.enip_wire.specs.Frames.{Frame, frame, IsFrame}
+use Rattle.enip_adapter.specs.declared.adapter.Full.TheVariants.{Places, Handles}
+use Rattle.enip_adapter.specs.declared.peer.Session.{Session}
+use Rattle.enip_adapter.specs.declared.shared.Shared.{Shared}
+use Rattle.enip_adapter.specs.Calls.{AdapterState, Call, after_call, call_answer, held_at_beginning, bytes_found}
+use Rattle.enip_adapter.specs.Calls.Call.{Begins_peer, Feeds}
+use Rattle.enip_adapter.specs.Commands.{command_served}
+use Rattle.enip_adapter.specs.Replies.{Served, leaving}
+use Rattle.enip_adapter.specs.RegisterSession.{register_session}
+use Rattle.enip_adapter.specs.SendRRData.{Opens, destination_of}
+use Rattle.enip_adapter.specs.Turn.{State, Turned, turned, with_peer, session_after, without_connections, sent, at_moment}
+use Rattle.enip_adapter.specs.Turn.Said.{Sends, Begins, Refuses}
+use Rattle.enip_client.specs.Client.{ClientState, fed}
+use Rattle.enip_client.specs.Frames.{register_frame, open_request, open_asked}
+use Rattle.enip_client.specs.Hears.{News}
+use Rattle.enip_client.specs.declared.wants.Wants.{Wants}
+use Rattle.enip_bench.specs.CountingOpening.{ARefusal, IsWanted, begins, handle_said, fed_any, if_heard}
+use Rattle.enip_bench.specs.CountingWorld.{bytes_said}
+use Rattle.enip_bench.proofs.FeedLemmas.{IsReady, IsServed, adapter-fed, no_bytes}
+
+-- a peer that begins has the next handle, and holds no byte
+pub record IsBegun (a : AdapterState) (handle : ℕ) : Type 0 where
+  pub next : handle ≡ a.state.next_handle
+  pub below : handle < 2 ^ 32
+  pub adapter : after_call a Begins_peer
+      ≡ record { state = with_peer a.state; held = a.held ++ no_bytes a.state.next_handle ∷ [] }
+
+ok_same : {A E : Type 0} (x y : A) → ◌≡◌ {A = Result A E} (Ok x) (Ok y) → x ≡ y
+ok_same x y e = cc
+
+record AreBegun (a : AdapterState) (handle : ℕ) (t : Turned) : Type 0 where
+  next : handle ≡ a.state.next_handle
+  below : handle < 2 ^ 32
+  state : t.state ≡ with_peer a.state
+  held : held_at_beginning a.held t.answer.said ≡ a.held ++ no_bytes a.state.next_handle ∷ []
+
+abbrev begun_by : State → Bool → Bool → Turned
+begun_by s full late = cond full (turned s (Refuses Places) false)
+    (cond late (turned s (Refuses Handles) false) (turned (with_peer s) (Begins s.next_handle) false))
+
+begun-by : (a : AdapterState) (handle : ℕ) (full late : Bool) → ltb 0xffffffff a.state.next_handle ≡ late →
+    handle_said (begun_by a.state full late).answer.said ≡ Ok handle → AreBegun a handle (begun_by a.state full late)
+begun-by a handle true late e said = absurd (cc)
+begun-by a handle false true e said = absurd (cc)
+begun-by a handle false false e said =
+    let same : a.state.next_handle ≡ handle = ok_same a.state.next_handle handle said in
+    record {
+      next = sym same;
+      below = omega (arith, same, ltb-false 0xffffffff a.state.next_handle e);
+      state = refl;
+      held = refl;
+    }
+
+pub begun-ok : (a : AdapterState) (handle : ℕ) → begins a ≡ Ok handle → IsBegun a handle
+begun-ok a handle said =
+    let are = begun-by a handle (not (ltb (length a.state.peers) a.state.places)) (ltb 0xffffffff a.state.next_handle) refl said in
+    record {
+      next = are.next;
+      below = are.below;
+      adapter = ap₂ (λ s h. (let x : AdapterState = record { state = s; held = h } in x)) are.state are.held;
+    }
+
+-- an adapter with one peer, of which no byte is held
+abbrev pub single : ℕ → ℕ → Shared → Session → AdapterState
+single places next shared session = record {
+  state = record { places = places; next_handle = next; shared = shared; peers = session ∷ [] };
+  held = no_bytes session.handle ∷ [];
+}
+
+pub single-ready : (places next : ℕ) (shared : Shared) (session : Session) → session.closed ≡ false →
+    IsReady (single places next shared session) session.handle session
+single-ready places next shared session alive = record {
+  found = ap (λ b. cond b (Some session) None) (eq-eqb session.handle session.handle refl);
+  alive = alive;
+  blank = ap (λ b. bytes_found (cond b (Some (no_bytes session.handle)) None)) (eq-eqb session.handle session.handle refl);
+}
+
+pub record IsSingleFed (places next : ℕ) (shared : Shared) (session : Session) (f : Frame) (served : Served) : Type 0 where
+  pub adapter : after_call (single places next shared session) (Feeds 0 session.handle (frame f))
+      ≡ single places next served.shared (session_after session served)
+  pub said : (call_answer (single places next shared session) (Feeds 0 session.handle (frame f))).said
+      ≡ sent served.reaction.answer
+
+pub single-fed : (places next : ℕ) (shared : Shared) (session : Session) (f : Frame) (served : Served) →
+    session.closed ≡ false → IsFrame f → command_served (at_moment shared 0) session f ≡ served →
+    served.reaction.close ≡ false → IsSingleFed places next shared session f served
+single-fed places next shared session f served alive ok same stays =
+    let a : AdapterState = single places next shared session in
+    let is : IsServed a session.handle session f served
+    = subst (IsServed a session.handle session f) same
+    (adapter-fed a session.handle session f (single-ready places next shared session alive) ok) in
+    record {
+      adapter = is.adapter
+          ∙ ap₂ (λ own close. (let x : AdapterState = record {
+            state = record {
+              places = places;
+              next_handle = next;
+              shared = cond close (without_connections served.shared session.handle) served.shared;
+              peers = cond own (session_after session served ∷ []) (session ∷ []);
+            };
+            held = cond own (no_bytes session.handle ∷ []) (no_bytes session.handle ∷ []);
+          } in x)) (eq-eqb session.handle session.handle refl) stays;
+      said = is.said;
+    }
+
+-- an exchange in which the client heard what it has to hear, and one in which it did not
+pub heard-done : (is_wanted : News → Bool) (a after : AdapterState) (c then : ClientState) (call : Call) (bytes : List ℕ)
+    (news : News) → after_call a call ≡ after → (call_answer a call).said ≡ Sends bytes → (fed c bytes).client ≡ then →
+    (fed c bytes).news ≡ news → is_wanted news ≡ true →
+    if_heard is_wanted (after_call a call) (fed_any c (bytes_said (call_answer a call).said))
+    ≡ Ok (record { adapter = after; client = then })
+heard-done is_wanted a after c then call bytes news goes said client heard wanted =
+    ap (λ s. if_heard is_wanted (after_call a call) (fed_any c (bytes_said s))) said
+    ∙ (ap (λ b. cond b (Ok (record { adapter = after_call a call; client = (fed c bytes).client })) (Err ARefusal))
+    (ap is_wanted heard ∙ wanted)
+    ∙ ap₂ (λ x y. Ok (record { adapter = x; client = y })) goes client)
+
+pub heard-refused : (is_wanted : News → Bool) (a : AdapterState) (c : ClientState) (call : Call) (bytes : List ℕ)
+    (news : News) → (call_answer a call).said ≡ Sends bytes → (fed c bytes).news ≡ news → is_wanted news ≡ false →
+    if_heard is_wanted (after_call a call) (fed_any c (bytes_said (call_answer a call).said)) ≡ Err ARefusal
+heard-refused is_wanted a c call bytes news said heard wanted =
+    ap (λ s. if_heard is_wanted (after_call a call) (fed_any c (bytes_said s))) said
+    ∙ ap (λ b. cond b (Ok (record { adapter = after_call a call; client = (fed c bytes).client })) (Err ARefusal))
+    (ap is_wanted heard ∙ wanted)
+
+-- a RegisterSession is answered as one
+pub register-served : (shared : Shared) (session : Session) (number : ℕ) →
+    command_served shared session (register_frame number) ≡ leaving shared (register_session session (register_frame number))
+unfolding command_served
+register-served shared session number = refl
+
+-- the Forward_Open goes to the Connection Manager, and is read as it was written
+pub goes-to-manager : (wants : Wants) → destination_of (open_request wants) ≡ Opens («open» (open_asked wants))
+unfolding request_of path_of class_of instance_of attribute_of member_of whole_of segment_of
+goes-to-manager wants = refl
+
+pub open-read : (wants : Wants) → IsWanted wants → open_of («open» (open_asked wants)) ≡ Ok (open_asked wants)
+unfolding open_of open_fields
+open-read wants is =
+    ap (λ o. Ok o)
+    (same_open (open_asked wants) _ _ _ _ _ _ _ _ _ _ _ _ _ _ refl refl refl (le4_again wants.t_to_o_id is.t_to_o_id [])
+    (le2_again wants.connection_serial is.connection_serial []) (le2_again wants.originator_vendor is.originator_vendor [])
+    (le4_again wants.originator_serial is.originator_serial []) refl (le4_again wants.rpi is.rpi [])
+    (le2_again (0x4200 + wants.o_to_t_size % 512) (omega arith) []) (le4_again wants.rpi is.rpi [])
+    (le2_again (0x4200 + wants.t_to_o_size % 512) (omega arith) []) refl refl)
+
+-- what a list of checks says that passes
+pub passed : (x : Result (Unit {0}) ℕ) (xs : List (Result (Unit {0}) ℕ)) → first_failure (x ∷ xs) ≡ Ok tt →
+    (x ≡ Ok tt) × (first_failure xs ≡ Ok tt)
+passed (Ok done) xs e = (refl, e)
+passed (Err extended) xs e = absurd (cc)
+
+pub demanded : (b : Bool) (extended : ℕ) → demand b extended ≡ Ok tt → b ≡ true
+demanded true extended e = refl
+demanded false extended e = absurd (cc)

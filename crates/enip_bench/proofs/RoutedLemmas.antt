@@ -1,0 +1,98 @@
+-- What an unconnected request leaves of what the adapter's peers share.
+use Rattle.std.proofs.Common.{◌≡◌, ℕ, ◌⊎◌, inl, inr, Bool, true, false, cond, eqb, ◌&&◌, List, Result, Ok, Err, refl, ap, sym, ◌∙◌}
+use Rattle.std.proofs.lemmas.Bool.{eqb-true}
+use Rattle.cip_message.specs.declared.path.Path.{Path}
+use Rattle.cip_message.specs.declared.path.PathFault.{PathFault}
+use Rattle.cip_message.specs.declared.request.RequestFault.{RequestFault}
+use Rattle.cip_message.specs.PathReading.{path_of}
+use Rattle.cip_message.specs.Request.{Request, request_of}
+use Rattle.cip_bytes.specs.Reading.{◌>>=◌}
+use Rattle.cip_objects.specs.Contents.{Contents}
+use Rattle.cip_objects.specs.Execution.{Outcome, outcome, exec, perform, request_or_refusal, path_or_refusal}
+use Rattle.cip_objects.specs.ReadServices.{service_at}
+use Rattle.cip_objects.specs.Tables.{Shape, services_of}
+use Rattle.cip_objects.proofs.Refuses.{exec_left}
+use Rattle.enip_adapter.specs.declared.peer.Session.{Session}
+use Rattle.enip_adapter.specs.declared.shared.Shared.{Shared}
+use Rattle.enip_adapter.specs.SendRRData.{Destination, Opens, Closes, Executes, Routed, routed, routed_to, destination_by_request, destination_by_path, manager_service, is_manager}
+use Rattle.enip_bench.specs.Events.{UNCONNECTED_ROOM}
+use Rattle.enip_bench.specs.ObjectsRun.{after_exec}
+
+abbrev fails : {A E : Type 0} → Result A E → Bool
+fails (Ok x) = false
+fails (Err e) = true
+
+fails-then : {A B E : Type 0} (r : Result A E) (f : A → Result B E) → fails r ≡ true → fails (r >>= f) ≡ true
+fails-then (Ok x) f e = absurd (cc)
+fails-then (Err x) f e = refl
+
+-- the objects offer no service at the Connection Manager
+no_service : (shapes : List Shape) (code : ℕ) → fails (service_at shapes 6 1 code) ≡ true
+unfolding service_at services_of
+no_service shapes code = refl
+
+both_true : (a b : Bool) → (a && b) ≡ true → (a ≡ true) × (b ≡ true)
+both_true true true e = (refl, refl)
+both_true true false e = absurd (cc)
+both_true false b e = absurd (cc)
+
+manager-refused : (m : Contents) (text : List ℕ) (q : Request) (path : Path) → request_of text ≡ Ok q →
+    path_of q.path ≡ Ok path → is_manager path ≡ true → fails (outcome m text) ≡ true
+unfolding outcome
+manager-refused m text q path read found manages =
+    let both = both_true (eqb path.class 6) (eqb path.instance 1) manages in
+    ap (λ r. fails (request_or_refusal r >>= λ request. path_or_refusal (path_of request.path) >>= λ p.
+    service_at m.shapes p.class p.instance request.service >>= λ service. perform m service p request.data)) read
+    ∙ (ap (λ r. fails (path_or_refusal r >>= λ p.
+    service_at m.shapes p.class p.instance q.service >>= λ service. perform m service p q.data)) found
+    ∙ (ap (λ n. fails (service_at m.shapes n path.instance q.service >>= λ service. perform m service path q.data))
+    (eqb-true path.class 6 both.0)
+    ∙ (ap (λ n. fails (service_at m.shapes 6 n q.service >>= λ service. perform m service path q.data))
+    (eqb-true path.instance 1 both.1)
+    ∙ fails-then (service_at m.shapes 6 1 q.service) (λ service. perform m service path q.data)
+    (no_service m.shapes q.service))))
+
+refused-same : (m : Contents) (room : ℕ) (text : List ℕ) → fails (outcome m text) ≡ true →
+    (exec m room text).after ≡ m
+refused-same m room text refused = go (exec_left m room text)
+  where
+    go : ((exec m room text).after ≡ m) ⊎ ((o : Outcome) × (outcome m text ≡ Ok o) × ((exec m room text).after ≡ o.after))
+        → (exec m room text).after ≡ m
+    go (inl same) = same
+    go (inr left) =
+        let bad : false ≡ true = sym (ap (λ r. fails r) left.1) ∙ refused in
+        absurd (cc)
+
+-- wherever a request goes, the objects are those after its execution, and the moment is the same
+pub record IsRouted (shared : Shared) (request : List ℕ) (done : Routed) : Type 0 where
+  pub objects : done.shared.objects ≡ after_exec shared.objects UNCONNECTED_ROOM request
+  pub moment : done.shared.moment ≡ shared.moment
+
+pub routed-objects : (shared : Shared) (session : Session) (request : List ℕ) →
+    IsRouted shared request (routed shared session request)
+routed-objects shared session request = by_request (request_of request) refl
+  where
+    unchanged : (d : Destination) → (exec shared.objects UNCONNECTED_ROOM request).after ≡ shared.objects →
+        IsRouted shared request (routed_to shared session request d)
+    unchanged (Opens bytes) same = record { objects = sym same; moment = refl }
+    unchanged (Closes bytes) same = record { objects = sym same; moment = refl }
+    unchanged Executes same = record { objects = refl; moment = refl }
+
+    by_manager : (q : Request) (path : Path) (b : Bool) → request_of request ≡ Ok q → path_of q.path ≡ Ok path →
+        is_manager path ≡ b →
+        IsRouted shared request (routed_to shared session request (cond b (manager_service q.service q.data) Executes))
+    by_manager q path true read found manages =
+        unchanged (manager_service q.service q.data)
+        (refused-same shared.objects UNCONNECTED_ROOM request
+        (manager-refused shared.objects request q path read found manages))
+    by_manager q path false read found manages = record { objects = refl; moment = refl }
+
+    by_path : (q : Request) (p : Result Path PathFault) → request_of request ≡ Ok q → path_of q.path ≡ p →
+        IsRouted shared request (routed_to shared session request (destination_by_path q p))
+    by_path q (Ok path) read found = by_manager q path (is_manager path) read found refl
+    by_path q (Err fault) read found = record { objects = refl; moment = refl }
+
+    by_request : (r : Result Request RequestFault) → request_of request ≡ r →
+        IsRouted shared request (routed_to shared session request (destination_by_request r))
+    by_request (Ok q) read = by_path q (path_of q.path) read refl
+    by_request (Err fault) read = record { objects = refl; moment = refl }

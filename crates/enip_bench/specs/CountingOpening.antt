@@ -1,0 +1,122 @@
+-- The opening of the counting world: the client registers and opens its connection without loss, at moment 0.
+use Rattle.std.specs.Prelude.{ℕ, ◌<◌, ◌≤◌, ◌^◌, if◌then◌else◌, Bool, true, false, Option, Some, None, List, [], Result, Ok, Err}
+use Rattle.cip_bytes.specs.Reading.{◌>>=◌}
+use Rattle.cip_class3.specs.Item.{LARGEST_SIZE}
+use Rattle.cip_objects.specs.Contents.{Contents}
+use Rattle.enip_adapter.specs.Adapter.{new_adapter}
+use Rattle.enip_adapter.specs.Calls.{AdapterState, Call, after_call, call_answer}
+use Rattle.enip_adapter.specs.Calls.Call.{Begins_peer, Feeds}
+use Rattle.enip_adapter.specs.Turn.Said.{Silent, Sends, Begins, Refuses}
+use Rattle.enip_adapter.specs.Turn.{Said}
+use Rattle.enip_adapter.specs.declared.adapter.Limits.{Limits}
+use Rattle.enip_adapter.specs.declared.shared.Listen.{Listen}
+use Rattle.enip_client.specs.Calls.{Lent, registers, opens}
+use Rattle.enip_client.specs.Client.{ClientState, Fed, new_client, fed, with_state}
+use Rattle.enip_client.specs.Frames.{register_frame}
+use Rattle.enip_client.specs.Hears.{News}
+use Rattle.enip_client.specs.Hears.News.{Nothing, Registered, Opened, Replied, Accepted, Refused, Closed}
+use Rattle.enip_client.specs.declared.fault.ClientFault.{ClientFault}
+use Rattle.enip_client.specs.declared.wants.Wants.{Wants}
+use Rattle.enip_wire.specs.Frames.{frame}
+use Rattle.enip_bench.specs.CountingWorld.{CountingWorld, bytes_said}
+
+-- a begin, a register or an open was refused
+pub data Setup : Type 0 where
+  ARefusal : Setup
+
+-- what a client wants is in the range of its fields, and its sizes are a connection's
+pub record IsWanted (wants : Wants) : Type 0 where
+  pub originator_vendor : wants.originator_vendor < 2 ^ 16
+  pub originator_serial : wants.originator_serial < 2 ^ 32
+  pub connection_serial : wants.connection_serial < 2 ^ 16
+  pub t_to_o_id : wants.t_to_o_id < 2 ^ 32
+  pub rpi : wants.rpi < 2 ^ 32
+  pub timeout_multiplier : wants.timeout_multiplier < 2 ^ 8
+  pub o_to_t_from : 4 ≤ wants.o_to_t_size
+  pub o_to_t_to : wants.o_to_t_size ≤ LARGEST_SIZE
+  pub t_to_o_from : 10 ≤ wants.t_to_o_size
+  pub t_to_o_to : wants.t_to_o_size ≤ LARGEST_SIZE
+  pub first_count : wants.first_count < 2 ^ 16
+
+-- the handle that a begin gives out
+abbrev pub handle_said : Said → Result ℕ Setup
+handle_said Silent = Err ARefusal
+handle_said (Sends bytes) = Err ARefusal
+handle_said (Begins handle) = Ok handle
+handle_said (Refuses full) = Err ARefusal
+
+abbrev pub begins : AdapterState → Result ℕ Setup
+begins adapter = handle_said (call_answer adapter Begins_peer).said
+
+-- both ends
+pub record Ends : Type 0 where
+  pub adapter : AdapterState
+  pub client : ClientState
+
+-- the client gets what the adapter sends, if it sends anything
+abbrev pub fed_any : ClientState → Option (List ℕ) → Fed
+fed_any client None = record { client = client; taken = 0; news = Nothing }
+fed_any client (Some bytes) = fed client bytes
+
+abbrev pub is_registered_news : News → Bool
+is_registered_news Nothing = false
+is_registered_news Registered = true
+is_registered_news Opened = false
+is_registered_news (Replied bytes) = false
+is_registered_news (Accepted bytes) = false
+is_registered_news (Refused status extended) = false
+is_registered_news Closed = false
+
+abbrev pub is_opened_news : News → Bool
+is_opened_news Nothing = false
+is_opened_news Registered = false
+is_opened_news Opened = true
+is_opened_news (Replied bytes) = false
+is_opened_news (Accepted bytes) = false
+is_opened_news (Refused status extended) = false
+is_opened_news Closed = false
+
+-- the client has to hear this
+abbrev pub if_heard : (News → Bool) → AdapterState → Fed → Result Ends Setup
+if_heard is_wanted adapter fed =
+    if is_wanted fed.news then Ok (record { adapter = adapter; client = fed.client }) else Err ARefusal
+
+-- a frame that the client lends goes to the adapter at moment 0, and its answer to the client
+abbrev pub exchange : Ends → ℕ → (News → Bool) → Result Lent ClientFault → Result Ends Setup
+exchange ends peer is_wanted (Err fault) = Err ARefusal
+exchange ends peer is_wanted (Ok lent) =
+    let call : Call = Feeds 0 peer (frame lent.frame) in
+    if_heard is_wanted (after_call ends.adapter call)
+    (fed_any (with_state ends.client lent.state) (bytes_said (call_answer ends.adapter call).said))
+
+-- a connection that was just opened between these ends, and a second session, which is registered
+abbrev pub counting_at_opening : Ends → ℕ → ℕ → CountingWorld
+counting_at_opening ends peer second = record {
+  adapter = after_call (after_call ends.adapter Begins_peer) (Feeds 0 second (frame (register_frame 0)));
+  client = ends.client;
+  peer = peer;
+  second = second;
+  sent = [];
+  back = [];
+  last_reached = None;
+  last_back = None;
+  submits = 0;
+  accepted = [];
+}
+
+-- both ends as they are made, where the client's peer has begun
+abbrev pub ends_at_beginning : AdapterState → Wants → Ends
+ends_at_beginning adapter wants =
+    record { adapter = after_call adapter Begins_peer; client = new_client wants }
+
+abbrev pub opening_between : AdapterState → Wants → Result CountingWorld Setup
+opening_between adapter wants = do
+  peer ← begins adapter
+  registered ← exchange (ends_at_beginning adapter wants) peer is_registered_news (registers (new_client wants).state)
+  opened ← exchange registered peer is_opened_news (opens registered.client.state)
+  second ← begins opened.adapter
+  Ok (counting_at_opening opened peer second)
+
+-- the opening between a new adapter and a new client, where nothing is refused
+unfoldable pub opening : Contents → Listen → Limits → Wants → Result CountingWorld Setup
+opening objects listen limits wants = opening_between (new_adapter objects listen limits) wants

@@ -1,0 +1,119 @@
+-- The counting world: the adapter and the client, whole, and the bytes of whole frames between them.
+use Rattle.std.specs.Prelude.{ℕ, ◌+◌, ◌-◌, if◌then◌else◌, Option, Some, None, option_map, List, [], ◌∷◌, ◌++◌, Result, Ok, Err}
+use Rattle.cip_class3.specs.OriginatorRule.{stage_of}
+use Rattle.cip_objects.specs.Contents.{Contents}
+use Rattle.enip_adapter.specs.Calls.{AdapterState, after_call, call_answer}
+use Rattle.enip_adapter.specs.Calls.Call.{Feeds, Ticks}
+use Rattle.enip_adapter.specs.Turn.Said.{Silent, Sends, Begins, Refuses}
+use Rattle.enip_adapter.specs.Turn.{Said}
+use Rattle.enip_client.specs.Calls.{Lent, submits, resends, after_giving_up}
+use Rattle.enip_client.specs.Client.{ClientState, Fed, fed, with_state}
+use Rattle.enip_client.specs.Frames.{request_frame}
+use Rattle.enip_client.specs.Hears.{News}
+use Rattle.enip_client.specs.Hears.News.{Nothing, Registered, Opened, Replied, Accepted, Refused, Closed}
+use Rattle.enip_client.specs.declared.fault.SubmitFault.{SubmitFault}
+use Rattle.enip_wire.specs.Frames.{Frame, frame}
+use Rattle.enip_bench.specs.Events.{Event, Submit, Resend, Reach, Back, Other, Shut, GiveUp, delivery, is_unconnected_request, with_any}
+use Rattle.enip_bench.specs.Seen.{Seen}
+
+-- Both ends, the handles of the adapter's two peers, of which the client is the first, and what lies between: the
+-- bytes of the frames sent and sent back, the position delivered last in each direction, how many submits were
+-- accepted, which numbers them from 0, and the replies that were accepted, each with its request's number.
+pub record CountingWorld : Type 0 where
+  pub adapter : AdapterState
+  pub client : ClientState
+  pub peer : ℕ
+  pub second : ℕ
+  pub sent : List (List ℕ)
+  pub back : List (List ℕ)
+  pub last_reached : Option ℕ
+  pub last_back : Option ℕ
+  pub submits : ℕ
+  pub accepted : List (ℕ × List ℕ)
+
+-- a request that the client takes has the next number, and its frame is sent
+abbrev pub after_submit : Result Lent SubmitFault → CountingWorld → CountingWorld
+after_submit (Err fault) world = world
+after_submit (Ok lent) world = record world {
+  client = with_state world.client lent.state;
+  sent = world.sent ++ frame lent.frame ∷ [];
+  submits = world.submits + 1;
+}
+
+-- a frame that the client lends is sent, if it lends one
+abbrev pub after_resend : Option Frame → CountingWorld → CountingWorld
+after_resend lent world = record world { sent = with_any (option_map frame lent) world.sent }
+
+-- the bytes that the adapter sends
+abbrev pub bytes_said : Said → Option (List ℕ)
+bytes_said Silent = None
+bytes_said (Sends bytes) = Some bytes
+bytes_said (Begins handle) = None
+bytes_said (Refuses full) = None
+
+-- the adapter gets bytes of the client at moment 0, and what it sends is sent back
+abbrev pub after_reach : Option (List ℕ) → CountingWorld → ℕ → CountingWorld
+after_reach None world position = world
+after_reach (Some bytes) world position = record world {
+  adapter = after_call world.adapter (Feeds 0 world.peer bytes);
+  back = with_any (bytes_said (call_answer world.adapter (Feeds 0 world.peer bytes)).said) world.back;
+  last_reached = Some position;
+}
+
+-- the reply that was heard as accepted, if one was: it is that to the last submit
+abbrev pub acceptance : ℕ → News → Option (ℕ × List ℕ)
+acceptance submits Nothing = None
+acceptance submits Registered = None
+acceptance submits Opened = None
+acceptance submits (Replied bytes) = None
+acceptance submits (Accepted bytes) = Some (submits - 1, bytes)
+acceptance submits (Refused status extended) = None
+acceptance submits Closed = None
+
+-- the client is fed
+abbrev pub with_fed : CountingWorld → ℕ → Fed → CountingWorld
+with_fed world position fed = record world {
+  client = fed.client;
+  last_back = Some position;
+  accepted = with_any (acceptance world.submits fed.news) world.accepted;
+}
+
+-- the client gets bytes of the adapter
+abbrev pub after_back : Option (List ℕ) → CountingWorld → ℕ → CountingWorld
+after_back None world position = world
+after_back (Some bytes) world position = with_fed world position (fed world.client bytes)
+
+-- the second session has a request executed, unconnected, at moment 0; its answer is dropped
+abbrev pub after_other : CountingWorld → List ℕ → CountingWorld
+after_other world request = record world {
+  adapter = after_call world.adapter (Feeds 0 world.second (frame (request_frame world.second 0 request)));
+}
+
+-- at this moment every connection has ended
+abbrev pub LAST_MOMENT : ℕ
+LAST_MOMENT = 18446744073709551615
+
+-- the world after an event; one that is not possible changes nothing
+abbrev pub counting_step : CountingWorld → Event → CountingWorld
+counting_step world (Submit request) = after_submit (submits world.client.state request) world
+counting_step world Resend = after_resend (resends world.client.state) world
+counting_step world (Reach position) = after_reach (delivery world.last_reached world.sent position) world position
+counting_step world (Back position) = after_back (delivery world.last_back world.back position) world position
+counting_step world (Other request) = if is_unconnected_request request then after_other world request else world
+counting_step world Shut = record world { adapter = after_call world.adapter (Ticks LAST_MOMENT) }
+counting_step world GiveUp =
+    record world { client = with_state world.client (after_giving_up world.client.state) }
+
+-- the world after these events, in order
+abbrev pub counting_run : CountingWorld → List Event → CountingWorld
+counting_run world [] = world
+counting_run world (event ∷ events) = counting_run (counting_step world event) events
+
+-- what the counting world shows
+abbrev pub counting_seen : CountingWorld → Seen Contents
+counting_seen world = record {
+  router = world.adapter.state.shared.objects;
+  back = world.back;
+  accepted = world.accepted;
+  stage = stage_of world.client.state.originator.phase;
+}

@@ -1,0 +1,34 @@
+-- What the counting world of whole frames shows, over every list of events from an opening.
+use Rattle.std.specs.Prelude.{◌≡◌, ℕ, List, map, Ok}
+use Rattle.cip_objects.specs.Contents.{Contents}
+use Rattle.enip_adapter.specs.declared.adapter.Limits.{Limits}
+use Rattle.enip_adapter.specs.declared.shared.Listen.{Listen}
+use Rattle.enip_client.specs.Frames.{item_frame}
+use Rattle.enip_client.specs.declared.wants.Wants.{Wants}
+use Rattle.enip_wire.specs.Frames.{frame}
+use Rattle.enip_bench.specs.CountingOpening.{IsWanted, opening}
+use Rattle.enip_bench.specs.CountingWorld.{CountingWorld, counting_run, counting_seen}
+use Rattle.enip_bench.specs.Events.{Event}
+use Rattle.enip_bench.specs.NumberedWorld.{numbers_seen}
+use Rattle.enip_bench.specs.ObjectsRun.{after_exec, exec_answer}
+use Rattle.enip_bench.specs.Seen.{Seen}
+use Rattle.enip_bench.specs.WorldLaws.{numbers_after}
+
+-- each item that was sent back is in a SendUnitData of this session and connection ID, with context 0
+abbrev pub in_frames : ℕ → ℕ → Seen Contents → Seen Contents
+in_frames session id seen = record seen { back = map (λ item. frame (item_frame session id item)) seen.back }
+
+-- what the numbered world shows after these events, over these objects, in the frames of this session
+abbrev pub numbers_in_frames : Contents → Wants → ℕ → List Event → Seen Contents
+numbers_in_frames objects wants session events =
+    in_frames session wants.t_to_o_id
+    (numbers_seen after_exec exec_answer wants.first_count wants.t_to_o_size objects
+    (numbers_after wants.o_to_t_size events))
+
+-- For every list of events from an opening that nothing refused, over any objects and limits: the adapter and the
+-- client, whole, show what the numbered world shows.
+abbrev pub frame_law : Type 0
+frame_law =
+    (objects : Contents) (listen : Listen) (limits : Limits) (wants : Wants) (world : CountingWorld)
+    (events : List Event) → IsWanted wants → opening objects listen limits wants ≡ Ok world →
+    counting_seen (counting_run world events) ≡ numbers_in_frames objects wants world.peer events

@@ -1,0 +1,12 @@
+pub mod CountingOpening
+pub mod CountingWorld
+pub mod Events
+pub mod Executions
+pub mod FrameLaw
+pub mod FrameRows
+pub mod ItemWorld
+pub mod NumberedWorld
+pub mod ObjectsRun
+pub mod Rows
+pub mod Seen
+pub mod WorldLaws

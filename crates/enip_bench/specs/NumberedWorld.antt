@@ -1,0 +1,191 @@
+-- The numbered world: requests have numbers that never wrap, and each that reaches the target is executed once.
+use Rattle.std.specs.Prelude.{ℕ, ◌+◌, ◌-◌, ◌%◌, ◌==◌, Bool, true, false, ◌||◌, if◌then◌else◌, Option, Some, None, List, [], ◌∷◌, ◌++◌, length, map, slice_index_or}
+use Rattle.cip_class3.specs.Item.{item}
+use Rattle.cip_class3.specs.OriginatorRule.{form_refusal}
+use Rattle.cip_class3.specs.declared.originator.Refused.{Refused}
+use Rattle.cip_class3.specs.declared.originator.Refused.TheVariants as refusals
+use Rattle.cip_class3.specs.declared.originator.Stage.{Stage}
+use Rattle.cip_class3.specs.declared.originator.Stage.TheVariants as stages
+use Rattle.enip_bench.specs.Events.{Event, Submit, Resend, Reach, Back, Other, Shut, GiveUp, delivery, is_unconnected_request, UNCONNECTED_ROOM, with_any}
+use Rattle.enip_bench.specs.Seen.{Seen}
+
+-- what was executed: the request of this number, or another session's
+pub data Entry : Type 0 where
+  OwnRequest : (number : ℕ) → Entry
+  OtherRequest : (request : List ℕ) → Entry
+
+-- no request waits for its reply, the one of this number does, or it was given up
+pub data Progress : Type 0 where
+  Idle : Progress
+  WaitingFor : (number : ℕ) → Progress
+  GivenUp : Progress
+
+-- The accepted submits, numbered from 0; the numbers sent and sent back; the position delivered last in each
+-- direction; what was executed, oldest first; whether the target's end is open; what waits; and the numbers whose
+-- reply was accepted. No count and no kept bytes stand here.
+pub record NumberedWorld : Type 0 where
+  pub submits : List (List ℕ)
+  pub sent : List ℕ
+  pub back : List ℕ
+  pub last_reached : Option ℕ
+  pub last_back : Option ℕ
+  pub log : List Entry
+  pub is_open : Bool
+  pub progress : Progress
+  pub accepted : List ℕ
+
+-- a connection that was just opened
+abbrev pub numbers_at_opening : NumberedWorld
+numbers_at_opening = record {
+  submits = [];
+  sent = [];
+  back = [];
+  last_reached = None;
+  last_back = None;
+  log = [];
+  is_open = true;
+  progress = Idle;
+  accepted = [];
+}
+
+-- one more than the last of rising numbers, or 0 where there is none
+abbrev pub after_last : List ℕ → ℕ
+after_last [] = 0
+after_last (number ∷ []) = number + 1
+after_last (number ∷ next ∷ numbers) = after_last (next ∷ numbers)
+
+-- how many requests were submitted since the last one whose reply was accepted, or since the opening
+abbrev pub submits_since_accepted : NumberedWorld → ℕ
+submits_since_accepted world = length world.submits - after_last world.accepted
+
+-- why a request is not taken now, if it isn't: one was given up, one waits, or it is of no such form
+abbrev pub refusal : ℕ → NumberedWorld → List ℕ → Option Refused
+refusal o_to_t_size world request = elim world.progress [
+  | Idle ↦ form_refusal o_to_t_size request
+  | WaitingFor number ↦ Some refusals.Busy
+  | GivenUp ↦ Some refusals.GivenUp
+]
+
+-- the number whose reply is awaited
+abbrev pub awaited : Progress → Option ℕ
+awaited Idle = None
+awaited (WaitingFor number) = Some number
+awaited GivenUp = None
+
+-- this number's reply is awaited
+abbrev pub is_awaited : Progress → ℕ → Bool
+is_awaited Idle number = false
+is_awaited (WaitingFor waiting) number = waiting == number
+is_awaited GivenUp number = false
+
+-- what waits is given up
+abbrev pub given_up : Progress → Progress
+given_up Idle = Idle
+given_up (WaitingFor number) = GivenUp
+given_up GivenUp = GivenUp
+
+-- this number's request was executed
+abbrev pub stands : ℕ → List Entry → Bool
+stands number [] = false
+stands number (OwnRequest own ∷ log) = (own == number) || stands number log
+stands number (OtherRequest request ∷ log) = stands number log
+
+-- the awaited number is sent, if there is one
+abbrev pub with_awaited_sent : NumberedWorld → NumberedWorld
+with_awaited_sent world = record world { sent = with_any (awaited world.progress) world.sent }
+
+-- an accepted request takes the next number, which is sent
+abbrev pub after_submit : Option Refused → NumberedWorld → List ℕ → NumberedWorld
+after_submit None world request =
+    let number : ℕ = length world.submits in
+    with_awaited_sent (record world { submits = world.submits ++ request ∷ []; progress = WaitingFor number })
+after_submit (Some why) world request = world
+
+-- the open target got this number: its request is executed where it was not yet, and the number is sent back
+abbrev pub with_number : NumberedWorld → ℕ → NumberedWorld
+with_number world number = record world {
+  log = if stands number world.log then world.log else world.log ++ OwnRequest number ∷ [];
+  back = world.back ++ number ∷ [];
+}
+
+-- the target gets a number; a closed one is silent
+abbrev pub after_reach : Option ℕ → NumberedWorld → ℕ → NumberedWorld
+after_reach None world position = world
+after_reach (Some number) world position =
+    let moved : NumberedWorld = record world { last_reached = Some position } in
+    if world.is_open then with_number moved number else moved
+
+-- the originator gets a number, and accepts the awaited one
+abbrev pub after_back : Option ℕ → NumberedWorld → ℕ → NumberedWorld
+after_back None world position = world
+after_back (Some number) world position =
+    let moved : NumberedWorld = record world { last_back = Some position } in
+    let accepting : NumberedWorld = record moved { progress = Idle; accepted = world.accepted ++ number ∷ [] } in
+    if is_awaited world.progress number then accepting else moved
+
+-- the world after an event, at this O->T size; one that is not possible changes nothing
+abbrev pub numbered_step : ℕ → NumberedWorld → Event → NumberedWorld
+numbered_step o_to_t_size world (Submit request) = after_submit (refusal o_to_t_size world request) world request
+numbered_step o_to_t_size world Resend = with_awaited_sent world
+numbered_step o_to_t_size world (Reach position) =
+    after_reach (delivery world.last_reached world.sent position) world position
+numbered_step o_to_t_size world (Back position) =
+    after_back (delivery world.last_back world.back position) world position
+numbered_step o_to_t_size world (Other request) =
+    if is_unconnected_request request then record world { log = world.log ++ OtherRequest request ∷ [] } else world
+numbered_step o_to_t_size world Shut = record world { is_open = false }
+numbered_step o_to_t_size world GiveUp = record world { progress = given_up world.progress }
+
+-- the world after these events, in order
+abbrev pub numbered_run : ℕ → NumberedWorld → List Event → NumberedWorld
+numbered_run o_to_t_size world [] = world
+numbered_run o_to_t_size world (event ∷ events) =
+    numbered_run o_to_t_size (numbered_step o_to_t_size world event) events
+
+-- where the originator stands
+abbrev pub stage_of : Progress → Stage
+stage_of Idle = stages.Idle
+stage_of (WaitingFor number) = stages.Waiting
+stage_of GivenUp = stages.GivenUp
+
+-- the request of this number
+abbrev pub request_of : List (List ℕ) → ℕ → List ℕ
+request_of submits number = slice_index_or submits number []
+
+-- the room for the reply, at this T->O size, and the request of an entry
+abbrev pub execution_of : ℕ → List (List ℕ) → Entry → ℕ × List ℕ
+execution_of t_to_o_size submits (OwnRequest number) = (t_to_o_size - 2, request_of submits number)
+execution_of t_to_o_size submits (OtherRequest request) = (UNCONNECTED_ROOM, request)
+
+-- the entry is the execution of this number's request
+abbrev pub is_execution_of : ℕ → Entry → Bool
+is_execution_of number (OwnRequest own) = own == number
+is_execution_of number (OtherRequest request) = false
+
+module _ {M : Type 0} (after : M → ℕ → List ℕ → M) (answer : M → ℕ → List ℕ → List ℕ) where
+  -- the router after a run over the log, from left to right
+  abbrev pub router_after : ℕ → List (List ℕ) → M → List Entry → M
+  router_after t_to_o_size submits router [] = router
+  router_after t_to_o_size submits router (entry ∷ log) =
+      let execution = execution_of t_to_o_size submits entry in
+      router_after t_to_o_size submits (after router execution.0 execution.1) log
+
+  -- the reply to this number's request: what that run answers at its place
+  abbrev pub reply_to : ℕ → List (List ℕ) → M → List Entry → ℕ → List ℕ
+  reply_to t_to_o_size submits router [] number = []
+  reply_to t_to_o_size submits router (entry ∷ log) number =
+      let execution = execution_of t_to_o_size submits entry in
+      let later = reply_to t_to_o_size submits (after router execution.0 execution.1) log number in
+      if is_execution_of number entry then answer router execution.0 execution.1 else later
+
+  -- What the numbered world shows, for a connection with this first count and T->O size, over this router: each
+  -- number is sent back with its count, modulo 65,536, and the reply of its one execution.
+  abbrev pub numbers_seen : ℕ → ℕ → M → NumberedWorld → Seen M
+  numbers_seen first t_to_o_size router world =
+      let reply : ℕ → List ℕ = reply_to t_to_o_size world.submits router world.log in
+      record {
+        router = router_after t_to_o_size world.submits router world.log;
+        back = map (λ number. item ((first + number) % 65536) (reply number)) world.back;
+        accepted = map (λ number. (number, reply number)) world.accepted;
+        stage = stage_of world.progress;
+      }

@@ -1,0 +1,60 @@
+//! The worlds of a connection, over whole lists of events.
+//!
+//! The functions do nothing: each one's clauses are the law. The events begin at an opening: nothing is held, no
+//! request waits, and nothing was sent. They are any list of submits, resends, deliveries in order with any losses
+//! and repeats, other sessions' requests, closings and givings up, so any number of wraps of the count.
+
+ghost use Rattle.enip_bench.specs.FrameLaw.{frame_law};
+ghost use Rattle.enip_bench.specs.ObjectsRun.{run_law};
+ghost use Rattle.enip_bench.specs.WorldLaws.{agreement_law, once_law, order_law, window_law, arrival_law};
+ghost use Rattle.enip_bench.specs.WorldLaws.{accepted_law, accepted_order_law, answer_law, same_bytes_law};
+
+use cip_objects::Router;
+
+/// Both ends by their rules show what the numbered world shows: the router's state, every item sent back, each
+/// accepted reply with its request's number, and where the originator stands.
+pub fn worlds_agree<R: Router>()
+    ensures { agreement_law R.after R.answer }
+{}
+
+/// In the numbered world no request is executed twice, and requests are executed in the order of their numbers.
+pub fn executed_once()
+    ensures once { once_law }
+    ensures order { order_law }
+{}
+
+/// In the numbered world executed is what reached the target while it was open, and nothing else.
+pub fn executed_on_arrival()
+    ensures { arrival_law }
+{}
+
+/// A reply that the originator accepts is that of the only execution of its request, and at most one is accepted
+/// for each request.
+pub fn accepted_once<R: Router>()
+    ensures reply { accepted_law R.after R.answer }
+    ensures order { accepted_order_law R.after R.answer }
+{}
+
+/// Whatever answers a request has its count and the reply of its only execution, so the same bytes each time.
+pub fn answered_alike<R: Router>()
+    ensures reply { answer_law R.after R.answer }
+    ensures same_bytes { same_bytes_law R.after R.answer }
+{}
+
+/// Since the last accepted reply fewer requests were submitted than there are counts.
+pub fn fewer_than_counts()
+    ensures { window_law }
+{}
+
+/// At the objects, a log of the numbered world is a run of requests: the map after it, and each reply at its place.
+pub fn log_is_a_run()
+    ensures { run_law }
+{}
+
+/// The adapter and the client, whole, show what the numbered world shows, once the client has registered and opened
+/// its connection: the objects, the bytes of every frame sent back, each accepted reply with its request's number, and
+/// where the client stands. Between the two ends are the bytes of whole frames; a second session has requests of its
+/// own executed, of any bytes, and the connection ends by time.
+pub fn frames_agree()
+    ensures { frame_law }
+{}

@@ -1,0 +1,124 @@
+-- What a call without bytes can be.
+use Rattle.std.proofs.Common.{◌≡◌, Bool, true, false, cond, ◌&&◌, Option, Some, None, Ok, Err, slice_index, refl}
+use Rattle.std.proofs.Common.{is_none}
+use Rattle.std.proofs.lemmas.Bool.{and_parts}
+use Rattle.cip_bytes.specs.Numbers.{le}
+use Rattle.cip_class3.specs.OriginatorRule.{OriginatorState, submit_refusal, with_next_request, after_give_up}
+use Rattle.cip_class3.specs.declared.originator.Refused.{Refused}
+use Rattle.enip_wire.specs.Frames.{Frame}
+use Rattle.enip_client.specs.declared.fault.ClientFault.{ClientFault}
+use Rattle.enip_client.specs.declared.fault.ClientFault.TheVariants as faults
+use Rattle.enip_client.specs.declared.state.Awaited.{Awaited}
+use Rattle.enip_client.specs.declared.state.Awaited.TheVariants as awaited
+use Rattle.enip_client.specs.declared.state.Awaiting.{Awaiting}
+use Rattle.enip_client.specs.declared.state.Link.{Link}
+use Rattle.enip_client.specs.declared.state.Link.TheVariants.{Closed}
+use Rattle.enip_client.specs.declared.state.Registration.{Registration}
+use Rattle.enip_client.specs.declared.state.Registration.TheVariants.{Unregistered}
+use Rattle.enip_client.specs.declared.state.State.{State}
+use Rattle.enip_client.specs.Frames.{unregister_frame}
+use Rattle.enip_client.specs.Calls.{refusal, unless, lending, next_number, awaiting, asking, submits_unless, submitted}
+use Rattle.enip_client.specs.Calls.{after_lending, can_register, can_open, can_ask, can_submit, can_close}
+use Rattle.enip_client.specs.Calls.{is_unconnected, is_connected}
+use Rattle.enip_client.specs.State.{is_not_registered, is_registered, session_in, is_not_opened, is_open, ended}
+use Rattle.enip_client.specs.State.{is_free}
+use Rattle.enip_client.specs.Runs.{Action, frame_lent, after_action, awaited_by, lent_in}
+use Rattle.enip_client.specs.Runs.Action.{Register, Open, Unconnected, Submit, Resend, GiveUp, Close, Unregister}
+
+-- It changes nothing and lends nothing; its frame is lent and its reply is awaited from then on; or nothing is awaited
+-- from it.
+pub data IsAction (s : State) (what : Option Awaited) : Option Frame → State → Type 0 where
+  Stays : IsAction s what None s
+  Asks : (w : Awaited) (f : Frame) (link : Link) → what ≡ Some w → s.awaiting ≡ None
+      → f.header.context ≡ le 8 (next_number s)
+      → IsAction s what (Some f) (record (awaiting w s) { link = link })
+  Sends : (f : Option Frame) (registration : Registration) (link : Link) (originator : OriginatorState) → what ≡ None
+      → IsAction s what f (record s { registration = registration; link = link; originator = originator })
+
+-- A call that is not refused is possible.
+pub possible-not_refused : (s : State) (possible : Bool) → refusal s possible ≡ None → possible ≡ true
+possible-not_refused s possible is = go s.fault refl is
+  where
+    by : (b : Bool) → (let r : Option ClientFault = cond b None (Some faults.State) in r) ≡ None → b ≡ true
+    by true e = refl
+    by false e = cc
+
+    go : (o : Option ClientFault) → s.fault ≡ o
+        → (let r : Option ClientFault =
+        elim o [ Some fault ↦ Some fault | None ↦ cond possible None (Some faults.State) ] in r) ≡ None
+        → possible ≡ true
+    go (Some fault) e is = cc
+    go None e is = by possible is
+
+free-none : (o : Option Awaiting) → is_none o ≡ true → o ≡ None
+free-none None e = refl
+free-none (Some w) e = cc
+
+-- A request, by whether it is refused.
+asks-unless : (s : State) (what : Option Awaited) (o : Option ClientFault) (w : Awaited) (f : Frame) (link : Link)
+    → what ≡ Some w → (o ≡ None → s.awaiting ≡ None) → f.header.context ≡ le 8 (next_number s)
+    → IsAction s what (lent_in (unless o (Ok (lending f (record (awaiting w s) { link = link })))))
+    (after_lending s (unless o (Ok (lending f (record (awaiting w s) { link = link })))))
+asks-unless s what None w f link is free numbered = Asks w f link is (free refl) numbered
+asks-unless s what (Some fault) w f link is free numbered = Stays
+
+sends-unless : (s : State) (o : Option ClientFault) (f : Frame) (registration : Registration) (link : Link)
+    → IsAction s None (lent_in (unless o (Ok (lending f (record s { registration = registration; link = link })))))
+    (after_lending s (unless o (Ok (lending f (record s { registration = registration; link = link })))))
+sends-unless s None f registration link = Sends (Some f) registration link s.originator refl
+sends-unless s (Some fault) f registration link = Stays
+
+is-free : (s : State) (more : Bool) → refusal s (more && is_free s) ≡ None → s.awaiting ≡ None
+is-free s more is =
+    free-none s.awaiting ((and_parts more (is_free s) (possible-not_refused s (more && is_free s) is)).1)
+
+is-free-first : (s : State) (before more : Bool) → refusal s (before && is_free s && more) ≡ None → s.awaiting ≡ None
+is-free-first s before more is =
+    free-none s.awaiting (parts before (is_free s) more (possible-not_refused s (before && is_free s && more) is))
+  where
+    parts : (x y z : Bool) → (x && y && z) ≡ true → y ≡ true
+    parts true true z e = refl
+    parts true false z e = e
+    parts false true z e = refl
+    parts false false z e = e
+
+pub is-action : (s : State) (a : Action) → IsAction s (awaited_by a) (frame_lent s a) (after_action s a)
+is-action s Register =
+    asks-unless s (Some awaited.Session) (refusal s (can_register s)) awaited.Session _ s.link refl
+    (is-free s (is_not_registered s.registration)) refl
+is-action s Open =
+    asks-unless s (Some awaited.Connection) (refusal s (can_open s)) awaited.Connection _ s.link refl
+    (is-free-first s (is_registered s.registration) (is_not_opened s.link)) refl
+is-action s (Unconnected request) = go (refusal s (can_ask s)) refl (is_unconnected request)
+  where
+    go : (o : Option ClientFault) → refusal s (can_ask s) ≡ o → (b : Bool)
+        → IsAction s (awaited_by (Unconnected request))
+        (lent_in (unless o
+        (cond b (Ok (asking s (awaited.Reply (slice_index request 0)) request)) (Err faults.Request))))
+        (after_lending s
+        (unless o (cond b (Ok (asking s (awaited.Reply (slice_index request 0)) request)) (Err faults.Request))))
+    go None is true = Asks _ _ s.link refl (is-free s (is_registered s.registration) is) refl
+    go None is false = Stays
+    go (Some fault) is b = Stays
+is-action s (Submit request) = go (refusal s (can_submit s))
+  where
+    by : (o : Option Refused)
+        → IsAction s None (lent_in (submitted s request o)) (after_lending s (submitted s request o))
+    by None = Sends _ s.registration s.link (with_next_request s.originator request) refl
+    by (Some why) = Stays
+
+    go : (o : Option ClientFault)
+        → IsAction s None (lent_in (submits_unless s request o)) (after_lending s (submits_unless s request o))
+    go None = by (submit_refusal s.originator request)
+    go (Some fault) = Stays
+is-action s Resend = Sends _ s.registration s.link s.originator refl
+is-action s GiveUp = go (is_connected s)
+  where
+    go : (b : Bool) → IsAction s None None (cond b (record s { originator = after_give_up s.originator }) s)
+    go true = Sends None s.registration s.link (after_give_up s.originator) refl
+    go false = Stays
+is-action s Close =
+    asks-unless s (Some awaited.End) (refusal s (can_close s)) awaited.End _ Closed refl
+    (is-free s (is_open s.link)) refl
+is-action s Unregister =
+    sends-unless s (refusal s (can_ask s)) (unregister_frame (session_in s.registration)) Unregistered (ended s.link)

@@ -1,0 +1,13 @@
+pub mod PlaceLemmas
+pub mod HearLemmas
+pub mod FeedLemmas
+pub mod TurnLemmas
+pub mod ActionLemmas
+pub mod RunLemmas
+pub mod ConnectionLemmas
+pub mod FaultLemmas
+pub mod StreamLemmas
+pub mod CutLemmas
+pub mod AskLemmas
+pub mod HearingLemmas
+pub mod AskedLemmas

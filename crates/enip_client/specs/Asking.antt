@@ -1,0 +1,244 @@
+-- One exchange: what a client sends and hears, from RegisterSession to UnRegisterSession.
+use Rattle.std.specs.Prelude.{ℕ, ◌-◌, ◌^◌, ◌≡◌, ◌<◌, nat_lt, if◌then◌else◌, Bool, true, false, ⊤, List, [], ◌∷◌, ◌++◌, length, take, Option, Some, None, Result, Ok, Err}
+use Rattle.std.specs.List.{flat_map, AllByRecursion}
+use Rattle.std.specs.Io.KnownBytes.{Appends, Consumes, IsAtEnd}
+use Rattle.cip_bytes.specs.Numbers.{AreBytes}
+use Rattle.enip_wire.specs.Frames.{Frame, frame, IsFrame}
+use Rattle.enip_wire.specs.Stream.{Sight, sight_of}
+use Rattle.enip_wire.specs.Stream.Sight.{Nothing_yet, A_frame, A_long_header}
+use Rattle.enip_client.specs.declared.asking.AskFault.{AskFault}
+use Rattle.enip_client.specs.declared.asking.AskFault.TheVariants as ask_faults
+use Rattle.enip_client.specs.declared.fault.ClientFault.{ClientFault}
+use Rattle.enip_client.specs.declared.fault.ClientFault.TheVariants as faults
+use Rattle.enip_client.specs.declared.fault.SubmitFault.{SubmitFault}
+use Rattle.enip_client.specs.declared.fault.SubmitFault.TheVariants as submit_faults
+use Rattle.enip_client.specs.declared.state.State.{State}
+use Rattle.enip_client.specs.Calls.{Lent, registers, opens, asks, submits, closes, unregisters}
+use Rattle.enip_client.specs.Client.{ClientState}
+use Rattle.enip_client.specs.Hears.{Turned, News, hears_sight}
+use Rattle.enip_client.specs.Hears.News.{Registered, Opened, Replied, Accepted, Refused, Closed}
+
+-- The longest reply that is taken, in bytes.
+abbrev pub LONGEST_REPLY : ℕ
+LONGEST_REPLY = 512
+
+-- Which reply the exchange awaits, or how it ended.
+pub data Stand : Type 0 where
+  Registering : Stand
+  Opening : Stand
+  Requesting : Stand
+  Closing : Stand
+  Completed : Stand
+  Failed : (fault : AskFault) → Stand
+
+abbrev pub is_awaiting : Stand → Bool
+is_awaiting Registering = true
+is_awaiting Opening = true
+is_awaiting Requesting = true
+is_awaiting Closing = true
+is_awaiting Completed = false
+is_awaiting (Failed fault) = false
+
+-- An exchange: its request, on a connection or not; where the client stands, the frames that it sent, the reply that
+-- was heard, and where the exchange stands.
+pub record Exchange : Type 0 where
+  pub request : List ℕ
+  pub connected : Bool
+  pub state : State
+  pub sent : List Frame
+  pub reply : List ℕ
+  pub stand : Stand
+
+abbrev pub failed : Exchange → AskFault → Exchange
+failed e fault = record e { stand = Failed fault }
+
+-- The number of why an exchange was not completed, by which it is printed.
+abbrev pub ask_fault_number : AskFault → ℕ
+ask_fault_number ask_faults.Read = 1
+ask_fault_number ask_faults.Write = 2
+ask_fault_number ask_faults.Ended = 3
+ask_fault_number (ask_faults.Client fault) = 4
+ask_fault_number (ask_faults.Submit why) = 5
+ask_fault_number ask_faults.Spent = 6
+
+-- How the exchange fails where a call is refused.
+abbrev pub client_failure : ClientFault → AskFault
+client_failure fault = ask_faults.Client fault
+
+abbrev pub submit_failure : SubmitFault → AskFault
+submit_failure (submit_faults.Client fault) = ask_faults.Client fault
+submit_failure (submit_faults.Refused why) = ask_faults.Submit why
+
+-- What a call lends, or how the exchange fails.
+abbrev pub lends : {E : Type 0} → (E → AskFault) → Result Lent E → Result Lent AskFault
+lends failure (Ok lent) = Ok lent
+lends failure (Err fault) = Err (failure fault)
+
+abbrev pub lends_plainly : Result Lent ClientFault → Result Lent AskFault
+lends_plainly lent = lends client_failure lent
+
+-- The request, on the connection or not.
+abbrev pub requests : State → List ℕ → Bool → Result Lent AskFault
+requests s request connected =
+    if connected then lends submit_failure (submits s request) else lends_plainly (asks s request)
+
+-- The frame that a call lends is sent, and its reply is awaited; a call that is refused ends the exchange.
+abbrev pub says : Exchange → Stand → Result Lent AskFault → Exchange
+says e next (Ok lent) = record e { state = lent.state; sent = e.sent ++ (lent.frame ∷ []); stand = next }
+says e next (Err fault) = failed e fault
+
+abbrev pub opening : Exchange → Exchange
+opening e = says e Opening (lends_plainly (opens e.state))
+
+abbrev pub requesting : Exchange → Exchange
+requesting e = says e Requesting (requests e.state e.request e.connected)
+
+abbrev pub closing : Exchange → Exchange
+closing e = says e Closing (lends_plainly (closes e.state))
+
+-- The session ends, and the exchange with it: an UnRegisterSession has no reply.
+abbrev pub leaving : Exchange → Exchange
+leaving e = says e Completed (lends_plainly (unregisters e.state))
+
+-- The reply is kept, and the connection is closed, where there is one. A longer reply ends the exchange (ours).
+abbrev pub replied : Exchange → List ℕ → Exchange
+replied e bytes =
+    if nat_lt LONGEST_REPLY (length bytes) then failed e (ask_faults.Client faults.Malformed)
+    else if e.connected then closing (record e { reply = bytes })
+    else leaving (record e { reply = bytes })
+
+-- The Connection Manager refused.
+abbrev pub refused : Exchange → ℕ → ℕ → Exchange
+refused e status extended = failed e (ask_faults.Client (faults.Refused status extended))
+
+-- What follows what was heard: the next call, as soon as the one before was answered.
+abbrev pub goes_on : Exchange → Stand → News → Exchange
+goes_on e Registering Registered = if e.connected then opening e else requesting e
+goes_on e Opening Opened = requesting e
+goes_on e Opening (Refused status extended) = refused e status extended
+goes_on e Requesting (Replied bytes) = replied e bytes
+goes_on e Requesting (Accepted bytes) = replied e bytes
+goes_on e Closing Closed = leaving e
+goes_on e Closing (Refused status extended) = refused e status extended
+goes_on e stand heard = e
+
+-- A fault that lasts ends the exchange.
+abbrev pub hears_unless : Exchange → News → Option ClientFault → Exchange
+hears_unless e heard (Some fault) = failed e (ask_faults.Client fault)
+hears_unless e heard None = goes_on e e.stand heard
+
+abbrev pub after_turn : Exchange → Turned → Exchange
+after_turn e turned = hears_unless (record e { state = turned.state }) turned.news turned.state.fault
+
+-- The exchange after a sight of the bytes that came. Once it has ended it hears nothing.
+abbrev pub after_sight : Exchange → Sight → Exchange
+after_sight e sight = if is_awaiting e.stand then after_turn e (hears_sight e.state sight) else e
+
+-- The exchange begins: the session is registered.
+abbrev pub begun : State → List ℕ → Bool → List ℕ → Exchange
+begun s request connected reply =
+    says (record { request = request; connected = connected; state = s; sent = []; reply = reply; stand = Registering })
+    Registering (lends_plainly (registers s))
+
+-- The exchange after whole frames.
+abbrev pub over : Exchange → List Frame → Exchange
+over e [] = e
+over e (f ∷ fs) = over (after_sight e (A_frame f)) fs
+
+-- At each of these frames the exchange awaits a reply.
+abbrev pub AllAwaited : Exchange → List Frame → Type 0
+AllAwaited e [] = ⊤
+AllAwaited e (f ∷ fs) = (is_awaiting e.stand ≡ true) × AllAwaited (after_sight e (A_frame f)) fs
+
+-- A header that is too long ends the exchange.
+abbrev pub at_last : Exchange → Sight → Exchange
+at_last e Nothing_yet = e
+at_last e (A_frame f) = e
+at_last e (A_long_header h) = after_sight e (A_long_header h)
+
+-- The bytes that the client held before, joined with those that it was fed, are these frames and what it still holds,
+-- which is no frame that was not heard. The exchange is that over the frames, unless the header of what is held is too
+-- long.
+pub record Heard (begins : Exchange) (before fed : List ℕ) (after : ClientState) (ends : Exchange) : Type 0 where
+  pub frames : List Frame
+  pub parts : before ++ fed ≡ flat_map frame frames ++ after.held
+  pub each : AllByRecursion IsFrame frames
+  pub awaited : AllAwaited begins frames
+  pub unheard : (f : Frame) → sight_of after.held ≡ A_frame f → ⊥
+  pub exchange : ends ≡ at_last (over begins frames) (sight_of after.held)
+  pub state : after.state ≡ ends.state
+
+-- No byte of a frame, or a front of one.
+pub record IsPartial (held : List ℕ) : Type 0 where
+  pub bytes : AreBytes held
+  pub partly : sight_of held ≡ Nothing_yet
+
+-- These frames were written.
+abbrev pub Writes : Option (List ℕ) → Option (List ℕ) → List Frame → Type 0
+Writes before after frames = Appends before after (flat_map frame frames)
+
+-- These frames were written but the last, and of the last a front that is not all of it.
+pub record WritesFront (before after : Option (List ℕ)) (frames : List Frame) : Type 0 where
+  pub whole : List Frame
+  pub last : Frame
+  pub all : frames ≡ whole ++ (last ∷ [])
+  pub front : ℕ
+  pub not_all : front < length (frame last)
+  pub written : Appends before after (flat_map frame whole ++ take front (frame last))
+
+-- The client, the bytes that are left to the reader and how many reads it made, those that the writer has, and the
+-- reply.
+pub record Ends : Type 0 where
+  pub client : ClientState
+  pub left : Option (List ℕ)
+  pub reads : ℕ
+  pub written : Option (List ℕ)
+  pub reply : List ℕ
+
+-- The exchange that was heard: of the bytes that were read a front was fed.
+pub record Asking (request : List ℕ) (connected : Bool) (old new : Ends) : Type 0 where
+  pub exchange : Exchange
+  pub fed : List ℕ
+  pub rest : List ℕ
+  pub consumed : Consumes old.left new.left (fed ++ rest)
+  pub heard : Heard (begun old.client.state request connected old.reply) old.client.held fed new.client exchange
+  pub reply : new.reply ≡ exchange.reply
+
+-- It awaits a reply, and heard all that was read.
+pub record IsAwaiting (e : Exchange) (rest : List ℕ) : Type 0 where
+  pub stand : is_awaiting e.stand ≡ true
+  pub all : rest ≡ []
+
+-- What an exchange does, by what is answered.
+abbrev pub IsAsked : List ℕ → Bool → Ends → Ends → Result (Unit {0}) AskFault → Type 0
+IsAsked request connected old new (Ok done) =
+    (a : Asking request connected old new) × (a.exchange.stand ≡ Completed)
+    × Writes old.written new.written a.exchange.sent
+IsAsked request connected old new (Err ask_faults.Read) =
+    (a : Asking request connected old new) × IsAwaiting a.exchange a.rest
+    × Writes old.written new.written a.exchange.sent
+IsAsked request connected old new (Err ask_faults.Write) =
+    (a : Asking request connected old new) × WritesFront old.written new.written a.exchange.sent
+IsAsked request connected old new (Err ask_faults.Ended) =
+    (a : Asking request connected old new) × IsAwaiting a.exchange a.rest × IsAtEnd new.left
+    × Writes old.written new.written a.exchange.sent
+IsAsked request connected old new (Err (ask_faults.Client fault)) =
+    (a : Asking request connected old new) × (a.exchange.stand ≡ Failed (ask_faults.Client fault))
+    × Writes old.written new.written a.exchange.sent
+IsAsked request connected old new (Err (ask_faults.Submit why)) =
+    (a : Asking request connected old new) × (a.exchange.stand ≡ Failed (ask_faults.Submit why))
+    × Writes old.written new.written a.exchange.sent
+IsAsked request connected old new (Err ask_faults.Spent) =
+    (a : Asking request connected old new) × IsAwaiting a.exchange a.rest × (new.reads ≡ 2 ^ 64 - 1)
+    × Writes old.written new.written a.exchange.sent
+
+-- How many calls of the reader failed, and how many of the writer, by what is answered.
+abbrev pub read_faults : {A : Type 0} → Result A AskFault → ℕ
+read_faults (Ok x) = 0
+read_faults (Err ask_faults.Read) = 1
+read_faults (Err other) = 0
+
+abbrev pub write_faults : {A : Type 0} → Result A AskFault → ℕ
+write_faults (Ok x) = 0
+write_faults (Err ask_faults.Write) = 1
+write_faults (Err other) = 0

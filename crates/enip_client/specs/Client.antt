@@ -1,0 +1,131 @@
+-- A client, with the bytes that have come of its next frame.
+use Rattle.std.specs.Prelude.{◌≡◌, ◌≤◌, ◌+◌, ℕ, ⊤, Bool, true, false, List, [], length, take, slice_range, Option}
+use Rattle.std.specs.Prelude.{Some, None, Result, Ok, Err}
+use Rattle.cip_message.specs.Reply.{view}
+use Rattle.enip_wire.specs.Frames.{Frame, frame, IsTooLong}
+use Rattle.enip_wire.specs.Stream.{taken_of, joined_of, sight_of, cleared}
+use Rattle.enip_client.specs.declared.fault.ClientFault.{ClientFault}
+use Rattle.enip_client.specs.declared.hearing.Heard.{Heard}
+use Rattle.enip_client.specs.declared.hearing.Heard.TheVariants as heards
+use Rattle.enip_client.specs.declared.hearing.Found.{Found}
+use Rattle.enip_client.specs.declared.hearing.Found.TheVariants as founds
+use Rattle.enip_client.specs.declared.client.Told.{Told}
+use Rattle.enip_client.specs.declared.hearing.Answer.{Answer as RepliedTo}
+use Rattle.enip_client.specs.declared.state.State.{State}
+use Rattle.enip_client.specs.declared.wants.Wants.{Wants}
+use Rattle.enip_client.specs.State.{new_state}
+use Rattle.enip_client.specs.Hears.{Turned, News, Answer, hears_sight}
+use Rattle.enip_client.specs.Hears.News.{Nothing, Registered, Opened, Replied, Accepted, Refused, Closed}
+
+pub record ClientState : Type 0 where
+  pub state : State
+  pub held : List ℕ
+
+abbrev pub new_client : Wants → ClientState
+new_client wants = record { state = new_state wants; held = [] }
+
+-- What a piece does: how many of its bytes are taken, what is heard, and the client after it.
+pub record Fed : Type 0 where
+  pub client : ClientState
+  pub taken : ℕ
+  pub news : News
+
+-- Bytes are taken up to the end of one frame, and it is heard.
+abbrev pub fed_sight : State → List ℕ → ℕ → Turned → Fed
+fed_sight s left taken turned =
+    record { client = record { state = turned.state; held = left }; taken = taken; news = turned.news }
+
+-- Where a fault lasts no byte is taken.
+abbrev pub fed_unless : ClientState → List ℕ → Option ClientFault → Fed
+fed_unless c piece (Some fault) = record { client = c; taken = 0; news = Nothing }
+fed_unless c piece None =
+    fed_sight c.state (cleared (sight_of (joined_of c.held piece)) (joined_of c.held piece))
+    (taken_of c.held piece) (hears_sight c.state (sight_of (joined_of c.held piece)))
+
+abbrev pub fed : ClientState → List ℕ → Fed
+fed c piece = fed_unless c piece c.state.fault
+
+-- The client after a call other than `feed`.
+abbrev pub with_state : ClientState → State → ClientState
+with_state c s = record c { state = s }
+
+-- What was heard, apart from where its bytes lie.
+abbrev pub news_in : Heard → News
+news_in heards.Nothing = Nothing
+news_in heards.Registered = Registered
+news_in heards.Opened = Opened
+news_in (heards.Reply bytes) = Replied bytes.now
+news_in (heards.Accepted bytes) = Accepted bytes.now
+news_in (heards.Refused status extended) = Refused status extended
+news_in heards.Closed = Closed
+
+-- What was found in the bytes of a frame: a reply stands from one place to another.
+abbrev pub news_at : List ℕ → Found → News
+news_at frame founds.Nothing = Nothing
+news_at frame founds.Registered = Registered
+news_at frame founds.Opened = Opened
+news_at frame (founds.Reply from to) = Replied (slice_range frame from to)
+news_at frame (founds.Accepted from to) = Accepted (slice_range frame from to)
+news_at frame (founds.Refused status extended) = Refused status extended
+news_at frame founds.Closed = Closed
+
+-- The places are within so many bytes.
+abbrev pub IsWithin : ℕ → Found → Type 0
+IsWithin count founds.Nothing = ⊤
+IsWithin count founds.Registered = ⊤
+IsWithin count founds.Opened = ⊤
+IsWithin count (founds.Reply from to) = (from ≤ to) × (to ≤ count)
+IsWithin count (founds.Accepted from to) = (from ≤ to) × (to ≤ count)
+IsWithin count (founds.Refused status extended) = ⊤
+IsWithin count founds.Closed = ⊤
+
+-- What was found in a frame, and the client after it, are the turn's.
+pub record IsHeard (f : Frame) (s : State) (found : Found) (turned : Turned) : Type 0 where
+  pub state : s ≡ turned.state
+  pub news : news_at (frame f) found ≡ turned.news
+  pub within : IsWithin (length (frame f)) found
+
+-- The bytes stand in a text from a place on.
+abbrev pub StandsAt : ℕ → List ℕ → List ℕ → Type 0
+StandsAt place bytes text = (place + length bytes ≤ length text)
+    × (slice_range text place (place + length bytes) ≡ bytes)
+
+-- The code's answer, apart from where it lies.
+abbrev pub answer_of : RepliedTo → Answer
+answer_of a = record { bytes = a.bytes.now; reply = view a.reply }
+
+-- What a call wrote, where it wrote.
+abbrev pub bytes_written : {E : Type 0} → Result (Unit {0}) E → List ℕ → Result (List ℕ) E
+bytes_written (Ok done) bytes = Ok bytes
+bytes_written (Err fault) bytes = Err fault
+
+-- A call is refused, or not.
+abbrev pub allowed : Option ClientFault → Result (Unit {0}) ClientFault
+allowed None = Ok tt
+allowed (Some fault) = Err fault
+
+abbrev pub bytes_rewritten : Bool → List ℕ → Option (List ℕ)
+bytes_rewritten true bytes = Some bytes
+bytes_rewritten false bytes = None
+
+-- The bytes of the frame in which something was found: it came whole in a piece, or was gathered.
+abbrev pub frame_bytes : Bool → ℕ → List ℕ → List ℕ → List ℕ
+frame_bytes true taken piece held = take taken piece
+frame_bytes false taken piece held = held
+
+-- The client as it is stored: a frame that was heard stays with the reader until more comes, and counts as no byte.
+abbrev pub client_in : State → List ℕ → ClientState
+client_in s bytes = record { state = s; held = cleared (sight_of bytes) bytes }
+
+-- Where no fault lasts, what is held goes on.
+abbrev pub IsListening : State → List ℕ → Type 0
+IsListening s bytes = s.fault ≡ None → IsTooLong bytes → ⊥
+
+-- What a piece told, and the client after it, are those of the definition.
+pub record IsTold (s : State) (bytes : List ℕ) (told : Told) (piece : List ℕ) (f : Fed) : Type 0 where
+  pub client : client_in s bytes ≡ f.client
+  pub taken : told.taken ≡ f.taken
+  pub news : news_at (frame_bytes told.in_place told.taken piece bytes) told.found ≡ f.news
+  pub within : IsWithin (length (frame_bytes told.in_place told.taken piece bytes)) told.found
+  pub part : told.taken ≤ length piece
+  pub listening : IsListening s bytes

@@ -1,0 +1,19 @@
+-- The numbers of faults, by which they are printed.
+use Rattle.std.specs.Prelude.{ℕ}
+use Rattle.enip_client.specs.declared.fault.ClientFault.{ClientFault}
+use Rattle.enip_client.specs.declared.fault.ClientFault.TheVariants as faults
+use Rattle.enip_client.specs.declared.fault.SubmitFault.{SubmitFault}
+use Rattle.enip_client.specs.declared.fault.SubmitFault.TheVariants as submit_faults
+
+abbrev pub client_fault_number : ClientFault → ℕ
+client_fault_number faults.State = 1
+client_fault_number (faults.Status status) = 2
+client_fault_number (faults.Refused status extended) = 3
+client_fault_number faults.TooLong = 4
+client_fault_number faults.Memory = 5
+client_fault_number faults.Malformed = 6
+client_fault_number faults.Request = 7
+
+abbrev pub submit_fault_number : SubmitFault → ℕ
+submit_fault_number (submit_faults.Client fault) = 1
+submit_fault_number (submit_faults.Refused why) = 2

@@ -1,0 +1,106 @@
+-- The frames that a client sends (Volume 2, encapsulation commands; Volume 1, Connection Manager).
+use Rattle.std.specs.Prelude.{ℕ, ◌+◌, ◌%◌, ◌^◌, List, [], ◌∷◌, ◌++◌, length}
+use Rattle.cip_bytes.specs.Numbers.{le}
+use Rattle.cip_message.specs.Open.{Open, «open»}
+use Rattle.cip_message.specs.Close.{Close, close}
+use Rattle.cip_message.specs.Request.{request}
+use Rattle.enip_wire.specs.Bodies.{rr_text, unit_text}
+use Rattle.enip_wire.specs.Frames.{Frame}
+use Rattle.enip_wire.specs.declared.header.Header.{Header}
+use Rattle.enip_client.specs.declared.sending.Command.{Command}
+use Rattle.enip_client.specs.declared.sending.Command.TheVariants.{RegisterSession, UnRegisterSession, SendRRData}
+use Rattle.enip_client.specs.declared.sending.Command.TheVariants.{SendUnitData}
+use Rattle.enip_client.specs.declared.wants.Wants.{Wants}
+
+-- The header of a frame with so many bytes of data: no status, no options, and a number as its context.
+abbrev pub sent_header : ℕ → ℕ → ℕ → ℕ → Header
+sent_header command session number count = record {
+  command = command;
+  length = count;
+  session = session;
+  status = 0;
+  context = le 8 number;
+  options = 0;
+}
+
+-- A frame with these data.
+abbrev pub sent : ℕ → ℕ → ℕ → List ℕ → Frame
+sent command session number body =
+    record { header = sent_header command session number (length body); body = body }
+
+-- The number of a command that is sent.
+abbrev pub command_number : Command → ℕ
+command_number RegisterSession = 0x0065
+command_number UnRegisterSession = 0x0066
+command_number SendRRData = 0x006f
+command_number SendUnitData = 0x0070
+
+-- RegisterSession: protocol version 1, no flags.
+abbrev pub register_frame : ℕ → Frame
+register_frame number = sent 0x0065 0 number (le 2 1 ++ le 2 0)
+
+-- UnRegisterSession has no data, and no reply.
+abbrev pub unregister_frame : ℕ → Frame
+unregister_frame session = sent 0x0066 session 0 []
+
+-- SendRRData: an unconnected request.
+abbrev pub request_frame : ℕ → ℕ → List ℕ → Frame
+request_frame session number bytes = sent 0x006f session number (rr_text bytes)
+
+-- SendUnitData: an item of the connection with this O->T ID. Its count tells it, and not its context.
+abbrev pub item_frame : ℕ → ℕ → List ℕ → Frame
+item_frame session o_to_t_id item = sent 0x0070 session 0 (unit_text o_to_t_id item)
+
+-- The Connection Manager, class 0x06, instance 1; and the message router, class 0x02, instance 1, to which a
+-- connection is opened.
+abbrev pub connection_manager : List ℕ
+connection_manager = 0x20 ∷ 0x06 ∷ 0x24 ∷ 1 ∷ []
+
+abbrev pub message_router : List ℕ
+message_router = 0x20 ∷ 0x02 ∷ 0x24 ∷ 1 ∷ []
+
+-- A request to the Connection Manager.
+abbrev pub manager_request : ℕ → List ℕ → List ℕ
+manager_request service bytes = request (record { service = service; path = connection_manager; «data» = bytes })
+
+-- The parameters of one direction: point to point, of variable size up to this one, which bits 8 to 0 say.
+abbrev pub parameters_of : ℕ → ℕ
+parameters_of size = 0x4200 + size % 2 ^ 9
+
+-- What an open asks for. The target chooses the O->T ID; the client is the originator of a class 3 connection.
+abbrev pub open_asked : Wants → Open
+open_asked wants = record {
+  priority_and_tick_time = 0x0a;
+  timeout_ticks = 0x0e;
+  o_to_t_id = 0;
+  t_to_o_id = wants.t_to_o_id;
+  connection_serial = wants.connection_serial;
+  originator_vendor = wants.originator_vendor;
+  originator_serial = wants.originator_serial;
+  timeout_multiplier = wants.timeout_multiplier;
+  o_to_t_rpi = wants.rpi;
+  o_to_t_parameters = parameters_of wants.o_to_t_size;
+  t_to_o_rpi = wants.rpi;
+  t_to_o_parameters = parameters_of wants.t_to_o_size;
+  transport = 0xa3;
+  path = message_router;
+}
+
+-- Forward_Open.
+abbrev pub open_request : Wants → List ℕ
+open_request wants = manager_request 0x54 («open» (open_asked wants))
+
+-- Which connection a close means.
+abbrev pub close_asked : Wants → Close
+close_asked wants = record {
+  priority_and_tick_time = 0x0a;
+  timeout_ticks = 0x0e;
+  connection_serial = wants.connection_serial;
+  originator_vendor = wants.originator_vendor;
+  originator_serial = wants.originator_serial;
+  path = message_router;
+}
+
+-- Forward_Close.
+abbrev pub close_request : Wants → List ℕ
+close_request wants = manager_request 0x4e (close (close_asked wants))

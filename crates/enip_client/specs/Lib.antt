@@ -1,0 +1,9 @@
+pub mod Faults
+pub mod Frames
+pub mod State
+pub mod Calls
+pub mod Hears
+pub mod Client
+pub mod Runs
+pub mod Asking
+pub mod AskSteps

@@ -1,0 +1,305 @@
+//! The client: the calls that lend a frame to send, and what came back.
+
+ghost use Rattle.std.specs.Prelude.{◌≡◌, ◌<◌, ◌≤◌, length, IfOk, IfErr, None};
+ghost use Rattle.std.specs.Option.{option_map};
+ghost use Rattle.std.specs.Borrow.{sem};
+ghost use Rattle.std.specs.Io.BufRead.{Rests};
+ghost use Rattle.cip_class3.specs.Item.{LARGEST_SIZE};
+ghost use Rattle.enip_wire.specs.Frames.{frame, IsTooLong, Stops};
+ghost use Rattle.enip_wire.specs.Stream.{sight_of, joined_of, taken_of, left_of, cleared};
+ghost use Rattle.enip_client.specs.Client.{client_in, fed, news_at, IsWithin, frame_bytes, IsListening, IsTold};
+ghost use Rattle.enip_client.specs.Hears.{hears_sight};
+ghost use Rattle.enip_client.specs.Calls.{bytes_in, bytes_lent, after_lending};
+
+use crate::fault::{ClientFault, SubmitFault};
+use crate::hearing::{Found, Hearing};
+use crate::sending::Sent;
+use crate::state::{Link, Registration, State};
+use crate::wants::Wants;
+use cip_class3::{Originator, Stage};
+use enip_wire::{FrameReader, Held};
+use std::alloc::Global;
+use std::marker::Model;
+
+/// What a piece told: how many of its bytes were taken, whether a frame lay whole in it, and what was found in the
+/// frame.
+#[derive(Clone, Copy, Debug)]
+struct Told {
+    taken: usize,
+    in_place: bool,
+    found: Found,
+}
+
+impl Told {
+    /// Where a fault lasts no byte is taken.
+    const NOTHING: Told = Told {
+        taken: 0,
+        in_place: false,
+        found: Found::Nothing,
+    };
+}
+
+/// A client of one adapter, over one stream of bytes each way.
+#[derive(Drop)]
+pub struct Client {
+    state: State,
+    reader: FrameReader,
+    sent: Sent,
+}
+
+impl Model for Client {
+    ghost use Rattle.enip_client.specs.Client.{ClientState, client_in, IsListening};
+
+    ghost Value = { ClientState };
+
+    ghost view = { λ c. client_in c.state c.reader };
+
+    ghost invariant = { λ c. IsListening c.state c.reader };
+}
+
+impl Client {
+    ghost use Rattle.enip_client.specs.Client.{new_client, with_state, news_in};
+    ghost use Rattle.enip_client.specs.Calls.{registers, opens, asks, submits, closes, unregisters, resends};
+    ghost use Rattle.enip_client.specs.Calls.{gives_up, after_giving_up, stage_in};
+    ghost use Rattle.enip_client.specs.contracts.client.Client.{the_row};
+
+    /// A client that is not registered and has no connection. All its memory is taken here.
+    ///
+    /// # Errors
+    ///
+    /// `ClientFault::Memory` where memory is refused.
+    pub fn new(alloc: Global, wants: &Wants) -> Result<Client, ClientFault>
+        requires o_to_t_from { 4 ≤ wants.now.o_to_t_size }
+        requires o_to_t_to { wants.now.o_to_t_size ≤ LARGEST_SIZE }
+        requires t_to_o_from { 10 ≤ wants.now.t_to_o_size }
+        requires t_to_o_to { wants.now.t_to_o_size ≤ LARGEST_SIZE }
+        ensures made { IfOk result (λ client. client ≡ new_client wants.now) }
+        ensures memory { IfErr result (λ fault. fault ≡ ClientFault.Memory) }
+    {
+        let Ok(reader) = FrameReader::new(alloc) else {
+            return Err(ClientFault::Memory);
+        };
+        let Ok(originator) = Originator::new(
+            alloc,
+            wants.first_count,
+            wants.o_to_t_size,
+            wants.t_to_o_size,
+        ) else {
+            return Err(ClientFault::Memory);
+        };
+        Ok(Client {
+            state: State {
+                wants: *wants,
+                registration: Registration::NotRegistered,
+                awaiting: None,
+                link: Link::NotOpened,
+                originator,
+                frames: 0,
+                fault: None,
+            },
+            reader,
+            sent: Sent::new(),
+        })
+    }
+
+    /// Lends the RegisterSession to send. It is possible once, before all else.
+    ///
+    /// # Errors
+    ///
+    /// A lasting fault, else `State`. Nothing changed.
+    pub fn register(&mut self) -> Result<&[u8], ClientFault>
+        ensures lent { bytes_in result ≡ bytes_lent (registers self.old.state) }
+        ensures* after { sem 𝓛 (Rests the_row self.entry (λ new. new
+            ≡ with_state self.old (after_lending self.old.state (registers self.old.state)))) }
+    {
+        self.state.register(&mut self.sent)?;
+        Ok(self.sent.as_slice())
+    }
+
+    /// Lends the Forward_Open to send, where the session is registered, nothing is awaited, and no connection was
+    /// opened.
+    ///
+    /// # Errors
+    ///
+    /// A lasting fault, else `State`. Nothing changed.
+    pub fn open(&mut self) -> Result<&[u8], ClientFault>
+        ensures lent { bytes_in result ≡ bytes_lent (opens self.old.state) }
+        ensures* after { sem 𝓛 (Rests the_row self.entry (λ new. new
+            ≡ with_state self.old (after_lending self.old.state (opens self.old.state)))) }
+    {
+        self.state.open(&mut self.sent)?;
+        Ok(self.sent.as_slice())
+    }
+
+    /// Lends the frame of an unconnected request, where the session is registered and nothing is awaited.
+    ///
+    /// # Errors
+    ///
+    /// A lasting fault, else `State`, else `Request` for under 2 or over 504 bytes, or a service with bit 7. Nothing
+    /// changed.
+    pub fn unconnected(&mut self, request: &[u8]) -> Result<&[u8], ClientFault>
+        ensures lent { bytes_in result ≡ bytes_lent (asks self.old.state request.now) }
+        ensures* after { sem 𝓛 (Rests the_row self.entry (λ new. new
+            ≡ with_state self.old (after_lending self.old.state (asks self.old.state request.now)))) }
+    {
+        self.state.ask(request, &mut self.sent)?;
+        Ok(self.sent.as_slice())
+    }
+
+    /// Lends the frame of a request on the connection, which waits for its reply from then on.
+    ///
+    /// # Errors
+    ///
+    /// `Client` with a lasting fault, else with `State` where no connection is open, else `Refused` by the connection's
+    /// originator. Nothing changed.
+    pub fn submit(&mut self, request: &[u8]) -> Result<&[u8], SubmitFault>
+        ensures lent { bytes_in result ≡ bytes_lent (submits self.old.state request.now) }
+        ensures* after { sem 𝓛 (Rests the_row self.entry (λ new. new
+            ≡ with_state self.old (after_lending self.old.state (submits self.old.state request.now)))) }
+    {
+        self.state.submit(request, &mut self.sent)?;
+        Ok(self.sent.as_slice())
+    }
+
+    /// Lends the frame of the request that waits once more. None where none waits, after a lasting fault, and without
+    /// a connection.
+    pub fn resend(&mut self) -> Option<&[u8]>
+        ensures lent { option_map (λ lent. lent.now) result ≡ option_map frame (resends self.old.state) }
+        ensures* after { sem 𝓛 (Rests the_row self.entry (λ new. new ≡ self.old)) }
+    {
+        if self.state.resend(&mut self.sent) {
+            Some(self.sent.as_slice())
+        } else {
+            None
+        }
+    }
+
+    /// Lends the Forward_Close to send, where a connection is open and nothing is awaited. The connection is over at
+    /// once.
+    ///
+    /// # Errors
+    ///
+    /// A lasting fault, else `State`. Nothing changed.
+    pub fn close(&mut self) -> Result<&[u8], ClientFault>
+        ensures lent { bytes_in result ≡ bytes_lent (closes self.old.state) }
+        ensures* after { sem 𝓛 (Rests the_row self.entry (λ new. new
+            ≡ with_state self.old (after_lending self.old.state (closes self.old.state)))) }
+    {
+        self.state.close(&mut self.sent)?;
+        Ok(self.sent.as_slice())
+    }
+
+    /// Lends the UnRegisterSession to send, where the session is registered and nothing is awaited. The session is over
+    /// at once, and a connection with it. There is no reply.
+    ///
+    /// # Errors
+    ///
+    /// A lasting fault, else `State`. Nothing changed.
+    pub fn unregister(&mut self) -> Result<&[u8], ClientFault>
+        ensures lent { bytes_in result ≡ bytes_lent (unregisters self.old.state) }
+        ensures* after { sem 𝓛 (Rests the_row self.entry (λ new. new
+            ≡ with_state self.old (after_lending self.old.state (unregisters self.old.state)))) }
+    {
+        self.state.unregister(&mut self.sent)?;
+        Ok(self.sent.as_slice())
+    }
+
+    /// Gives the request that waits on the connection up. False where none waits, after a lasting fault, and without a
+    /// connection.
+    pub fn give_up(&mut self) -> bool
+        ensures waited { result ≡ gives_up self.old.state }
+        ensures state { self.new ≡ with_state self.old (after_giving_up self.old.state) }
+    {
+        self.state.is_connected() && self.state.originator.give_up()
+    }
+
+    /// Where the connection's originator stands. None without a connection.
+    pub fn stage(&self) -> Option<Stage>
+        ensures { result ≡ stage_in self.now.state }
+    {
+        match self.state.link {
+            Link::Open(_) => Some(self.state.originator.stage()),
+            _ => None,
+        }
+    }
+
+    /// The fault that lasts.
+    pub fn fault(&self) -> Option<ClientFault>
+        ensures { result ≡ self.now.state.fault }
+    {
+        self.state.fault
+    }
+
+    /// Takes bytes of the piece that came back up to the end of one frame, and says what was heard. A reply is lent
+    /// from the piece, or from where its bytes were gathered. Of a piece of a byte or more it takes some, unless a
+    /// fault lasts: then it takes none.
+    pub fn feed<'a>(&'a mut self, piece: &'a [u8]) -> Hearing<'a>
+        ensures* after { sem 𝓛 (Rests the_row self.entry (λ new. new ≡ (fed self.old piece.now).client)) }
+        ensures taken { result.taken ≡ (fed self.old piece.now).taken }
+        ensures heard { news_in result.heard ≡ (fed self.old piece.now).news }
+        ensures within { result.taken ≤ length piece.now }
+        ensures progress { 0 < length piece.now → self.old.state.fault ≡ None → 0 < result.taken }
+    {
+        let told = hear(&mut self.state, &mut self.reader, piece);
+        if told.in_place {
+            return Hearing {
+                taken: told.taken,
+                heard: told.found.heard(&piece[..told.taken]),
+            };
+        }
+        Hearing {
+            taken: told.taken,
+            heard: told.found.heard(self.reader.bytes()),
+        }
+    }
+}
+
+/// Takes bytes of a piece up to the end of one frame, and hears the frame, unless a fault lasts.
+fn hear(state: &mut State, reader: &mut FrameReader, piece: &[u8]) -> Told
+    requires { IsListening state.old reader.old }
+    ensures told { IsTold state.new reader.new result piece.now (fed (client_in state.old reader.old) piece.now) }
+    ensures progress { 0 < length piece.now → state.old.fault ≡ None → 0 < result.taken }
+{
+    if state.fault.is_some() {
+        return Told::NOTHING;
+    }
+    drop_heard(reader);
+    hear_next(state, reader, piece)
+}
+
+/// Takes bytes of a piece up to the end of one frame, and hears the frame.
+fn hear_next(state: &mut State, reader: &mut FrameReader, piece: &[u8]) -> Told
+    requires { Stops reader.old → ⊥ }
+    ensures state { state.new ≡ (hears_sight state.old (sight_of (joined_of reader.old piece.now))).state }
+    ensures reader { reader.new ≡ left_of reader.old piece.now }
+    ensures taken { result.taken ≡ taken_of reader.old piece.now }
+    ensures part { result.taken ≤ length piece.now }
+    ensures news { news_at (frame_bytes result.in_place result.taken piece.now reader.new) result.found
+        ≡ (hears_sight state.old (sight_of (joined_of reader.old piece.now))).news }
+    ensures within { IsWithin (length (frame_bytes result.in_place result.taken piece.now reader.new)) result.found }
+    ensures progress { 0 < length piece.now → 0 < result.taken }
+{
+    let in_place = reader.bytes().is_empty();
+    let (taken, held) = reader.next(piece);
+    let found = match held {
+        Held::More => Found::Nothing,
+        Held::Frame(frame) => state.hear(frame),
+        Held::TooLong(_) => state.fail(ClientFault::TooLong),
+    };
+    Told {
+        taken,
+        in_place,
+        found,
+    }
+}
+
+/// Drops a whole frame, which was heard.
+fn drop_heard(reader: &mut FrameReader)
+    requires { IsTooLong reader.old → ⊥ }
+    ensures cleared { reader.new ≡ cleared (sight_of reader.old) reader.old }
+    ensures waits { Stops reader.new → ⊥ }
+{
+    if let Held::Frame(_) = reader.state() {
+        reader.clear();
+    }
+}

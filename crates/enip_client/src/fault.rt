@@ -1,0 +1,76 @@
+//! Why a call of the client is refused.
+
+ghost use Rattle.std.specs.Prelude.{◌≡◌};
+
+use cip_class3::Refused;
+use thiserror::Error;
+
+/// Why a call is refused. `Status`, `TooLong` and `Malformed` last: each further call answers them again.
+#[derive(Clone, Copy, Debug, PartialEq, Eq, Error)]
+pub enum ClientFault {
+    /// The call is not possible now.
+    #[error("the call is not possible now")]
+    State,
+    /// An awaited reply has this encapsulation status, 32 bits.
+    #[error("an awaited reply has a status")]
+    Status(u32),
+    /// An open or a close was refused: the general status, and the first additional word or 0.
+    #[error("an open or a close was refused")]
+    Refused(u8, u16),
+    /// A header came whose length is over 65,511.
+    #[error("a frame is too long")]
+    TooLong,
+    /// Memory was refused.
+    #[error("memory was refused")]
+    Memory,
+    /// An awaited reply has another shape.
+    #[error("an awaited reply has another shape")]
+    Malformed,
+    /// An unconnected request has under 2 or over 504 bytes, or a service with bit 7, as a reply has.
+    #[error("this is no unconnected request")]
+    Request,
+}
+
+impl ClientFault {
+    ghost use Rattle.enip_client.specs.Faults.{client_fault_number};
+
+    /// The number of the fault, by which it is printed.
+    pub fn number(self) -> u8
+        ensures { result ≡ client_fault_number self }
+    {
+        match self {
+            ClientFault::State => 1,
+            ClientFault::Status(_) => 2,
+            ClientFault::Refused(..) => 3,
+            ClientFault::TooLong => 4,
+            ClientFault::Memory => 5,
+            ClientFault::Malformed => 6,
+            ClientFault::Request => 7,
+        }
+    }
+}
+
+/// Why a request is not submitted.
+#[derive(Clone, Copy, Debug, PartialEq, Eq, Error)]
+pub enum SubmitFault {
+    /// The client refuses the call.
+    #[error("the client refuses the call")]
+    Client(ClientFault),
+    /// The originator's end of the connection refuses the request.
+    #[error("the connection refuses the request")]
+    Refused(Refused),
+}
+
+impl SubmitFault {
+    ghost use Rattle.enip_client.specs.Faults.{submit_fault_number};
+
+    /// The number of the fault, by which it is printed.
+    pub fn number(self) -> u8
+        ensures { result ≡ submit_fault_number self }
+    {
+        match self {
+            SubmitFault::Client(_) => 1,
+            SubmitFault::Refused(_) => 2,
+        }
+    }
+}

@@ -1,0 +1,287 @@
+//! What a client hears.
+
+ghost use Rattle.std.specs.Prelude.{◌≡◌, length, IfSome};
+ghost use Rattle.std.specs.Option.{option_map};
+ghost use Rattle.cip_message.specs.Reply.{view};
+ghost use Rattle.enip_wire.specs.Stream.{frame_of};
+ghost use Rattle.enip_client.specs.Client.{news_in, news_at, IsWithin, IsHeard, StandsAt, answer_of};
+ghost use Rattle.enip_client.specs.Frames.{command_number};
+ghost use Rattle.enip_client.specs.Hears.{hears, is_for_connection, is_answer, command_of, answer_turn, session_turn};
+ghost use Rattle.enip_client.specs.Hears.{opening_turn, reply_turn, closing_turn, other_turn, refuses, faulted};
+ghost use Rattle.enip_client.specs.Hears.{answer_to, first_word};
+
+use crate::fault::ClientFault;
+use crate::sending::{Command, FORWARD_CLOSE, FORWARD_OPEN};
+use crate::state::{Awaited, Awaiting, Link, Registration, State};
+use byteorder::{ByteOrder, LittleEndian};
+use cip_class3::Came;
+use cip_message::{ReplyView, reply_service};
+use enip_wire::{FrameView, Header, rr_body, unit_body};
+
+/// What a piece said.
+#[derive(Clone, Copy, Debug)]
+pub struct Hearing<'a> {
+    /// How many bytes of the piece were taken.
+    pub taken: usize,
+    /// What was heard.
+    pub heard: Heard<'a>,
+}
+
+/// What was heard.
+#[derive(Clone, Copy, Debug, PartialEq, Eq)]
+pub enum Heard<'a> {
+    /// Nothing that was awaited.
+    Nothing,
+    /// The session is registered.
+    Registered,
+    /// The connection is open.
+    Opened,
+    /// The router's reply to the unconnected request.
+    Reply(&'a [u8]),
+    /// The router's reply to the request that waited on the connection.
+    Accepted(&'a [u8]),
+    /// An open or a close was refused: the general status, and the first additional word or 0.
+    Refused(u8, u16),
+    /// The connection is closed.
+    Closed,
+}
+
+/// What was found in a frame, whose reply stands from one place to another among the frame's bytes.
+#[derive(Clone, Copy, Debug)]
+pub(crate) enum Found {
+    Nothing,
+    Registered,
+    Opened,
+    Reply { from: usize, to: usize },
+    Accepted { from: usize, to: usize },
+    Refused(u8, u16),
+    Closed,
+}
+
+impl Found {
+    /// What was heard, lent from the bytes of the frame.
+    pub(crate) fn heard(self, frame: &[u8]) -> Heard<'_>
+        requires { IsWithin (length frame.now) self }
+        ensures { news_in result ≡ news_at frame.now self }
+    {
+        match self {
+            Found::Nothing => Heard::Nothing,
+            Found::Registered => Heard::Registered,
+            Found::Opened => Heard::Opened,
+            Found::Reply { from, to } => Heard::Reply(&frame[from..to]),
+            Found::Accepted { from, to } => Heard::Accepted(&frame[from..to]),
+            Found::Refused(status, extended) => Heard::Refused(status, extended),
+            Found::Closed => Heard::Closed,
+        }
+    }
+}
+
+/// Where the router's reply begins in a SendRRData: header 24, interface 4, timeout 2, count 2, null address 4, type
+/// and length of the data item 4.
+const REPLY: usize = Header::SIZE + 16;
+
+/// Where the reply begins in a SendUnitData: as before, with a connected address of 8, and the item's count 2.
+const ITEM_REPLY: usize = Header::SIZE + 22;
+
+/// The least data of a connection that was opened.
+const OPENED: usize = 26;
+
+/// The data of a session that was registered: protocol version and flags.
+const PROTOCOL: usize = 4;
+
+/// A router's reply, and its bytes.
+#[derive(Clone, Copy, Debug)]
+struct Answer<'a> {
+    bytes: &'a [u8],
+    reply: ReplyView<'a>,
+}
+
+impl Awaited {
+    /// The command of the reply.
+    fn command(self) -> Command
+        ensures { command_number result ≡ command_of self }
+    {
+        match self {
+            Awaited::Session => Command::RegisterSession,
+            _ => Command::SendRRData,
+        }
+    }
+}
+
+impl Awaiting {
+    /// Whether a frame with this header is what is awaited.
+    fn is_answer(self, header: &Header) -> bool
+        ensures { result ≡ is_answer self header.now }
+    {
+        // a reply repeats command and context of what asked (encapsulation header)
+        header.command == self.awaited.command() as u16
+            && LittleEndian::read_u64(&header.context) == self.number
+    }
+}
+
+impl State {
+    /// Hears a whole frame.
+    pub(crate) fn hear(&mut self, frame: FrameView<'_>) -> Found
+        ensures { IsHeard (frame_of frame.entry) self.new result (hears self.old (frame_of frame.entry)) }
+    {
+        match self.awaiting {
+            Some(awaiting) if awaiting.is_answer(&frame.header) => {
+                self.hear_answer(awaiting.awaited, frame)
+            }
+            _ => self.hear_item(frame),
+        }
+    }
+
+    /// Hears an awaited reply.
+    fn hear_answer(&mut self, awaited: Awaited, frame: FrameView<'_>) -> Found
+        ensures { IsHeard (frame_of frame.entry) self.new result (answer_turn self.old awaited (frame_of frame.entry)) }
+    {
+        // a status that is not 0 refuses (encapsulation status)
+        if frame.header.status != 0 {
+            return self.fail(ClientFault::Status(frame.header.status));
+        }
+        match awaited {
+            Awaited::Session => self.hear_session(frame),
+            Awaited::Connection => self.hear_opening(frame),
+            Awaited::Reply(service) => self.hear_reply(service, frame),
+            Awaited::End => self.hear_closing(frame),
+        }
+    }
+
+    /// Hears the reply to RegisterSession.
+    fn hear_session(&mut self, frame: FrameView<'_>) -> Found
+        ensures { IsHeard (frame_of frame.entry) self.new result (session_turn self.old (frame_of frame.entry)) }
+    {
+        // protocol version and flags (RegisterSession)
+        if frame.body.len() != PROTOCOL {
+            return self.fail(ClientFault::Malformed);
+        }
+        self.awaiting = None;
+        self.registration = Registration::Registered(frame.header.session);
+        Found::Registered
+    }
+
+    /// Hears the reply to Forward_Open.
+    fn hear_opening(&mut self, frame: FrameView<'_>) -> Found
+        ensures { IsHeard (frame_of frame.entry) self.new result
+            (opening_turn self.old (answer_to 0x54 (frame_of frame.entry).body)) }
+    {
+        let Some(Answer { reply, .. }) = answer_to(FORWARD_OPEN, frame.body) else {
+            return self.fail(ClientFault::Malformed);
+        };
+        if reply.status != 0 {
+            return self.refuse(reply);
+        }
+        // IDs, numbers, intervals: 26 bytes (Forward_Open, success)
+        if reply.data.len() < OPENED {
+            return self.fail(ClientFault::Malformed);
+        }
+        self.awaiting = None;
+        // the O->T ID comes first (Forward_Open, success)
+        self.link = Link::Open(LittleEndian::read_u32(reply.data));
+        Found::Opened
+    }
+
+    /// Hears the reply to an unconnected request of this service.
+    fn hear_reply(&mut self, service: u8, frame: FrameView<'_>) -> Found
+        ensures { IsHeard (frame_of frame.entry) self.new result
+            (reply_turn self.old (answer_to service (frame_of frame.entry).body)) }
+    {
+        let Some(Answer { bytes, .. }) = answer_to(service, frame.body) else {
+            return self.fail(ClientFault::Malformed);
+        };
+        self.awaiting = None;
+        Found::Reply {
+            from: REPLY,
+            to: REPLY + bytes.len(),
+        }
+    }
+
+    /// Hears the reply to Forward_Close.
+    fn hear_closing(&mut self, frame: FrameView<'_>) -> Found
+        ensures { IsHeard (frame_of frame.entry) self.new result
+            (closing_turn self.old (answer_to 0x4e (frame_of frame.entry).body)) }
+    {
+        let Some(Answer { reply, .. }) = answer_to(FORWARD_CLOSE, frame.body) else {
+            return self.fail(ClientFault::Malformed);
+        };
+        if reply.status != 0 {
+            return self.refuse(reply);
+        }
+        self.awaiting = None;
+        Found::Closed
+    }
+
+    /// Hears what is not awaited: an item of the connection, or nothing.
+    fn hear_item(&mut self, frame: FrameView<'_>) -> Found
+        ensures { IsHeard (frame_of frame.entry) self.new result (other_turn self.old (frame_of frame.entry)) }
+    {
+        if !self.is_for_connection(&frame.header) {
+            return Found::Nothing;
+        }
+        let Ok((id, item)) = unit_body(frame.body) else {
+            return Found::Nothing;
+        };
+        // the connection's T->O ID (SendUnitData)
+        if id != self.wants.t_to_o_id {
+            return Found::Nothing;
+        }
+        match self.originator.receive(item) {
+            Came::Accepted(reply) => Found::Accepted {
+                from: ITEM_REPLY,
+                to: ITEM_REPLY + reply.len(),
+            },
+            Came::Ignored => Found::Nothing,
+        }
+    }
+
+    /// Whether a frame with this header may have an item of the connection.
+    fn is_for_connection(&self, header: &Header) -> bool
+        ensures { result ≡ is_for_connection self.now header.now }
+    {
+        let (Link::Open(_), Registration::Registered(session)) = (self.link, self.registration)
+        else {
+            return false;
+        };
+        header.command == Command::SendUnitData as u16
+            && header.status == 0
+            && header.session == session
+    }
+
+    /// The Connection Manager refused.
+    fn refuse(&mut self, reply: ReplyView<'_>) -> Found
+        ensures state { self.new ≡ (refuses self.old (view reply.entry)).state }
+        ensures found { result ≡ Found.Refused reply.entry.status (first_word (view reply.entry).additional) }
+    {
+        self.awaiting = None;
+        Found::Refused(reply.status, reply.additional_word(0).unwrap_or(0))
+    }
+
+    /// A fault that lasts.
+    pub(crate) fn fail(&mut self, fault: ClientFault) -> Found
+        ensures state { self.new ≡ (faulted self.old fault).state }
+        ensures found { result ≡ Found.Nothing }
+    {
+        self.fault = Some(fault);
+        Found::Nothing
+    }
+}
+
+/// The reply that the data of a SendRRData have to a request of this service.
+fn answer_to(service: u8, body: &[u8]) -> Option<Answer<'_>>
+    ensures answer { option_map answer_of result ≡ answer_to service body.now }
+    ensures place { IfSome result (λ answer. StandsAt 16 answer.bytes.now body.now) }
+{
+    let Ok(bytes) = rr_body(body) else {
+        return None;
+    };
+    let Ok(reply) = ReplyView::read(bytes) else {
+        return None;
+    };
+    // the service of the request, with bit 7 (message router response)
+    if reply.service == reply_service(service) {
+        Some(Answer { bytes, reply })
+    } else {
+        None
+    }
+}

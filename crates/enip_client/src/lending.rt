@@ -1,0 +1,132 @@
+//! The calls that write a frame to send.
+
+ghost use Rattle.std.specs.Prelude.{◌≡◌, ◌≤◌, length};
+ghost use Rattle.std.specs.Option.{option_map};
+ghost use Rattle.enip_wire.specs.Frames.{frame};
+ghost use Rattle.enip_client.specs.Calls.{bytes_lent, after_lending, asking, resends};
+ghost use Rattle.enip_client.specs.Calls.{registers, opens, asks, submits, closes, unregisters};
+ghost use Rattle.enip_client.specs.Client.{bytes_written, bytes_rewritten};
+
+use crate::fault::{ClientFault, SubmitFault};
+use crate::sending::{
+    LONGEST_REQUEST, Sent, close_request, open_request, write_item, write_register, write_request,
+    write_unregister,
+};
+use crate::state::{Awaited, Link, Registration, State};
+
+impl State {
+    /// Writes the RegisterSession to send.
+    pub(crate) fn register(&mut self, sent: &mut Sent) -> Result<(), ClientFault>
+        ensures state { self.new ≡ after_lending self.old (registers self.old) }
+        ensures bytes { bytes_written result sent.new.items ≡ bytes_lent (registers self.old) }
+    {
+        // once, before all else (ours)
+        let possible = matches!(self.registration, Registration::NotRegistered) && self.is_free();
+        self.allow(possible)?;
+        let number = self.await_reply(Awaited::Session);
+        write_register(number, sent);
+        Ok(())
+    }
+
+    /// Writes the Forward_Open to send.
+    pub(crate) fn open(&mut self, sent: &mut Sent) -> Result<(), ClientFault>
+        ensures state { self.new ≡ after_lending self.old (opens self.old) }
+        ensures bytes { bytes_written result sent.new.items ≡ bytes_lent (opens self.old) }
+    {
+        // one connection of one client (ours)
+        let possible = self.is_ready() && matches!(self.link, Link::NotOpened);
+        self.allow(possible)?;
+        let request = open_request(&self.wants);
+        self.send_request(Awaited::Connection, request.as_slice(), sent);
+        Ok(())
+    }
+
+    /// Writes an unconnected request to send.
+    pub(crate) fn ask(&mut self, request: &[u8], sent: &mut Sent) -> Result<(), ClientFault>
+        ensures state { self.new ≡ after_lending self.old (asks self.old request.now) }
+        ensures bytes { bytes_written result sent.new.items ≡ bytes_lent (asks self.old request.now) }
+    {
+        self.allow(self.is_ready())?;
+        // a service and a path size at least, the room of a target, and bit 7 marks a reply (message router)
+        if request.len() < 2 || request.len() > LONGEST_REQUEST || request[0] >= 0x80 {
+            return Err(ClientFault::Request);
+        }
+        self.send_request(Awaited::Reply(request[0]), request, sent);
+        Ok(())
+    }
+
+    /// Writes the item of a request on the connection to send.
+    pub(crate) fn submit(&mut self, request: &[u8], sent: &mut Sent) -> Result<(), SubmitFault>
+        ensures state { self.new ≡ after_lending self.old (submits self.old request.now) }
+        ensures bytes { bytes_written result sent.new.items ≡ bytes_lent (submits self.old request.now) }
+    {
+        if let Err(fault) = self.allow(self.is_open()) {
+            return Err(SubmitFault::Client(fault));
+        }
+        let session = self.session();
+        let o_to_t_id = self.o_to_t_id();
+        match self.originator.submit(request) {
+            Ok(item) => {
+                write_item(session, o_to_t_id, item, sent);
+                Ok(())
+            }
+            Err(why) => Err(SubmitFault::Refused(why)),
+        }
+    }
+
+    /// Writes the item of the request that waits once more. False where none is sent.
+    pub(crate) fn resend(&self, sent: &mut Sent) -> bool
+        ensures { bytes_rewritten result sent.new.items ≡ option_map frame (resends self.now) }
+    {
+        if !self.is_connected() {
+            return false;
+        }
+        match self.originator.resend() {
+            Some(item) => {
+                write_item(self.session(), self.o_to_t_id(), item, sent);
+                true
+            }
+            None => false,
+        }
+    }
+
+    /// Writes the Forward_Close to send.
+    pub(crate) fn close(&mut self, sent: &mut Sent) -> Result<(), ClientFault>
+        ensures state { self.new ≡ after_lending self.old (closes self.old) }
+        ensures bytes { bytes_written result sent.new.items ≡ bytes_lent (closes self.old) }
+    {
+        let possible = self.is_open() && self.is_free();
+        self.allow(possible)?;
+        self.link = Link::Closed;
+        let request = close_request(&self.wants);
+        self.send_request(Awaited::End, request.as_slice(), sent);
+        Ok(())
+    }
+
+    /// Writes the UnRegisterSession to send.
+    pub(crate) fn unregister(&mut self, sent: &mut Sent) -> Result<(), ClientFault>
+        ensures state { self.new ≡ after_lending self.old (unregisters self.old) }
+        ensures bytes { bytes_written result sent.new.items ≡ bytes_lent (unregisters self.old) }
+    {
+        let possible = self.is_ready();
+        self.allow(possible)?;
+        write_unregister(self.session(), sent);
+        self.registration = Registration::Unregistered;
+        // a session's connections end with it (UnRegisterSession)
+        if self.is_open() {
+            self.link = Link::Closed;
+        }
+        Ok(())
+    }
+
+    /// Writes a request to the message router, whose reply is awaited.
+    fn send_request(&mut self, awaited: Awaited, request: &[u8], sent: &mut Sent)
+        requires { length request.now ≤ LONGEST_REQUEST }
+        ensures state { self.new ≡ (asking self.old awaited request.now).state }
+        ensures bytes { sent.new.items ≡ frame (asking self.old awaited request.now).frame }
+    {
+        let session = self.session();
+        let number = self.await_reply(awaited);
+        write_request(session, number, request, sent);
+    }
+}

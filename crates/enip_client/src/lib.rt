@@ -1,0 +1,31 @@
+//! An EtherNet/IP client for explicit messages (ODVA CIP Networks Library, Volume 2; class 3: Volume 1).
+//!
+//! A [`Client`] has no socket and no clock. `register`, `open`, `unconnected`, `submit`, `resend`, `close` and
+//! `unregister` lend the frame to send; `feed` hands it bytes that came back, and says what was heard. [`ask`] does one
+//! whole exchange over a reader and a writer.
+//!
+//! What it sends and hears is a function of its calls and of the whole frames that came: the turn of
+//! `specs/Hears.antt`; what follows for every list of calls is in [`laws`]. Its calls after `Client::new` take no
+//! memory, and replies are lent from where their bytes lie.
+#![tactic(auto)]
+
+mod asking;
+mod client;
+mod fault;
+mod hearing;
+pub mod laws;
+mod lending;
+mod sending;
+mod state;
+mod wants;
+
+pub use asking::{AskFault, ask};
+pub use client::Client;
+pub use fault::{ClientFault, SubmitFault};
+pub use hearing::{Heard, Hearing};
+pub use wants::Wants;
+
+#[cfg(test)]
+mod asking_tests;
+#[cfg(test)]
+mod tests;

@@ -1,0 +1,200 @@
+//! The frames that a client sends. (Volume 2, encapsulation commands.)
+
+ghost use Rattle.std.specs.Prelude.{◌≡◌, ◌≤◌, length, []};
+ghost use Rattle.arrayvec.specs.ArrayVec.{array_vec_len};
+ghost use Rattle.enip_wire.specs.Headers.{header_spelling};
+ghost use Rattle.enip_wire.specs.Frames.{frame};
+ghost use Rattle.enip_client.specs.Frames.{command_number, sent_header, register_frame, unregister_frame};
+ghost use Rattle.enip_client.specs.Frames.{request_frame, item_frame, manager_request, parameters_of, open_request};
+ghost use Rattle.enip_client.specs.Frames.{close_request};
+
+use crate::wants::Wants;
+use arrayvec::ArrayVec;
+use cip_class3::LARGEST_SIZE;
+use cip_message::{CloseRequest, OpenRequest, Parameters, Transport};
+use enip_wire::{Header, write_rr_body, write_unit_body};
+
+/// The most bytes of an unconnected request.
+pub(crate) const LONGEST_REQUEST: usize = 504;
+
+/// The bytes of a packet in front of an unconnected request: interface 4, timeout 2, count 2, null address 4, type and
+/// length of the data item 4. (Volume 2, common packet format.)
+const UNCONNECTED_HEAD: usize = 16;
+
+/// The same in front of a connection's item, with a connected address of 8.
+const CONNECTED_HEAD: usize = 20;
+
+/// The most data of a frame that is sent, in bytes.
+const LONGEST_DATA: usize = CONNECTED_HEAD + LARGEST_SIZE;
+
+/// The longest frame that is sent, in bytes.
+const LONGEST_SENT: usize = Header::SIZE + LONGEST_DATA;
+
+/// One frame to send.
+pub(crate) type Sent = ArrayVec<u8, LONGEST_SENT>;
+
+/// The commands that a client sends. (Volume 2, encapsulation commands.)
+#[derive(Clone, Copy, Debug, PartialEq, Eq)]
+pub(crate) enum Command {
+    RegisterSession = 0x0065,
+    UnRegisterSession = 0x0066,
+    SendRRData = 0x006f,
+    SendUnitData = 0x0070,
+}
+
+/// Protocol version 1 and no option flags, the data of RegisterSession.
+const PROTOCOL: [u8; 4] = [1, 0, 0, 0];
+
+/// The path of the Connection Manager, class 0x06, instance 1, and its two services.
+const CONNECTION_MANAGER: [u8; 4] = [0x20, 0x06, 0x24, 1];
+
+pub(crate) const FORWARD_OPEN: u8 = 0x54;
+
+pub(crate) const FORWARD_CLOSE: u8 = 0x4e;
+
+/// The path of the message router, class 0x02, instance 1, to which a connection is opened.
+const MESSAGE_ROUTER: [u8; 4] = [0x20, 0x02, 0x24, 1];
+
+const PRIORITY_AND_TICK_TIME: u8 = 0x0a;
+
+const TIMEOUT_TICKS: u8 = 0x0e;
+
+/// The target is the server, the application object triggers, class 3. (Volume 1, transport class and trigger.)
+const SERVER_CLASS_3: u8 = 0xa3;
+
+/// Point to point, and of variable size. (Volume 1, network connection parameters.)
+const POINT_TO_POINT_VARIABLE: u16 = 0x4200;
+
+/// The most bytes of a request to the Connection Manager: service, path size and path 6, an open 36 and its path 4.
+const LONGEST_MANAGER_REQUEST: usize = 46;
+
+/// A request to the Connection Manager.
+pub(crate) type ManagerRequest = ArrayVec<u8, LONGEST_MANAGER_REQUEST>;
+
+/// Writes the header of a frame with so many bytes of data.
+fn begin_frame(command: Command, session: u32, number: u64, count: usize, sent: &mut Sent)
+    requires { count ≤ LONGEST_DATA }
+    ensures header { sent.new.items ≡ header_spelling (sent_header (command_number command) session number count) }
+    ensures size { array_vec_len sent.new ≡ 24 }
+{
+    let header = Header {
+        command: command as u16,
+        length: count as u16,
+        session,
+        status: 0,
+        context: number.to_le_bytes(),
+        options: 0,
+    };
+    sent.clear();
+    let _ = sent.try_extend_from_slice(&header.write());
+}
+
+/// Writes a RegisterSession.
+pub(crate) fn write_register(number: u64, sent: &mut Sent)
+    ensures { sent.new.items ≡ frame (register_frame number) }
+{
+    begin_frame(Command::RegisterSession, 0, number, PROTOCOL.len(), sent);
+    let _ = sent.try_extend_from_slice(&PROTOCOL);
+}
+
+/// Writes an UnRegisterSession, which has no reply.
+pub(crate) fn write_unregister(session: u32, sent: &mut Sent)
+    ensures { sent.new.items ≡ frame (unregister_frame session) }
+{
+    begin_frame(Command::UnRegisterSession, session, 0, 0, sent);
+}
+
+/// Writes a SendRRData with a request.
+pub(crate) fn write_request(session: u32, number: u64, request: &[u8], sent: &mut Sent)
+    requires { length request.now ≤ LONGEST_REQUEST }
+    ensures { sent.new.items ≡ frame (request_frame session number request.now) }
+{
+    begin_frame(
+        Command::SendRRData,
+        session,
+        number,
+        UNCONNECTED_HEAD + request.len(),
+        sent,
+    );
+    let _ = write_rr_body(sent, request);
+}
+
+/// Writes a SendUnitData with an item of the connection that has this O->T ID.
+pub(crate) fn write_item(session: u32, o_to_t_id: u32, item: &[u8], sent: &mut Sent)
+    requires { length item.now ≤ LARGEST_SIZE }
+    ensures { sent.new.items ≡ frame (item_frame session o_to_t_id item.now) }
+{
+    begin_frame(
+        Command::SendUnitData,
+        session,
+        0,
+        CONNECTED_HEAD + item.len(),
+        sent,
+    );
+    let _ = write_unit_body(sent, o_to_t_id, item);
+}
+
+/// A request to open a connection.
+pub(crate) fn open_request(wants: &Wants) -> ManagerRequest
+    ensures { result.items ≡ open_request wants.now }
+{
+    let mut request = begin_manager_request(FORWARD_OPEN);
+    let asked = OpenRequest {
+        priority_and_tick_time: PRIORITY_AND_TICK_TIME,
+        timeout_ticks: TIMEOUT_TICKS,
+        o_to_t_id: 0,
+        t_to_o_id: wants.t_to_o_id,
+        connection_serial: wants.connection_serial,
+        originator_vendor: wants.originator_vendor,
+        originator_serial: wants.originator_serial,
+        timeout_multiplier: wants.timeout_multiplier,
+        o_to_t_rpi: wants.rpi,
+        o_to_t_parameters: parameters(wants.o_to_t_size),
+        t_to_o_rpi: wants.rpi,
+        t_to_o_parameters: parameters(wants.t_to_o_size),
+        transport: Transport {
+            bits: SERVER_CLASS_3,
+        },
+        path: &MESSAGE_ROUTER,
+    };
+    let _ = asked.write(&mut request);
+    request
+}
+
+/// A request to close the connection.
+pub(crate) fn close_request(wants: &Wants) -> ManagerRequest
+    ensures { result.items ≡ close_request wants.now }
+{
+    let mut request = begin_manager_request(FORWARD_CLOSE);
+    let asked = CloseRequest {
+        priority_and_tick_time: PRIORITY_AND_TICK_TIME,
+        timeout_ticks: TIMEOUT_TICKS,
+        connection_serial: wants.connection_serial,
+        originator_vendor: wants.originator_vendor,
+        originator_serial: wants.originator_serial,
+        path: &MESSAGE_ROUTER,
+    };
+    let _ = asked.write(&mut request);
+    request
+}
+
+/// Service, path size in words and path of a request to the Connection Manager.
+fn begin_manager_request(service: u8) -> ManagerRequest
+    ensures text { result.items ≡ manager_request service [] }
+    ensures size { array_vec_len result ≡ 6 }
+{
+    let mut request = ManagerRequest::new();
+    let _ = request.try_extend_from_slice(&[service, 2]);
+    let _ = request.try_extend_from_slice(&CONNECTION_MANAGER);
+    request
+}
+
+/// The parameters of one direction of a connection, with this size.
+fn parameters(size: u16) -> Parameters
+    ensures { result.bits ≡ parameters_of size }
+{
+    // bits 8 to 0 are the size (network connection parameters)
+    Parameters {
+        bits: POINT_TO_POINT_VARIABLE + size % 0x200,
+    }
+}

@@ -1,0 +1,255 @@
+//! The words that the program takes, and what it says of them.
+
+use crate::fault::Fault;
+use clap::{Arg, ArgAction, Command, value_parser};
+use std::alloc::Global;
+
+/// The name of the program.
+pub(crate) const PROGRAM: &str = "enip";
+
+const VERSION: &str = "0.1.0";
+
+const ABOUT_ANSWER: &str = "Answers frames that are given as lines of hexadecimal digits
+
+Reads lines from standard input, and prints the answers of an adapter:
+
+  P HEX    a piece of the stream of peer P, a digit from 1 to 9, who begins at its first line
+  end P    the end of peer P
+  now N    the moment of the pieces that follow, in microseconds
+
+HEX may have spaces. Empty lines and lines that begin with # are skipped.
+
+Prints
+
+  P hex       an answer to peer P; `cut -c3- | enip show` shows what was answered, and what was asked
+  P closed    the adapter closed the connection of peer P, whose later pieces print nothing
+  P full N    P cannot begin: all places are taken (1), or all session handles were given out (2)
+
+Exit status, and the line on standard error
+
+  0                     all lines were run
+  2  an explanation     the words are refused
+  3  configuration N    the configuration is refused
+  4  line N             line N of the input, from 1, is refused; those before it were run
+  5  device             a file or a stream could not be read or written
+  5  memory             there was no memory
+
+What `configuration N` means, by the first that holds of
+
+  7    it is no TOML
+  9    a key is unknown
+  8    a key is missing, or its value is of another type or out of its range
+  1    `name` is over 32 bytes, or has a byte that can't be printed
+  2    there are over 16 tables `assembly`, or the `members` of one have 0 or over 480 bytes
+  3    the `members` of an assembly are over 64, or one has 0 bytes
+  4    the `instance` of an assembly is 0, or stands twice
+  5    `value` of the counter is over its `limit`";
+
+const ABOUT_SERVE: &str = "Serves the device on a socket, one connection after another
+
+Prints where it listens on standard error, once it does. A client that resets, sends garbage or leaves in mid-frame
+ends its own connection alone. While a connection is open, later ones wait.
+
+Exit status, and the line on standard error, as of `enip answer`; 5 `device` also where the address cannot be bound.";
+
+const ABOUT_SHOW: &str = "Prints the fields of frames that are given as lines of hexadecimal digits
+
+Reads a frame a line from standard input, and prints its header, its items and its request or reply, up to the
+first fault.";
+
+const ABOUT_GET: &str = "Reads an attribute of an object of a device
+
+  enip get 127.0.0.1:44818 1 1 1
+
+reads the vendor: class 1 (Identity), instance 1, attribute 1.";
+
+const ABOUT_SET: &str = "Sets an attribute of an object of a device
+
+  enip set 127.0.0.1:44818 4 100 3 01020304
+
+sets the data of an assembly: class 4 (Assembly), instance 100, attribute 3, to the bytes 01 02 03 04.";
+
+const ABOUT_CALL: &str = "Calls a service of an object of a device
+
+  enip call 127.0.0.1:44818 50 100 1 05000000
+
+calls service 50 (0x32) of class 100, instance 1, with the data 05 00 00 00: of the demo it adds 5 to the counter.";
+
+const AFTER_ASKING: &str =
+    "One request is sent in a session of its own, with --connected on a class 3 connection of its own. There is no
+time-out: a device that does not answer is not waited for beyond what TCP does. Numbers are decimal, and lie in HEX
+least byte first.
+
+Prints
+
+  hex                    the data of the reply
+  ok                     it has none
+  refused 0xGG           the device refused: the general status
+  refused 0xGG 0xEEEE    the same, with the first additional word
+
+Exit status, and the line on standard error
+
+  0                     the request was done
+  2  an explanation     the words are refused
+  2  hex                HEX is no hexadecimal digits
+  5  device             the device could not be reached, read or written, or left before its reply
+  5  memory             there was no memory
+  6                     the device refused
+  7  fault N            there was no reply
+
+What `fault N` means
+
+  1    the request was not possible
+  2    the device answered with an encapsulation status
+  4    a frame was too long
+  6    the reply has another shape
+  7    the request is too long: over 504 bytes, or 498 with --connected";
+
+/// The whole program.
+pub(crate) fn program<'a>(alloc: Global) -> Result<Command<'a>, Fault> {
+    Ok(
+        Command::new(alloc, PROGRAM)
+            .version(VERSION)
+            .about(
+                "An EtherNet/IP adapter that is proved to answer as the standard says, and a client",
+            )
+            .subcommand_required(true)
+            .arg_required_else_help(true)
+            .subcommand(answer(alloc)?)?
+            .subcommand(serve(alloc)?)?
+            .subcommand(show(alloc))?
+            .subcommand(get(alloc)?)?
+            .subcommand(set(alloc)?)?
+            .subcommand(call(alloc)?)?,
+    )
+}
+
+fn answer<'a>(alloc: Global) -> Result<Command<'a>, Fault> {
+    Ok(
+        Command::new(alloc, "answer")
+            .about("Answers frames that are given as lines of hexadecimal digits")
+            .long_about(ABOUT_ANSWER)
+            .arg(config(alloc))?,
+    )
+}
+
+fn serve<'a>(alloc: Global) -> Result<Command<'a>, Fault> {
+    let address = Arg::new(alloc, "ADDRESS").required(true).help(
+        "Where to listen, as 127.0.0.1:44818; port 0 takes a free one",
+    );
+    // 1 to 65,535 (ours)
+    let count = Arg::new(alloc, "count")
+        .long("count")
+        .value_name("N")
+        .value_parser(value_parser!(u16).range(1..))
+        .help("How many connections to serve; all that come, where it is left out");
+    Ok(
+        Command::new(alloc, "serve")
+            .about("Serves the device on a socket, one connection after another")
+            .long_about(ABOUT_SERVE)
+            .arg(config(alloc))?
+            .arg(address)?
+            .arg(count)?,
+    )
+}
+
+fn show<'a>(alloc: Global) -> Command<'a> {
+    Command::new(alloc, "show")
+        .about("Prints the fields of frames that are given as lines of hexadecimal digits")
+        .long_about(ABOUT_SHOW)
+}
+
+fn get<'a>(alloc: Global) -> Result<Command<'a>, Fault> {
+    Ok(
+        Command::new(alloc, "get")
+            .about("Reads an attribute of an object of a device")
+            .long_about(ABOUT_GET)
+            .after_long_help(AFTER_ASKING)
+            .arg(device(alloc))?
+            .arg(class(alloc))?
+            .arg(instance(alloc))?
+            .arg(attribute(alloc))?
+            .arg(connected(alloc))?,
+    )
+}
+
+fn set<'a>(alloc: Global) -> Result<Command<'a>, Fault> {
+    Ok(
+        Command::new(alloc, "set")
+            .about("Sets an attribute of an object of a device")
+            .long_about(ABOUT_SET)
+            .after_long_help(AFTER_ASKING)
+            .arg(device(alloc))?
+            .arg(class(alloc))?
+            .arg(instance(alloc))?
+            .arg(attribute(alloc))?
+            .arg(digits(alloc).required(true))?
+            .arg(connected(alloc))?,
+    )
+}
+
+fn call<'a>(alloc: Global) -> Result<Command<'a>, Fault> {
+    // bit 7 marks a reply (message router)
+    let service = Arg::new(alloc, "SERVICE")
+        .required(true)
+        .value_parser(value_parser!(u8).range(..0x80))
+        .help("The service, 0 to 127");
+    Ok(
+        Command::new(alloc, "call")
+            .about("Calls a service of an object of a device")
+            .long_about(ABOUT_CALL)
+            .after_long_help(AFTER_ASKING)
+            .arg(device(alloc))?
+            .arg(service)?
+            .arg(class(alloc))?
+            .arg(instance(alloc))?
+            .arg(digits(alloc))?
+            .arg(connected(alloc))?,
+    )
+}
+
+fn config<'a>(alloc: Global) -> Arg<'a> {
+    Arg::new(alloc, "CONFIG")
+        .required(true)
+        .help("The configuration of the device, a TOML file")
+}
+
+fn device<'a>(alloc: Global) -> Arg<'a> {
+    Arg::new(alloc, "ADDRESS")
+        .required(true)
+        .help("Where the device listens, as 127.0.0.1:44818")
+}
+
+fn class<'a>(alloc: Global) -> Arg<'a> {
+    Arg::new(alloc, "CLASS")
+        .required(true)
+        .value_parser(value_parser!(u16))
+        .help("The class of the object, 0 to 65535")
+}
+
+fn instance<'a>(alloc: Global) -> Arg<'a> {
+    Arg::new(alloc, "INSTANCE")
+        .required(true)
+        .value_parser(value_parser!(u32))
+        .help("Its instance, 0 to 4294967295; 0 is the class itself")
+}
+
+fn attribute<'a>(alloc: Global) -> Arg<'a> {
+    Arg::new(alloc, "ATTRIBUTE")
+        .required(true)
+        .value_parser(value_parser!(u16))
+        .help("The attribute, 0 to 65535")
+}
+
+fn digits<'a>(alloc: Global) -> Arg<'a> {
+    Arg::new(alloc, "HEX").help(
+        "The data of the request in hexadecimal digits, perhaps with spaces",
+    )
+}
+
+fn connected<'a>(alloc: Global) -> Arg<'a> {
+    Arg::new(alloc, "connected")
+        .long("connected")
+        .action(ArgAction::SetTrue)
+        .help("Asks on a class 3 connection")
+}
