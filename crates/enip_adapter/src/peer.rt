@@ -31,6 +31,15 @@ impl Model for Peer {
     ghost inverse = { λ n. record { handle = n } };
 }
 
+impl Peer {
+    /// The session handle that it was given when it began.
+    pub fn handle(&self) -> u32
+        ensures { result ≡ self.now }
+    {
+        self.handle
+    }
+}
+
 /// What a peer is to the encapsulation.
 #[derive(Clone, Copy, Debug, PartialEq, Eq)]
 pub(crate) struct Session {

@@ -1,6 +1,6 @@
 //! The client: the calls that lend a frame to send, and what came back.
 
-ghost use Rattle.std.specs.Prelude.{◌≡◌, ◌<◌, ◌≤◌, length, IfOk, IfErr, None};
+ghost use Rattle.std.specs.Prelude.{◌≡◌, ◌<◌, ◌≤◌, length, IfOk, IfErr, IfSome, None};
 ghost use Rattle.std.specs.Option.{option_map};
 ghost use Rattle.std.specs.Borrow.{sem};
 ghost use Rattle.std.specs.Io.BufRead.{Rests};
@@ -13,7 +13,7 @@ ghost use Rattle.enip_client.specs.Calls.{bytes_in, bytes_lent, after_lending};
 
 use crate::fault::{ClientFault, SubmitFault};
 use crate::hearing::{Found, Hearing};
-use crate::sending::Sent;
+use crate::sending::{LONGEST_SENT, Sent};
 use crate::state::{Link, Registration, State};
 use crate::wants::Wants;
 use cip_class3::{Originator, Stage};
@@ -154,6 +154,7 @@ impl Client {
     /// originator. Nothing changed.
     pub fn submit(&mut self, request: &[u8]) -> Result<&[u8], SubmitFault>
         ensures lent { bytes_in result ≡ bytes_lent (submits self.old.state request.now) }
+        ensures fits { IfOk result (λ frame. length frame.now ≤ LONGEST_SENT) }
         ensures* after { sem 𝓛 (Rests the_row self.entry (λ new. new
             ≡ with_state self.old (after_lending self.old.state (submits self.old.state request.now)))) }
     {
@@ -165,6 +166,7 @@ impl Client {
     /// a connection.
     pub fn resend(&mut self) -> Option<&[u8]>
         ensures lent { option_map (λ lent. lent.now) result ≡ option_map frame (resends self.old.state) }
+        ensures fits { IfSome result (λ frame. length frame.now ≤ LONGEST_SENT) }
         ensures* after { sem 𝓛 (Rests the_row self.entry (λ new. new ≡ self.old)) }
     {
         if self.state.resend(&mut self.sent) {

@@ -23,6 +23,7 @@ pub use asking::{AskFault, ask};
 pub use client::Client;
 pub use fault::{ClientFault, SubmitFault};
 pub use hearing::{Heard, Hearing};
+pub use sending::{LONGEST_SENT, Sent, write_register, write_request};
 pub use wants::Wants;
 
 #[cfg(test)]

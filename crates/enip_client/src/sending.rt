@@ -28,10 +28,10 @@ const CONNECTED_HEAD: usize = 20;
 const LONGEST_DATA: usize = CONNECTED_HEAD + LARGEST_SIZE;
 
 /// The longest frame that is sent, in bytes.
-const LONGEST_SENT: usize = Header::SIZE + LONGEST_DATA;
+pub const LONGEST_SENT: usize = Header::SIZE + LONGEST_DATA;
 
 /// One frame to send.
-pub(crate) type Sent = ArrayVec<u8, LONGEST_SENT>;
+pub type Sent = ArrayVec<u8, LONGEST_SENT>;
 
 /// The commands that a client sends. (Volume 2, encapsulation commands.)
 #[derive(Clone, Copy, Debug, PartialEq, Eq)]
@@ -89,8 +89,8 @@ fn begin_frame(command: Command, session: u32, number: u64, count: usize, sent: 
     let _ = sent.try_extend_from_slice(&header.write());
 }
 
-/// Writes a RegisterSession.
-pub(crate) fn write_register(number: u64, sent: &mut Sent)
+/// Writes a RegisterSession, whose context is this number.
+pub fn write_register(number: u64, sent: &mut Sent)
     ensures { sent.new.items ≡ frame (register_frame number) }
 {
     begin_frame(Command::RegisterSession, 0, number, PROTOCOL.len(), sent);
@@ -104,8 +104,8 @@ pub(crate) fn write_unregister(session: u32, sent: &mut Sent)
     begin_frame(Command::UnRegisterSession, session, 0, 0, sent);
 }
 
-/// Writes a SendRRData with a request.
-pub(crate) fn write_request(session: u32, number: u64, request: &[u8], sent: &mut Sent)
+/// Writes a SendRRData with a request of at most 504 bytes, whose context is this number.
+pub fn write_request(session: u32, number: u64, request: &[u8], sent: &mut Sent)
     requires { length request.now ≤ LONGEST_REQUEST }
     ensures { sent.new.items ≡ frame (request_frame session number request.now) }
 {
