@@ -2,6 +2,7 @@ pub mod AdapterShows
 pub mod AgreementLemmas
 pub mod AnswerLemmas
 pub mod ArrivalLemmas
+pub mod BenchLemmas
 pub mod ClientShows
 pub mod CountLemmas
 pub mod FeedLemmas
@@ -19,6 +20,7 @@ pub mod OpeningRun
 pub mod Plain
 pub mod PlainLemmas
 pub mod PositionLemmas
+pub mod ReachedLemmas
 pub mod RoutedLemmas
 pub mod RunLemmas
 pub mod SeenLemmas

@@ -99,12 +99,12 @@ module _ (objects : Contents) (listen : Listen) (limits : Limits) (wants : Wants
   unfolding opening
   opening_shows e =
       let start : AdapterState = new_adapter objects listen limits in
-      let begun = bind_ok (begins start) (λ peer. first (ends_at_beginning start wants) peer wants) world e in
+      let begun = bind_ok (begins start) (λ peer. first (ends_at_beginning start (new_client wants)) peer wants) world e in
       let is_begun : IsBegun start begun.0 = begun-ok start begun.0 begun.1 in
-      let rest : first (ends_at_beginning start wants) peer wants ≡ Ok world
-      = subst (λ n. first (ends_at_beginning start wants) n wants ≡ Ok world) is_begun.next begun.2 in
+      let rest : first (ends_at_beginning start (new_client wants)) peer wants ≡ Ok world
+      = subst (λ n. first (ends_at_beginning start (new_client wants)) n wants ≡ Ok world) is_begun.next begun.2 in
       let below : peer < 2 ^ 32 = subst (λ n. n < 2 ^ 32) is_begun.next is_begun.below in
-      let exchanged : exchange (ends_at_beginning start wants) peer is_registered_news (registers (new_client wants).state)
+      let exchanged : exchange (ends_at_beginning start (new_client wants)) peer is_registered_news (registers (new_client wants).state)
       ≡ Ok (record { adapter = begun_single objects listen limits wants next peer (registered_as peer); client = registered wants peer })
       = ap (λ a. exchange (record { adapter = a; client = new_client wants }) peer is_registered_news (registers (new_client wants).state))
       is_begun.adapter ∙ first-exchange objects listen limits wants next peer below in

@@ -105,18 +105,18 @@ counting_at_opening ends peer second = record {
 }
 
 -- both ends as they are made, where the client's peer has begun
-abbrev pub ends_at_beginning : AdapterState → Wants → Ends
-ends_at_beginning adapter wants =
-    record { adapter = after_call adapter Begins_peer; client = new_client wants }
+abbrev pub ends_at_beginning : AdapterState → ClientState → Ends
+ends_at_beginning adapter client = record { adapter = after_call adapter Begins_peer; client = client }
 
-abbrev pub opening_between : AdapterState → Wants → Result CountingWorld Setup
-opening_between adapter wants = do
+-- the opening between these ends, where nothing is refused
+abbrev pub opening_between : AdapterState → ClientState → Result CountingWorld Setup
+opening_between adapter client = do
   peer ← begins adapter
-  registered ← exchange (ends_at_beginning adapter wants) peer is_registered_news (registers (new_client wants).state)
+  registered ← exchange (ends_at_beginning adapter client) peer is_registered_news (registers client.state)
   opened ← exchange registered peer is_opened_news (opens registered.client.state)
   second ← begins opened.adapter
   Ok (counting_at_opening opened peer second)
 
--- the opening between a new adapter and a new client, where nothing is refused
+-- the opening between a new adapter and a new client
 unfoldable pub opening : Contents → Listen → Limits → Wants → Result CountingWorld Setup
-opening objects listen limits wants = opening_between (new_adapter objects listen limits) wants
+opening objects listen limits wants = opening_between (new_adapter objects listen limits) (new_client wants)

@@ -1,5 +1,5 @@
 -- What the counting world of whole frames shows, over every list of events from an opening.
-use Rattle.std.specs.Prelude.{◌≡◌, ℕ, List, map, Ok}
+use Rattle.std.specs.Prelude.{◌≡◌, ℕ, List, ◌++◌, map, Ok}
 use Rattle.cip_objects.specs.Contents.{Contents}
 use Rattle.enip_adapter.specs.declared.adapter.Limits.{Limits}
 use Rattle.enip_adapter.specs.declared.shared.Listen.{Listen}
@@ -32,3 +32,11 @@ frame_law =
     (objects : Contents) (listen : Listen) (limits : Limits) (wants : Wants) (world : CountingWorld)
     (events : List Event) → IsWanted wants → opening objects listen limits wants ≡ Ok world →
     counting_seen (counting_run world events) ≡ numbers_in_frames objects wants world.peer events
+
+-- The same of a world that came of an opening by some events, and then went on by others.
+abbrev pub headline : CountingWorld → List Event → CountingWorld → Type 0
+headline old events new =
+    (objects : Contents) (listen : Listen) (limits : Limits) (wants : Wants) (opened : CountingWorld)
+    (before : List Event) → IsWanted wants → opening objects listen limits wants ≡ Ok opened →
+    old ≡ counting_run opened before →
+    counting_seen new ≡ numbers_in_frames objects wants opened.peer (before ++ events)

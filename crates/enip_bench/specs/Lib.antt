@@ -7,6 +7,9 @@ pub mod FrameRows
 pub mod ItemWorld
 pub mod NumberedWorld
 pub mod ObjectsRun
+pub mod Reached
 pub mod Rows
 pub mod Seen
+pub mod Stored
+pub mod Telling
 pub mod WorldLaws

@@ -7,6 +7,15 @@
 //! same.
 #![tactic(auto)]
 
+mod bench;
+mod event;
 pub mod laws;
+mod opening;
+mod world;
+
+pub use bench::{Bench, BenchFault, Seen};
+pub use event::{Event, Step};
+pub use world::Accepted;
+
 #[cfg(test)]
 mod tests;

@@ -1,0 +1,215 @@
+-- How the bench's code moves as the counting world does.
+use Rattle.std.proofs.Common.{◌≡◌, ℕ, zero, suc, ◌+◌, ◌-◌, ◌<◌, ◌≤◌, Bool, true, false, cond, Option, Some, None, option_map, List, [], ◌∷◌, ◌++◌, length, take, map, slice_index_or, slice_get, Result, Ok, Err, refl, ap, ap₂, sym, ◌∙◌, subst, arith}
+use Rattle.std.proofs.Math.Seq.{take-suc}
+use Rattle.std.proofs.lemmas.List.{take-map, take_all}
+use Rattle.std.proofs.lemmas.Option.{same_Some, slice_get_within}
+use Rattle.cip_bytes.specs.Reading.{◌>>=◌}
+use Rattle.cip_objects.specs.Contents.{Contents}
+use Rattle.enip_wire.specs.Frames.{frame}
+use Rattle.enip_adapter.specs.Calls.{AdapterState, after_call}
+use Rattle.enip_adapter.specs.Calls.Call.{Begins_peer, Feeds}
+use Rattle.enip_client.specs.Calls.{registers, opens}
+use Rattle.enip_client.specs.Client.{ClientState, Fed, fed}
+use Rattle.enip_client.specs.Frames.{register_frame, request_frame}
+use Rattle.enip_client.specs.Hears.{News}
+use Rattle.enip_client.specs.Hears.News.{Nothing, Registered, Opened, Replied, Accepted, Refused, Closed}
+use Rattle.enip_bench.specs.CountingOpening.{Setup, Ends, begins, exchange, is_registered_news, is_opened_news, ends_at_beginning, counting_at_opening, opening_between, opening}
+use Rattle.enip_bench.specs.CountingWorld.{CountingWorld, acceptance, with_fed, after_back, after_other, counting_step, counting_run}
+use Rattle.enip_bench.specs.Events.{Event, Back, Other, delivery, is_unconnected_request, with_any}
+use Rattle.enip_bench.specs.Reached.{IsNewAdapter, IsNewClient, IsReached}
+use Rattle.enip_bench.specs.Seen.{Seen}
+use Rattle.enip_bench.specs.Stored.{world_in, acceptances_in, event_in, events_in, last_reply, reply_heard, IsTold, IsStepped, IsOfOpening}
+use Rattle.enip_bench.specs.Telling.{Telling, Accepts, Done, Impossible, news_telling, back_telling}
+use Rattle.enip_bench.specs.declared.event.Event.{Event as EventInCode}
+use Rattle.enip_bench.specs.declared.event.Told.{Told}
+use Rattle.enip_bench.specs.declared.event.Told.TheVariants as tolds
+use Rattle.enip_bench.specs.declared.world.Accepted.{Accepted as Accepted_reply}
+use Rattle.enip_bench.specs.declared.world.World.{World}
+use Rattle.enip_bench.proofs.PositionLemmas.{map-push}
+use Rattle.enip_bench.proofs.ReachedLemmas.{run_joined, reached_again}
+
+-- another session's request was executed
+pub other_told : (world : CountingWorld) (request bytes : List ℕ) (adapter : AdapterState) →
+    is_unconnected_request request ≡ true → bytes ≡ frame (request_frame world.second 0 request) →
+    adapter ≡ after_call world.adapter (Feeds 0 world.second bytes) →
+    IsTold world (Other request) (record world { adapter = adapter }) tolds.Done
+other_told world request bytes adapter is framed went = record {
+  world = ap (λ a. (let x : CountingWorld = record world { adapter = a } in x))
+      (went ∙ ap (λ b. after_call world.adapter (Feeds 0 world.second b)) framed)
+      ∙ sym (ap (λ b. cond b (after_other world request) world) is);
+  telling_is = sym (ap (λ b. cond b Done Impossible) is);
+}
+
+-- what is put at the end is the last
+pub last-push : (xs : List (ℕ × List ℕ)) (x : ℕ × List ℕ) → last_reply (xs ++ x ∷ []) ≡ x.1
+last-push [] x = refl
+last-push (y ∷ []) x = refl
+last-push (y ∷ z ∷ xs) x = last-push (z ∷ xs) x
+
+last-of : (xs : List Accepted_reply) (n : ℕ) (x : Accepted_reply) → length xs ≡ suc n → slice_get xs n ≡ Some x →
+    last_reply (acceptances_in xs) ≡ x.reply.items
+last-of [] n x l e = absurd (cc)
+last-of (y ∷ []) zero x l e = ap (λ (a : Accepted_reply). a.reply.items) (same_Some y x e)
+last-of (y ∷ []) (suc n) x l e = absurd (omega (arith, l))
+last-of (y ∷ z ∷ xs) zero x l e = absurd (omega (arith, l))
+last-of (y ∷ z ∷ xs) (suc n) x l e = last-of (z ∷ xs) n x (omega (arith, l)) e
+
+pub last-at : (xs : List Accepted_reply) (x : Accepted_reply) → slice_get xs (length xs - 1) ≡ Some x →
+    last_reply (acceptances_in xs) ≡ x.reply.items
+last-at xs x e = last-of xs (length xs - 1) x (omega (arith, slice_get_within xs (length xs - 1) x e)) e
+
+pub same_seen : (a b : Seen Contents) → a.router ≡ b.router → a.back ≡ b.back → a.accepted ≡ b.accepted →
+    a.stage ≡ b.stage → a ≡ b
+same_seen a b router back accepted stage =
+    ap₂ (λ r k. (let x : Seen Contents = record { router = r; back = k; accepted = a.accepted; stage = a.stage } in x))
+    router back
+    ∙ ap₂ (λ c s. (let x : Seen Contents = record { router = b.router; back = b.back; accepted = c; stage = s } in x))
+    accepted stage
+
+acceptance-heard : (submits : ℕ) (news : News) →
+    acceptance submits news ≡ option_map (λ reply. (submits - 1, reply)) (reply_heard news)
+acceptance-heard submits Nothing = refl
+acceptance-heard submits Registered = refl
+acceptance-heard submits Opened = refl
+acceptance-heard submits (Replied bytes) = refl
+acceptance-heard submits (Accepted bytes) = refl
+acceptance-heard submits (Refused status extended) = refl
+acceptance-heard submits Closed = refl
+
+telling-heard : (news : News) (reply : List ℕ) → reply_heard news ≡ Some reply → news_telling news ≡ Accepts reply
+telling-heard Nothing reply e = absurd (cc)
+telling-heard Registered reply e = absurd (cc)
+telling-heard Opened reply e = absurd (cc)
+telling-heard (Replied bytes) reply e = absurd (cc)
+telling-heard (Accepted bytes) reply e = ap (λ b. Accepts b) (same_Some bytes reply e)
+telling-heard (Refused status extended) reply e = absurd (cc)
+telling-heard Closed reply e = absurd (cc)
+
+-- a reply was accepted
+pub accepted_told : (world : CountingWorld) (position : ℕ) (bytes reply : List ℕ) (client : ClientState)
+    (accepted : List (ℕ × List ℕ)) → delivery world.last_back world.back position ≡ Some bytes →
+    client ≡ (fed world.client bytes).client → reply_heard (fed world.client bytes).news ≡ Some reply →
+    accepted ≡ world.accepted ++ (world.submits - 1, reply) ∷ [] →
+    IsTold world (Back position)
+    (record world { client = client; last_back = Some position; accepted = accepted }) tolds.Accepted
+accepted_told world position bytes reply client accepted found heard news put =
+    let with_accepted : Option (ℕ × List ℕ) → List (ℕ × List ℕ) = λ o. with_any o world.accepted in
+    let same : accepted ≡ with_accepted (acceptance world.submits (fed world.client bytes).news)
+    = put ∙ sym (ap with_accepted
+    (acceptance-heard world.submits (fed world.client bytes).news
+    ∙ ap (option_map (λ r. (world.submits - 1, r))) news)) in
+    record {
+      world = ap₂ (λ c a. (let x : CountingWorld = record world { client = c; last_back = Some position; accepted = a } in x))
+          heard same ∙ sym (ap (λ o. after_back o world position) found);
+      telling_is = ap (λ r. Accepts r) (ap last_reply put ∙ last-push world.accepted (world.submits - 1, reply))
+          ∙ (sym (telling-heard (fed world.client bytes).news reply news)
+          ∙ sym (ap (back_telling world) found));
+    }
+
+-- it came of an opening still
+pub told_reached : (old new : CountingWorld) (event : Event) (told : Told) → IsReached old → IsTold old event new told →
+    IsReached new
+told_reached old new event told reached is = subst IsReached (sym is.world) (reached_again old event reached)
+
+pub stepped_reached : {E : Type 0} (old new : CountingWorld) (event : Event) (r : Result Told E) → IsReached old →
+    IsStepped old event new r → IsReached new
+stepped_reached old new event (Ok told) reached is = told_reached old new event told reached is
+stepped_reached old new event (Err error) reached is = subst IsReached (sym is) reached
+
+-- so many of the events were done
+pub record RunsTo (old : CountingWorld) (events : List EventInCode) (count : ℕ) (world : World) : Type 0 where
+  pub run : world_in world ≡ counting_run old (take count (events_in events))
+  pub is : IsOfOpening world
+
+plus_one : (n : ℕ) → n + 1 ≡ suc n
+plus_one n = omega arith
+
+taken_more : (events : List EventInCode) (position : ℕ) (event : EventInCode) → position < length events →
+    event ≡ slice_index_or events position event →
+    take (position + 1) (events_in events) ≡ take position (events_in events) ++ event_in event ∷ []
+taken_more events position event lt is =
+    ap (λ n. take n (events_in events)) (plus_one position)
+    ∙ (take-map event_in (suc position) events ∙ (ap (map event_in) (take-suc events position event lt ∙ ap (λ e. take position events ++ e ∷ []) (sym is))
+    ∙ (map-push event_in (take position events) event
+    ∙ ap (λ es. es ++ event_in event ∷ []) (sym (take-map event_in position events)))))
+
+pub runs_more : (old : CountingWorld) (events : List EventInCode) (position : ℕ) (event : EventInCode) (world next : World)
+    (told : Told) → RunsTo old events position world → position < length events →
+    event ≡ slice_index_or events position event → IsTold (world_in world) (event_in event) (world_in next) told →
+    next.submits ≤ length next.sent.items → RunsTo old events (position + 1) next
+runs_more old events position event world next told runs lt is done counted = record {
+  run = done.world ∙ (ap (λ w. counting_step w (event_in event)) runs.run
+      ∙ (sym (run_joined old (take position (events_in events)) (event_in event ∷ []))
+      ∙ ap (counting_run old) (sym (taken_more events position event lt is))));
+  is = record {
+    reached = told_reached (world_in world) (world_in next) (event_in event) told runs.is.reached done;
+    counted = counted;
+  };
+}
+
+pub ran : (old : CountingWorld) (events : List EventInCode) (count : ℕ) (world : World) → RunsTo old events count world →
+    length events ≤ count → world_in world ≡ counting_run old (events_in events)
+ran old events count world runs all =
+    runs.run ∙ ap (counting_run old) (take-map event_in count events ∙ ap (map event_in) (take_all count events all))
+
+-- the opening, step by step
+pub opened_so : (adapter one two three four five : AdapterState) (client registered opened : ClientState)
+    (peer second : ℕ) (bytes : List ℕ) → begins adapter ≡ Ok peer → one ≡ after_call adapter Begins_peer →
+    exchange (record { adapter = one; client = client }) peer is_registered_news (registers client.state)
+    ≡ Ok (record { adapter = two; client = registered }) →
+    exchange (record { adapter = two; client = registered }) peer is_opened_news (opens registered.state)
+    ≡ Ok (record { adapter = three; client = opened }) →
+    begins three ≡ Ok second → four ≡ after_call three Begins_peer → bytes ≡ frame (register_frame 0) →
+    five ≡ after_call four (Feeds 0 second bytes) → (sent back : List (List ℕ)) (accepted : List (ℕ × List ℕ)) →
+    sent ≡ [] → back ≡ [] → accepted ≡ [] →
+    opening_between adapter client
+    ≡ Ok (record (counting_at_opening (record { adapter = three; client = opened }) peer second) {
+      adapter = five;
+      sent = sent;
+      back = back;
+      accepted = accepted;
+    })
+opened_so adapter one two three four five client registered opened peer second bytes e1 a1 e2 e3 e4 a4 f a5 sent back accepted s b c =
+    let last : Ends → ℕ → Result CountingWorld Setup
+    = λ ends peer. begins ends.adapter >>= λ second. Ok (counting_at_opening ends peer second) in
+    let later : Ends → ℕ → Result CountingWorld Setup
+    = λ ends peer. exchange ends peer is_opened_news (opens ends.client.state) >>= λ opened. last opened peer in
+    let first : ℕ → Result CountingWorld Setup
+    = λ peer. exchange (ends_at_beginning adapter client) peer is_registered_news (registers client.state)
+    >>= λ registered. later registered peer in
+    ap (λ r. r >>= first) e1
+    ∙ (ap (λ r. r >>= λ ends. later ends peer)
+    (ap (λ a. exchange (record { adapter = a; client = client }) peer is_registered_news (registers client.state)) (sym a1) ∙ e2)
+    ∙ (ap (λ r. r >>= λ ends. last ends peer) e3
+    ∙ (ap (λ r. r >>= λ second. Ok (counting_at_opening (record { adapter = three; client = opened }) peer second)) e4
+    ∙ (ap (λ a. (let x : Result CountingWorld Setup
+    = Ok (record (counting_at_opening (record { adapter = three; client = opened }) peer second) { adapter = a }) in x))
+    (sym (a5 ∙ ap₂ (λ a b. after_call a (Feeds 0 second b)) a4 f))
+    ∙ (ap₂ (λ s b. (let x : Result CountingWorld Setup
+    = Ok (record (counting_at_opening (record { adapter = three; client = opened }) peer second) {
+      adapter = five;
+      sent = s;
+      back = b;
+    }) in x)) (sym s) (sym b)
+    ∙ ap (λ a. (let x : Result CountingWorld Setup
+    = Ok (record (counting_at_opening (record { adapter = three; client = opened }) peer second) {
+      adapter = five;
+      sent = sent;
+      back = back;
+      accepted = a;
+    }) in x)) (sym c))))))
+
+pub opening_reached : (adapter : AdapterState) (client : ClientState) (world : CountingWorld) → IsNewAdapter adapter →
+    IsNewClient client → opening_between adapter client ≡ Ok world → IsReached world
+unfolding opening
+opening_reached adapter client world a c e = record {
+  objects = a.objects;
+  listen = a.listen;
+  limits = a.limits;
+  wants = c.wants;
+  wanted = c.wanted;
+  begun = world;
+  opened = sym (ap₂ opening_between a.is c.is) ∙ e;
+  events = [];
+  come = refl;
+}

@@ -1,0 +1,37 @@
+-- The worlds that come of an opening.
+use Rattle.std.specs.Prelude.{◌≡◌, List, Ok}
+use Rattle.cip_objects.specs.Contents.{Contents}
+use Rattle.enip_adapter.specs.Adapter.{new_adapter}
+use Rattle.enip_adapter.specs.Calls.{AdapterState}
+use Rattle.enip_adapter.specs.declared.adapter.Limits.{Limits}
+use Rattle.enip_adapter.specs.declared.shared.Listen.{Listen}
+use Rattle.enip_client.specs.Client.{ClientState, new_client}
+use Rattle.enip_client.specs.declared.wants.Wants.{Wants}
+use Rattle.enip_bench.specs.CountingOpening.{IsWanted, opening}
+use Rattle.enip_bench.specs.CountingWorld.{CountingWorld, counting_run}
+use Rattle.enip_bench.specs.Events.{Event}
+
+-- an adapter as it is made
+pub record IsNewAdapter (adapter : AdapterState) : Type 0 where
+  pub objects : Contents
+  pub listen : Listen
+  pub limits : Limits
+  pub is : adapter ≡ new_adapter objects listen limits
+
+-- a client as it is made
+pub record IsNewClient (client : ClientState) : Type 0 where
+  pub wants : Wants
+  pub wanted : IsWanted wants
+  pub is : client ≡ new_client wants
+
+-- both ends came here by these events, from an opening that nothing refused
+pub record IsReached (world : CountingWorld) : Type 0 where
+  pub objects : Contents
+  pub listen : Listen
+  pub limits : Limits
+  pub wants : Wants
+  pub wanted : IsWanted wants
+  pub begun : CountingWorld
+  pub opened : opening objects listen limits wants ≡ Ok begun
+  pub events : List Event
+  pub come : world ≡ counting_run begun events

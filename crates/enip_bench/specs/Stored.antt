@@ -1,0 +1,160 @@
+-- How the code stands for the counting world, its events and what is told of them.
+use Rattle.std.specs.Prelude.{◌≡◌, ◌<◌, ◌≤◌, ℕ, ⊤, Bool, if◌then◌else◌, map, take, length, Option, Some, None, List, [], ◌∷◌, Result, Ok, Err}
+use Rattle.bytes.specs.Filled.{Filled}
+use Rattle.cip_objects.specs.Contents.{Contents}
+use Rattle.enip_adapter.specs.Calls.{AdapterState, after_call, call_answer}
+use Rattle.enip_adapter.specs.Calls.Call.{Begins_peer}
+use Rattle.enip_client.specs.Client.{ClientState}
+use Rattle.enip_client.specs.Hears.{News}
+use Rattle.enip_client.specs.Hears.News.{Nothing, Registered, Opened, Replied, Accepted as Accepted_news, Refused, Closed}
+use Rattle.enip_bench.specs.CountingOpening.{Setup, ARefusal, Ends, begins}
+use Rattle.enip_bench.specs.CountingWorld.{CountingWorld, counting_step, counting_run}
+use Rattle.enip_bench.specs.Events.{Event, Submit, Resend, Reach, Back, Other, Shut, GiveUp}
+use Rattle.enip_bench.specs.Reached.{IsReached}
+use Rattle.enip_bench.specs.Seen.{Seen}
+use Rattle.enip_bench.specs.Telling.{Telling, Sends, Refuses, Resends, Reaches, Accepts, Ignores, Impossible, Done, telling}
+use Rattle.enip_bench.specs.declared.bench.BenchFault.{BenchFault}
+use Rattle.enip_bench.specs.declared.bench.BenchFault.TheVariants as faults
+use Rattle.enip_bench.specs.declared.bench.Seen.{Seen as SeenInCode}
+use Rattle.enip_bench.specs.declared.event.Event.{Event as EventInCode}
+use Rattle.enip_bench.specs.declared.event.Event.TheVariants as events
+use Rattle.enip_bench.specs.declared.event.Told.{Told}
+use Rattle.enip_bench.specs.declared.event.Told.TheVariants as tolds
+use Rattle.enip_bench.specs.declared.event.Step.{Step}
+use Rattle.enip_bench.specs.declared.event.Step.TheVariants as steps
+use Rattle.enip_bench.specs.declared.world.Accepted.{Accepted}
+use Rattle.enip_bench.specs.declared.world.World.{World}
+
+abbrev pub frames_in : List Filled → List (List ℕ)
+frames_in frames = map (λ frame. frame.items) frames
+
+abbrev pub acceptance_in : Accepted → ℕ × List ℕ
+acceptance_in accepted = (accepted.number, accepted.reply.items)
+
+abbrev pub acceptances_in : List Accepted → List (ℕ × List ℕ)
+acceptances_in xs = map acceptance_in xs
+
+abbrev pub world_in : World → CountingWorld
+world_in world = record {
+  adapter = world.adapter;
+  client = world.client;
+  peer = world.peer;
+  second = world.second;
+  sent = frames_in world.sent.items;
+  back = frames_in world.back.items;
+  last_reached = world.last_reached;
+  last_back = world.last_back;
+  submits = world.submits;
+  accepted = acceptances_in world.accepted.items;
+}
+
+abbrev pub event_in : EventInCode → Event
+event_in (events.Submit request) = Submit request.items
+event_in events.Resend = Resend
+event_in (events.Reach position) = Reach position
+event_in (events.Back position) = Back position
+event_in (events.Other request) = Other request.items
+event_in events.Shut = Shut
+event_in events.GiveUp = GiveUp
+
+abbrev pub events_in : List EventInCode → List Event
+events_in xs = map event_in xs
+
+-- the reply that was accepted last
+abbrev pub last_reply : List (ℕ × List ℕ) → List ℕ
+last_reply [] = []
+last_reply (accepted ∷ []) = accepted.1
+last_reply (accepted ∷ next ∷ later) = last_reply (next ∷ later)
+
+-- what is told, where an accepted reply has these bytes
+abbrev pub telling_with : List ℕ → Told → Telling
+telling_with reply (tolds.Sent number position) = Sends number position
+telling_with reply (tolds.Refused why) = Refuses why
+telling_with reply (tolds.Resent position) = Resends position
+telling_with reply (tolds.Reached position) = Reaches position
+telling_with reply tolds.Accepted = Accepts reply
+telling_with reply tolds.Ignored = Ignores
+telling_with reply tolds.Impossible = Impossible
+telling_with reply tolds.Done = Done
+
+abbrev pub telling_in : Step → Telling
+telling_in (steps.Sent number position) = Sends number position
+telling_in (steps.Refused why) = Refuses why
+telling_in (steps.Resent position) = Resends position
+telling_in (steps.Reached position) = Reaches position
+telling_in (steps.Accepted reply) = Accepts reply.now
+telling_in steps.Ignored = Ignores
+telling_in steps.Impossible = Impossible
+telling_in steps.Done = Done
+
+-- the reply that was heard as accepted, if one was
+abbrev pub reply_heard : News → Option (List ℕ)
+reply_heard Nothing = None
+reply_heard Registered = None
+reply_heard Opened = None
+reply_heard (Replied bytes) = None
+reply_heard (Accepted_news bytes) = Some bytes
+reply_heard (Refused status extended) = None
+reply_heard Closed = None
+
+-- such a reply fits this much room
+abbrev pub IsRoomFor : ℕ → News → Type 0
+IsRoomFor room news = (bytes : List ℕ) → reply_heard news ≡ Some bytes → length bytes ≤ room
+
+-- the bytes, if there are any
+abbrev pub reply_put : Bool → List ℕ → Option (List ℕ)
+reply_put is bytes = if is then Some bytes else None
+
+-- the event was done, and this is told of it
+pub record IsTold (old : CountingWorld) (event : Event) (new : CountingWorld) (told : Told) : Type 0 where
+  pub world : new ≡ counting_step old event
+  pub telling_is : telling_with (last_reply new.accepted) told ≡ telling old event
+
+-- the event was done, or for want of memory nothing was
+abbrev pub IsStepped : {E : Type 0} → CountingWorld → Event → CountingWorld → Result Told E → Type 0
+IsStepped old event new (Ok told) = IsTold old event new told
+IsStepped old event new (Err error) = new ≡ old
+
+-- a peer began, or could not
+abbrev pub IsBegun : AdapterState → AdapterState → Result ℕ BenchFault → Type 0
+IsBegun old new (Ok peer) = (begins old ≡ Ok peer) × (new ≡ after_call old Begins_peer)
+IsBegun old new (Err fault) = (fault ≡ faults.Setup) × (begins old ≡ Err ARefusal)
+
+-- an exchange left the ends so, or was refused
+abbrev pub IsExchanged : Result Ends Setup → AdapterState → ClientState → Result (Unit {0}) BenchFault → Type 0
+IsExchanged exchanged adapter client (Ok done) = exchanged ≡ Ok (record { adapter = adapter; client = client })
+IsExchanged exchanged adapter client (Err fault) = (fault ≡ faults.Setup) × (exchanged ≡ Err ARefusal)
+
+-- The opening; `Setup` only where it is refused.
+abbrev pub IsOpening : Result CountingWorld Setup → Result CountingWorld BenchFault → Type 0
+IsOpening opened (Ok world) = opened ≡ Ok world
+IsOpening opened (Err faults.Setup) = opened ≡ Err ARefusal
+IsOpening opened (Err faults.Memory) = ⊤
+
+-- it came of an opening, and each request that was taken was sent
+pub record IsOfOpening (world : World) : Type 0 where
+  pub reached : IsReached (world_in world)
+  pub counted : world.submits ≤ length world.sent.items
+
+-- the world after an event; for want of memory the event is not done
+abbrev pub after_step : {A E : Type 0} → CountingWorld → Event → Result A E → CountingWorld
+after_step old event (Ok told) = counting_step old event
+after_step old event (Err error) = old
+
+-- the events that were done: those before the first that was not, for want of memory
+abbrev pub events_done : {E : Type 0} → List Event → Result (Unit {0}) (ℕ × E) → List Event
+events_done events (Ok done) = events
+events_done events (Err error) = take error.0 events
+
+-- the first event that was not done is one of them
+abbrev pub IsWithin : {E : Type 0} → List Event → Result (Unit {0}) (ℕ × E) → Type 0
+IsWithin events (Ok done) = ⊤
+IsWithin events (Err error) = error.0 < length events
+
+abbrev pub seen_in : SeenInCode → Seen Contents
+seen_in seen = record {
+  router = seen.objects.now;
+  back = frames_in seen.back.now;
+  accepted = acceptances_in seen.accepted.now;
+  stage = seen.stage;
+}

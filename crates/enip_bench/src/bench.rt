@@ -1,0 +1,184 @@
+//! The bench: an adapter and a client side by side, and the frames in flight between them.
+
+ghost use Rattle.std.specs.Prelude.{◌≡◌, IfOk};
+ghost use Rattle.std.specs.Borrow.{sem};
+ghost use Rattle.std.specs.Io.BufRead.{Rests};
+ghost use Rattle.enip_bench.specs.Stored.{acceptances_in, last_reply};
+
+use crate::event::{Event, Step};
+use crate::opening::{begin, open, register};
+use crate::world::{Accepted, World, feed_silently};
+use bytes::BytesMut;
+use cip_class3::Stage;
+use cip_objects::Objects;
+use enip_adapter::Adapter;
+use enip_client::{Client, Sent, write_register};
+use std::alloc::{AllocError, Global};
+use std::marker::Model;
+use thiserror::Error;
+
+/// Why no bench was made.
+#[derive(Clone, Copy, Debug, PartialEq, Eq, Error)]
+pub enum BenchFault {
+    /// Memory was refused.
+    #[error("memory")]
+    Memory = 1,
+    /// A begin, a register or an open was refused.
+    #[error("setup")]
+    Setup = 2,
+}
+
+impl From<AllocError> for BenchFault {
+    ghost use Rattle.enip_bench.specs.declared.bench.BenchFault.TheVariants.{Memory};
+
+    ghost from_gives = { λ _ fault. fault ≡ Memory };
+
+    fn from(_error: AllocError) -> BenchFault {
+        BenchFault::Memory
+    }
+}
+
+/// What the two ends show.
+#[derive(Clone, Copy)]
+pub struct Seen<'a> {
+    /// The adapter's objects.
+    pub objects: &'a Objects,
+    /// Every frame that was sent back, by position.
+    pub back: &'a [BytesMut],
+    /// Each reply that the client accepted, in order.
+    pub accepted: &'a [Accepted],
+    /// Where the client stands.
+    pub stage: Stage,
+}
+
+/// How many frames each direction has room for from the start.
+const FIRST_ROOM: usize = 16;
+
+/// An adapter and a client with an open connection, and a second session at the adapter.
+#[derive(Drop)]
+pub struct Bench {
+    world: World,
+}
+
+impl Model for Bench {
+    ghost use Rattle.std.specs.Coded.{codes};
+    ghost use Rattle.enip_adapter.specs.Stored.{adapter_code};
+    ghost use Rattle.enip_bench.specs.CountingWorld.{CountingWorld};
+
+    ghost Value = { CountingWorld };
+
+    ghost coded = { Prim.hlevel (codes, adapter_code) };
+
+    ghost use Rattle.enip_bench.specs.Stored.{world_in, IsOfOpening};
+
+    ghost view = { λ b. world_in b.world };
+
+    ghost invariant = { λ b. IsOfOpening b.world };
+}
+
+impl Bench {
+    ghost use Rattle.enip_bench.specs.CountingOpening.{opening_between};
+    ghost use Rattle.enip_bench.specs.CountingWorld.{counting_seen};
+    ghost use Rattle.enip_bench.specs.Reached.{IsNewAdapter, IsNewClient};
+    ghost use Rattle.enip_bench.specs.CountingWorld.{counting_run};
+    ghost use Rattle.enip_bench.specs.FrameLaw.{headline};
+    ghost use Rattle.enip_bench.specs.Stored.{event_in, events_in, events_done, IsOpening, IsWithin, after_step, seen_in};
+    ghost use Rattle.enip_bench.specs.Stored.{telling_in};
+    ghost use Rattle.enip_bench.specs.Telling.{telling};
+    ghost use Rattle.enip_bench.specs.contracts.bench.Bench.{the_row};
+
+    /// A bench of a new adapter and a new client. The client registers and opens its connection without loss at moment
+    /// 0, and a second session registers.
+    ///
+    /// # Errors
+    ///
+    /// `Memory` where memory is refused, `Setup` where a begin, a register or an open is refused.
+    pub fn new(alloc: Global, adapter: Adapter, client: Client) -> Result<Bench, BenchFault>
+        requires adapter { IsNewAdapter adapter }
+        requires client { IsNewClient client }
+        ensures { IsOpening (opening_between adapter client) result }
+    {
+        let mut adapter = adapter;
+        let mut client = client;
+        let sent = Vec::with_capacity(alloc, FIRST_ROOM)?;
+        let back = Vec::with_capacity(alloc, FIRST_ROOM)?;
+        let accepted = Vec::with_capacity(alloc, FIRST_ROOM)?;
+        let peer = begin(&mut adapter)?;
+        register(&mut adapter, &mut client, &peer)?;
+        open(&mut adapter, &mut client, &peer)?;
+        let second = begin(&mut adapter)?;
+        let mut frame = Sent::new();
+        write_register(0, &mut frame);
+        feed_silently(&mut adapter, &second, &frame);
+        Ok(Bench {
+            world: World {
+                alloc,
+                adapter,
+                client,
+                peer,
+                second,
+                sent,
+                back,
+                last_reached: None,
+                last_back: None,
+                submits: 0,
+                accepted,
+            },
+        })
+    }
+
+    /// Does an event, and tells what became of it. All room is made before an end is called.
+    ///
+    /// # Errors
+    ///
+    /// `AllocError` where memory is refused. Nothing was done.
+    pub fn step(&mut self, event: &Event) -> Result<Step<'_>, AllocError>
+        ensures* moved { sem 𝓛 (Rests the_row self.entry (λ new. new
+            ≡ after_step self.old (event_in event.now) result)) }
+        ensures told { IfOk result (λ step. telling_in step ≡ telling self.old (event_in event.now)) }
+    {
+        let told = self.world.step(event)?;
+        Ok(told.step(last_reply(&self.world.accepted)))
+    }
+
+    /// Does these events, in order.
+    ///
+    /// # Errors
+    ///
+    /// The position of the first event that was not done for want of memory. Those before it were done, and no other.
+    pub fn run(&mut self, events: &[Event]) -> Result<(), (usize, AllocError)>
+        ensures moved { self.new ≡ counting_run self.old (events_done (events_in events.now) result) }
+        ensures within { IsWithin (events_in events.now) result }
+        ensures headline { headline self.old (events_done (events_in events.now) result) self.new }
+    {
+        for (position, event) in events.iter().enumerate() {
+            if let Err(error) = self.world.step(event) {
+                return Err((position, error));
+            }
+        }
+        Ok(())
+    }
+
+    /// What the two ends show.
+    pub fn seen(&self) -> Seen<'_>
+        ensures { seen_in result ≡ counting_seen self.now }
+    {
+        Seen {
+            objects: self.world.adapter.objects(),
+            back: &self.world.back,
+            accepted: &self.world.accepted,
+            // its connection stays open
+            stage: self.world.client.stage().unwrap_or(Stage::Idle),
+        }
+    }
+}
+
+/// The reply that was accepted last.
+fn last_reply(accepted: &[Accepted]) -> &[u8]
+    ensures { result.now ≡ last_reply (acceptances_in accepted.now) }
+{
+    match accepted.last() {
+        Some(one) => one.reply.as_slice(),
+        None => &[],
+    }
+}

@@ -1,0 +1,77 @@
+//! What happens between the two ends, and what is told of it.
+
+ghost use Rattle.std.specs.Prelude.{◌≡◌};
+ghost use Rattle.enip_bench.specs.Stored.{telling_in, telling_with};
+
+use cip_class3::Refused;
+
+/// What happens between the two ends.
+#[derive(Debug, Drop)]
+pub enum Event {
+    /// The client is given a request.
+    Submit(Vec<u8>),
+    /// The client sends the request that waits once more.
+    Resend,
+    /// The frame that was sent at this position reaches the adapter.
+    Reach(usize),
+    /// The frame that was sent back at this position reaches the client.
+    Back(usize),
+    /// The second session has a request of 2 to 504 bytes executed, unconnected.
+    Other(Vec<u8>),
+    /// The time of every connection is over.
+    Shut,
+    /// The client gives the request that waits up.
+    GiveUp,
+}
+
+/// What is told of an event.
+#[derive(Clone, Copy, Debug, PartialEq, Eq)]
+pub enum Step<'a> {
+    /// The request has this number, from 0, and its frame was sent at this position.
+    Sent(u64, usize),
+    /// The client does not take the request.
+    Refused(Refused),
+    /// The frame was sent at this position; none was, where no request waits.
+    Resent(Option<usize>),
+    /// The answer was sent back at this position; there was none, where there is no position.
+    Reached(Option<usize>),
+    /// The client accepted this reply to the request that waited.
+    Accepted(&'a [u8]),
+    /// The client heard nothing that it waited for.
+    Ignored,
+    /// The event is not possible. Nothing changed.
+    Impossible,
+    /// The event was done.
+    Done,
+}
+
+/// What is told of an event, apart from the bytes of a reply.
+#[derive(Clone, Copy, Debug)]
+pub(crate) enum Told {
+    Sent(u64, usize),
+    Refused(Refused),
+    Resent(Option<usize>),
+    Reached(Option<usize>),
+    Accepted,
+    Ignored,
+    Impossible,
+    Done,
+}
+
+impl Told {
+    /// What is told, where an accepted reply has these bytes.
+    pub(crate) fn step(self, reply: &[u8]) -> Step<'_>
+        ensures { telling_in result ≡ telling_with reply.now self }
+    {
+        match self {
+            Told::Sent(number, position) => Step::Sent(number, position),
+            Told::Refused(why) => Step::Refused(why),
+            Told::Resent(position) => Step::Resent(position),
+            Told::Reached(position) => Step::Reached(position),
+            Told::Accepted => Step::Accepted(reply),
+            Told::Ignored => Step::Ignored,
+            Told::Impossible => Step::Impossible,
+            Told::Done => Step::Done,
+        }
+    }
+}

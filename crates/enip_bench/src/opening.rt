@@ -1,0 +1,72 @@
+//! How the two ends open: without loss, at moment 0.
+
+ghost use Rattle.std.specs.Prelude.{◌≡◌, ℕ, Bool, Option, MatchResult};
+ghost use Rattle.std.specs.Option.{option_map};
+ghost use Rattle.enip_bench.specs.CountingOpening.{exchange, is_registered_news, is_opened_news, begins};
+ghost use Rattle.enip_bench.specs.Stored.{IsExchanged, IsBegun};
+ghost use Rattle.enip_client.specs.Calls.{registers, opens};
+
+use crate::bench::BenchFault;
+use enip_adapter::{Adapter, Peer};
+use enip_client::{Client, Heard};
+
+/// A peer begins.
+///
+/// # Errors
+///
+/// `Setup` where it cannot.
+pub(crate) fn begin(adapter: &mut Adapter) -> Result<Peer, BenchFault>
+    ensures { IsBegun adapter.old adapter.new result }
+{
+    adapter.begin().map_err(|_| BenchFault::Setup)
+}
+
+/// The client registers its session.
+///
+/// # Errors
+///
+/// `Setup` where it is refused.
+pub(crate) fn register(
+    adapter: &mut Adapter,
+    client: &mut Client,
+    peer: &Peer,
+) -> Result<(), BenchFault>
+    ensures { IsExchanged (exchange (record { adapter = adapter.old; client = client.old }) peer.now is_registered_news
+        (registers client.old.state)) adapter.new client.new result }
+{
+    let Ok(frame) = client.register() else {
+        return Err(BenchFault::Setup);
+    };
+    let Some(answer) = adapter.feed(0, peer, frame).answer else {
+        return Err(BenchFault::Setup);
+    };
+    match client.feed(answer).heard {
+        Heard::Registered => Ok(()),
+        _ => Err(BenchFault::Setup),
+    }
+}
+
+/// The client opens its connection.
+///
+/// # Errors
+///
+/// `Setup` where it is refused.
+pub(crate) fn open(
+    adapter: &mut Adapter,
+    client: &mut Client,
+    peer: &Peer,
+) -> Result<(), BenchFault>
+    ensures { IsExchanged (exchange (record { adapter = adapter.old; client = client.old }) peer.now is_opened_news
+        (opens client.old.state)) adapter.new client.new result }
+{
+    let Ok(frame) = client.open() else {
+        return Err(BenchFault::Setup);
+    };
+    let Some(answer) = adapter.feed(0, peer, frame).answer else {
+        return Err(BenchFault::Setup);
+    };
+    match client.feed(answer).heard {
+        Heard::Opened => Ok(()),
+        _ => Err(BenchFault::Setup),
+    }
+}
