@@ -1,0 +1,119 @@
+//! What is refused, and what stands then.
+
+ghost use Rattle.std.specs.Prelude.{◌≤◌};
+
+use super::*;
+use cip_class3::Stage;
+
+/// A bench over these ends of other limits and wants.
+fn opened(alloc: Global, limits: Limits, wants: &Wants) -> Result<Result<(), BenchFault>, Fail>
+    requires peers_from { 1 ≤ limits.peers }
+    requires peers_to { limits.peers ≤ 16 }
+    requires connections_from { 1 ≤ limits.connections }
+    requires connections_to { limits.connections ≤ 64 }
+    requires handle { 1 ≤ limits.first_handle }
+    requires id { 1 ≤ limits.first_id }
+    requires o_to_t_from { 4 ≤ wants.now.o_to_t_size }
+    requires o_to_t_to { wants.now.o_to_t_size ≤ 511 }
+    requires t_to_o_from { 10 ≤ wants.now.t_to_o_size }
+    requires t_to_o_to { wants.now.t_to_o_size ≤ 511 }
+{
+    let adapter = Adapter::new(alloc, demo(alloc, 100)?, LISTEN, limits)?;
+    let client = Client::new(alloc, wants).ok().ok_or("the client is made")?;
+    Ok(match Bench::new(alloc, adapter, client) {
+        Ok(_) => Ok(()),
+        Err(fault) => Err(fault),
+    })
+}
+
+/// No place for the second session, no handle for it, and an open that the adapter refuses.
+#[test]
+fn setup(rt: HostRuntime) -> Result<(), Fail> {
+    let one_peer = Limits { peers: 1, ..LIMITS };
+    let last_handle = Limits {
+        first_handle: 4_294_967_295,
+        ..LIMITS
+    };
+    let no_interval = Wants { rpi: 0, ..WANTS };
+    assert_eq!(rt; opened(rt.alloc(), LIMITS, &WANTS)?, Ok(()));
+    assert_eq!(rt;
+        opened(rt.alloc(), one_peer, &WANTS)?,
+        Err(BenchFault::Setup)
+    );
+    assert_eq!(rt;
+        opened(rt.alloc(), last_handle, &WANTS)?,
+        Err(BenchFault::Setup)
+    );
+    assert_eq!(rt;
+        opened(rt.alloc(), LIMITS, &no_interval)?,
+        Err(BenchFault::Setup)
+    );
+    Ok(())
+}
+
+#[test]
+fn faults_have_numbers(rt: HostRuntime) -> Result<(), Fail> {
+    assert_eq!(rt; BenchFault::Memory as u8, 1);
+    assert_eq!(rt; BenchFault::Setup as u8, 2);
+    Ok(())
+}
+
+/// Whichever growth of `new` and `run` is refused, the events before it stand and no other, and the rest can be done
+/// then. Each is refused in turn by `rt try --test --fail-alloc N -- tests::growths::events_before_a_refused_growth`.
+#[test]
+fn events_before_a_refused_growth(rt: HostRuntime) -> Result<(), Fail> {
+    let events = [
+        submit(rt.alloc(), ADD_5)?,
+        Event::Resend,
+        Event::Reach(0),
+        Event::Reach(1),
+        other(rt.alloc(), CLEAR)?,
+        Event::Back(0),
+        submit(rt.alloc(), ADD_7)?,
+        Event::Reach(2),
+        Event::Back(1),
+        Event::Back(2),
+        Event::Shut,
+        Event::GiveUp,
+    ];
+    let adapter = Adapter::new(rt.alloc(), demo(rt.alloc(), 100)?, LISTEN, LIMITS)?;
+    let client = Client::new(rt.alloc(), &WANTS)
+        .ok()
+        .ok_or("the client is made")?;
+    let other_adapter = Adapter::new(rt.alloc(), demo(rt.alloc(), 100)?, LISTEN, LIMITS)?;
+    let other_client = Client::new(rt.alloc(), &WANTS)
+        .ok()
+        .ok_or("the client is made")?;
+    let mut bench = match Bench::new(rt.alloc(), adapter, client) {
+        Ok(bench) => bench,
+        Err(fault) => {
+            assert_eq!(rt; fault, BenchFault::Memory);
+            Bench::new(rt.alloc(), other_adapter, other_client)
+                .ok()
+                .ok_or("the ends open")?
+        }
+    };
+    if let Err((position, _)) = bench.run(&events) {
+        assert_eq!(rt;
+            bench.seen().back.len(),
+            [0, 0, 0, 1, 2, 2, 2, 2, 3, 3, 3, 3][position]
+        );
+        assert_eq!(rt;
+            bench.seen().accepted.len(),
+            [0, 0, 0, 0, 0, 0, 1, 1, 1, 1, 2, 2][position]
+        );
+        assert!(rt; bench.run(&events[position..]).is_ok());
+    }
+    let seen = bench.seen();
+    assert_eq!(rt; seen.stage, Stage::Idle);
+    assert_eq!(rt; seen.back.len(), 3);
+    assert_eq!(rt; seen.accepted.len(), 2);
+    let [first, second] = seen.accepted else {
+        return Err(Fail::from("two replies"));
+    };
+    assert_eq!(rt; first.reply.as_slice(), IS_5);
+    assert_eq!(rt; second.reply.as_slice(), b"\xb2\0\0\0\x07\0\0\0".as_slice());
+    assert_eq!(rt; counter(&bench, 1)?, 7);
+    assert_eq!(rt; counter(&bench, 3)?, 2);
+    Ok(())
+}
