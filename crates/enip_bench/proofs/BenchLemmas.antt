@@ -11,15 +11,13 @@ use Rattle.enip_adapter.specs.Calls.Call.{Begins_peer, Feeds}
 use Rattle.enip_client.specs.Calls.{registers, opens}
 use Rattle.enip_client.specs.Client.{ClientState, Fed, fed}
 use Rattle.enip_client.specs.Frames.{register_frame, request_frame}
-use Rattle.enip_client.specs.Hears.{News}
-use Rattle.enip_client.specs.Hears.News.{Nothing, Registered, Opened, Replied, Accepted, Refused, Closed}
 use Rattle.enip_bench.specs.CountingOpening.{Setup, Ends, begins, exchange, is_registered_news, is_opened_news, ends_at_beginning, counting_at_opening, opening_between, opening}
-use Rattle.enip_bench.specs.CountingWorld.{CountingWorld, acceptance, with_fed, after_back, after_other, counting_step, counting_run}
+use Rattle.enip_bench.specs.CountingWorld.{CountingWorld, reply_heard, acceptance, with_fed, after_back, after_other, counting_step, counting_run}
 use Rattle.enip_bench.specs.Events.{Event, Back, Other, delivery, is_unconnected_request, with_any}
 use Rattle.enip_bench.specs.Reached.{IsNewAdapter, IsNewClient, IsReached}
 use Rattle.enip_bench.specs.Seen.{Seen}
-use Rattle.enip_bench.specs.Stored.{world_in, acceptances_in, event_in, events_in, last_reply, reply_heard, IsTold, IsStepped, IsOfOpening}
-use Rattle.enip_bench.specs.Telling.{Telling, Accepts, Done, Impossible, news_telling, back_telling}
+use Rattle.enip_bench.specs.Stored.{world_in, acceptances_in, event_in, events_in, last_reply, IsTold, IsStepped, IsOfOpening}
+use Rattle.enip_bench.specs.Telling.{Telling, Accepts, Done, Impossible, reply_telling, back_telling}
 use Rattle.enip_bench.specs.declared.event.Event.{Event as EventInCode}
 use Rattle.enip_bench.specs.declared.event.Told.{Told}
 use Rattle.enip_bench.specs.declared.event.Told.TheVariants as tolds
@@ -66,25 +64,6 @@ same_seen a b router back accepted stage =
     ∙ ap₂ (λ c s. (let x : Seen Contents = record { router = b.router; back = b.back; accepted = c; stage = s } in x))
     accepted stage
 
-acceptance-heard : (submits : ℕ) (news : News) →
-    acceptance submits news ≡ option_map (λ reply. (submits - 1, reply)) (reply_heard news)
-acceptance-heard submits Nothing = refl
-acceptance-heard submits Registered = refl
-acceptance-heard submits Opened = refl
-acceptance-heard submits (Replied bytes) = refl
-acceptance-heard submits (Accepted bytes) = refl
-acceptance-heard submits (Refused status extended) = refl
-acceptance-heard submits Closed = refl
-
-telling-heard : (news : News) (reply : List ℕ) → reply_heard news ≡ Some reply → news_telling news ≡ Accepts reply
-telling-heard Nothing reply e = absurd (cc)
-telling-heard Registered reply e = absurd (cc)
-telling-heard Opened reply e = absurd (cc)
-telling-heard (Replied bytes) reply e = absurd (cc)
-telling-heard (Accepted bytes) reply e = ap (λ b. Accepts b) (same_Some bytes reply e)
-telling-heard (Refused status extended) reply e = absurd (cc)
-telling-heard Closed reply e = absurd (cc)
-
 -- a reply was accepted
 pub accepted_told : (world : CountingWorld) (position : ℕ) (bytes reply : List ℕ) (client : ClientState)
     (accepted : List (ℕ × List ℕ)) → delivery world.last_back world.back position ≡ Some bytes →
@@ -95,15 +74,12 @@ pub accepted_told : (world : CountingWorld) (position : ℕ) (bytes reply : List
 accepted_told world position bytes reply client accepted found heard news put =
     let with_accepted : Option (ℕ × List ℕ) → List (ℕ × List ℕ) = λ o. with_any o world.accepted in
     let same : accepted ≡ with_accepted (acceptance world.submits (fed world.client bytes).news)
-    = put ∙ sym (ap with_accepted
-    (acceptance-heard world.submits (fed world.client bytes).news
-    ∙ ap (option_map (λ r. (world.submits - 1, r))) news)) in
+    = put ∙ sym (ap (λ o. with_accepted (option_map (λ r. (world.submits - 1, r)) o)) news) in
     record {
       world = ap₂ (λ c a. (let x : CountingWorld = record world { client = c; last_back = Some position; accepted = a } in x))
           heard same ∙ sym (ap (λ o. after_back o world position) found);
       telling_is = ap (λ r. Accepts r) (ap last_reply put ∙ last-push world.accepted (world.submits - 1, reply))
-          ∙ (sym (telling-heard (fed world.client bytes).news reply news)
-          ∙ sym (ap (back_telling world) found));
+          ∙ (sym (ap reply_telling news) ∙ sym (ap (back_telling world) found));
     }
 
 -- it came of an opening still

@@ -13,13 +13,13 @@ use Rattle.enip_client.specs.declared.fault.SubmitFault.TheVariants as submit_fa
 use Rattle.enip_client.specs.declared.state.State.{State}
 use Rattle.cip_class3.specs.declared.originator.Refused.{Refused}
 use Rattle.enip_client.specs.Hears.{News, accepted}
-use Rattle.enip_bench.specs.CountingWorld.{CountingWorld, counting_step, counting_run, counting_seen}
+use Rattle.enip_bench.specs.CountingWorld.{CountingWorld, reply_heard, counting_step, counting_run, counting_seen}
 use Rattle.enip_bench.specs.Events.{Event, delivery}
 use Rattle.enip_bench.specs.FrameLaw.{headline}
 use Rattle.enip_bench.specs.ItemWorld.{ItemWorld, items_at_opening, item_run}
 use Rattle.enip_bench.specs.ObjectsRun.{after_exec, exec_answer}
 use Rattle.enip_bench.specs.Reached.{IsReached}
-use Rattle.enip_bench.specs.Stored.{reply_heard, IsRoomFor}
+use Rattle.enip_bench.specs.Stored.{IsRoomFor}
 use Rattle.enip_bench.proofs.AdapterShows.{Wire, IsWire, frame_back}
 use Rattle.enip_bench.proofs.ClientShows.{ClientShows, submits-allowed, IsHeardItem, heard-item}
 use Rattle.enip_bench.proofs.FrameAgreement.{frames_agree}

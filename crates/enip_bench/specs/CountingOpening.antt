@@ -14,7 +14,7 @@ use Rattle.enip_client.specs.Calls.{Lent, registers, opens}
 use Rattle.enip_client.specs.Client.{ClientState, Fed, new_client, fed, with_state}
 use Rattle.enip_client.specs.Frames.{register_frame}
 use Rattle.enip_client.specs.Hears.{News}
-use Rattle.enip_client.specs.Hears.News.{Nothing, Registered, Opened, Replied, Accepted, Refused, Closed}
+use Rattle.enip_client.specs.Hears.News.{Nothing, Registered, Opened}
 use Rattle.enip_client.specs.declared.fault.ClientFault.{ClientFault}
 use Rattle.enip_client.specs.declared.wants.Wants.{Wants}
 use Rattle.enip_wire.specs.Frames.{frame}
@@ -59,22 +59,12 @@ fed_any client None = record { client = client; taken = 0; news = Nothing }
 fed_any client (Some bytes) = fed client bytes
 
 abbrev pub is_registered_news : News → Bool
-is_registered_news Nothing = false
 is_registered_news Registered = true
-is_registered_news Opened = false
-is_registered_news (Replied bytes) = false
-is_registered_news (Accepted bytes) = false
-is_registered_news (Refused status extended) = false
-is_registered_news Closed = false
+is_registered_news other = false
 
 abbrev pub is_opened_news : News → Bool
-is_opened_news Nothing = false
-is_opened_news Registered = false
 is_opened_news Opened = true
-is_opened_news (Replied bytes) = false
-is_opened_news (Accepted bytes) = false
-is_opened_news (Refused status extended) = false
-is_opened_news Closed = false
+is_opened_news other = false
 
 -- the client has to hear this
 abbrev pub if_heard : (News → Bool) → AdapterState → Fed → Result Ends Setup

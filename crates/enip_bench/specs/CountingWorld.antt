@@ -10,7 +10,7 @@ use Rattle.enip_client.specs.Calls.{Lent, submits, resends, after_giving_up}
 use Rattle.enip_client.specs.Client.{ClientState, Fed, fed, with_state}
 use Rattle.enip_client.specs.Frames.{request_frame}
 use Rattle.enip_client.specs.Hears.{News}
-use Rattle.enip_client.specs.Hears.News.{Nothing, Registered, Opened, Replied, Accepted, Refused, Closed}
+use Rattle.enip_client.specs.Hears.News.{Accepted}
 use Rattle.enip_client.specs.declared.fault.SubmitFault.{SubmitFault}
 use Rattle.enip_wire.specs.Frames.{Frame, frame}
 use Rattle.enip_bench.specs.Events.{Event, Submit, Resend, Reach, Back, Other, Shut, GiveUp, delivery, is_unconnected_request, with_any}
@@ -60,15 +60,14 @@ after_reach (Some bytes) world position = record world {
   last_reached = Some position;
 }
 
--- the reply that was heard as accepted, if one was: it is that to the last submit
+-- the reply that was heard as accepted, if one was
+abbrev pub reply_heard : News → Option (List ℕ)
+reply_heard (Accepted bytes) = Some bytes
+reply_heard other = None
+
+-- an accepted reply is that to the last submit
 abbrev pub acceptance : ℕ → News → Option (ℕ × List ℕ)
-acceptance submits Nothing = None
-acceptance submits Registered = None
-acceptance submits Opened = None
-acceptance submits (Replied bytes) = None
-acceptance submits (Accepted bytes) = Some (submits - 1, bytes)
-acceptance submits (Refused status extended) = None
-acceptance submits Closed = None
+acceptance submits news = option_map (λ reply. (submits - 1, reply)) (reply_heard news)
 
 -- the client is fed
 abbrev pub with_fed : CountingWorld → ℕ → Fed → CountingWorld

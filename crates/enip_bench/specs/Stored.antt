@@ -6,9 +6,8 @@ use Rattle.enip_adapter.specs.Calls.{AdapterState, after_call, call_answer}
 use Rattle.enip_adapter.specs.Calls.Call.{Begins_peer}
 use Rattle.enip_client.specs.Client.{ClientState}
 use Rattle.enip_client.specs.Hears.{News}
-use Rattle.enip_client.specs.Hears.News.{Nothing, Registered, Opened, Replied, Accepted as Accepted_news, Refused, Closed}
 use Rattle.enip_bench.specs.CountingOpening.{Setup, ARefusal, Ends, begins}
-use Rattle.enip_bench.specs.CountingWorld.{CountingWorld, counting_step, counting_run}
+use Rattle.enip_bench.specs.CountingWorld.{CountingWorld, reply_heard, counting_step, counting_run}
 use Rattle.enip_bench.specs.Events.{Event, Submit, Resend, Reach, Back, Other, Shut, GiveUp}
 use Rattle.enip_bench.specs.Reached.{IsReached}
 use Rattle.enip_bench.specs.Seen.{Seen}
@@ -87,17 +86,7 @@ telling_in steps.Ignored = Ignores
 telling_in steps.Impossible = Impossible
 telling_in steps.Done = Done
 
--- the reply that was heard as accepted, if one was
-abbrev pub reply_heard : News → Option (List ℕ)
-reply_heard Nothing = None
-reply_heard Registered = None
-reply_heard Opened = None
-reply_heard (Replied bytes) = None
-reply_heard (Accepted_news bytes) = Some bytes
-reply_heard (Refused status extended) = None
-reply_heard Closed = None
-
--- such a reply fits this much room
+-- a reply that is heard as accepted fits this much room
 abbrev pub IsRoomFor : ℕ → News → Type 0
 IsRoomFor room news = (bytes : List ℕ) → reply_heard news ≡ Some bytes → length bytes ≤ room
 
@@ -116,14 +105,14 @@ IsStepped old event new (Ok told) = IsTold old event new told
 IsStepped old event new (Err error) = new ≡ old
 
 -- a peer began, or could not
-abbrev pub IsBegun : AdapterState → AdapterState → Result ℕ BenchFault → Type 0
-IsBegun old new (Ok peer) = (begins old ≡ Ok peer) × (new ≡ after_call old Begins_peer)
-IsBegun old new (Err fault) = (fault ≡ faults.Setup) × (begins old ≡ Err ARefusal)
+abbrev pub HasBegun : AdapterState → AdapterState → Result ℕ BenchFault → Type 0
+HasBegun old new (Ok peer) = (begins old ≡ Ok peer) × (new ≡ after_call old Begins_peer)
+HasBegun old new (Err fault) = (fault ≡ faults.Setup) × (begins old ≡ Err ARefusal)
 
 -- an exchange left the ends so, or was refused
-abbrev pub IsExchanged : Result Ends Setup → AdapterState → ClientState → Result (Unit {0}) BenchFault → Type 0
-IsExchanged exchanged adapter client (Ok done) = exchanged ≡ Ok (record { adapter = adapter; client = client })
-IsExchanged exchanged adapter client (Err fault) = (fault ≡ faults.Setup) × (exchanged ≡ Err ARefusal)
+abbrev pub HasExchanged : Result Ends Setup → AdapterState → ClientState → Result (Unit {0}) BenchFault → Type 0
+HasExchanged exchanged adapter client (Ok done) = exchanged ≡ Ok (record { adapter = adapter; client = client })
+HasExchanged exchanged adapter client (Err fault) = (fault ≡ faults.Setup) × (exchanged ≡ Err ARefusal)
 
 -- The opening; `Setup` only where it is refused.
 abbrev pub IsOpening : Result CountingWorld Setup → Result CountingWorld BenchFault → Type 0
@@ -147,9 +136,9 @@ events_done events (Ok done) = events
 events_done events (Err error) = take error.0 events
 
 -- the first event that was not done is one of them
-abbrev pub IsWithin : {E : Type 0} → List Event → Result (Unit {0}) (ℕ × E) → Type 0
-IsWithin events (Ok done) = ⊤
-IsWithin events (Err error) = error.0 < length events
+abbrev pub NamesAnEvent : {E : Type 0} → List Event → Result (Unit {0}) (ℕ × E) → Type 0
+NamesAnEvent events (Ok done) = ⊤
+NamesAnEvent events (Err error) = error.0 < length events
 
 abbrev pub seen_in : SeenInCode → Seen Contents
 seen_in seen = record {

@@ -6,10 +6,8 @@ use Rattle.enip_adapter.specs.Calls.{call_answer}
 use Rattle.enip_adapter.specs.Calls.Call.{Feeds}
 use Rattle.enip_client.specs.Calls.{resends}
 use Rattle.enip_client.specs.Client.{fed}
-use Rattle.enip_client.specs.Hears.{News}
-use Rattle.enip_client.specs.Hears.News.{Nothing, Registered, Opened, Replied, Accepted, Refused as Refused_news, Closed}
 use Rattle.enip_wire.specs.Frames.{Frame}
-use Rattle.enip_bench.specs.CountingWorld.{CountingWorld, bytes_said}
+use Rattle.enip_bench.specs.CountingWorld.{CountingWorld, bytes_said, reply_heard}
 use Rattle.enip_bench.specs.Events.{Event, Submit, Resend, Reach, Back, Other, Shut, GiveUp, delivery, is_unconnected_request}
 
 -- a request is sent, with its number and its frame's position, or refused; a frame is sent again at this position, if
@@ -39,18 +37,13 @@ reach_telling world None = Impossible
 reach_telling world (Some bytes) =
     Reaches (position_of_any (bytes_said (call_answer world.adapter (Feeds 0 world.peer bytes)).said) world.back)
 
-abbrev pub news_telling : News → Telling
-news_telling Nothing = Ignores
-news_telling Registered = Ignores
-news_telling Opened = Ignores
-news_telling (Replied bytes) = Ignores
-news_telling (Accepted bytes) = Accepts bytes
-news_telling (Refused_news status extended) = Ignores
-news_telling Closed = Ignores
+abbrev pub reply_telling : Option (List ℕ) → Telling
+reply_telling None = Ignores
+reply_telling (Some reply) = Accepts reply
 
 abbrev pub back_telling : CountingWorld → Option (List ℕ) → Telling
 back_telling world None = Impossible
-back_telling world (Some bytes) = news_telling (fed world.client bytes).news
+back_telling world (Some bytes) = reply_telling (reply_heard (fed world.client bytes).news)
 
 -- what is told of an event in this world
 abbrev pub telling : CountingWorld → Event → Telling

@@ -82,7 +82,7 @@ impl Bench {
     ghost use Rattle.enip_bench.specs.Reached.{IsNewAdapter, IsNewClient};
     ghost use Rattle.enip_bench.specs.CountingWorld.{counting_run};
     ghost use Rattle.enip_bench.specs.FrameLaw.{headline};
-    ghost use Rattle.enip_bench.specs.Stored.{event_in, events_in, events_done, IsOpening, IsWithin, after_step, seen_in};
+    ghost use Rattle.enip_bench.specs.Stored.{event_in, events_in, events_done, IsOpening, NamesAnEvent, after_step, seen_in};
     ghost use Rattle.enip_bench.specs.Stored.{telling_in};
     ghost use Rattle.enip_bench.specs.Telling.{telling};
     ghost use Rattle.enip_bench.specs.contracts.bench.Bench.{the_row};
@@ -148,7 +148,7 @@ impl Bench {
     /// The position of the first event that was not done for want of memory. Those before it were done, and no other.
     pub fn run(&mut self, events: &[Event]) -> Result<(), (usize, AllocError)>
         ensures moved { self.new ≡ counting_run self.old (events_done (events_in events.now) result) }
-        ensures within { IsWithin (events_in events.now) result }
+        ensures within { NamesAnEvent (events_in events.now) result }
         ensures headline { headline self.old (events_done (events_in events.now) result) self.new }
     {
         for (position, event) in events.iter().enumerate() {

@@ -3,7 +3,7 @@
 ghost use Rattle.std.specs.Prelude.{◌≡◌, ℕ, Bool, Option, MatchResult};
 ghost use Rattle.std.specs.Option.{option_map};
 ghost use Rattle.enip_bench.specs.CountingOpening.{exchange, is_registered_news, is_opened_news, begins};
-ghost use Rattle.enip_bench.specs.Stored.{IsExchanged, IsBegun};
+ghost use Rattle.enip_bench.specs.Stored.{HasExchanged, HasBegun};
 ghost use Rattle.enip_client.specs.Calls.{registers, opens};
 
 use crate::bench::BenchFault;
@@ -16,7 +16,7 @@ use enip_client::{Client, Heard};
 ///
 /// `Setup` where it cannot.
 pub(crate) fn begin(adapter: &mut Adapter) -> Result<Peer, BenchFault>
-    ensures { IsBegun adapter.old adapter.new result }
+    ensures { HasBegun adapter.old adapter.new result }
 {
     adapter.begin().map_err(|_| BenchFault::Setup)
 }
@@ -31,7 +31,7 @@ pub(crate) fn register(
     client: &mut Client,
     peer: &Peer,
 ) -> Result<(), BenchFault>
-    ensures { IsExchanged (exchange (record { adapter = adapter.old; client = client.old }) peer.now is_registered_news
+    ensures { HasExchanged (exchange (record { adapter = adapter.old; client = client.old }) peer.now is_registered_news
         (registers client.old.state)) adapter.new client.new result }
 {
     let Ok(frame) = client.register() else {
@@ -56,7 +56,7 @@ pub(crate) fn open(
     client: &mut Client,
     peer: &Peer,
 ) -> Result<(), BenchFault>
-    ensures { IsExchanged (exchange (record { adapter = adapter.old; client = client.old }) peer.now is_opened_news
+    ensures { HasExchanged (exchange (record { adapter = adapter.old; client = client.old }) peer.now is_opened_news
         (opens client.old.state)) adapter.new client.new result }
 {
     let Ok(frame) = client.open() else {

@@ -2,10 +2,11 @@
 
 ghost use Rattle.std.specs.Prelude.{ℕ, ◌≡◌, ◌<◌, ◌≤◌, [], length, IfOk, OnOk, vec_len, vec_capacity};
 ghost use Rattle.std.specs.Option.{option_map};
+ghost use Rattle.enip_bench.specs.CountingWorld.{reply_heard};
 ghost use Rattle.enip_bench.specs.Events.{Submit, Resend, Reach, Back, Other, Shut, GiveUp, delivery, is_unconnected_request};
 ghost use Rattle.enip_bench.specs.Reached.{IsReached};
 ghost use Rattle.enip_bench.specs.Stored.{frames_in, world_in, event_in, IsStepped, IsTold};
-ghost use Rattle.enip_bench.specs.Stored.{IsRoomFor, reply_heard, reply_put};
+ghost use Rattle.enip_bench.specs.Stored.{IsRoomFor, reply_put};
 ghost use Rattle.enip_adapter.specs.Calls.{after_call};
 ghost use Rattle.enip_adapter.specs.Calls.Call.{Feeds};
 ghost use Rattle.enip_client.specs.Client.{fed};

@@ -58,6 +58,11 @@ fn faults_have_numbers(rt: HostRuntime) -> Result<(), Fail> {
     Ok(())
 }
 
+/// How many frames were sent back, and how many replies accepted, before each of the events that follow.
+const BACK_BEFORE: [usize; 12] = [0, 0, 0, 1, 2, 2, 2, 2, 3, 3, 3, 3];
+
+const ACCEPTED_BEFORE: [usize; 12] = [0, 0, 0, 0, 0, 0, 1, 1, 1, 1, 2, 2];
+
 /// Whichever growth of `new` and `run` is refused, the events before it stand and no other, and the rest can be done
 /// then. Each is refused in turn by `rt try --test --fail-alloc N -- tests::growths::events_before_a_refused_growth`.
 #[test]
@@ -94,23 +99,18 @@ fn events_before_a_refused_growth(rt: HostRuntime) -> Result<(), Fail> {
         }
     };
     if let Err((position, _)) = bench.run(&events) {
-        assert_eq!(rt;
-            bench.seen().back.len(),
-            [0, 0, 0, 1, 2, 2, 2, 2, 3, 3, 3, 3][position]
-        );
-        assert_eq!(rt;
-            bench.seen().accepted.len(),
-            [0, 0, 0, 0, 0, 0, 1, 1, 1, 1, 2, 2][position]
-        );
-        assert!(rt; bench.run(&events[position..]).is_ok());
+        let seen = bench.seen();
+        assert_eq!(rt; BACK_BEFORE.get(position), Some(&seen.back.len()));
+        assert_eq!(rt; ACCEPTED_BEFORE.get(position), Some(&seen.accepted.len()));
+        let rest = events.get(position..).ok_or("it is one of them")?;
+        assert!(rt; bench.run(rest).is_ok());
     }
     let seen = bench.seen();
     assert_eq!(rt; seen.stage, Stage::Idle);
     assert_eq!(rt; seen.back.len(), 3);
     assert_eq!(rt; seen.accepted.len(), 2);
-    let [first, second] = seen.accepted else {
-        return Err(Fail::from("two replies"));
-    };
+    let first = seen.accepted.first().ok_or("a reply was accepted")?;
+    let second = seen.accepted.last().ok_or("a reply was accepted")?;
     assert_eq!(rt; first.reply.as_slice(), IS_5);
     assert_eq!(rt; second.reply.as_slice(), b"\xb2\0\0\0\x07\0\0\0".as_slice());
     assert_eq!(rt; counter(&bench, 1)?, 7);
