@@ -232,6 +232,11 @@ IsAsked request connected old new (Err ask_faults.Spent) =
     (a : Asking request connected old new) × IsAwaiting a.exchange a.rest × (new.reads ≡ 2 ^ 64 - 1)
     × Writes old.written new.written a.exchange.sent
 
+-- Where no session can be registered, that is answered, and nothing is read, written or changed.
+abbrev pub IsRefused : Ends → Ends → Result (Unit {0}) AskFault → Type 0
+IsRefused old new result = (fault : ClientFault) → registers old.client.state ≡ Err fault
+    → (result ≡ Err (ask_faults.Client fault)) × (new ≡ old)
+
 -- How many calls of the reader failed, and how many of the writer, by what is answered.
 abbrev pub read_faults : {A : Type 0} → Result A AskFault → ℕ
 read_faults (Ok x) = 0
