@@ -171,12 +171,13 @@ pub record Hears (begins : Exchange) (before fed held : List ℕ) (ends : Exchan
   pub exchange : ends ≡ over begins frames
   pub partial : IsPartial held
 
--- Of a piece a front was fed: all of it, where a reply is awaited.
+-- Of a piece a front was fed, which is not empty: all of it, where a reply is awaited.
 pub record IsHeardPiece (asked : Asked) (step : Step) (piece : List ℕ) (old new : Held) (result : Result Step AskFault)
     (sent : List Frame) : Type 0 where
   pub exchange : Exchange
   pub fed : List ℕ
   pub rest : List ℕ
+  pub some : 0 < length piece → length rest < length piece
   pub parts : piece ≡ fed ++ rest
   pub heard : Heard (now_held asked step old sent) old.client.held fed new.client exchange
   pub came : CameTo asked sent old new exchange result

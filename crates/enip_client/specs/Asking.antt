@@ -195,11 +195,13 @@ pub record Ends : Type 0 where
   pub written : Option (List ℕ)
   pub reply : List ℕ
 
--- The exchange that was heard: of the bytes that were read a front was fed.
+-- The exchange that was heard: of the bytes that were read a front was fed. What was not fed is of the last read, which
+-- gave at most 4,096 bytes, and of which a byte or more was fed.
 pub record Asking (request : List ℕ) (connected : Bool) (old new : Ends) : Type 0 where
   pub exchange : Exchange
   pub fed : List ℕ
   pub rest : List ℕ
+  pub few : length rest < 4096
   pub consumed : Consumes old.left new.left (fed ++ rest)
   pub heard : Heard (begun old.client.state request connected old.reply) old.client.held fed new.client exchange
   pub reply : new.reply ≡ exchange.reply

@@ -231,12 +231,12 @@ fn send<W: Sink>(frame: &[u8], writer: &mut W) -> Result<(), AskFault>
 /// # Errors
 ///
 /// `Spent`, `Ended` or `Read`.
-fn read<R: Source>(reader: &mut R, into: &mut [u8]) -> Result<usize, AskFault>
-    requires some { 0 < length into.old }
-    requires failures { R.failures reader.old < u64.MAX }
+fn read<R: Source>(reader: &mut R, into: &mut [u8; LONGEST_READ]) -> Result<usize, AskFault>
+    requires { R.failures reader.old < u64.MAX }
     ensures bytes { IsRead (R.left reader.old) (R.left reader.new) (R.reads reader.old) (R.reads reader.new)
         into.new result }
-    ensures count { IfOk result (λ count. count ≤ length into.new) }
+    ensures count { IfOk result (λ count. count ≤ LONGEST_READ) }
+    ensures size { length into.new ≡ LONGEST_READ }
     ensures counted { IfOk result (λ _. R.reads reader.old < u64.MAX) }
     ensures failures { R.failures reader.new ≡ R.failures reader.old + read_faults result }
 {
@@ -306,6 +306,7 @@ fn hear_once<W: Sink>(
     ensures taken { IfOk result (λ progress. progress.taken ≡ taken_of client.old.held piece.now) }
     ensures within { IfOk result (λ progress. progress.taken ≤ length piece.now) }
     ensures some { IfOk result (λ progress. 0 < length piece.now → 0 < progress.taken) }
+    ensures some_fed { 0 < length piece.now → 0 < taken_of client.old.held piece.now }
     ensures healthy { IsHealthy client.new.state (step_in result) }
     ensures not_read { read_faults result ≡ 0 }
     ensures failures { W.failures writer.new ≡ W.failures writer.old + write_faults result }
