@@ -1,5 +1,6 @@
 -- What the functions below `ask` answer, in the words of the exchange.
-use Rattle.std.specs.Prelude.{ℕ, ◌-◌, ◌^◌, ◌≡◌, ◌<◌, suc, nat_lt, if◌then◌else◌, Bool, true, ⊤, List, [], ◌∷◌, ◌++◌, length, take, Option, Some, None, Result, Ok, Err}
+use Rattle.std.specs.Prelude.{ℕ, ◌-◌, ◌^◌, ◌≡◌, ◌<◌, suc, nat_lt, if◌then◌else◌, Bool, true, ⊤, List, [], ◌∷◌, ◌++◌}
+use Rattle.std.specs.Prelude.{length, take, Option, Some, None, Result, Ok, Err}
 use Rattle.std.specs.List.{flat_map, AllByRecursion}
 use Rattle.std.specs.Io.KnownBytes.{Appends, Consumes, IsAtEnd}
 use Rattle.enip_wire.specs.Frames.{Frame, frame, IsFrame}
@@ -18,7 +19,8 @@ use Rattle.enip_client.specs.Calls.{Lent, opens, closes, unregisters}
 use Rattle.enip_client.specs.Client.{ClientState}
 use Rattle.enip_client.specs.Hears.{News}
 use Rattle.enip_client.specs.Hears.News.{Registered, Opened, Replied, Accepted, Refused, Closed}
-use Rattle.enip_client.specs.Asking.{Stand, Exchange, Heard, LONGEST_REPLY, is_awaiting, over, AllAwaited, IsPartial, lends_plainly, requests, after_sight}
+use Rattle.enip_client.specs.Asking.{Stand, Exchange, Heard, LONGEST_REPLY, is_awaiting, over, AllAwaited, IsPartial}
+use Rattle.enip_client.specs.Asking.{lends_plainly, requests, after_sight}
 use Rattle.enip_client.specs.Asking.Stand.{Registering, Opening, Requesting, Closing, Completed, Failed}
 
 abbrev pub stand_of : Step → Stand
@@ -190,5 +192,6 @@ IsRead before after reads_before reads_after into (Ok count) =
     Consumes before after (take count into) × (0 < count) × (reads_after ≡ suc reads_before)
 IsRead before after reads_before reads_after into (Err ask_faults.Ended) = Consumes before after [] × IsAtEnd after
 IsRead before after reads_before reads_after into (Err ask_faults.Read) = Consumes before after []
-IsRead before after reads_before reads_after into (Err ask_faults.Spent) = Consumes before after [] × (reads_after ≡ 2 ^ 64 - 1)
+IsRead before after reads_before reads_after into (Err ask_faults.Spent) =
+    Consumes before after [] × (reads_after ≡ 2 ^ 64 - 1)
 IsRead before after reads_before reads_after into (Err other) = ⊥
