@@ -108,8 +108,8 @@ pub(crate) fn write_unregister(session: u32, sent: &mut Sent)
 
 /// Writes a SendRRData with an unconnected request, 40 bytes and the request's, in place of what `sent` had.
 ///
-/// `session` is the handle that the answer to a RegisterSession gave. `number` is the context, its least byte first: the
-/// answer repeats it, and is known by it. `request` is one to the message router, of at most 504 bytes.
+/// `session` is the handle that the answer to a RegisterSession gave. `number` is the context, its least byte first:
+/// the answer repeats it, and is known by it. `request` is one to the message router, of at most 504 bytes.
 pub fn write_request(session: u32, number: u64, request: &[u8], sent: &mut Sent)
     requires { length request.now ≤ LONGEST_REQUEST }
     ensures { sent.new.items ≡ frame (request_frame session number request.now) }
