@@ -1,7 +1,8 @@
 -- The exchange over all that was read.
-use Rattle.std.proofs.Common.{◌≡◌, ℕ, ◌<◌, Bool, true, false, List, [], ◌∷◌, ◌++◌, length, take, append-nil, append_assoc, refl, sym, ap, subst, ◌∙◌, Option, Some, None, Result, Ok, Err}
+use Rattle.std.proofs.Common.{◌≡◌, ℕ, ◌<◌, ◌≤◌, Bool, true, false, List, [], ◌∷◌, ◌++◌, length, take, append-nil, append_assoc, refl, sym, ap, subst, ◌∙◌, Option, Some, None, Result, Ok, Err, arith}
 use Rattle.std.specs.List.{flat_map, AllByRecursion}
 use Rattle.std.proofs.lemmas.List.Concat.{flat_map-append}
+use Rattle.std.proofs.lemmas.List.{length-take-le}
 use Rattle.std.proofs.KnownBytes.{Appends-nil, Consumes-nil, Consumes-trans}
 use Rattle.std.specs.Io.KnownBytes.{Appends, Consumes}
 use Rattle.enip_wire.specs.Frames.{Frame, frame, IsFrame}
@@ -78,17 +79,23 @@ pub record Come (asked : Asked) (old new : Ends) (r : Result Step AskFault) : Ty
   pub exchange : Exchange
   pub fed : List ℕ
   pub rest : List ℕ
+  pub few : length rest < 4096
   pub consumed : Consumes old.left new.left (fed ++ rest)
   pub heard : Heard (begins_at asked old) old.client.held fed new.client exchange
   pub came : CameTo asked [] (held_in old) (held_in new) exchange r
   pub more : IsAwaited r → (rest ≡ []) × Hears (begins_at asked old) old.client.held fed new.client.held exchange
 
+-- a read gave so many bytes
+pub size_read : (count : ℕ) (into : List ℕ) → count ≤ 4096 → length into ≡ 4096 → length (take count into) ≡ count
+size_read count into within size = length-take-le count into (omega arith)
+
 -- a further piece was read and heard
-pub come_on : (asked : Asked) (step : Step) (old mid new : Ends) (piece : List ℕ) (r : Result Step AskFault)
+pub come_on : (asked : Asked) (step : Step) (old mid new : Ends) (piece : List ℕ) (count : ℕ) (r : Result Step AskFault)
     → Come asked old mid (Ok step) → is_awaiting (stand_of step) ≡ true → Consumes mid.left new.left piece
+    → length piece ≡ count → 0 < count → count ≤ 4096
     → (IsPartial mid.client.held → (sent : List Frame) → IsHeardPiece asked step piece (held_in mid) (held_in new) r sent)
     → Come asked old new r
-come_on asked step old mid new piece r c waits consumed pieces =
+come_on asked step old mid new piece count r c waits consumed size some few pieces =
     let sent : List Frame = c.came.frames in
     let p : IsHeardPiece asked step piece (held_in mid) (held_in new) r sent = pieces (c.more waits).1.partial sent in
     let h : Hears (begins_at asked old) old.client.held c.fed mid.client.held (now_held asked step (held_in mid) sent)
@@ -100,6 +107,7 @@ come_on asked step old mid new piece r c waits consumed pieces =
       exchange = p.exchange;
       fed = c.fed ++ p.fed;
       rest = p.rest;
+      few = omega (arith, p.some (omega arith));
       consumed = subst (Consumes old.left new.left) bytes (Consumes-trans old.left mid.left new.left (c.fed ++ c.rest) piece c.consumed consumed);
       heard = heard_join (begins_at asked old) (now_held asked step (held_in mid) sent) p.exchange old.client.held c.fed mid.client.held p.fed new.client h p.heard;
       came = came_more asked [] sent (held_in old) (held_in mid) (held_in new) p.exchange r c.came.written p.came;
@@ -126,6 +134,7 @@ asking_of asked old new r c = record {
   exchange = c.exchange;
   fed = c.fed;
   rest = c.rest;
+  few = c.few;
   consumed = c.consumed;
   heard = c.heard;
   reply = came_reply asked [] (held_in old) (held_in new) c.exchange r c.came;
@@ -190,6 +199,7 @@ still asked step old mid left reads c none = record {
   exchange = c.exchange;
   fed = c.fed;
   rest = c.rest;
+  few = c.few;
   consumed = subst (Consumes old.left left) (append-nil (c.fed ++ c.rest))
       (Consumes-trans old.left mid.left left (c.fed ++ c.rest) [] c.consumed none);
   heard = c.heard;
@@ -241,6 +251,7 @@ started asked old new r partial held state left came =
       exchange = begins_at asked old;
       fed = [];
       rest = [];
+      few = omega arith;
       consumed = subst (λ l. Consumes old.left l []) (sym left) (Consumes-nil old.left);
       heard = heard_of (begins_at asked old) old.client.held [] new.client (begins_at asked old) hears state;
       came = came;

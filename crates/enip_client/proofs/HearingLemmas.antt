@@ -1,5 +1,5 @@
 -- The exchange over the frames of what was fed, piece by piece.
-use Rattle.std.proofs.Common.{◌≡◌, ℕ, ◌+◌, ◌-◌, ◌≤◌, nat_lt, if◌then◌else◌, Bool, true, false, List, [], ◌∷◌, ◌++◌, length, take, drop, append-nil, append_assoc, length-drop, refl, sym, ap, subst, ◌∙◌, None, Result, Ok, Err, arith}
+use Rattle.std.proofs.Common.{◌≡◌, ℕ, ◌+◌, ◌-◌, ◌<◌, ◌≤◌, nat_lt, if◌then◌else◌, Bool, true, false, List, [], ◌∷◌, ◌++◌, length, take, drop, append-nil, append_assoc, length-drop, refl, sym, ap, subst, ◌∙◌, None, Result, Ok, Err, arith}
 use Rattle.std.specs.Prelude.{⊤, ◌==◌}
 use Rattle.std.specs.List.{flat_map, AllByRecursion}
 use Rattle.std.proofs.lemmas.List.Concat.{flat_map-append}
@@ -313,14 +313,18 @@ front_more k n m piece rest same is =
 -- a piece that ended in a fault
 pub piece_of_fault : (asked : Asked) (step : Step) (piece : List ℕ) (k : ℕ) (rest : List ℕ) (old mid new : Held) (fault : AskFault)
     (r : Result Step AskFault) (sent : List Frame) → rest ≡ drop k piece → r ≡ Err fault
+    → k < length piece → (0 < length rest → 0 < taken_of mid.client.held rest)
     → FedMore asked step (take k piece ++ take (taken_of mid.client.held rest) rest) old new (Err fault) sent
     → IsHeardPiece asked step piece old new r sent
-piece_of_fault asked step piece k rest old mid new fault r sent same is m =
+piece_of_fault asked step piece k rest old mid new fault r sent same is within some m =
     let n : ℕ = taken_of mid.client.held rest in
+    let size : length rest ≡ length piece - k = ap length same ∙ length-drop k piece in
+    let fed : 0 < n = some (omega arith) in
     subst (λ x. IsHeardPiece asked step piece old new x sent) (sym is) (record {
       exchange = m.exchange;
       fed = take k piece ++ take n rest;
       rest = drop n rest;
+      some = λ any. omega (arith, length-drop n rest);
       parts = sym (append_assoc (take k piece) (take n rest) (drop n rest) ∙ ap (λ l. take k piece ++ l) (take-append-drop n rest ∙ same)
           ∙ take-append-drop k piece);
       heard = m.heard;
@@ -330,12 +334,13 @@ piece_of_fault asked step piece k rest old mid new fault r sent same is m =
 
 -- a piece that was heard as far as it goes
 pub piece_of_step : (asked : Asked) (step now : Step) (piece : List ℕ) (k : ℕ) (old new : Held) (sent : List Frame)
-    → (is_awaiting (stand_of now) ≡ true → length piece ≤ k)
+    → (is_awaiting (stand_of now) ≡ true → length piece ≤ k) → (0 < length piece → 0 < k)
     → SoFar asked step (take k piece) old new now sent → IsHeardPiece asked step piece old new (Ok now) sent
-piece_of_step asked step now piece k old new sent past h = record {
+piece_of_step asked step now piece k old new sent past some h = record {
   exchange = h.exchange;
   fed = take k piece;
   rest = drop k piece;
+  some = λ any. omega (arith, length-drop k piece, some any);
   parts = sym (take-append-drop k piece);
   heard = h.heard;
   came = h.came;

@@ -1,5 +1,6 @@
 -- What the functions below `ask` answer, in the words of the exchange.
-use Rattle.std.specs.Prelude.{ℕ, ◌-◌, ◌^◌, ◌≡◌, ◌<◌, suc, nat_lt, if◌then◌else◌, Bool, true, ⊤, List, [], ◌∷◌, ◌++◌, length, take, Option, Some, None, Result, Ok, Err}
+use Rattle.std.specs.Prelude.{ℕ, ◌-◌, ◌^◌, ◌≡◌, ◌<◌, suc, nat_lt, if◌then◌else◌, Bool, true, ⊤, List, [], ◌∷◌, ◌++◌}
+use Rattle.std.specs.Prelude.{length, take, Option, Some, None, Result, Ok, Err}
 use Rattle.std.specs.List.{flat_map, AllByRecursion}
 use Rattle.std.specs.Io.KnownBytes.{Appends, Consumes, IsAtEnd}
 use Rattle.enip_wire.specs.Frames.{Frame, frame, IsFrame}
@@ -18,7 +19,8 @@ use Rattle.enip_client.specs.Calls.{Lent, opens, closes, unregisters}
 use Rattle.enip_client.specs.Client.{ClientState}
 use Rattle.enip_client.specs.Hears.{News}
 use Rattle.enip_client.specs.Hears.News.{Registered, Opened, Replied, Accepted, Refused, Closed}
-use Rattle.enip_client.specs.Asking.{Stand, Exchange, Heard, LONGEST_REPLY, is_awaiting, over, AllAwaited, IsPartial, lends_plainly, requests, after_sight}
+use Rattle.enip_client.specs.Asking.{Stand, Exchange, Heard, LONGEST_REPLY, is_awaiting, over, AllAwaited, IsPartial}
+use Rattle.enip_client.specs.Asking.{lends_plainly, requests, after_sight}
 use Rattle.enip_client.specs.Asking.Stand.{Registering, Opening, Requesting, Closing, Completed, Failed}
 
 abbrev pub stand_of : Step → Stand
@@ -171,12 +173,13 @@ pub record Hears (begins : Exchange) (before fed held : List ℕ) (ends : Exchan
   pub exchange : ends ≡ over begins frames
   pub partial : IsPartial held
 
--- Of a piece a front was fed: all of it, where a reply is awaited.
+-- Of a piece a front was fed, which is not empty: all of it, where a reply is awaited.
 pub record IsHeardPiece (asked : Asked) (step : Step) (piece : List ℕ) (old new : Held) (result : Result Step AskFault)
     (sent : List Frame) : Type 0 where
   pub exchange : Exchange
   pub fed : List ℕ
   pub rest : List ℕ
+  pub some : 0 < length piece → length rest < length piece
   pub parts : piece ≡ fed ++ rest
   pub heard : Heard (now_held asked step old sent) old.client.held fed new.client exchange
   pub came : CameTo asked sent old new exchange result
@@ -189,5 +192,6 @@ IsRead before after reads_before reads_after into (Ok count) =
     Consumes before after (take count into) × (0 < count) × (reads_after ≡ suc reads_before)
 IsRead before after reads_before reads_after into (Err ask_faults.Ended) = Consumes before after [] × IsAtEnd after
 IsRead before after reads_before reads_after into (Err ask_faults.Read) = Consumes before after []
-IsRead before after reads_before reads_after into (Err ask_faults.Spent) = Consumes before after [] × (reads_after ≡ 2 ^ 64 - 1)
+IsRead before after reads_before reads_after into (Err ask_faults.Spent) =
+    Consumes before after [] × (reads_after ≡ 2 ^ 64 - 1)
 IsRead before after reads_before reads_after into (Err other) = ⊥

@@ -1,5 +1,6 @@
 -- One exchange: what a client sends and hears, from RegisterSession to UnRegisterSession.
-use Rattle.std.specs.Prelude.{ℕ, ◌-◌, ◌^◌, ◌≡◌, ◌<◌, nat_lt, if◌then◌else◌, Bool, true, false, ⊤, List, [], ◌∷◌, ◌++◌, length, take, Option, Some, None, Result, Ok, Err}
+use Rattle.std.specs.Prelude.{ℕ, ◌-◌, ◌^◌, ◌≡◌, ◌<◌, nat_lt, if◌then◌else◌, Bool, true, false, ⊤, List, [], ◌∷◌}
+use Rattle.std.specs.Prelude.{◌++◌, length, take, Option, Some, None, Result, Ok, Err}
 use Rattle.std.specs.List.{flat_map, AllByRecursion}
 use Rattle.std.specs.Io.KnownBytes.{Appends, Consumes, IsAtEnd}
 use Rattle.cip_bytes.specs.Numbers.{AreBytes}
@@ -195,11 +196,13 @@ pub record Ends : Type 0 where
   pub written : Option (List ℕ)
   pub reply : List ℕ
 
--- The exchange that was heard: of the bytes that were read a front was fed.
+-- The exchange that was heard: of the bytes that were read a front was fed. What was not fed is of the last read, which
+-- gave at most 4,096 bytes, and of which a byte or more was fed.
 pub record Asking (request : List ℕ) (connected : Bool) (old new : Ends) : Type 0 where
   pub exchange : Exchange
   pub fed : List ℕ
   pub rest : List ℕ
+  pub few : length rest < 4096
   pub consumed : Consumes old.left new.left (fed ++ rest)
   pub heard : Heard (begun old.client.state request connected old.reply) old.client.held fed new.client exchange
   pub reply : new.reply ≡ exchange.reply
@@ -231,6 +234,11 @@ IsAsked request connected old new (Err (ask_faults.Submit why)) =
 IsAsked request connected old new (Err ask_faults.Spent) =
     (a : Asking request connected old new) × IsAwaiting a.exchange a.rest × (new.reads ≡ 2 ^ 64 - 1)
     × Writes old.written new.written a.exchange.sent
+
+-- Where no session can be registered, that is answered, and nothing is read, written or changed.
+abbrev pub IsRefused : Ends → Ends → Result (Unit {0}) AskFault → Type 0
+IsRefused old new result = (fault : ClientFault) → registers old.client.state ≡ Err fault
+    → (result ≡ Err (ask_faults.Client fault)) × (new ≡ old)
 
 -- How many calls of the reader failed, and how many of the writer, by what is answered.
 abbrev pub read_faults : {A : Type 0} → Result A AskFault → ℕ

@@ -6,7 +6,7 @@ ghost use Rattle.enip_wire.specs.Frames.{Frame, frame};
 ghost use Rattle.enip_wire.specs.Stream.{taken_of};
 ghost use Rattle.enip_client.specs.Calls.{after_lending};
 ghost use Rattle.enip_client.specs.Client.{with_state, news_in};
-ghost use Rattle.enip_client.specs.Asking.{IsAsked, IsPartial, is_awaiting, read_faults, write_faults};
+ghost use Rattle.enip_client.specs.Asking.{IsAsked, IsRefused, IsPartial, is_awaiting, read_faults, write_faults};
 ghost use Rattle.enip_client.specs.AskSteps.{stand_of, step_after, called, next_of, reply_after, IsSaid, FailsWithin};
 ghost use Rattle.enip_client.specs.AskSteps.{step_in, IsHeardOnce, IsHealthy, IsHeardPiece, IsRead, kept, fits};
 
@@ -144,7 +144,8 @@ struct Progress {
 /// Asks once: registers, opens a connection where that is asked for, sends the request, hears its reply, closes the
 /// connection and unregisters. Each is sent as soon as the one before was answered, before a further frame is heard.
 ///
-/// The reply of the router, at most 512 bytes, is left in `reply`.
+/// The reply of the router, at most 512 bytes, is left in `reply`. A client that cannot register is left as it was, and
+/// nothing is read or written.
 ///
 /// # Errors
 ///
@@ -162,6 +163,21 @@ pub fn ask<R: Source, W: Sink>(
     requires read_failures { R.failures reader.old < u64.MAX }
     requires write_failures { W.failures writer.old < u64.MAX }
     ensures asked { IsPartial client.old.held → IsAsked request.now connected
+        (record {
+          client = client.old;
+          left = R.left reader.old;
+          reads = R.reads reader.old;
+          written = W.written writer.old;
+          reply = reply.old.items;
+        })
+        (record {
+          client = client.new;
+          left = R.left reader.new;
+          reads = R.reads reader.new;
+          written = W.written writer.new;
+          reply = reply.new.items;
+        }) result }
+    ensures refused { IsRefused
         (record {
           client = client.old;
           left = R.left reader.old;
@@ -215,12 +231,12 @@ fn send<W: Sink>(frame: &[u8], writer: &mut W) -> Result<(), AskFault>
 /// # Errors
 ///
 /// `Spent`, `Ended` or `Read`.
-fn read<R: Source>(reader: &mut R, into: &mut [u8]) -> Result<usize, AskFault>
-    requires some { 0 < length into.old }
-    requires failures { R.failures reader.old < u64.MAX }
+fn read<R: Source>(reader: &mut R, into: &mut [u8; LONGEST_READ]) -> Result<usize, AskFault>
+    requires { R.failures reader.old < u64.MAX }
     ensures bytes { IsRead (R.left reader.old) (R.left reader.new) (R.reads reader.old) (R.reads reader.new)
         into.new result }
-    ensures count { IfOk result (λ count. count ≤ length into.new) }
+    ensures count { IfOk result (λ count. count ≤ LONGEST_READ) }
+    ensures size { length into.new ≡ LONGEST_READ }
     ensures counted { IfOk result (λ _. R.reads reader.old < u64.MAX) }
     ensures failures { R.failures reader.new ≡ R.failures reader.old + read_faults result }
 {
@@ -290,6 +306,7 @@ fn hear_once<W: Sink>(
     ensures taken { IfOk result (λ progress. progress.taken ≡ taken_of client.old.held piece.now) }
     ensures within { IfOk result (λ progress. progress.taken ≤ length piece.now) }
     ensures some { IfOk result (λ progress. 0 < length piece.now → 0 < progress.taken) }
+    ensures some_fed { 0 < length piece.now → 0 < taken_of client.old.held piece.now }
     ensures healthy { IsHealthy client.new.state (step_in result) }
     ensures not_read { read_faults result ≡ 0 }
     ensures failures { W.failures writer.new ≡ W.failures writer.old + write_faults result }

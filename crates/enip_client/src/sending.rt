@@ -27,10 +27,10 @@ const CONNECTED_HEAD: usize = 20;
 /// The most data of a frame that is sent, in bytes.
 const LONGEST_DATA: usize = CONNECTED_HEAD + LARGEST_SIZE;
 
-/// The longest frame that is sent, in bytes.
+/// The longest frame that is sent, in bytes: a header, and an item of the largest connection.
 pub const LONGEST_SENT: usize = Header::SIZE + LONGEST_DATA;
 
-/// One frame to send.
+/// The bytes of one frame to send, its header first.
 pub type Sent = ArrayVec<u8, LONGEST_SENT>;
 
 /// The commands that a client sends. (Volume 2, encapsulation commands.)
@@ -89,7 +89,9 @@ fn begin_frame(command: Command, session: u32, number: u64, count: usize, sent: 
     let _ = sent.try_extend_from_slice(&header.write());
 }
 
-/// Writes a RegisterSession, whose context is this number.
+/// Writes a RegisterSession, 28 bytes, in place of what `sent` had. Its session is 0, since there is none yet.
+///
+/// `number` is the context, its least byte first: the answer repeats it, and is known by it.
 pub fn write_register(number: u64, sent: &mut Sent)
     ensures { sent.new.items ≡ frame (register_frame number) }
 {
@@ -104,18 +106,16 @@ pub(crate) fn write_unregister(session: u32, sent: &mut Sent)
     begin_frame(Command::UnRegisterSession, session, 0, 0, sent);
 }
 
-/// Writes a SendRRData with a request of at most 504 bytes, whose context is this number.
+/// Writes a SendRRData with an unconnected request, 40 bytes and the request's, in place of what `sent` had.
+///
+/// `session` is the handle that the answer to a RegisterSession gave. `number` is the context, its least byte first:
+/// the answer repeats it, and is known by it. `request` is one to the message router, of at most 504 bytes.
 pub fn write_request(session: u32, number: u64, request: &[u8], sent: &mut Sent)
     requires { length request.now ≤ LONGEST_REQUEST }
     ensures { sent.new.items ≡ frame (request_frame session number request.now) }
 {
-    begin_frame(
-        Command::SendRRData,
-        session,
-        number,
-        UNCONNECTED_HEAD + request.len(),
-        sent,
-    );
+    let count = UNCONNECTED_HEAD + request.len();
+    begin_frame(Command::SendRRData, session, number, count, sent);
     let _ = write_rr_body(sent, request);
 }
 

@@ -2,7 +2,7 @@ use Rattle.std.proofs.Common.{take, refl, sym, subst, Ok, Err, arith}
 use Rattle.std.proofs.lemmas.Result.{err_from_is_err_and}
 use Rattle.std.specs.Io.KnownBytes.{Appends}
 use Rattle.enip_client.specs.Calls.{registers}
-use Rattle.enip_client.proofs.AskedLemmas.{asked_fault, asked_done, asked_read, come_on, start_refused, start_sent, start_broken, start_healthy, lent_ok, lent_err}
+use Rattle.enip_client.proofs.AskedLemmas.{asked_fault, asked_done, asked_read, come_on, start_refused, start_sent, start_broken, start_healthy, lent_ok, lent_err, size_read}
 use Rattle.enip_client.proofs.HearingLemmas.{healthy_step}
 use Rattle.enip_client.proofs.asking.ask.Goals as goal
 
@@ -66,8 +66,11 @@ returns-in_err-step-clause-asked g c partial =
     (record { client = c.args.client.now; left = g.R.Source.left c.args.reader.now; reads = g.R.Source.reads c.args.reader.now; written = g.W.Sink.written c.args.writer.now; reply = c.args.reply.now.items })
     (record { client = c.loop-asked.client; left = g.R.Source.left c.loop-asked.reader; reads = g.R.Source.reads c.loop-asked.reader; written = g.W.Sink.written c.loop-asked.writer; reply = c.loop-asked.reply.items })
     (record { client = c.hear_piece.new.client; left = g.R.Source.left c.read.new.reader; reads = g.R.Source.reads c.read.new.reader; written = g.W.Sink.written c.hear_piece.new.writer; reply = c.hear_piece.new.reply.items })
-    (take c.in_ok-count.count c.read.new.into) (Err c.in_err-step.field-0.0) (c.loop-asked.invariant.so_far partial)
-    (sym c.loop-asked-test.ensures) c.in_ok-count.ensures.bytes.0 c.in_err-step.ensures.heard))
+    (take c.in_ok-count.count c.read.new.into) c.in_ok-count.count (Err c.in_err-step.field-0.0) (c.loop-asked.invariant.so_far partial)
+    (sym c.loop-asked-test.ensures) c.in_ok-count.ensures.bytes.0
+    (size_read c.in_ok-count.count c.read.new.into c.in_ok-count.ensures.count c.in_ok-count.ensures.size)
+    c.in_ok-count.ensures.bytes.1 c.in_ok-count.ensures.count
+    c.in_err-step.ensures.heard))
 
 pub loop-asked-preserved : goal.loop-asked-preserved
 loop-asked-preserved g c = record {
@@ -78,8 +81,11 @@ loop-asked-preserved g c = record {
       (record { client = c.args.client.now; left = g.R.Source.left c.args.reader.now; reads = g.R.Source.reads c.args.reader.now; written = g.W.Sink.written c.args.writer.now; reply = c.args.reply.now.items })
       (record { client = c.loop-asked.client; left = g.R.Source.left c.loop-asked.reader; reads = g.R.Source.reads c.loop-asked.reader; written = g.W.Sink.written c.loop-asked.writer; reply = c.loop-asked.reply.items })
       (record { client = c.hear_piece.new.client; left = g.R.Source.left c.read.new.reader; reads = g.R.Source.reads c.read.new.reader; written = g.W.Sink.written c.hear_piece.new.writer; reply = c.hear_piece.new.reply.items })
-      (take c.in_ok-count.count c.read.new.into) (Ok c.in_ok-step.step) (c.loop-asked.invariant.so_far partial)
-      (sym c.loop-asked-test.ensures) c.in_ok-count.ensures.bytes.0 c.in_ok-step.ensures.heard;
+      (take c.in_ok-count.count c.read.new.into) c.in_ok-count.count (Ok c.in_ok-step.step) (c.loop-asked.invariant.so_far partial)
+      (sym c.loop-asked-test.ensures) c.in_ok-count.ensures.bytes.0
+      (size_read c.in_ok-count.count c.read.new.into c.in_ok-count.ensures.count c.in_ok-count.ensures.size)
+      c.in_ok-count.ensures.bytes.1 c.in_ok-count.ensures.count
+      c.in_ok-step.ensures.heard;
 }
 
 pub returns-clause-asked : goal.returns-clause-asked

@@ -1,4 +1,4 @@
-use Rattle.std.proofs.Common.{◌≡◌, ◌+◌, ◌-◌, ◌++◌, length, take, drop, refl, sym, ap, ◌∙◌, true, false, Ok, Err, arith, length-drop}
+use Rattle.std.proofs.Common.{◌≡◌, ◌<◌, ◌+◌, ◌-◌, ◌++◌, length, take, drop, refl, sym, ap, ◌∙◌, true, false, Ok, Err, arith, length-drop}
 use Rattle.std.proofs.lemmas.Result.{err_from_is_err_and}
 use Rattle.cip_bytes.proofs.Bytes.{rest_slice}
 use Rattle.enip_wire.specs.Stream.{taken_of}
@@ -9,6 +9,7 @@ pub loop-heard-init : goal.loop-heard-init
 loop-heard-init g c = record {
   within = omega arith;
   failures = refl;
+  some = λ ended. let no : true ≡ false = sym c.requires.awaiting ∙ ended in cc;
   healthy = λ w. c.requires.healthy;
   so_far = λ partial sent. none_fed c.args.asked c.args.step
       (record { client = c.args.client.now; written = g.W.Sink.written c.args.writer.now; reply = c.args.reply.now.items }) sent partial;
@@ -24,6 +25,7 @@ returns-in_err-progress-clause-heard g c partial sent =
     (record { client = c.loop-heard.client; written = g.W.Sink.written c.loop-heard.writer; reply = c.loop-heard.reply.items })
     (record { client = c.hear_once.new.client; written = g.W.Sink.written c.hear_once.new.writer; reply = c.hear_once.new.reply.items })
     c.in_err-progress.field-0.0 c.from_residual.result sent (rest_slice c.loop-heard.heard c.args.piece.now) (p.1 ∙ ap (λ x. Err x) p.2)
+    c.loop-heard-test.true c.in_err-progress.ensures.some_fed
     (fed_more c.args.asked c.args.step c.loop-heard.step (take c.loop-heard.heard c.args.piece.now) rest
     (record { client = c.args.client.now; written = g.W.Sink.written c.args.writer.now; reply = c.args.reply.now.items })
     (record { client = c.loop-heard.client; written = g.W.Sink.written c.loop-heard.writer; reply = c.loop-heard.reply.items })
@@ -39,6 +41,9 @@ loop-heard-preserved g c =
     record {
       within = omega (arith, c.in_ok-progress.ensures.within, ap length same, length-drop c.loop-heard.heard c.args.piece.now, c.loop-heard.invariant.within);
       failures = omega (arith, c.in_ok-progress.ensures.failures, c.loop-heard.invariant.failures);
+      some = λ ended.
+          let left : 0 < length rest = omega (arith, ap length same, length-drop c.loop-heard.heard c.args.piece.now, c.loop-heard-test.true) in
+          omega (arith, c.in_ok-progress.ensures.some left);
       healthy = healthy_step c.hear_once.new.client.state c.in_ok-progress.progress.step c.in_ok-progress.ensures.healthy;
       so_far = λ partial sent.
           so_far_of c.args.asked c.args.step c.in_ok-progress.progress.step
@@ -60,11 +65,11 @@ returns-else-awaits-clause-heard g c partial sent =
     piece_of_step c.args.asked c.args.step c.loop-heard.step c.args.piece.now c.loop-heard.heard
     (record { client = c.args.client.now; written = g.W.Sink.written c.args.writer.now; reply = c.args.reply.now.items })
     (record { client = c.loop-heard.client; written = g.W.Sink.written c.loop-heard.writer; reply = c.loop-heard.reply.items })
-    sent (λ w. let no : true ≡ false = sym w ∙ sym c.if-awaits.ensures in cc) (c.loop-heard.invariant.so_far partial sent)
+    sent (λ w. let no : true ≡ false = sym w ∙ sym c.if-awaits.ensures in cc) (λ any. c.loop-heard.invariant.some (sym c.if-awaits.ensures)) (c.loop-heard.invariant.so_far partial sent)
 
 pub returns-after-loop-heard-clause-heard : goal.returns-after-loop-heard-clause-heard
 returns-after-loop-heard-clause-heard g c partial sent =
     piece_of_step c.args.asked c.args.step c.loop-heard.step c.args.piece.now c.loop-heard.heard
     (record { client = c.args.client.now; written = g.W.Sink.written c.args.writer.now; reply = c.args.reply.now.items })
     (record { client = c.loop-heard.client; written = g.W.Sink.written c.loop-heard.writer; reply = c.loop-heard.reply.items })
-    sent (λ w. c.loop-heard-test.false) (c.loop-heard.invariant.so_far partial sent)
+    sent (λ w. c.loop-heard-test.false) (λ any. omega (arith, c.loop-heard-test.false)) (c.loop-heard.invariant.so_far partial sent)

@@ -1,4 +1,4 @@
-use Rattle.std.proofs.Common.{◌≡◌, ◌≤◌, ◌-◌, length, take, true, None, List}
+use Rattle.std.proofs.Common.{◌≡◌, ◌<◌, ◌≤◌, ◌-◌, length, take, true, false, None, List}
 use Rattle.enip_wire.specs.Frames.{Frame}
 use Rattle.enip_client.specs.Asking.{IsPartial, is_awaiting}
 use Rattle.enip_client.specs.AskSteps.{stand_of}
@@ -9,6 +9,7 @@ abbrev pub invariant-loop-heard : goal.invariant-loop-heard
 invariant-loop-heard g l = record {
   within : l.heard ≤ length l.piece;
   failures : g.W.Sink.failures l.writer ≡ g.W.Sink.failures l.fn.writer;
+  some : is_awaiting (stand_of l.step) ≡ false → 0 < l.heard;
   healthy : is_awaiting (stand_of l.step) ≡ true → l.client.state.fault ≡ None;
   so_far : IsPartial l.fn.client.held → (sent : List Frame) → SoFar l.asked l.fn.step (take l.heard l.piece)
       (record { client = l.fn.client; written = g.W.Sink.written l.fn.writer; reply = l.fn.reply.items })
