@@ -19,8 +19,14 @@ const IS_5: &[u8] = b"\xb2\0\0\0\x05\0\0\0";
 
 const IS_12: &[u8] = b"\xb2\0\0\0\x0c\0\0\0";
 
+/// Adds 1.
+const ADD_1: &[u8] = b"\x32\x02\x20\x64\x24\x01\x01\0\0\0";
+
 /// Clears the counter.
 const CLEAR: &[u8] = b"\x33\x02\x20\x64\x24\x01";
+
+/// Reads its value.
+const READ: &[u8] = b"\x0e\x03\x20\x64\x24\x01\x30\x01";
 
 const WANTS: Wants = Wants {
     originator_vendor: 66,

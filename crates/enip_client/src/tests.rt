@@ -120,6 +120,35 @@ fn a_connection_from_register_to_unregister(rt: HostRuntime) -> Result<(), Fail>
     Ok(())
 }
 
+/// A session with all that needs room. `new` takes all memory, so this ends well whichever growth is refused, each in
+/// turn by `rt try --test --fail-alloc N -- tests::only_new_takes_memory`.
+#[test]
+fn only_new_takes_memory(rt: HostRuntime) -> Result<(), Fail> {
+    let mut client = match Client::new(rt.alloc(), &WANTS) {
+        Ok(client) => client,
+        Err(fault) => {
+            assert_eq!(rt; fault, ClientFault::Memory);
+            client(rt.alloc())?
+        }
+    };
+    assert_eq!(rt; client.register(), Ok(REGISTER));
+    assert_eq!(rt; client.feed(REGISTERED).heard, Heard::Registered);
+    assert_eq!(rt; client.open(), Ok(OPEN));
+    // a reply in two pieces
+    assert_eq!(rt; client.feed(&OPENED[..30]).heard, Heard::Nothing);
+    assert_eq!(rt; client.feed(&OPENED[30..]).heard, Heard::Opened);
+    assert_eq!(rt; client.submit(ADD), Ok(ADD_SENT));
+    assert_eq!(rt; client.resend(), Some(ADD_SENT));
+    assert_eq!(rt;
+        client.feed(ADDED).heard,
+        Heard::Accepted(b"\xb2\0\0\0\x05\0\0\0")
+    );
+    assert_eq!(rt; client.close(), Ok(CLOSE));
+    assert_eq!(rt; client.feed(CLOSED).heard, Heard::Closed);
+    assert_eq!(rt; client.unregister(), Ok(UNREGISTER));
+    Ok(())
+}
+
 #[test]
 fn an_unconnected_request(rt: HostRuntime) -> Result<(), Fail> {
     let mut client = registered(rt.alloc())?;
