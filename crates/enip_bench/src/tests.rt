@@ -95,7 +95,9 @@ fn demo(alloc: Global, limit: u32) -> Result<Objects, Fail> {
 /// A bench of the demo configuration, whose counter has this limit.
 fn bench(alloc: Global, limit: u32) -> Result<Bench, Fail> {
     let adapter = Adapter::new(alloc, demo(alloc, limit)?, LISTEN, LIMITS)?;
-    let client = Client::new(alloc, &WANTS).ok().ok_or("the client is made")?;
+    let Ok(client) = Client::new(alloc, &WANTS) else {
+        return Err(Fail::from("the client is made"));
+    };
     Ok(
         Bench::new(alloc, adapter, client)
             .ok()

@@ -19,7 +19,9 @@ fn opened(alloc: Global, limits: Limits, wants: &Wants) -> Result<Result<(), Ben
     requires t_to_o_to { wants.now.t_to_o_size ≤ 511 }
 {
     let adapter = Adapter::new(alloc, demo(alloc, 100)?, LISTEN, limits)?;
-    let client = Client::new(alloc, wants).ok().ok_or("the client is made")?;
+    let Ok(client) = Client::new(alloc, wants) else {
+        return Err(Fail::from("the client is made"));
+    };
     Ok(match Bench::new(alloc, adapter, client) {
         Ok(_) => Ok(()),
         Err(fault) => Err(fault),
@@ -82,13 +84,13 @@ fn events_before_a_refused_growth(rt: HostRuntime) -> Result<(), Fail> {
         Event::GiveUp,
     ];
     let adapter = Adapter::new(rt.alloc(), demo(rt.alloc(), 100)?, LISTEN, LIMITS)?;
-    let client = Client::new(rt.alloc(), &WANTS)
-        .ok()
-        .ok_or("the client is made")?;
+    let Ok(client) = Client::new(rt.alloc(), &WANTS) else {
+        return Err(Fail::from("the client is made"));
+    };
     let other_adapter = Adapter::new(rt.alloc(), demo(rt.alloc(), 100)?, LISTEN, LIMITS)?;
-    let other_client = Client::new(rt.alloc(), &WANTS)
-        .ok()
-        .ok_or("the client is made")?;
+    let Ok(other_client) = Client::new(rt.alloc(), &WANTS) else {
+        return Err(Fail::from("the client is made"));
+    };
     let mut bench = match Bench::new(rt.alloc(), adapter, client) {
         Ok(bench) => bench,
         Err(fault) => {
