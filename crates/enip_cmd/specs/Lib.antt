@@ -3,3 +3,6 @@ pub mod Digits
 pub mod Lines
 pub mod Configured
 pub mod Asking
+pub mod Script
+pub mod Outcome
+pub mod Replay

@@ -8,6 +8,8 @@ use Rattle.enip_cmd.specs.declared.asking.Replied.{Replied}
 use Rattle.enip_cmd.specs.declared.asking.Replied.TheVariants as replied
 use Rattle.enip_cmd.specs.declared.asking.Stop.{Stop as AskingStop}
 use Rattle.enip_cmd.specs.declared.asking.Stop.TheVariants as asking
+use Rattle.enip_cmd.specs.declared.replay.Stop.{Stop as ReplayStop}
+use Rattle.enip_cmd.specs.declared.replay.Stop.TheVariants as replays
 use Rattle.enip_cmd.specs.declared.show.Stop.{Stop}
 use Rattle.enip_cmd.specs.declared.show.Stop.TheVariants.{Program}
 use Rattle.enip_config.specs.declared.configuration.Configuration.{Configuration}
@@ -40,6 +42,14 @@ stop_status (asking.Program fault) = exit_status fault
 abbrev pub asking_status : Result Replied AskingStop → ℕ
 asking_status (Ok replied) = replied_status replied
 asking_status (Err stop) = stop_status stop
+
+-- The exit status of a replay that ends early, and the exit statuses of `enip replay`, once its words are read.
+abbrev pub replay_stop_status : ReplayStop → ℕ
+replay_stop_status replays.Setup = 6
+replay_stop_status (replays.Program fault) = exit_status fault
+
+abbrev pub IsReplayStatus : ℕ → Type 0
+IsReplayStatus status = IsStatus status ⊎ (status ≡ 6)
 
 -- A device or memory failed.
 abbrev pub IsOfDevices : Fault → Type 0

@@ -45,6 +45,64 @@ What `configuration N` means, by the first that holds of
   4    the `instance` of an assembly is 0, or stands twice
   5    `value` of the counter is over its `limit`";
 
+const ABOUT_REPLAY: &str = "Moves a client and an adapter side by side by the lines of a script
+
+The client has registered and opened its connection, and a second session is registered. Each frame that is sent, in
+either direction, has a position in it, from 0. Reads the lines of the file SCRIPT, and prints for each what became of
+it:
+
+  line          printed
+  submit HEX    submit N sent K      the client's request N, from 0, was sent at position K
+                submit refused R     one waits (1), it is too long (2), it is no request (3), one was given up (4)
+  resend        resend K             the request that waits was sent once more, at position K
+                resend none          no request waits
+  reach K       reach K back J       what was sent at K reached the adapter, whose answer was sent back at position J
+                reach K none         it reached the adapter, which did not answer
+                reach K impossible   nothing was sent at K, or what was sent behind it was delivered
+  back J        back J accepted HEX  what was sent back at J reached the client, which accepted this reply
+                back J ignored       the client did not wait for it
+                back J impossible    as of `reach`
+  other HEX     other done           the second session had this request executed, without a connection
+                other impossible     it has under 2 or over 504 bytes
+  shut          shut                 the time of the connection is over
+  giveup        giveup               the client gave up the request that waits
+
+K and J are decimal. HEX may have spaces. Empty lines and lines that begin with # are skipped. At the end it prints
+
+  counter VALUE LIMIT ADDITIONS
+  assembly N HEX                     for each assembly, by rising N
+  client idle                        or `client waiting`, or `client given up`
+
+An example: with the lines
+
+  submit 32022064240105000000
+  reach 0
+  reach 0
+  back 0
+  back 1
+
+the request to add 5 to the counter reaches the adapter twice, and so does its reply the client. The counter moved
+once, and one reply was accepted:
+
+  submit 0 sent 0
+  reach 0 back 0
+  reach 0 back 1
+  back 0 accepted b200000005000000
+  back 1 ignored
+  counter 5 100 1
+  assembly 100 00000000
+  client idle
+
+Exit status, and the line on standard error
+
+  0                     all lines were run
+  2  an explanation     the words are refused
+  3  configuration N    the configuration is refused, as of `enip answer`
+  4  line N             line N of the script, from 1, is refused; those before it were run, and nothing is printed behind
+  5  device             a file or a stream could not be read or written
+  5  memory             there was no memory
+  6  setup              the configuration has no place for both sessions, or for the connection";
+
 const ABOUT_SERVE: &str = "Serves the device on a socket, one connection after another
 
 Prints where it listens on standard error, once it does. A client that resets, sends garbage or leaves in mid-frame
@@ -116,6 +174,7 @@ pub(crate) fn program<'a>(alloc: Global) -> Result<Command<'a>, Fault> {
             .subcommand_required(true)
             .arg_required_else_help(true)
             .subcommand(answer(alloc)?)?
+            .subcommand(replay(alloc)?)?
             .subcommand(serve(alloc)?)?
             .subcommand(show(alloc))?
             .subcommand(get(alloc)?)?
@@ -130,6 +189,19 @@ fn answer<'a>(alloc: Global) -> Result<Command<'a>, Fault> {
             .about("Answers frames that are given as lines of hexadecimal digits")
             .long_about(ABOUT_ANSWER)
             .arg(config(alloc))?,
+    )
+}
+
+fn replay<'a>(alloc: Global) -> Result<Command<'a>, Fault> {
+    let script = Arg::new(alloc, "SCRIPT")
+        .required(true)
+        .help("The lines of what happens, a file");
+    Ok(
+        Command::new(alloc, "replay")
+            .about("Moves a client and an adapter side by side by the lines of a script")
+            .long_about(ABOUT_REPLAY)
+            .arg(config(alloc))?
+            .arg(script)?,
     )
 }
 

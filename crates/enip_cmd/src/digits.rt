@@ -8,6 +8,7 @@ ghost use Rattle.enip_cmd.specs.Statuses.{IsOfDevices};
 
 use crate::fault::Fault;
 use std::io::{self, Write};
+use std::{fmt, str};
 
 /// How many bytes are spelled at a time.
 const BLOCK: usize = 128;
@@ -65,4 +66,26 @@ pub(crate) fn print_digits<W: Write>(output: &mut W, bytes: &[u8]) -> io::Result
         rest = others;
     }
     Ok(())
+}
+
+/// Bytes that are printed as their digits, two each.
+#[derive(Clone, Copy)]
+pub(crate) struct Digits<'a>(pub(crate) &'a [u8]);
+
+impl fmt::Display for Digits<'_> {
+    ghost use Rattle.hex.specs.Hex.{encode_lower};
+
+    ghost output = { λ d. Some (encode_lower d.0.now) };
+
+    fn fmt<W: fmt::Write>(&self, f: &mut fmt::Formatter<W>) -> fmt::Result {
+        for byte in self.0 {
+            let mut pair = [0; 2];
+            let _ = hex::encode_to_slice([*byte], &mut pair);
+            let Ok(text) = str::from_utf8(&pair) else {
+                return Err(fmt::Error);
+            };
+            f.write_str(text)?;
+        }
+        Ok(())
+    }
 }

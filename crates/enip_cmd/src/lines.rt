@@ -38,7 +38,7 @@ impl<'a> Line<'a> {
 }
 
 /// The number that decimal digits spell, one digit or more.
-fn decimal(digits: &[u8]) -> Option<u64>
+pub(crate) fn decimal(digits: &[u8]) -> Option<u64>
     ensures { SomeIff result (IsNumeral 10 digits.now × (digits_value 10 digits.now < 2 ^ 64))
         (digits_value 10 digits.now) }
 {

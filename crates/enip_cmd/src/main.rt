@@ -10,6 +10,9 @@ pub mod file;
 pub mod input_lines;
 pub mod lines;
 pub mod number;
+pub mod outcome;
+pub mod replay;
+pub mod script;
 pub mod serve;
 pub mod show;
 pub mod socket;
@@ -44,7 +47,7 @@ const SET_ATTRIBUTE_SINGLE: u8 = 0x10;
 fn run(rt: &HostRuntime, words: &[Word], matches: &ArgMatches<'_>) -> Result<u8, Fault> {
     match matches.subcommand() {
         Some(("answer", matches)) => {
-            let config = read_config(rt, words, matches.get_str("CONFIG").unwrap_or(""))?;
+            let config = read_file(rt, words, matches.get_str("CONFIG").unwrap_or(""))?;
             Ok(answer::answer_bytes(
                 rt.alloc(),
                 config.as_slice(),
@@ -53,10 +56,21 @@ fn run(rt: &HostRuntime, words: &[Word], matches: &ArgMatches<'_>) -> Result<u8,
                 rt.stderr(),
             ))
         }
+        Some(("replay", matches)) => {
+            let config = read_file(rt, words, matches.get_str("CONFIG").unwrap_or(""))?;
+            let script = read_file(rt, words, matches.get_str("SCRIPT").unwrap_or(""))?;
+            Ok(replay::replay_bytes(
+                rt.alloc(),
+                config.as_slice(),
+                script.as_slice(),
+                rt.stdout(),
+                rt.stderr(),
+            ))
+        }
         Some(("serve", matches)) => {
             // all that come, where it is not said: more than can come
             let count = matches.get_one::<u16>("count").map_or(u64::MAX, u64::from);
-            let config = read_config(rt, words, matches.get_str("CONFIG").unwrap_or(""))?;
+            let config = read_file(rt, words, matches.get_str("CONFIG").unwrap_or(""))?;
             let address = matches.get_str("ADDRESS").unwrap_or("");
             run_serve(rt, config.as_slice(), address, count)
         }
@@ -68,13 +82,13 @@ fn run(rt: &HostRuntime, words: &[Word], matches: &ArgMatches<'_>) -> Result<u8,
     }
 }
 
-/// The bytes of the configuration that a word names. The file's name need not be text.
-fn read_config(rt: &HostRuntime, words: &[Word], text: &str) -> Result<Vec<u8>, Fault> {
+/// The bytes of the file that a word names. The file's name need not be text.
+fn read_file(rt: &HostRuntime, words: &[Word], text: &str) -> Result<Vec<u8>, Fault> {
     let word = words.iter().find(|word| word.as_str() == text);
     let name = word.map_or(text.as_bytes(), |word| word.bytes.as_slice());
-    let mut config = Vec::new(rt.alloc());
-    File::open(name)?.read_to_end(&mut config)?;
-    Ok(config)
+    let mut bytes = Vec::new(rt.alloc());
+    File::open(name)?.read_to_end(&mut bytes)?;
+    Ok(bytes)
 }
 
 /// `enip serve`, for so many connections.

@@ -3,6 +3,7 @@
 mod asking;
 mod connections;
 pub(crate) mod devices;
+mod replay;
 mod rows;
 
 use super::answer::{adapter_from, answer, answer_bytes};

@@ -1,0 +1,65 @@
+-- What `enip replay` prints.
+use Rattle.std.specs.Prelude.{ℕ, nat_le, List, [], ◌++◌, length, codes, Option, Some, None, if◌then◌else◌}
+use Rattle.std.specs.Fmt.{decimal}
+use Rattle.hex.specs.Hex.{encode_lower}
+use Rattle.cip_class3.specs.OriginatorRule.{refused_number}
+use Rattle.cip_class3.specs.declared.originator.Stage.{Stage}
+use Rattle.cip_class3.specs.declared.originator.Stage.TheVariants as stages
+use Rattle.cip_objects.specs.Contents.{Contents, bytes_at, udint_at}
+use Rattle.enip_bench.specs.Events.{Event, Submit, Resend, Reach, Back, Other, Shut, GiveUp}
+use Rattle.enip_bench.specs.Telling.{Telling, Sends, Refuses, Resends, Reaches, Accepts, Ignores, Impossible, Done}
+
+-- the words of an event's line, a request's digits left out
+abbrev pub words : Event → List ℕ
+words (Submit request) = codes "submit"
+words Resend = codes "resend"
+words (Reach position) = codes "reach " ++ decimal position
+words (Back position) = codes "back " ++ decimal position
+words (Other request) = codes "other"
+words Shut = codes "shut"
+words GiveUp = codes "giveup"
+
+-- what is printed of an event that was done, and of which no more is to tell
+abbrev pub done_words : Event → List ℕ
+done_words (Other request) = codes " done"
+done_words event = []
+
+-- a position behind this word, or that there is none
+abbrev pub position_words : List ℕ → Option ℕ → List ℕ
+position_words word None = codes " none"
+position_words word (Some position) = word ++ decimal position
+
+-- what is printed behind an event's words of what became of it
+abbrev pub told_words : Event → Telling → List ℕ
+told_words event (Sends number position) = codes " " ++ decimal number ++ codes " sent " ++ decimal position
+told_words event (Refuses why) = codes " refused " ++ decimal (refused_number why)
+told_words event (Resends position) = position_words (codes " ") position
+told_words event (Reaches position) = position_words (codes " back ") position
+told_words event (Accepts reply) = codes " accepted " ++ encode_lower reply
+told_words event Ignores = codes " ignored"
+told_words event Impossible = codes " impossible"
+told_words event Done = done_words event
+
+-- the line of an event and of what became of it
+abbrev pub outcome : Event → Telling → List ℕ
+outcome event telling = words event ++ told_words event telling
+
+-- an attribute of the counter, 0 where it is no number of four bytes
+abbrev pub counter_number : Contents → ℕ → ℕ
+counter_number contents attribute =
+    if nat_le 4 (length (bytes_at contents 100 1 attribute)) then udint_at contents 100 1 attribute else 0
+
+-- the line of the counter
+abbrev pub counter_line : ℕ → ℕ → ℕ → List ℕ
+counter_line value limit additions =
+    codes "counter " ++ decimal value ++ codes " " ++ decimal limit ++ codes " " ++ decimal additions
+
+-- the line of an assembly with these data
+abbrev pub assembly_line : ℕ → List ℕ → List ℕ
+assembly_line instance bytes = codes "assembly " ++ decimal instance ++ codes " " ++ encode_lower bytes
+
+-- the line of where the client stands
+abbrev pub standing_line : Stage → List ℕ
+standing_line stages.Idle = codes "client idle"
+standing_line stages.Waiting = codes "client waiting"
+standing_line stages.GivenUp = codes "client given up"
