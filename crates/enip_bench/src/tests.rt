@@ -116,10 +116,42 @@ fn counter(bench: &Bench, attribute: u16) -> Result<u32, Fail> {
     Ok(u32::from_le_bytes(bytes))
 }
 
-fn submit(alloc: Global, request: &[u8]) -> Result<Event, Fail> {
-    Ok(Event::Submit(Vec::from_slice(alloc, request)?))
+/// More bytes than any request has.
+static ZEROS: [u8; 505] = [0; 505];
+
+/// An event, whose request is lent.
+#[derive(Clone, Copy)]
+enum Row {
+    Submit(&'static [u8]),
+    Resend,
+    Reach(usize),
+    Back(usize),
+    Other(&'static [u8]),
+    Shut,
+    GiveUp,
 }
 
-fn other(alloc: Global, request: &[u8]) -> Result<Event, Fail> {
-    Ok(Event::Other(Vec::from_slice(alloc, request)?))
+impl Row {
+    fn event(self, alloc: Global) -> Result<Event, Fail> {
+        Ok(match self {
+            Row::Submit(request) => Event::Submit(Vec::from_slice(alloc, request)?),
+            Row::Resend => Event::Resend,
+            Row::Reach(position) => Event::Reach(position),
+            Row::Back(position) => Event::Back(position),
+            Row::Other(request) => Event::Other(Vec::from_slice(alloc, request)?),
+            Row::Shut => Event::Shut,
+            Row::GiveUp => Event::GiveUp,
+        })
+    }
+}
+
+/// Does the events of these rows, and compares what is told of each.
+fn compare(alloc: Global, bench: &mut Bench, rows: &[(Row, Step<'_>)]) -> Result<(), Fail> {
+    for (row, step) in rows {
+        let event = row.event(alloc)?;
+        if bench.step(&event)? != *step {
+            return Err(Fail::from("another step is told"));
+        }
+    }
+    Ok(())
 }

@@ -60,6 +60,22 @@ fn faults_have_numbers(rt: HostRuntime) -> Result<(), Fail> {
     Ok(())
 }
 
+/// A lost request, a clearing between, and the end.
+const EVENTS: [Row; 12] = [
+    Row::Submit(ADD_5),
+    Row::Resend,
+    Row::Reach(0),
+    Row::Reach(1),
+    Row::Other(CLEAR),
+    Row::Back(0),
+    Row::Submit(ADD_7),
+    Row::Reach(2),
+    Row::Back(1),
+    Row::Back(2),
+    Row::Shut,
+    Row::GiveUp,
+];
+
 /// How many frames were sent back, and how many replies accepted, before each of the events that follow.
 const BACK_BEFORE: [usize; 12] = [0, 0, 0, 1, 2, 2, 2, 2, 3, 3, 3, 3];
 
@@ -69,20 +85,10 @@ const ACCEPTED_BEFORE: [usize; 12] = [0, 0, 0, 0, 0, 0, 1, 1, 1, 1, 2, 2];
 /// then. Each is refused in turn by `rt try --test --fail-alloc N -- tests::growths::events_before_a_refused_growth`.
 #[test]
 fn events_before_a_refused_growth(rt: HostRuntime) -> Result<(), Fail> {
-    let events = [
-        submit(rt.alloc(), ADD_5)?,
-        Event::Resend,
-        Event::Reach(0),
-        Event::Reach(1),
-        other(rt.alloc(), CLEAR)?,
-        Event::Back(0),
-        submit(rt.alloc(), ADD_7)?,
-        Event::Reach(2),
-        Event::Back(1),
-        Event::Back(2),
-        Event::Shut,
-        Event::GiveUp,
-    ];
+    let mut events = Vec::new(rt.alloc());
+    for row in EVENTS {
+        events.push(row.event(rt.alloc())?)?;
+    }
     let adapter = Adapter::new(rt.alloc(), demo(rt.alloc(), 100)?, LISTEN, LIMITS)?;
     let Ok(client) = Client::new(rt.alloc(), &WANTS) else {
         return Err(Fail::from("the client is made"));
@@ -100,11 +106,14 @@ fn events_before_a_refused_growth(rt: HostRuntime) -> Result<(), Fail> {
                 .ok_or("the ends open")?
         }
     };
-    if let Err((position, _)) = bench.run(&events) {
+    if let Err((position, _)) = bench.run(events.as_slice()) {
         let seen = bench.seen();
         assert_eq!(rt; BACK_BEFORE.get(position), Some(&seen.back.len()));
         assert_eq!(rt; ACCEPTED_BEFORE.get(position), Some(&seen.accepted.len()));
-        let rest = events.get(position..).ok_or("it is one of them")?;
+        let rest = events
+            .as_slice()
+            .get(position..)
+            .ok_or("it is one of them")?;
         assert!(rt; bench.run(rest).is_ok());
     }
     let seen = bench.seen();
