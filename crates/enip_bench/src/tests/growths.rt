@@ -1,7 +1,6 @@
 //! What is refused, and what stands then.
 
 ghost use Rattle.std.specs.Prelude.{◌≤◌};
-ghost use Rattle.enip_bench.specs.Reached.{IsNewAdapter, IsNewClient};
 
 use super::*;
 use cip_class3::Stage;
@@ -104,27 +103,16 @@ fn run_all(bench: &mut Bench, events: &[Event]) -> Result<(), Fail> {
     }
 }
 
-/// A bench of the first ends, or of the others where a growth of it is refused.
-fn one_of(
-    alloc: Global,
-    adapter: Adapter,
-    client: Client,
-    other_adapter: Adapter,
-    other_client: Client,
-) -> Result<Bench, Fail>
-    requires adapter { IsNewAdapter adapter }
-    requires client { IsNewClient client }
-    requires other_adapter { IsNewAdapter other_adapter }
-    requires other_client { IsNewClient other_client }
-{
+/// A bench, made again where a growth of it is refused.
+fn made(alloc: Global) -> Result<Bench, Fail> {
+    let adapter = Adapter::new(alloc, demo(alloc, 100)?, LISTEN, LIMITS)?;
+    let Ok(client) = Client::new(alloc, &WANTS) else {
+        return Err(Fail::from("the client is made"));
+    };
     match Bench::new(alloc, adapter, client) {
         Ok(bench) => Ok(bench),
+        Err(BenchFault::Memory) => bench(alloc, 100),
         Err(BenchFault::Setup) => Err(Fail::from("the ends open")),
-        Err(BenchFault::Memory) => Ok(
-            Bench::new(alloc, other_adapter, other_client)
-                .ok()
-                .ok_or("the ends open")?,
-        ),
     }
 }
 
@@ -136,15 +124,7 @@ fn events_before_a_refused_growth(rt: HostRuntime) -> Result<(), Fail> {
     for row in EVENTS {
         events.push(row.event(rt.alloc())?)?;
     }
-    let adapter = Adapter::new(rt.alloc(), demo(rt.alloc(), 100)?, LISTEN, LIMITS)?;
-    let other_adapter = Adapter::new(rt.alloc(), demo(rt.alloc(), 100)?, LISTEN, LIMITS)?;
-    let Ok(client) = Client::new(rt.alloc(), &WANTS) else {
-        return Err(Fail::from("the client is made"));
-    };
-    let Ok(other_client) = Client::new(rt.alloc(), &WANTS) else {
-        return Err(Fail::from("the client is made"));
-    };
-    let mut bench = one_of(rt.alloc(), adapter, client, other_adapter, other_client)?;
+    let mut bench = made(rt.alloc())?;
     run_all(&mut bench, events.as_slice())?;
     assert_eq!(rt; counter(&bench, 1)?, 7);
     assert_eq!(rt; counter(&bench, 3)?, 2);
