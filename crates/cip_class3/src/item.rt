@@ -13,7 +13,7 @@ use byteorder::{ByteOrder, LittleEndian};
 
 /// The largest size of a connection in one direction, in bytes, the sequence count included.
 /// (Volume 1, network connection parameters.)
-pub const LARGEST_SIZE: usize = 511;
+pub const LARGEST_SIZE: usize = 4_002;
 
 /// How many bytes the sequence count has.
 pub const COUNT: usize = 2;

@@ -6,13 +6,14 @@ use Rattle.std.specs.String.{string_bytes}
 use Rattle.cip_objects.specs.declared.config.Config.{Config}
 use Rattle.cip_objects.specs.declared.config.AssemblyConfig.{AssemblyConfig}
 use Rattle.cip_objects.specs.declared.config.ConfigFault.{ConfigFault}
+use Rattle.cip_objects.specs.Limits.{LONGEST_DATA}
 use Rattle.cip_objects.specs.Configuration.{fault_of, is_misnamed, is_missized, is_wrongly_split, is_misnumbered, instances, block_of}
 use Rattle.cip_objects.specs.Entries.{NoneIsClass}
 
 pub record IsSound (c : Config) : Type 0 where
   pub name : length (string_bytes c.name) ≤ 32
   pub few : length c.assemblies.items ≤ 16
-  pub small : All (λ a. sum a.members.items ≤ 480) c.assemblies.items
+  pub small : All (λ a. sum a.members.items ≤ LONGEST_DATA) c.assemblies.items
   pub split : All (λ a. length a.members.items ≤ 64) c.assemblies.items
   pub numbered : NoneIsClass (map block_of c.assemblies.items)
   pub counter : c.counter.value ≤ c.counter.limit
@@ -56,7 +57,7 @@ sound c e =
     record {
       name = at_most 32 (length (string_bytes c.name)) named.0;
       few = at_most 16 (length c.assemblies.items) exact_size.0;
-      small = λ k d h. at_most 480 (sum (get_or c.assemblies.items k d).members.items) (or_false _ _ (none_any is_missized c.assemblies.items exact_size.1 k d h)).1;
+      small = λ k d h. at_most LONGEST_DATA (sum (get_or c.assemblies.items k d).members.items) (or_false _ _ (none_any is_missized c.assemblies.items exact_size.1 k d h)).1;
       split = λ k d h. at_most 64 (length (get_or c.assemblies.items k d).members.items) (or_false _ _ (none_any is_wrongly_split c.assemblies.items split.0 k d h)).0;
       numbered = numbers c.assemblies.items number.0;
       counter = at_most c.counter.limit c.counter.value limit.0;

@@ -25,7 +25,7 @@ config_fault_number Memory = 6
 abbrev pub is_misnamed : List ℕ → Bool
 is_misnamed name = nat_lt 32 (length name) || list_any (λ byte. nat_lt byte 0x20 || nat_lt 0x7e byte) name
 
--- an assembly of 0 or over 480 bytes
+-- an assembly of no byte, or of more than one can have
 abbrev pub is_missized : AssemblyConfig → Bool
 is_missized a = (sum a.members.items == 0) || nat_lt LONGEST_DATA (sum a.members.items)
 

@@ -11,7 +11,7 @@ use std::alloc::{AllocError, Global};
 use std::marker::Model;
 
 /// The most bytes of an assembly's data (ours).
-pub(crate) const DATA_LIMIT: usize = 480;
+pub(crate) const DATA_LIMIT: usize = 3_900;
 
 /// The most members of an assembly (ours).
 pub(crate) const MEMBER_LIMIT: usize = 64;

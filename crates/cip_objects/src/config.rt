@@ -49,7 +49,7 @@ pub struct CounterConfig {
     pub limit: u32,
 }
 
-/// An assembly: 1 to 480 bytes, in at most 64 members.
+/// An assembly: 1 to 3,900 bytes, in at most 64 members.
 #[derive(Debug, Drop)]
 pub struct AssemblyConfig {
     /// The instance number, 16 bits: not 0, and none but its own.
@@ -66,7 +66,7 @@ pub enum ConfigFault {
     /// The name is over 32 bytes, or has a byte outside 0x20 to 0x7e.
     #[error("the name is too long, or has a byte that can't be printed")]
     Name = 1,
-    /// There are over 16 assemblies, or one has 0 or over 480 bytes.
+    /// There are over 16 assemblies, or one has 0 or over 3,900 bytes.
     #[error("too many assemblies, or one with no byte or too many")]
     Size = 2,
     /// An assembly has over 64 members, or one of 0 bytes.

@@ -1,10 +1,10 @@
 //! The objects: what a caller sees as one map, held as typed structs.
-ghost use Rattle.std.specs.Prelude.{◌≡◌, ◌≤◌, ◌+◌, length, option_map, sum, map, Some, IfSome};
+ghost use Rattle.std.specs.Prelude.{◌≡◌, ◌≤◌, ◌+◌, length, option_map, is_some, sum, map, Some, IfSome};
 ghost use Rattle.std.specs.Prelude.{IfOk, IfErr, MatchOption};
 ghost use Rattle.std.specs.List.{All};
 ghost use Rattle.cip_objects.specs.Configuration.{fault_of, contents_of_config, block_of};
 ghost use Rattle.byteorder.specs.Endian.{little_bytes};
-ghost use Rattle.cip_objects.specs.Contents.{value_at, udint_at, with_value};
+ghost use Rattle.cip_objects.specs.Contents.{value_at, bytes_at, udint_at, with_value};
 ghost use Rattle.cip_objects.specs.ChangeServices.{with_bytes_at};
 ghost use Rattle.cip_objects.specs.Destination.{LeadTo, HasNoValue, IsThere, IsPlace, CanBeSet};
 ghost use Rattle.cip_objects.specs.Destination.{services_at, class_at, instance_at, number_at, value_to, data_at};
@@ -157,12 +157,37 @@ impl Objects {
         ensures identity { class ≡ IDENTITY → instance ≡ 1
             → IfSome result (λ bytes. length bytes.items ≤ NAME_LIMIT + 1) }
     {
-        let destination = self.destination(class, instance)?;
-        let value = self.value(destination, attribute)?;
         let mut bytes = ReplyBuf::new();
-        match value.append(REPLY_LIMIT, &mut bytes) {
-            Ok(()) => Some(bytes),
-            Err(_) => None,
+        if self.read_attribute(class, instance, attribute, &mut bytes) {
+            Some(bytes)
+        } else {
+            None
+        }
+    }
+
+    /// Leaves the bytes of an attribute that can be read in `reply`, whose old content is dropped, and answers whether
+    /// there is such an attribute. Takes no memory.
+    ///
+    /// So a caller that reads one attribute after another does it in one buffer.
+    pub fn read_attribute(
+        &self,
+        class: u16,
+        instance: u32,
+        attribute: u16,
+        reply: &mut ReplyBuf,
+    ) -> bool
+        ensures found { result ≡ is_some (value_at self.now class instance attribute) }
+        ensures bytes { reply.new.items ≡ bytes_at self.now class instance attribute }
+        // Of the Identity object's instance the name, with its length, is the longest.
+        ensures identity { class ≡ IDENTITY → instance ≡ 1 → length reply.new.items ≤ NAME_LIMIT + 1 }
+    {
+        reply.clear();
+        let Some(destination) = self.destination(class, instance) else {
+            return false;
+        };
+        match self.value(destination, attribute) {
+            Some(value) => value.append(REPLY_LIMIT, reply).is_ok(),
+            None => false,
         }
     }
 

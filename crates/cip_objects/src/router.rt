@@ -5,7 +5,7 @@ ghost use Rattle.cip_objects.specs.Router.{general_status, IsReplyTo, REPLY_TOO_
 use arrayvec::ArrayVec;
 
 /// The most bytes of a router reply (ours).
-pub const REPLY_LIMIT: usize = 512;
+pub const REPLY_LIMIT: usize = 4_000;
 
 /// The bytes of one router reply: at most `REPLY_LIMIT`.
 pub type ReplyBuf = ArrayVec<u8, REPLY_LIMIT>;

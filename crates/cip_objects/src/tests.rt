@@ -4,7 +4,8 @@ ghost use Rattle.std.specs.Prelude.{◌≤◌};
 mod rows;
 
 use crate::{
-    AssemblyConfig, Config, ConfigFault, CounterConfig, Objects, ReplyBuf, Router, Status,
+    AssemblyConfig, Config, ConfigFault, CounterConfig, Objects, REPLY_LIMIT, ReplyBuf, Router,
+    Status,
 };
 use rows::Row;
 use std::alloc::Global;
@@ -48,7 +49,7 @@ fn varied(alloc: Global) -> Result<Config, Fail> {
     assemblies.push(AssemblyConfig {
         instance: 301,
         settable: true,
-        members: Vec::from_slice(alloc, &[480])?,
+        members: Vec::from_slice(alloc, &[3_900])?,
     })?;
     assemblies.push(AssemblyConfig {
         instance: 101,
@@ -73,11 +74,11 @@ fn varied(alloc: Global) -> Result<Config, Fail> {
     })
 }
 
-/// 480 bytes in 64 members, of 7 and 8 bytes in turn.
+/// 3,900 bytes in 64 members: 60 of 61 bytes, and 4 of 60.
 fn full(alloc: Global, instance: u16) -> Result<AssemblyConfig, Fail> {
     let mut members = Vec::new(alloc);
     for i in 0..64 {
-        members.push(if i % 2 == 0 { 7 } else { 8 })?;
+        members.push(if i < 60 { 61 } else { 60 })?;
     }
     Ok(AssemblyConfig {
         instance,
@@ -113,7 +114,7 @@ fn greatest(alloc: Global) -> Result<Config, Fail> {
 /// Asserts what a router answers to a request.
 fn row<R: Router, A: Abort>(rt: &A, router: &mut R, room: usize, request: &[u8], wanted: &[u8])
     requires from { 8 ≤ room }
-    requires to { room ≤ 512 }
+    requires to { room ≤ REPLY_LIMIT }
 {
     assert!(rt; request.len() >= 2);
     let mut reply = ReplyBuf::new();
@@ -186,15 +187,15 @@ fn largest_assembly(rt: HostRuntime) -> Result<(), Fail> {
     let mut objects = Objects::new(rt.alloc(), &config)?;
     let mut whole = Vec::new(rt.alloc());
     for i in 0..64u8 {
-        let size = if i % 2 == 0 { 7 } else { 8 };
-        let bytes = [i + 1; 8];
+        let size = if i < 60 { 61 } else { 60 };
+        let bytes = [i + 1; 61];
         let mut set = Vec::from_slice(rt.alloc(), b"\x19\x04\x20\x04\x24\x07\x30\x03\x28")?;
         set.push(i + 1)?;
         set.extend_from_slice(&bytes[..size])?;
         row(&rt, &mut objects, 504, &set, b"\x99\x00\x00\x00");
         whole.extend_from_slice(&bytes[..size])?;
     }
-    assert_eq!(rt; whole.len(), 480);
+    assert_eq!(rt; whole.len(), 3_900);
     let data = objects.attribute(4, 7, 3).ok_or("no data")?;
     assert_eq!(rt; data.as_slice(), whole.as_slice());
     let mut reply = Vec::from_slice(rt.alloc(), b"\x8e\x00\x00\x00")?;
@@ -202,16 +203,18 @@ fn largest_assembly(rt: HostRuntime) -> Result<(), Fail> {
     row(
         &rt,
         &mut objects,
-        504,
+        4_000,
         b"\x0e\x03\x20\x04\x24\x07\x30\x03",
         &reply,
     );
+    let mut last = Vec::from_slice(rt.alloc(), b"\x98\x00\x00\x00")?;
+    last.extend_from_slice(&[64; 60])?;
     row(
         &rt,
         &mut objects,
         504,
         b"\x18\x04\x20\x04\x24\x07\x30\x03\x28\x40",
-        b"\x98\x00\x00\x00\x40\x40\x40\x40\x40\x40\x40\x40",
+        &last,
     );
     Ok(())
 }
@@ -251,7 +254,7 @@ fn greatest_device(rt: HostRuntime) -> Result<(), Fail> {
         // its size
         (
             b"\x0e\x04\x20\x04\x25\x00\xf0\xff\x30\x04",
-            b"\x8e\x00\x00\x00\xe0\x01",
+            b"\x8e\x00\x00\x00\x3c\x0f",
         ),
         // the counter
         (
@@ -269,26 +272,25 @@ fn greatest_device(rt: HostRuntime) -> Result<(), Fail> {
 fn largest_replies(rt: HostRuntime) -> Result<(), Fail> {
     let mut objects = Objects::new(rt.alloc(), &greatest(rt.alloc())?)?;
     // the data of the last assembly
+    let data: &[u8] = b"\x0e\x04\x20\x04\x25\x00\xf0\xff\x30\x03";
     let mut reply = Vec::from_slice(rt.alloc(), b"\x8e\x00\x00\x00")?;
-    reply.extend_from_slice(&[0; 480])?;
-    row(
-        &rt,
-        &mut objects,
-        504,
-        b"\x0e\x04\x20\x04\x25\x00\xf0\xff\x30\x03",
-        &reply,
-    );
-    // a list that just fits
-    let list: &[u8] = b"\x03\x03\x20\x04\x25\x00\xf0\xff\x04\x00\x63\x00\x63\x00\x01\x00\x03\x00";
-    let mut reply = Vec::from_slice(
-        rt.alloc(),
-        b"\x83\x00\x0a\x00\x04\x00\x63\x00\x14\x00\x63\x00\x14\x00\x01\x00\x00\x00\x40\x00\x03\x00\x00\x00",
-    )?;
-    reply.extend_from_slice(&[0; 480])?;
-    assert_eq!(rt; reply.len(), 504);
-    row(&rt, &mut objects, 504, list, &reply);
+    reply.extend_from_slice(&[0; 3_900])?;
+    row(&rt, &mut objects, 3_904, data, &reply);
+    row(&rt, &mut objects, 3_903, data, b"\x8e\x00\x11\x00");
+    // a list that just fits: 21 attributes that there are none of, the number of members, and the data
+    let mut list = Vec::from_slice(rt.alloc(), b"\x03\x03\x20\x04\x25\x00\xf0\xff\x17\x00")?;
+    let mut reply = Vec::from_slice(rt.alloc(), b"\x83\x00\x0a\x00\x17\x00")?;
+    for _ in 0..21 {
+        list.extend_from_slice(b"\x63\x00")?;
+        reply.extend_from_slice(b"\x63\x00\x14\x00")?;
+    }
+    list.extend_from_slice(b"\x01\x00\x03\x00")?;
+    reply.extend_from_slice(b"\x01\x00\x00\x00\x40\x00\x03\x00\x00\x00")?;
+    reply.extend_from_slice(&[0; 3_900])?;
+    assert_eq!(rt; reply.len(), REPLY_LIMIT);
+    row(&rt, &mut objects, 4_000, &list, &reply);
     // and with a byte less of room doesn't
-    row(&rt, &mut objects, 503, list, b"\x83\x00\x11\x00");
+    row(&rt, &mut objects, 3_999, &list, b"\x83\x00\x11\x00");
     Ok(())
 }
 
@@ -302,7 +304,7 @@ fn past_the_greatest(rt: HostRuntime) -> Result<(), Fail> {
     config.assemblies.push(AssemblyConfig {
         instance: 1,
         settable: true,
-        members: Vec::from_slice(alloc, &[481])?,
+        members: Vec::from_slice(alloc, &[3_901])?,
     })?;
     assert_eq!(rt; Objects::new(alloc, &config).err(), Some(ConfigFault::Size));
     let mut config = demo(alloc)?;

@@ -61,7 +61,7 @@ pub(crate) fn serve(
     match frame.header.command {
         NOP => return Reaction::SILENT,
         LIST_SERVICES => list_services(&frame.header, answer),
-        LIST_IDENTITY => list_identity(shared, &frame.header, answer),
+        LIST_IDENTITY => list_identity(shared, &frame.header, reply, answer),
         LIST_INTERFACES => list_interfaces(&frame.header, answer),
         REGISTER_SESSION => register_session(session, frame, answer),
         UNREGISTER_SESSION => return unregister_session(*session, &frame.header),

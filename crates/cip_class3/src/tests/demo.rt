@@ -115,7 +115,7 @@ fn count_zero_at_the_opening(rt: HostRuntime) -> Result<(), Fail> {
     Ok(())
 }
 
-/// A connection of the greatest sizes, 511 bytes each way: an assembly of 480 bytes is set in an item of 501 bytes, the
+/// A connection of the greatest sizes, 4,002 bytes each way: an assembly of 3,900 bytes is set in an item of 3,910 bytes, the
 /// longest item is taken, and one byte more is dropped.
 #[test]
 fn the_greatest_sizes(rt: HostRuntime) -> Result<(), Fail> {
@@ -124,35 +124,35 @@ fn the_greatest_sizes(rt: HostRuntime) -> Result<(), Fail> {
     config.assemblies.push(AssemblyConfig {
         instance: 101,
         settable: true,
-        members: Vec::from_slice(alloc, &[480])?,
+        members: Vec::from_slice(alloc, &[3_900])?,
     })?;
     let mut objects = Objects::new(alloc, &config)
         .ok()
         .ok_or("the objects are made")?;
-    let mut target = Target::new(511, 511);
+    let mut target = Target::new(4_002, 4_002);
     // Set_Attribute_Single of attribute 3 of assembly 101
     let mut request = Vec::from_slice(alloc, b"\x10\x03\x20\x04\x24\x65\x30\x03")?;
-    request.extend_from_slice(&[0xa5; 480])?;
+    request.extend_from_slice(&[0xa5; 3_900])?;
     let set = item(alloc, 1, request.as_slice())?;
     assert_eq!(rt;
         target.receive(&mut objects, set.as_slice()),
         Received::Executed
     );
     assert_eq!(rt; target.kept(), b"\x01\x00\x90\x00\x00\x00".as_slice());
-    // Get_Attribute_Single of it: count, four bytes and 480 are 486
+    // Get_Attribute_Single of it: count, four bytes and 3,900 are 3,906
     let get = item(alloc, 2, b"\x0e\x03\x20\x04\x24\x65\x30\x03")?;
     assert_eq!(rt;
         target.receive(&mut objects, get.as_slice()),
         Received::Executed
     );
     let mut whole = Vec::from_slice(alloc, b"\x02\x00\x8e\x00\x00\x00")?;
-    whole.extend_from_slice(&[0xa5; 480])?;
+    whole.extend_from_slice(&[0xa5; 3_900])?;
     assert_eq!(rt; target.kept(), whole.as_slice());
-    // 511 bytes are taken, and are too much data; 512 are dropped
+    // 4,002 bytes are taken, and are too much data; 4,003 are dropped
     let mut longest = Vec::from_slice(alloc, b"\x33\x02\x20\x64\x24\x01")?;
-    longest.extend_from_slice(&[0; 503])?;
+    longest.extend_from_slice(&[0; 3_994])?;
     let taken = item(alloc, 3, longest.as_slice())?;
-    assert_eq!(rt; taken.len(), 511);
+    assert_eq!(rt; taken.len(), 4_002);
     assert_eq!(rt;
         target.receive(&mut objects, taken.as_slice()),
         Received::Executed
@@ -166,14 +166,14 @@ fn the_greatest_sizes(rt: HostRuntime) -> Result<(), Fail> {
     );
     assert_eq!(rt; target.kept(), b"\x03\x00\xb3\x00\x15\x00".as_slice());
     // an originator of these sizes sends the longest request, and refuses one byte more
-    let mut originator = Originator::new(alloc, 65_535, 511, 511)?;
+    let mut originator = Originator::new(alloc, 65_535, 4_002, 4_002)?;
     assert_eq!(rt;
         originator.submit(longest.as_slice()),
         Err(Refused::TooLong)
     );
     longest.pop();
     let sent = originator.submit(longest.as_slice()).ok().ok_or("taken")?;
-    assert_eq!(rt; sent.len(), 511);
+    assert_eq!(rt; sent.len(), 4_002);
     assert_eq!(rt; &sent[..3], b"\xff\xff\x33".as_slice());
     Ok(())
 }

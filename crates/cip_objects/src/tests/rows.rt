@@ -144,10 +144,10 @@ pub(crate) static ASSEMBLIES: [Row; 14] = [
         request: b"\x0e\x04\x20\x04\x25\x00\x2d\x01\x30\x01",
         wanted: b"\x8e\x00\x00\x00\x01\x00",
     },
-    // of 480 bytes
+    // of 3,900 bytes
     Row {
         request: b"\x0e\x04\x20\x04\x25\x00\x2d\x01\x30\x04",
-        wanted: b"\x8e\x00\x00\x00\xe0\x01",
+        wanted: b"\x8e\x00\x00\x00\x3c\x0f",
     },
     // assembly 101, which can't be set: two members
     Row {
