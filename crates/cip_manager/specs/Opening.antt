@@ -18,6 +18,7 @@ use Rattle.cip_manager.specs.declared.reply.Service.TheVariants.{ForwardOpen}
 use Rattle.cip_manager.specs.declared.opening.Direction.{Direction}
 use Rattle.cip_manager.specs.declared.opening.Opening.{Opening}
 use Rattle.cip_objects.specs.declared.status.Status.TheVariants.{Success}
+use Rattle.cip_class3.specs.Item.{LARGEST_SIZE}
 use Rattle.cip_class3.specs.TargetRule.{target_at_opening}
 use Rattle.cip_manager.specs.Check.{demand, refusal_by, first_failure}
 use Rattle.cip_manager.specs.Connection.{has_triad, timeout_of, deadline_at_opening}
@@ -84,7 +85,7 @@ opening_checks manager asked =
     ∷ demand (names_message_router asked.path) 0x0117
     ∷ demand (asked.is_server && (asked.transport_class == 3)) 0x0103
     ∷ demand (are_point_to_point asked && nat_le asked.timeout_multiplier 7) 0x0108
-    ∷ demand (is_size 4 511 asked.o_to_t && is_size 10 511 asked.t_to_o) 0x0109
+    ∷ demand (is_size 4 LARGEST_SIZE asked.o_to_t && is_size 10 LARGEST_SIZE asked.t_to_o) 0x0109
     ∷ demand (not (asked.o_to_t.rpi == 0)) 0x0111
     ∷ demand (not (list_any (has_triad asked.triad) manager.connections)) 0x0100
     ∷ demand (nat_lt (length manager.connections) manager.places && nat_lt manager.next_id (2 ^ 32)) 0x0113
@@ -98,9 +99,9 @@ opening_check manager asked = first_failure (opening_checks manager asked)
 pub record CanBeOpened (asked : Opening) : Type 0 where
   pub multiplier : asked.timeout_multiplier ≤ 7
   pub o_to_t_from : 4 ≤ asked.o_to_t.size
-  pub o_to_t_to : asked.o_to_t.size ≤ 511
+  pub o_to_t_to : asked.o_to_t.size ≤ LARGEST_SIZE
   pub t_to_o_from : 10 ≤ asked.t_to_o.size
-  pub t_to_o_to : asked.t_to_o.size ≤ 511
+  pub t_to_o_to : asked.t_to_o.size ≤ LARGEST_SIZE
 
 -- the connection that an opening asks for, with this ID
 abbrev pub new_connection : ℕ → ℕ → ℕ → Opening → Connection

@@ -1,6 +1,7 @@
 //! One open connection (Volume 1, Connection Manager).
 ghost use Rattle.std.specs.Prelude.{◌≡◌, ◌≤◌, length};
 ghost use Rattle.cip_manager.specs.Opening.{CanBeOpened, new_connection};
+ghost use Rattle.cip_class3.specs.Item.{LARGEST_SIZE};
 ghost use Rattle.cip_manager.specs.Items.{view as reply_in, reply_of, connection_turn, turn_of_connection};
 ghost use Rattle.cip_manager.specs.Connection.{timeout_of, moment_after, is_named, is_of_session_with};
 
@@ -102,7 +103,7 @@ impl Connection {
     /// What answers the connection's last request.
     pub fn answer(&self) -> Answer<'_>
         ensures reply { reply_in result ≡ reply_of self.now }
-        ensures fits { length result.bytes.now ≤ 511 }
+        ensures fits { length result.bytes.now ≤ LARGEST_SIZE }
     {
         Answer {
             id: self.t_to_o_id,

@@ -5,6 +5,7 @@ ghost use Rattle.std.specs.List.{list_any, position};
 ghost use Rattle.std.specs.Option.{option_map};
 ghost use Rattle.std.specs.Borrow.{sem};
 ghost use Rattle.std.specs.Io.BufRead.{Rests};
+ghost use Rattle.cip_class3.specs.Item.{LARGEST_SIZE};
 ghost use Rattle.cip_manager.specs.Items.{view as reply_in, item_turn, is_taken, IsAt};
 ghost use Rattle.cip_manager.specs.Check.{demand, first_failure};
 ghost use Rattle.cip_manager.specs.Connection.{has_triad, is_named, is_of_session_with};
@@ -154,7 +155,7 @@ impl Manager {
             ≡ (item_turn R.after R.answer self.old.connections now session id item.now router.old).reply }
         ensures router { router.new
             ≡ (item_turn R.after R.answer self.old.connections now session id item.now router.old).router }
-        ensures fits { IfSome result (λ answer. length answer.bytes.now ≤ 511) }
+        ensures fits { IfSome result (λ answer. length answer.bytes.now ≤ LARGEST_SIZE) }
     {
         let place = receive(&mut self.connections, now, session, id, item, router)?;
         Some(self.connections[place].answer())

@@ -1,11 +1,13 @@
 //! What a Forward_Open asks for, and the checks of it (Volume 1, Connection Manager).
 ghost use Rattle.std.specs.Prelude.{◌≡◌, ◌==◌, ◌&&◌, nat_le, not, [], ◌∷◌, is_some, OnOk};
+ghost use Rattle.cip_class3.specs.Item.{LARGEST_SIZE};
 ghost use Rattle.cip_message.specs.Open.{view};
 ghost use Rattle.cip_manager.specs.Check.{demand, refusal_by, first_failure};
 ghost use Rattle.cip_manager.specs.Opening.{direction_of, opening_of, is_point_to_point, are_point_to_point, is_size};
 ghost use Rattle.cip_manager.specs.Opening.{key_in, key_refusal, is_message_router, names_message_router, CanBeOpened};
 
 use crate::connection::Triad;
+use cip_class3::LARGEST_SIZE;
 use cip_message::{Device, Key, OpenPath, OpenRequest, Parameters, Path, read_open_path};
 
 /// Extended status: an open connection has the same triad.
@@ -29,8 +31,6 @@ pub const PATH_SEGMENT: u16 = 0x0315;
 
 /// The greatest timeout multiplier: 512 times the RPI.
 const GREATEST_MULTIPLIER: u8 = 7;
-/// The greatest size of an item, its count included.
-const GREATEST_SIZE: u16 = 511;
 
 /// What is asked for one direction of a connection.
 #[derive(Clone, Copy, Debug, PartialEq, Eq)]
@@ -61,9 +61,9 @@ impl Direction {
     }
 
     fn has_size_from(self, least: u16) -> bool
-        ensures { result ≡ is_size least GREATEST_SIZE self }
+        ensures { result ≡ is_size least LARGEST_SIZE self }
     {
-        least <= self.size && self.size <= GREATEST_SIZE
+        least <= self.size && usize::from(self.size) <= LARGEST_SIZE
     }
 }
 
@@ -129,7 +129,7 @@ impl Opening {
         ensures check { result ≡ first_failure (
             demand (self.now.is_server && (self.now.transport_class == 3)) 0x0103
             ∷ demand (are_point_to_point self.now && nat_le self.now.timeout_multiplier 7) 0x0108
-            ∷ demand (is_size 4 511 self.now.o_to_t && is_size 10 511 self.now.t_to_o) 0x0109
+            ∷ demand (is_size 4 LARGEST_SIZE self.now.o_to_t && is_size 10 LARGEST_SIZE self.now.t_to_o) 0x0109
             ∷ demand (not (self.now.o_to_t.rpi == 0)) 0x0111
             ∷ []) }
         ensures can_be { OnOk result (CanBeOpened self.now) }

@@ -9,7 +9,7 @@ use crate::connection::Triad;
 use crate::opening::Opening;
 use cip_bytes::{append, append_u16, append_u32};
 use cip_message::{LengthFault, write_reply};
-use cip_objects::{ReplyBuf, Status};
+use cip_objects::{REPLY_LIMIT, ReplyBuf, Status};
 
 /// A service of the Connection Manager.
 #[derive(Clone, Copy, Debug, PartialEq, Eq)]
@@ -51,7 +51,7 @@ fn begin_failure(service: Service, extended: u16, reply: &mut ReplyBuf)
 
 /// Appends connection serial, originator vendor and originator serial.
 fn append_triad(triad: Triad, reply: &mut ReplyBuf)
-    requires { array_vec_len reply.old + 8 ≤ 512 }
+    requires { array_vec_len reply.old + 8 ≤ REPLY_LIMIT }
     ensures text { reply.new.items ≡ reply.old.items ++ triad_bytes triad }
     ensures len { array_vec_len reply.new ≡ array_vec_len reply.old + 8 }
 {

@@ -4,6 +4,7 @@ ghost use Rattle.std.specs.Prelude.{◌≡◌, ◌≤◌, ◌+◌, ◌++◌, len
 ghost use Rattle.enip_wire.specs.Headers.{header_spelling};
 ghost use Rattle.enip_adapter.specs.Replies.{reply, reply_header};
 
+use cip_class3::LARGEST_SIZE;
 use enip_wire::Header;
 use std::marker::Model;
 
@@ -14,8 +15,8 @@ pub(crate) const UNCONNECTED_ROOM: usize = 504;
 /// length of the data item 4. (Volume 2, common packet format.)
 const PACKET_HEAD: usize = 20;
 
-/// The most bytes behind the count of a connection's item, and of the count: what its size can say.
-pub(crate) const LONGEST_ITEM: usize = 511;
+/// The most bytes of a connection's item, its count included.
+pub(crate) const LONGEST_ITEM: usize = LARGEST_SIZE;
 
 /// The most data of an answer, in bytes.
 pub(crate) const LONGEST_DATA: usize = PACKET_HEAD + LONGEST_ITEM;

@@ -2,6 +2,7 @@
 use Rattle.std.proofs.Common.{◌≡◌, ◌≢◌, ℕ, ◌<◌, ◌≤◌, ◌^◌, max, Bool, true, false, not, ◌&&◌, cond, eqb, ltb, Option, Some, None, option_map, List, [], ◌∷◌, length, refl, ap, sym, ◌∙◌, subst, arith}
 use Rattle.std.specs.Prelude.{filter}
 use Rattle.std.proofs.lemmas.Bool.{eq-eqb, lt-ltb, le-ltb}
+use Rattle.cip_class3.specs.Item.{LARGEST_SIZE}
 use Rattle.cip_class3.specs.Deliveries.{answer_to}
 use Rattle.cip_class3.specs.TargetRule.{TargetState, TargetStep, target_step, kept_bytes}
 use Rattle.cip_class3.specs.declared.target.Received.{Received}
@@ -135,7 +136,7 @@ at-zero wire shared target false none =
     ∙ ap (filter (is_open_at (max shared.moment 0))) none
 
 -- an item's frame is served as an item
-item-served : (shared : Shared) (peer id : ℕ) (item : List ℕ) → id < 2 ^ 32 → length item ≤ 511 →
+item-served : (shared : Shared) (peer id : ℕ) (item : List ℕ) → id < 2 ^ 32 → length item ≤ LARGEST_SIZE →
     command_served shared (registered_as peer) (item_frame peer id item)
     ≡ served_item shared (registered_as peer) (item_frame peer id item)
     (turn_of_item shared (registered_as peer) id item)
@@ -216,7 +217,7 @@ serves-item wire shared target item serves =
 
 -- an item's frame at the open connection
 reached-connection : (wire : Wire) (a : AdapterState) (target : TargetState) (router : Contents) (item : List ℕ) →
-    IsWire wire → AdapterShows wire a target router true → length item ≤ 511 →
+    IsWire wire → AdapterShows wire a target router true → length item ≤ LARGEST_SIZE →
     (serves : Serves wire (at_moment a.state.shared 0) target) →
     (let step : TargetStep Contents = target_step after_exec exec_answer serves.connection.target a.state.shared.objects item in
     IsReached wire a item step.target step.router true (answer_to step))
@@ -244,7 +245,7 @@ reached-connection wire a target router item is shows small serves =
     }
 
 pub reached-open : (wire : Wire) (a : AdapterState) (target : TargetState) (router : Contents) (item : List ℕ) →
-    IsWire wire → AdapterShows wire a target router true → length item ≤ 511 →
+    IsWire wire → AdapterShows wire a target router true → length item ≤ LARGEST_SIZE →
     (let step : TargetStep Contents = target_step after_exec exec_answer target router item in
     IsReached wire a item step.target step.router true (answer_to step))
 reached-open wire a target router item is shows small =
@@ -258,7 +259,7 @@ reached-open wire a target router item is shows small =
 
 -- once it is over, nothing answers it
 pub reached-shut : (wire : Wire) (a : AdapterState) (target : TargetState) (router : Contents) (item : List ℕ) →
-    IsWire wire → AdapterShows wire a target router false → length item ≤ 511 →
+    IsWire wire → AdapterShows wire a target router false → length item ≤ LARGEST_SIZE →
     IsReached wire a item target router false None
 reached-shut wire a target router item is shows small =
     let shared : Shared = at_moment a.state.shared 0 in
@@ -287,7 +288,7 @@ otherwise false x y e = refl
 
 -- a request of another session
 pub request-served : (shared : Shared) (peer number : ℕ) (request : List ℕ) → 2 ≤ length request →
-    length request ≤ 511 →
+    length request ≤ LARGEST_SIZE →
     command_served shared (registered_as peer) (request_frame peer number request)
     ≡ leaving (routed shared (registered_as peer) request).shared
     (replied (registered_as peer) (request_frame peer number request).header

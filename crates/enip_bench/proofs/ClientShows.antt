@@ -1,6 +1,7 @@
 -- What the client is while its connection is open, and how each of its calls moves it.
 use Rattle.std.proofs.Common.{◌≡◌, ℕ, ◌≤◌, Bool, true, false, ◌&&◌, cond, eqb, Option, Some, None, option_map, List, [], length, refl, ap, sym, ◌∙◌, arith}
 use Rattle.std.proofs.lemmas.Bool.{eq-eqb}
+use Rattle.cip_class3.specs.Item.{LARGEST_SIZE}
 use Rattle.cip_class3.specs.OriginatorRule.{OriginatorState, submit_refusal, waiting_item, after_item, accepted_reply, after_give_up}
 use Rattle.enip_wire.specs.Frames.{Frame, frame}
 use Rattle.enip_wire.proofs.WriteLemmas.{unit_again}
@@ -86,7 +87,7 @@ pub record IsHeardItem (c : ClientState) (item : List ℕ) (fed : Fed) : Type 0 
   pub news : fed.news ≡ accepted (accepted_reply c.state.originator item)
 
 hears-item : (wire : Wire) (c : ClientState) (originator : OriginatorState) (item : List ℕ) → IsWire wire →
-    ClientShows wire c originator → length item ≤ 511 →
+    ClientShows wire c originator → length item ≤ LARGEST_SIZE →
     hears c.state (item_frame wire.peer wire.wants.t_to_o_id item) ≡ record {
       state = record c.state { originator = after_item c.state.originator item };
       news = accepted (accepted_reply c.state.originator item);
@@ -108,7 +109,7 @@ hears-item wire c originator item is shows small =
     otherwise false x y e = absurd (cc)
 
 pub heard-item : (wire : Wire) (c : ClientState) (originator : OriginatorState) (item : List ℕ) → IsWire wire →
-    ClientShows wire c originator → length item ≤ 511 → IsHeardItem c item (fed c (frame_back wire item))
+    ClientShows wire c originator → length item ≤ LARGEST_SIZE → IsHeardItem c item (fed c (frame_back wire item))
 heard-item wire c originator item is shows small =
     let f : Frame = item_frame wire.peer wire.wants.t_to_o_id item in
     let whole : IsHeardWhole c f (fed c (frame f))

@@ -2,6 +2,7 @@
 use Rattle.std.proofs.Common.{◌≡◌, ℕ, ◌+◌, ◌<◌, ◌≤◌, ◌^◌, Bool, true, false, cond, eqb, Some, None, List, [], ◌∷◌, length, refl, ap, sym, ◌∙◌, append-nil, arith}
 use Rattle.std.proofs.lemmas.Bool.{eq-eqb}
 use Rattle.std.proofs.lemmas.List.{take_all}
+use Rattle.cip_class3.specs.Item.{LARGEST_SIZE}
 use Rattle.enip_wire.specs.Bodies.{rr_text, unit_text}
 use Rattle.enip_wire.specs.Frames.{Frame, frame, IsFrame}
 use Rattle.enip_wire.specs.Stream.{sight_of, joined_of, taken_of, cleared}
@@ -44,12 +45,12 @@ is_framed command session number body c s l = record {
   within = l;
 }
 
-pub is_unit : (session id : ℕ) (bytes : List ℕ) → session < 2 ^ 32 → length bytes ≤ 511 →
+pub is_unit : (session id : ℕ) (bytes : List ℕ) → session < 2 ^ 32 → length bytes ≤ LARGEST_SIZE →
     IsFrame (framed 0x0070 session 0 (unit_text id bytes))
 is_unit session id bytes s l =
     is_framed 0x0070 session 0 (unit_text id bytes) (omega arith) s (omega (arith, length-unit_text id bytes))
 
-pub is_rr : (session number : ℕ) (bytes : List ℕ) → session < 2 ^ 32 → length bytes ≤ 511 →
+pub is_rr : (session number : ℕ) (bytes : List ℕ) → session < 2 ^ 32 → length bytes ≤ LARGEST_SIZE →
     IsFrame (framed 0x006f session number (rr_text bytes))
 is_rr session number bytes s l =
     is_framed 0x006f session number (rr_text bytes) (omega arith) s (omega (arith, length-rr_text bytes))

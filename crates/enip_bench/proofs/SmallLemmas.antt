@@ -2,7 +2,7 @@
 use Rattle.std.proofs.Common.{◌≡◌, ℕ, ◌-◌, ◌≤◌, Bool, true, false, cond, Option, Some, None, List, length, refl, subst, arith}
 use Rattle.std.proofs.lemmas.Option.{same_Some}
 use Rattle.cip_class3.specs.Deliveries.{answer_to}
-use Rattle.cip_class3.specs.Item.{item, sequence_count_of, message_of}
+use Rattle.cip_class3.specs.Item.{LARGEST_SIZE, item, sequence_count_of, message_of}
 use Rattle.cip_class3.specs.OriginatorRule.{OriginatorState, Phase, Idle, Waiting, GivenUp, submit_refusal, with_next_request, waiting_item, is_reply, idle_again, after_item, after_give_up}
 use Rattle.cip_class3.specs.TargetRule.{TargetState, TargetStep, step_of, target_step, after_execution, kept_bytes, is_of_size, is_held}
 use Rattle.cip_class3.specs.declared.target.Received.{Received}
@@ -15,17 +15,17 @@ use Rattle.enip_bench.proofs.HeldLemmas.{IsOfForm, has_form}
 use Rattle.enip_bench.proofs.PositionLemmas.{Each, each-push}
 
 abbrev pub IsShort : List ℕ → Type 0
-IsShort bytes = length bytes ≤ 511
+IsShort bytes = length bytes ≤ LARGEST_SIZE
 
 -- the originator's O->T size, and the item that waits
 pub record IsSmallOriginator (originator : OriginatorState) : Type 0 where
-  pub o_to_t_to : originator.o_to_t_size ≤ 511
+  pub o_to_t_to : originator.o_to_t_size ≤ LARGEST_SIZE
   pub waiting : (bytes : List ℕ) → waiting_item originator.phase ≡ Some bytes → IsShort bytes
 
 -- the target's T->O size, and the reply that is held
 pub record IsSmallTarget (target : TargetState) : Type 0 where
   pub t_to_o_from : 10 ≤ target.t_to_o_size
-  pub t_to_o_to : target.t_to_o_size ≤ 511
+  pub t_to_o_to : target.t_to_o_size ≤ LARGEST_SIZE
   pub kept : IsShort (kept_bytes target.held)
 
 pub each-any : (o : Option (List ℕ)) (xs : List (List ℕ)) → Each IsShort xs →

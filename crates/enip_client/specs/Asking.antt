@@ -21,7 +21,7 @@ use Rattle.enip_client.specs.Hears.News.{Registered, Opened, Replied, Accepted, 
 
 -- The longest reply that is taken, in bytes.
 abbrev pub LONGEST_REPLY : ℕ
-LONGEST_REPLY = 512
+LONGEST_REPLY = 4000
 
 -- Which reply the exchange awaits, or how it ended.
 pub data Stand : Type 0 where

@@ -1,7 +1,7 @@
 -- The frames that a client sends (Volume 2, encapsulation commands; Volume 1, Connection Manager).
-use Rattle.std.specs.Prelude.{ℕ, ◌+◌, ◌%◌, ◌^◌, List, [], ◌∷◌, ◌++◌, length}
+use Rattle.std.specs.Prelude.{ℕ, ◌+◌, ◌%◌, ◌^◌, nat_lt, Bool, ◌||◌, if◌then◌else◌, List, [], ◌∷◌, ◌++◌, length}
 use Rattle.cip_bytes.specs.Numbers.{le}
-use Rattle.cip_message.specs.Open.{Open, «open»}
+use Rattle.cip_message.specs.Open.{Open, «open», large_open}
 use Rattle.cip_message.specs.Close.{Close, close}
 use Rattle.cip_message.specs.Request.{request}
 use Rattle.enip_wire.specs.Bodies.{rr_text, unit_text}
@@ -67,9 +67,18 @@ manager_request service bytes = request (record { service = service; path = conn
 abbrev pub parameters_of : ℕ → ℕ
 parameters_of size = 0x4200 + size % 2 ^ 9
 
--- What an open asks for. The target chooses the O->T ID; the client is the originator of a class 3 connection.
-abbrev pub open_asked : Wants → Open
-open_asked wants = record {
+-- The same for a large connection, whose size bits 15 to 0 say.
+abbrev pub large_parameters_of : ℕ → ℕ
+large_parameters_of size = 0x42000000 + size
+
+-- A size over 511, in either direction, asks for a large connection.
+abbrev pub is_large : Wants → Bool
+is_large wants = nat_lt 511 wants.o_to_t_size || nat_lt 511 wants.t_to_o_size
+
+-- What an open asks for, with the parameters that a size has. The target chooses the O->T ID; the client is the
+-- originator of a class 3 connection.
+abbrev pub asked_with : (ℕ → ℕ) → Wants → Open
+asked_with parameters wants = record {
   priority_and_tick_time = 0x0a;
   timeout_ticks = 0x0e;
   o_to_t_id = 0;
@@ -79,16 +88,30 @@ open_asked wants = record {
   originator_serial = wants.originator_serial;
   timeout_multiplier = wants.timeout_multiplier;
   o_to_t_rpi = wants.rpi;
-  o_to_t_parameters = parameters_of wants.o_to_t_size;
+  o_to_t_parameters = parameters wants.o_to_t_size;
   t_to_o_rpi = wants.rpi;
-  t_to_o_parameters = parameters_of wants.t_to_o_size;
+  t_to_o_parameters = parameters wants.t_to_o_size;
   transport = 0xa3;
   path = message_router;
 }
 
--- Forward_Open.
+abbrev pub open_asked : Wants → Open
+open_asked wants = asked_with parameters_of wants
+
+abbrev pub large_asked : Wants → Open
+large_asked wants = asked_with large_parameters_of wants
+
+-- The service that opens: Large_Forward_Open for a large connection, else Forward_Open.
+abbrev pub open_service : Wants → ℕ
+open_service wants = if is_large wants then 0x5b else 0x54
+
+-- The data of the opening, in the layout of its service.
+abbrev pub open_data : Wants → List ℕ
+open_data wants = if is_large wants then large_open (large_asked wants) else «open» (open_asked wants)
+
+-- Forward_Open or Large_Forward_Open.
 abbrev pub open_request : Wants → List ℕ
-open_request wants = manager_request 0x54 («open» (open_asked wants))
+open_request wants = manager_request (open_service wants) (open_data wants)
 
 -- Which connection a close means.
 abbrev pub close_asked : Wants → Close

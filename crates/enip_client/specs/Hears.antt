@@ -12,6 +12,7 @@ use Rattle.enip_wire.specs.Stream.{Sight}
 use Rattle.enip_wire.specs.Stream.Sight.{Nothing_yet, A_frame, A_long_header}
 use Rattle.enip_wire.specs.declared.header.Header.{Header}
 use Rattle.enip_wire.specs.declared.packet.CpfFault.{CpfFault}
+use Rattle.enip_client.specs.Frames.{open_service}
 use Rattle.enip_client.specs.declared.fault.ClientFault.{ClientFault}
 use Rattle.enip_client.specs.declared.fault.ClientFault.TheVariants as faults
 use Rattle.enip_client.specs.declared.state.Awaited.{Awaited}
@@ -117,7 +118,7 @@ closing_turn s (Some a) = if a.reply.status == 0 then tells (answered s) Closed 
 -- The shape of each reply that is awaited: 4 bytes of data, or a router's reply to the service that asked.
 abbrev pub shaped : State → Awaited → Frame → Turned
 shaped s awaited.Session f = session_turn s f
-shaped s awaited.Connection f = opening_turn s (answer_to 0x54 f.body)
+shaped s awaited.Connection f = opening_turn s (answer_to (open_service s.wants) f.body)
 shaped s (awaited.Reply service) f = reply_turn s (answer_to service f.body)
 shaped s awaited.End f = closing_turn s (answer_to 0x4e f.body)
 

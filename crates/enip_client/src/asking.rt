@@ -144,7 +144,7 @@ struct Progress {
 /// Asks once: registers, opens a connection where that is asked for, sends the request, hears its reply, closes the
 /// connection and unregisters. Each is sent as soon as the one before was answered, before a further frame is heard.
 ///
-/// The reply of the router, at most 512 bytes, is left in `reply`. A client that cannot register is left as it was, and
+/// The reply of the router, at most 4,000 bytes, is left in `reply`. A client that cannot register is left as it was, and
 /// nothing is read or written.
 ///
 /// # Errors

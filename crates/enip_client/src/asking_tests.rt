@@ -283,10 +283,10 @@ fn a_reader_that_counts_no_further_read(rt: HostRuntime) -> Result<(), Fail> {
     Ok(())
 }
 
-/// A reply of 512 bytes is taken, one of 513 ends the exchange, and the client keeps no fault.
+/// A reply of 4,000 bytes is taken, one of 4,001 ends the exchange, and the client keeps no fault.
 #[test]
 fn long_replies(rt: HostRuntime) -> Result<(), Fail> {
-    for count in [512, 513] {
+    for count in [4_000, 4_001] {
         // header, interface, timeout and items, then 4 bytes of a reply and as many data as there are further
         let mut input = joined(rt.alloc(), &[REGISTERED, &GOT[..44]])?;
         for _ in 4..count {
@@ -313,9 +313,9 @@ fn long_replies(rt: HostRuntime) -> Result<(), Fail> {
             false,
             &mut reply,
         );
-        if count == 512 {
+        if count == 4_000 {
             assert_eq!(rt; asked, Ok(()));
-            assert_eq!(rt; reply.len(), 512);
+            assert_eq!(rt; reply.len(), 4_000);
         } else {
             assert_eq!(rt; asked, Err(AskFault::Client(ClientFault::Malformed)));
             assert_eq!(rt; reply.len(), 0);

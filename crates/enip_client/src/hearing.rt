@@ -5,13 +5,13 @@ ghost use Rattle.std.specs.Option.{option_map};
 ghost use Rattle.cip_message.specs.Reply.{view};
 ghost use Rattle.enip_wire.specs.Stream.{frame_of};
 ghost use Rattle.enip_client.specs.Client.{news_in, news_at, IsWithin, IsHeard, StandsAt, answer_of};
-ghost use Rattle.enip_client.specs.Frames.{command_number};
+ghost use Rattle.enip_client.specs.Frames.{command_number, open_service};
 ghost use Rattle.enip_client.specs.Hears.{hears, is_for_connection, is_answer, command_of, answer_turn, session_turn};
 ghost use Rattle.enip_client.specs.Hears.{opening_turn, reply_turn, closing_turn, other_turn, refuses, faulted};
 ghost use Rattle.enip_client.specs.Hears.{answer_to, first_word};
 
 use crate::fault::ClientFault;
-use crate::sending::{Command, FORWARD_CLOSE, FORWARD_OPEN};
+use crate::sending::{Command, FORWARD_CLOSE, open_service};
 use crate::state::{Awaited, Awaiting, Link, Registration, State};
 use byteorder::{ByteOrder, LittleEndian};
 use cip_class3::Came;
@@ -161,12 +161,12 @@ impl State {
         Found::Registered
     }
 
-    /// Hears the reply to Forward_Open.
+    /// Hears the reply to Forward_Open or Large_Forward_Open.
     fn hear_opening(&mut self, frame: FrameView<'_>) -> Found
         ensures { IsHeard (frame_of frame.entry) self.new result
-            (opening_turn self.old (answer_to 0x54 (frame_of frame.entry).body)) }
+            (opening_turn self.old (answer_to (open_service self.old.wants) (frame_of frame.entry).body)) }
     {
-        let Some(Answer { reply, .. }) = answer_to(FORWARD_OPEN, frame.body) else {
+        let Some(Answer { reply, .. }) = answer_to(open_service(&self.wants), frame.body) else {
             return self.fail(ClientFault::Malformed);
         };
         if reply.status != 0 {

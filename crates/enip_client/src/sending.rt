@@ -6,12 +6,12 @@ ghost use Rattle.enip_wire.specs.Headers.{header_spelling};
 ghost use Rattle.enip_wire.specs.Frames.{frame};
 ghost use Rattle.enip_client.specs.Frames.{command_number, sent_header, register_frame, unregister_frame};
 ghost use Rattle.enip_client.specs.Frames.{request_frame, item_frame, manager_request, parameters_of, open_request};
-ghost use Rattle.enip_client.specs.Frames.{close_request};
+ghost use Rattle.enip_client.specs.Frames.{close_request, open_service, is_large, large_parameters_of};
 
 use crate::wants::Wants;
 use arrayvec::ArrayVec;
 use cip_class3::LARGEST_SIZE;
-use cip_message::{CloseRequest, OpenRequest, Parameters, Transport};
+use cip_message::{CloseRequest, LargeParameters, OpenRequest, Parameters, Transport};
 use enip_wire::{Header, write_rr_body, write_unit_body};
 
 /// The most bytes of an unconnected request.
@@ -48,7 +48,9 @@ const PROTOCOL: [u8; 4] = [1, 0, 0, 0];
 /// The path of the Connection Manager, class 0x06, instance 1, and its two services.
 const CONNECTION_MANAGER: [u8; 4] = [0x20, 0x06, 0x24, 1];
 
-pub(crate) const FORWARD_OPEN: u8 = 0x54;
+const FORWARD_OPEN: u8 = 0x54;
+
+const LARGE_FORWARD_OPEN: u8 = 0x5b;
 
 pub(crate) const FORWARD_CLOSE: u8 = 0x4e;
 
@@ -65,8 +67,14 @@ const SERVER_CLASS_3: u8 = 0xa3;
 /// Point to point, and of variable size. (Volume 1, network connection parameters.)
 const POINT_TO_POINT_VARIABLE: u16 = 0x4200;
 
-/// The most bytes of a request to the Connection Manager: service, path size and path 6, an open 36 and its path 4.
-const LONGEST_MANAGER_REQUEST: usize = 46;
+/// The same in the parameters of a large connection.
+const LARGE_POINT_TO_POINT_VARIABLE: u32 = 0x4200_0000;
+
+/// The largest size that the parameters of a Forward_Open can say, in 9 bits.
+const LARGEST_SMALL_SIZE: u16 = 511;
+
+/// The most bytes of a request to the Connection Manager: service, path size and path 6, a large open 40 and its path 4.
+const LONGEST_MANAGER_REQUEST: usize = 50;
 
 /// A request to the Connection Manager.
 pub(crate) type ManagerRequest = ArrayVec<u8, LONGEST_MANAGER_REQUEST>;
@@ -134,12 +142,35 @@ pub(crate) fn write_item(session: u32, o_to_t_id: u32, item: &[u8], sent: &mut S
     let _ = write_unit_body(sent, o_to_t_id, item);
 }
 
+/// The service that opens the connection that a client wants. One of up to 511 bytes each way is small.
+pub(crate) fn open_service(wants: &Wants) -> u8
+    ensures { result ≡ open_service wants.now }
+{
+    if is_large(wants) {
+        LARGE_FORWARD_OPEN
+    } else {
+        FORWARD_OPEN
+    }
+}
+
 /// A request to open a connection.
 pub(crate) fn open_request(wants: &Wants) -> ManagerRequest
     ensures { result.items ≡ open_request wants.now }
 {
-    let mut request = begin_manager_request(FORWARD_OPEN);
-    let asked = OpenRequest {
+    let mut request = begin_manager_request(open_service(wants));
+    if is_large(wants) {
+        let asked = asked(wants, large_parameters(wants.o_to_t_size), large_parameters(wants.t_to_o_size));
+        let _ = asked.write_large(&mut request);
+    } else {
+        let asked = asked(wants, parameters(wants.o_to_t_size), parameters(wants.t_to_o_size));
+        let _ = asked.write(&mut request);
+    }
+    request
+}
+
+/// What is asked for, with the parameters of either direction.
+fn asked<P>(wants: &Wants, o_to_t_parameters: P, t_to_o_parameters: P) -> OpenRequest<'static, P> {
+    OpenRequest {
         priority_and_tick_time: PRIORITY_AND_TICK_TIME,
         timeout_ticks: TIMEOUT_TICKS,
         o_to_t_id: 0,
@@ -149,16 +180,21 @@ pub(crate) fn open_request(wants: &Wants) -> ManagerRequest
         originator_serial: wants.originator_serial,
         timeout_multiplier: wants.timeout_multiplier,
         o_to_t_rpi: wants.rpi,
-        o_to_t_parameters: parameters(wants.o_to_t_size),
+        o_to_t_parameters,
         t_to_o_rpi: wants.rpi,
-        t_to_o_parameters: parameters(wants.t_to_o_size),
+        t_to_o_parameters,
         transport: Transport {
             bits: SERVER_CLASS_3,
         },
         path: &MESSAGE_ROUTER,
-    };
-    let _ = asked.write(&mut request);
-    request
+    }
+}
+
+/// Whether a size is over what the parameters of a Forward_Open can say.
+fn is_large(wants: &Wants) -> bool
+    ensures { result ≡ is_large wants.now }
+{
+    wants.o_to_t_size > LARGEST_SMALL_SIZE || wants.t_to_o_size > LARGEST_SMALL_SIZE
 }
 
 /// A request to close the connection.
@@ -196,5 +232,15 @@ fn parameters(size: u16) -> Parameters
     // bits 8 to 0 are the size (network connection parameters)
     Parameters {
         bits: POINT_TO_POINT_VARIABLE + size % 0x200,
+    }
+}
+
+/// The same of a large connection.
+fn large_parameters(size: u16) -> LargeParameters
+    ensures { result.bits ≡ large_parameters_of size }
+{
+    // bits 15 to 0 are the size (network connection parameters)
+    LargeParameters {
+        bits: LARGE_POINT_TO_POINT_VARIABLE + u32::from(size),
     }
 }

@@ -15,9 +15,9 @@ pub struct Wants {
     pub rpi: u32,
     /// The timeout multiplier: the time-out is the RPI times 4 times 2 to it.
     pub timeout_multiplier: u8,
-    /// The size of an item from originator to target in bytes, its count included: 4 to 511.
+    /// The size of an item from originator to target in bytes, its count included: 4 to 4,002.
     pub o_to_t_size: u16,
-    /// The size of an item from target to originator in bytes, its count included: 10 to 511.
+    /// The size of an item from target to originator in bytes, its count included: 10 to 4,002.
     pub t_to_o_size: u16,
     /// The sequence count of the first request.
     pub first_count: u16,

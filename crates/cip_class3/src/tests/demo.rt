@@ -115,8 +115,8 @@ fn count_zero_at_the_opening(rt: HostRuntime) -> Result<(), Fail> {
     Ok(())
 }
 
-/// A connection of the greatest sizes, 4,002 bytes each way: an assembly of 3,900 bytes is set in an item of 3,910 bytes, the
-/// longest item is taken, and one byte more is dropped.
+/// A connection of the greatest sizes, 4,002 bytes each way: an assembly of 3,900 bytes is set in an item of 3,910
+/// bytes, the longest item is taken, and one byte more is dropped.
 #[test]
 fn the_greatest_sizes(rt: HostRuntime) -> Result<(), Fail> {
     let alloc = rt.alloc();
