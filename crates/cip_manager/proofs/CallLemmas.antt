@@ -3,34 +3,51 @@ use Rattle.std.proofs.Common.{false, ◌≡◌, ℕ, List, Option, Some, None, R
 use Rattle.std.specs.Prelude.{find, ◌==◌}
 use Rattle.cip_message.specs.declared.open.LengthFault.{LengthFault}
 use Rattle.cip_message.specs.declared.open.LengthFault.TheVariants.{Short, Long}
-use Rattle.cip_message.specs.Open.{Open, open_of}
+use Rattle.cip_message.specs.Open.{Layout, small, large, Open}
 use Rattle.cip_message.specs.Close.{Close, close_of}
 use Rattle.cip_objects.specs.Router.{general_status}
-use Rattle.cip_manager.specs.declared.reply.Service.TheVariants.{ForwardOpen}
+use Rattle.cip_manager.specs.declared.reply.Service.{Service}
+use Rattle.cip_manager.specs.declared.reply.Service.TheVariants.{ForwardOpen, LargeForwardOpen, ForwardClose}
 use Rattle.cip_manager.specs.Replies.{SUCCESS, failure_reply, length_reply}
 use Rattle.cip_manager.specs.declared.connection.Connection.{Connection}
+use Rattle.cip_manager.specs.declared.connection.Triad.{Triad}
 use Rattle.cip_manager.specs.declared.opening.Opening.{Opening}
 use Rattle.cip_manager.specs.Connection.{is_named, is_of_session_with}
 use Rattle.cip_manager.specs.Manager.{ManagerState, Turn}
-use Rattle.cip_manager.specs.Opening.{opening_of, opening_check, decided_opening, read_opening_turn, open_turn}
+use Rattle.cip_manager.specs.Opening.{opening_check, decided_opening, service_in, open_in, opening_in, read_opening_turn, open_turn_in}
 use Rattle.cip_manager.specs.Closing.{triad_of, closing_check, decided_closing, read_closing_turn, close_turn, without}
 use Rattle.cip_manager.specs.Items.{with_first, turn_of_found, item_turn}
 
+-- a refusal of any service does not say success
+failure-said : (service : Service) (extended : ℕ) (triad : Triad) → (general_status (failure_reply service extended triad) == SUCCESS) ≡ false
+failure-said ForwardOpen extended triad = refl
+failure-said LargeForwardOpen extended triad = refl
+failure-said ForwardClose extended triad = refl
+
+length-said : (service : Service) (fault : LengthFault) → (general_status (length_reply service fault) == SUCCESS) ≡ false
+length-said ForwardOpen Short = refl
+length-said ForwardOpen Long = refl
+length-said LargeForwardOpen Short = refl
+length-said LargeForwardOpen Long = refl
+length-said ForwardClose Short = refl
+length-said ForwardClose Long = refl
+
 -- An open leaves all as it was and refuses, or opens what it asks for.
-pub after_open : (P : Turn → Type 0) (manager : ManagerState) (now session : ℕ) (bytes : List ℕ)
+pub after_open : (P : Turn → Type 0) (layout : Layout) (manager : ManagerState) (now session : ℕ) (bytes : List ℕ)
     → ((reply : List ℕ) → (general_status reply == SUCCESS) ≡ false → P (record { manager = manager; reply = reply }))
-    → ((asked : Opening) → opening_check manager asked ≡ Ok tt → P (decided_opening manager now session asked (Ok tt)))
-    → P (open_turn manager now session bytes)
-after_open P manager now session bytes stays opens = read (open_of bytes)
+    → ((asked : Opening) → opening_check manager asked ≡ Ok tt → P (decided_opening (service_in layout) manager now session asked (Ok tt)))
+    → P (open_turn_in layout manager now session bytes)
+after_open P layout manager now session bytes stays opens = read (open_in layout bytes)
   where
-    decide : (asked : Opening) (check : Result (Unit {0}) ℕ) → opening_check manager asked ≡ check → P (decided_opening manager now session asked check)
-    decide asked (Err extended) e = stays (failure_reply ForwardOpen extended asked.triad) refl
+    decide : (asked : Opening) (check : Result (Unit {0}) ℕ) → opening_check manager asked ≡ check
+        → P (decided_opening (service_in layout) manager now session asked check)
+    decide asked (Err extended) e =
+        stays (failure_reply (service_in layout) extended asked.triad) (failure-said (service_in layout) extended asked.triad)
     decide asked (Ok passed) e = opens asked e
 
-    read : (request : Result Open LengthFault) → P (read_opening_turn manager now session request)
-    read (Err Short) = stays (length_reply ForwardOpen Short) refl
-    read (Err Long) = stays (length_reply ForwardOpen Long) refl
-    read (Ok request) = decide (opening_of request) (opening_check manager (opening_of request)) refl
+    read : (request : Result Open LengthFault) → P (read_opening_turn layout manager now session request)
+    read (Err fault) = stays (length_reply (service_in layout) fault) (length-said (service_in layout) fault)
+    read (Ok request) = decide (opening_in layout request) (opening_check manager (opening_in layout request)) refl
 
 -- A close leaves all as it was, or ends the connections that it names.
 pub after_close : (P : ManagerState → Type 0) (manager : ManagerState) (session : ℕ) (bytes : List ℕ)

@@ -8,6 +8,7 @@ use Rattle.std.proofs.lemmas.List.Kept.{AllPairs-filter}
 use Rattle.std.proofs.lemmas.List.Quantifiers.{all_pairs_push}
 use Rattle.byteorder.specs.Numbers.{little_number-reads_back}
 use Rattle.cip_message.specs.declared.key.Device.{Device}
+use Rattle.cip_message.specs.Open.{Layout, small, large}
 use Rattle.cip_objects.specs.Router.{general_status}
 use Rattle.cip_manager.specs.declared.connection.Triad.{Triad}
 use Rattle.cip_manager.specs.declared.connection.Connection.{Connection}
@@ -15,7 +16,7 @@ use Rattle.cip_manager.specs.declared.opening.Opening.{Opening}
 use Rattle.cip_manager.specs.Check.{demand, first_failure}
 use Rattle.cip_manager.specs.Connection.{is_same_triad, has_triad, is_of_session, is_of_session_with, is_named, is_open_at}
 use Rattle.cip_manager.specs.Manager.{ManagerState, Turn, no_connection}
-use Rattle.cip_manager.specs.Opening.{opening_check, opening_checks, new_connection, with_opening, open_turn}
+use Rattle.cip_manager.specs.Opening.{opening_check, opening_checks, new_connection, with_opening, open_success, decided_opening, service_in, open_turn_in}
 use Rattle.cip_manager.specs.Closing.{triad_of}
 use Rattle.cip_manager.specs.Replies.{SUCCESS, o_to_t_id_in}
 use Rattle.cip_manager.specs.Runs.{Call, Opens, Closes, Receives, Expires, Ends, State, state_after_call, state_after, ids_of_call, ids_drawn, CountsFrom, AreApart}
@@ -60,16 +61,23 @@ record Draws (next after : ℕ) (ids : List ℕ) : Type 0 where
 abbrev given : Turn → List ℕ
 given turn = cond (general_status turn.reply == SUCCESS) (o_to_t_id_in turn.reply ∷ []) []
 
-draws-open : (manager : ManagerState) (now session : ℕ) (bytes : List ℕ) →
-    Draws manager.next_id (open_turn manager now session bytes).manager.next_id (given (open_turn manager now session bytes))
-draws-open manager now session bytes =
-    after_open (λ turn. Draws manager.next_id turn.manager.next_id (given turn)) manager now session bytes
+given-opened : (layout : Layout) (manager : ManagerState) (now session : ℕ) (asked : Opening)
+    → o_to_t_id_in (open_success (service_in layout) manager.next_id asked) ≡ manager.next_id
+    → given (decided_opening (service_in layout) manager now session asked (Ok tt)) ≡ manager.next_id ∷ []
+given-opened small manager now session asked e = ap (λ id. id ∷ []) e
+given-opened large manager now session asked e = ap (λ id. id ∷ []) e
+
+draws-open : (layout : Layout) (manager : ManagerState) (now session : ℕ) (bytes : List ℕ) →
+    Draws manager.next_id (open_turn_in layout manager now session bytes).manager.next_id (given (open_turn_in layout manager now session bytes))
+draws-open layout manager now session bytes =
+    after_open (λ turn. Draws manager.next_id turn.manager.next_id (given turn)) layout manager now session bytes
     (λ reply refused. record { drawn = inl (ap (λ b. cond b (o_to_t_id_in reply ∷ []) []) refused, refl) })
-    (λ asked check. record { drawn = inr (ap (λ id. id ∷ []) (little_number-reads_back 4 manager.next_id [] (has_room manager asked check).id_left), refl) })
+    (λ asked check. record { drawn = inr (given-opened layout manager now session asked
+    (little_number-reads_back 4 manager.next_id [] (has_room manager asked check).id_left), refl) })
 
 module _ {M : Type 0} (after : M → ℕ → List ℕ → M) (answer : M → ℕ → List ℕ → List ℕ) where
   draws-call : (state : State M) (call : Call) → Draws state.manager.next_id (state_after_call after answer state call).manager.next_id (ids_of_call after answer state call)
-  draws-call state (Opens now session bytes) = draws-open state.manager now session bytes
+  draws-call state (Opens layout now session bytes) = draws-open layout state.manager now session bytes
   draws-call state (Closes session bytes) =
       record { drawn = inl (refl, after_close (λ m. m.next_id ≡ state.manager.next_id) state.manager session bytes refl (λ request e. refl)) }
   draws-call state (Receives now session id bytes) = record { drawn = inl (refl, refl) }
@@ -137,8 +145,8 @@ differ-opening manager now session asked room d =
 
 module _ {M : Type 0} (after : M → ℕ → List ℕ → M) (answer : M → ℕ → List ℕ → List ℕ) where
   differ-call : (state : State M) (call : Call) → Differ state.manager → Differ (state_after_call after answer state call).manager
-  differ-call state (Opens now session bytes) d =
-      after_open (λ turn. Differ turn.manager) state.manager now session bytes (λ reply refused. d)
+  differ-call state (Opens layout now session bytes) d =
+      after_open (λ turn. Differ turn.manager) layout state.manager now session bytes (λ reply refused. d)
       (λ asked check. differ-opening state.manager now session asked (has_room state.manager asked check) d)
   differ-call state (Closes session bytes) d =
       after_close Differ state.manager session bytes d (λ request e. differ-filter (λ c. not (is_of_session_with session (triad_of request) c)) state.manager d)

@@ -1,7 +1,7 @@
--- Forward_Open (Volume 1, Connection Manager): what an opening asks for, and why it is refused.
+-- Forward_Open and Large_Forward_Open (Volume 1, Connection Manager): what an opening asks for, and why it is refused.
 --
 -- `Opening` and `Direction` are the records that `src/opening.rt` declares. They have what an opening asks for,
--- and not how its bytes say it: another layout of the request shares all but `opening_of`.
+-- and not how its bytes say it: both layouts of the request share all but how the parameters are read.
 use Rattle.std.specs.Prelude.{◌≡◌, ℕ, ◌+◌, ◌^◌, ◌≤◌, nat_lt, nat_le, ◌==◌, Bool, false, not, ◌&&◌, is_some, is_none}
 use Rattle.std.specs.Prelude.{List, [], ◌∷◌, ◌++◌, length, Option, Some, None, Result, Ok, Err}
 use Rattle.std.specs.List.{list_any}
@@ -10,11 +10,13 @@ use Rattle.cip_message.specs.declared.key.Key.{Key}
 use Rattle.cip_message.specs.declared.path.Path.{Path}
 use Rattle.cip_message.specs.declared.open_path.OpenPath.{OpenPath}
 use Rattle.cip_message.specs.declared.open.LengthFault.{LengthFault}
-use Rattle.cip_message.specs.Open.{Open, open_of, connection_type, size_of, is_server_of, class_of_transport}
+use Rattle.cip_message.specs.Open.{Layout, small, large, Open, open_of, large_open_of, connection_type, size_of}
+use Rattle.cip_message.specs.Open.{large_connection_type, large_size_of, is_server_of, class_of_transport}
 use Rattle.cip_message.specs.OpenPath.{open_path_of}
 use Rattle.cip_message.specs.Key.{refusal}
 use Rattle.cip_manager.specs.declared.connection.Connection.{Connection}
-use Rattle.cip_manager.specs.declared.reply.Service.TheVariants.{ForwardOpen}
+use Rattle.cip_manager.specs.declared.reply.Service.{Service}
+use Rattle.cip_manager.specs.declared.reply.Service.TheVariants.{ForwardOpen, LargeForwardOpen}
 use Rattle.cip_manager.specs.declared.opening.Direction.{Direction}
 use Rattle.cip_manager.specs.declared.opening.Opening.{Opening}
 use Rattle.cip_objects.specs.declared.status.Status.TheVariants.{Success}
@@ -30,9 +32,14 @@ abbrev pub direction_of : ℕ → ℕ → Direction
 direction_of rpi parameters =
     record { rpi = rpi; connection_type = connection_type parameters; size = size_of parameters }
 
--- what a Forward_Open asks for
-abbrev pub opening_of : Open → Opening
-opening_of o = record {
+-- and by its parameters of 32 bits
+abbrev pub large_direction_of : ℕ → ℕ → Direction
+large_direction_of rpi parameters =
+    record { rpi = rpi; connection_type = large_connection_type parameters; size = large_size_of parameters }
+
+-- what a request asks for, and what for either direction
+abbrev pub opening_with : Direction → Direction → Open → Opening
+opening_with o_to_t t_to_o o = record {
   t_to_o_id = o.t_to_o_id;
   triad = record {
     connection_serial = o.connection_serial;
@@ -40,12 +47,23 @@ opening_of o = record {
     originator_serial = o.originator_serial;
   };
   timeout_multiplier = o.timeout_multiplier;
-  o_to_t = direction_of o.o_to_t_rpi o.o_to_t_parameters;
-  t_to_o = direction_of o.t_to_o_rpi o.t_to_o_parameters;
+  o_to_t = o_to_t;
+  t_to_o = t_to_o;
   is_server = is_server_of o.transport;
   transport_class = class_of_transport o.transport;
   path = open_path_of o.path;
 }
+
+-- what a Forward_Open asks for
+abbrev pub opening_of : Open → Opening
+opening_of o =
+    opening_with (direction_of o.o_to_t_rpi o.o_to_t_parameters) (direction_of o.t_to_o_rpi o.t_to_o_parameters) o
+
+-- what a Large_Forward_Open asks for
+abbrev pub large_opening_of : Open → Opening
+large_opening_of o =
+    opening_with (large_direction_of o.o_to_t_rpi o.o_to_t_parameters)
+    (large_direction_of o.t_to_o_rpi o.t_to_o_parameters) o
 
 -- a connection of two ends, and not of many
 abbrev pub is_point_to_point : Direction → Bool
@@ -136,25 +154,51 @@ pub record OpensNext (old new : ManagerState) (reply : List ℕ) : Type 0 where
   pub behind : new.connections ≡ old.connections ++ connection ∷ []
 
 -- the reply to an opening that succeeds
-abbrev pub open_success : ℕ → Opening → List ℕ
-open_success id asked =
-    reply_of_service ForwardOpen Success []
+abbrev pub open_success : Service → ℕ → Opening → List ℕ
+open_success service id asked =
+    reply_of_service service Success []
     (open_success_data id asked.t_to_o_id asked.triad asked.o_to_t.rpi asked.t_to_o.rpi)
 
 -- what follows the checks
-abbrev pub decided_opening : ManagerState → ℕ → ℕ → Opening → Result (Unit {0}) ℕ → Turn
-decided_opening manager now session asked (Err extended) = turn manager (failure_reply ForwardOpen extended asked.triad)
-decided_opening manager now session asked (Ok passed) =
-    turn (with_opening manager now session asked) (open_success manager.next_id asked)
+abbrev pub decided_opening : Service → ManagerState → ℕ → ℕ → Opening → Result (Unit {0}) ℕ → Turn
+decided_opening service manager now session asked (Err extended) =
+    turn manager (failure_reply service extended asked.triad)
+decided_opening service manager now session asked (Ok passed) =
+    turn (with_opening manager now session asked) (open_success service manager.next_id asked)
 
--- A Forward_Open of a session at a moment: the first check that fails refuses it, and then nothing is changed.
-abbrev pub opening_turn : ManagerState → ℕ → ℕ → Opening → Turn
-opening_turn manager now session asked = decided_opening manager now session asked (opening_check manager asked)
+-- An opening of a session at a moment, by one service or the other: the first check that fails refuses it, and then
+-- nothing is changed.
+abbrev pub opening_turn : Service → ManagerState → ℕ → ℕ → Opening → Turn
+opening_turn service manager now session asked =
+    decided_opening service manager now session asked (opening_check manager asked)
+
+-- a layout's service, what its bytes spell, and what that asks for
+abbrev pub service_in : Layout → Service
+service_in small = ForwardOpen
+service_in large = LargeForwardOpen
+
+abbrev pub open_in : Layout → List ℕ → Result Open LengthFault
+open_in small content = open_of content
+open_in large content = large_open_of content
+
+abbrev pub opening_in : Layout → Open → Opening
+opening_in small o = opening_of o
+opening_in large o = large_opening_of o
 
 -- the same, as its data say it
-abbrev pub read_opening_turn : ManagerState → ℕ → ℕ → Result Open LengthFault → Turn
-read_opening_turn manager now session (Err fault) = turn manager (length_reply ForwardOpen fault)
-read_opening_turn manager now session (Ok request) = opening_turn manager now session (opening_of request)
+abbrev pub read_opening_turn : Layout → ManagerState → ℕ → ℕ → Result Open LengthFault → Turn
+read_opening_turn layout manager now session (Err fault) = turn manager (length_reply (service_in layout) fault)
+read_opening_turn layout manager now session (Ok request) =
+    opening_turn (service_in layout) manager now session (opening_in layout request)
 
+abbrev pub open_turn_in : Layout → ManagerState → ℕ → ℕ → List ℕ → Turn
+open_turn_in layout manager now session content =
+    read_opening_turn layout manager now session (open_in layout content)
+
+-- Forward_Open
 abbrev pub open_turn : ManagerState → ℕ → ℕ → List ℕ → Turn
-open_turn manager now session content = read_opening_turn manager now session (open_of content)
+open_turn manager now session content = open_turn_in small manager now session content
+
+-- Large_Forward_Open
+abbrev pub open_large_turn : ManagerState → ℕ → ℕ → List ℕ → Turn
+open_large_turn manager now session content = open_turn_in large manager now session content

@@ -1,4 +1,4 @@
--- What answers a Forward_Open and a Forward_Close (Volume 1, Connection Manager): whole router replies.
+-- What answers a Forward_Open, a Large_Forward_Open and a Forward_Close (Volume 1, Connection Manager): whole router replies.
 use Rattle.std.specs.Prelude.{ℕ, List, [], ◌∷◌, ◌++◌}
 use Rattle.cip_bytes.specs.Numbers.{le, number_at}
 use Rattle.cip_message.specs.Reply.{reply, reply_of_fields}
@@ -9,11 +9,12 @@ use Rattle.cip_objects.specs.declared.status.Status.TheVariants.{Success, Connec
 use Rattle.cip_message.specs.Reply.{reply_service}
 use Rattle.cip_objects.specs.Status.{status_code}
 use Rattle.cip_manager.specs.declared.reply.Service.{Service}
-use Rattle.cip_manager.specs.declared.reply.Service.TheVariants.{ForwardOpen, ForwardClose}
+use Rattle.cip_manager.specs.declared.reply.Service.TheVariants.{ForwardOpen, LargeForwardOpen, ForwardClose}
 use Rattle.cip_manager.specs.declared.connection.Triad.{Triad}
 
 abbrev pub service_code : Service → ℕ
 service_code ForwardOpen = 0x54
+service_code LargeForwardOpen = 0x5b
 service_code ForwardClose = 0x4e
 
 -- the reply to a service, with this general status, additional words and data
@@ -29,7 +30,7 @@ triad_bytes triad = le 2 triad.connection_serial ++ le 2 triad.originator_vendor
 abbrev pub failure_data : Triad → List ℕ
 failure_data triad = triad_bytes triad ++ 0 ∷ 0 ∷ []
 
--- The data of a reply to a Forward_Open that succeeds: O->T ID 4, T->O ID 4, the triad, O->T RPI 4, T->O RPI 4,
+-- The data of a reply to an opening that succeeds: O->T ID 4, T->O ID 4, the triad, O->T RPI 4, T->O RPI 4,
 -- application reply size 0, reserved 0.
 abbrev pub open_success_data : ℕ → ℕ → Triad → ℕ → ℕ → List ℕ
 open_success_data o_to_t_id t_to_o_id triad o_to_t_rpi t_to_o_rpi =
@@ -58,6 +59,6 @@ close_success triad = reply_of_service ForwardClose Success [] (close_success_da
 abbrev pub SUCCESS : ℕ
 SUCCESS = status_code Success
 
--- the O->T ID in the reply to a Forward_Open that succeeds, behind its four bytes
+-- the O->T ID in the reply to an opening that succeeds, behind its four bytes
 abbrev pub o_to_t_id_in : List ℕ → ℕ
 o_to_t_id_in reply = number_at 4 4 reply

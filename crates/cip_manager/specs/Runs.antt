@@ -4,18 +4,19 @@ use Rattle.std.specs.Prelude.{filter, Result, Ok, Err, ⊤}
 use Rattle.std.specs.List.{list_all}
 use Rattle.cip_message.specs.declared.open.LengthFault.{LengthFault}
 use Rattle.cip_message.specs.Close.{Close, close_of}
+use Rattle.cip_message.specs.Open.{Layout}
 use Rattle.cip_objects.specs.Router.{general_status}
 use Rattle.cip_manager.specs.declared.connection.Connection.{Connection}
 use Rattle.cip_manager.specs.Connection.{is_of_session, is_of_session_with, is_named, is_open_at}
 use Rattle.cip_manager.specs.Manager.{ManagerState}
-use Rattle.cip_manager.specs.Opening.{open_turn}
+use Rattle.cip_manager.specs.Opening.{open_turn_in}
 use Rattle.cip_manager.specs.Closing.{close_turn, triad_of, without_overdue, without_session}
 use Rattle.cip_manager.specs.Items.{item_turn}
 use Rattle.cip_manager.specs.Replies.{SUCCESS, o_to_t_id_in}
 
--- a call of the manager: of `open`, `close`, `connected`, `expire` or `end_session`
+-- a call of the manager: of `open` or `open_large`, by the layout, of `close`, `connected`, `expire` or `end_session`
 pub data Call : Type 0 where
-  Opens : (now session : ℕ) (bytes : List ℕ) → Call
+  Opens : (layout : Layout) (now session : ℕ) (bytes : List ℕ) → Call
   Closes : (session : ℕ) (bytes : List ℕ) → Call
   Receives : (now session id : ℕ) (bytes : List ℕ) → Call
   Expires : (now : ℕ) → Call
@@ -29,8 +30,8 @@ pub record State (M : Type 0) : Type 0 where
 module _ {M : Type 0} (after : M → ℕ → List ℕ → M) (answer : M → ℕ → List ℕ → List ℕ) where
   -- the state after a call
   abbrev pub state_after_call : State M → Call → State M
-  state_after_call state (Opens now session bytes) =
-      record { manager = (open_turn state.manager now session bytes).manager; router = state.router }
+  state_after_call state (Opens layout now session bytes) =
+      record { manager = (open_turn_in layout state.manager now session bytes).manager; router = state.router }
   state_after_call state (Closes session bytes) =
       record { manager = (close_turn state.manager session bytes).manager; router = state.router }
   state_after_call state (Receives now session id bytes) =
@@ -45,10 +46,10 @@ module _ {M : Type 0} (after : M → ℕ → List ℕ → M) (answer : M → ℕ
   state_after state [] = state
   state_after state (call ∷ calls) = state_after (state_after_call state call) calls
 
-  -- the IDs that the replies to calls of `open` give out, in their order
+  -- the IDs that the replies to calls of `open` and `open_large` give out, in their order
   abbrev pub ids_of_call : State M → Call → List ℕ
-  ids_of_call state (Opens now session bytes) =
-      let reply = (open_turn state.manager now session bytes).reply in
+  ids_of_call state (Opens layout now session bytes) =
+      let reply = (open_turn_in layout state.manager now session bytes).reply in
       (if general_status reply == SUCCESS then o_to_t_id_in reply ∷ [] else [])
   ids_of_call state (Closes session bytes) = []
   ids_of_call state (Receives now session id bytes) = []
@@ -66,7 +67,7 @@ CountsFrom n (id ∷ ids) = (id ≡ n) × CountsFrom (n + 1) ids
 
 -- the call comes from another session, or from none
 abbrev pub IsOfOther : ℕ → Call → Type 0
-IsOfOther session (Opens now other bytes) = other ≢ session
+IsOfOther session (Opens layout now other bytes) = other ≢ session
 IsOfOther session (Closes other bytes) = other ≢ session
 IsOfOther session (Receives now other id bytes) = other ≢ session
 IsOfOther session (Expires now) = ⊤
@@ -78,7 +79,7 @@ of_session session connections = filter (is_of_session session) connections
 
 -- the connection is still open after the time-outs of a call
 abbrev pub is_open_after : Connection → Call → Bool
-is_open_after connection (Opens now session bytes) = true
+is_open_after connection (Opens layout now session bytes) = true
 is_open_after connection (Closes session bytes) = true
 is_open_after connection (Receives now session id bytes) = true
 is_open_after connection (Expires now) = is_open_at now connection
@@ -94,7 +95,7 @@ is_closed_by session (Err fault) connection = false
 
 -- the call is for another session or another connection of it, and no time-out
 abbrev pub is_spared : Connection → Call → Bool
-is_spared connection (Opens now session bytes) = true
+is_spared connection (Opens layout now session bytes) = true
 is_spared connection (Closes session bytes) = not (is_closed_by session (close_of bytes) connection)
 is_spared connection (Receives now session id bytes) = not (is_named session id connection)
 is_spared connection (Expires now) = is_open_at now connection

@@ -22,7 +22,7 @@ use cip_objects::{ReplyBuf, Router};
 use std::alloc::{AllocError, Global};
 use std::marker::Model;
 
-/// The most bytes that a reply to a Forward_Open or a Forward_Close has.
+/// The most bytes that a reply to a Forward_Open, a Large_Forward_Open or a Forward_Close has.
 pub const LONGEST_REPLY: usize = 30;
 
 /// What answers an item on a connection.
@@ -63,7 +63,7 @@ impl Model for Manager {
 
 impl Manager {
     ghost use Rattle.cip_manager.specs.Manager.{no_connection, turn};
-    ghost use Rattle.cip_manager.specs.Opening.{opening_check, opening_turn, open_turn, OpensNext};
+    ghost use Rattle.cip_manager.specs.Opening.{opening_check, opening_turn, open_turn, open_large_turn, OpensNext};
     ghost use Rattle.cip_manager.specs.Closing.{close_turn, closing_turn, without_overdue, without_session};
     ghost use Rattle.cip_manager.specs.contracts.manager.Manager.{the_row};
     ghost use Rattle.cip_objects.specs.Router.{general_status};
@@ -108,8 +108,30 @@ impl Manager {
         ensures fits { length reply.new.items ≤ LONGEST_REPLY }
     {
         match OpenRequest::read(data) {
-            Ok(request) => self.open_as_asked(now, session, &Opening::of(&request), reply),
+            Ok(request) => {
+                let asked = Opening::of(&request);
+                self.open_as_asked(Service::ForwardOpen, now, session, &asked, reply);
+            }
             Err(fault) => write_length_fault(Service::ForwardOpen, fault, reply),
+        }
+    }
+
+    /// Large_Forward_Open: the same as `open`, for data with parameters of 32 bits.
+    pub fn open_large(&mut self, now: u64, session: u32, data: &[u8], reply: &mut ReplyBuf)
+        ensures turn { turn self.new reply.new.items ≡ open_large_turn self.old now session «data».now }
+
+        // A refused open changes nothing, and draws no ID. Any other draws the next one, and opens one connection
+        // more, behind the others.
+        ensures refused { general_status reply.new.items ≢ SUCCESS → self.new ≡ self.old }
+        ensures opened { general_status reply.new.items ≡ SUCCESS → OpensNext self.old self.new reply.new.items }
+        ensures fits { length reply.new.items ≤ LONGEST_REPLY }
+    {
+        match OpenRequest::read_large(data) {
+            Ok(request) => {
+                let asked = Opening::of_large(&request);
+                self.open_as_asked(Service::LargeForwardOpen, now, session, &asked, reply);
+            }
+            Err(fault) => write_length_fault(Service::LargeForwardOpen, fault, reply),
         }
     }
 
@@ -190,21 +212,28 @@ impl Manager {
         write_close_success(triad, reply);
     }
 
-    fn open_as_asked(&mut self, now: u64, session: u32, asked: &Opening, reply: &mut ReplyBuf)
-        ensures turn { turn self.new reply.new.items ≡ opening_turn self.old now session asked.now }
+    fn open_as_asked(
+        &mut self,
+        service: Service,
+        now: u64,
+        session: u32,
+        asked: &Opening,
+        reply: &mut ReplyBuf,
+    )
+        ensures turn { turn self.new reply.new.items ≡ opening_turn service self.old now session asked.now }
         ensures refused { general_status reply.new.items ≢ SUCCESS → self.new ≡ self.old }
         ensures opened { general_status reply.new.items ≡ SUCCESS → OpensNext self.old self.new reply.new.items }
         ensures fits { length reply.new.items ≤ LONGEST_REPLY }
     {
         if let Err(extended) = self.check(asked) {
-            write_failure(Service::ForwardOpen, extended, asked.triad, reply);
+            write_failure(service, extended, asked.triad, reply);
             return;
         }
         let id = self.next_id as u32;
         self.next_id += 1;
         self.connections
             .push_reserved(Connection::new(id, now, session, asked));
-        write_open_success(id, asked, reply);
+        write_open_success(service, id, asked, reply);
     }
 
     /// Why an opening is refused: the first check that fails.

@@ -1,14 +1,17 @@
-//! What a Forward_Open asks for, and the checks of it (Volume 1, Connection Manager).
-ghost use Rattle.std.specs.Prelude.{◌≡◌, ◌==◌, ◌&&◌, nat_le, not, [], ◌∷◌, is_some, OnOk};
+//! What a Forward_Open or a Large_Forward_Open asks for, and the checks of it (Volume 1, Connection Manager).
+ghost use Rattle.std.specs.Prelude.{◌≡◌, ℕ, ◌==◌, ◌&&◌, nat_le, not, [], ◌∷◌, is_some, OnOk};
 ghost use Rattle.cip_class3.specs.Item.{LARGEST_SIZE};
-ghost use Rattle.cip_message.specs.Open.{view};
+ghost use Rattle.cip_message.specs.Open.{view, large_view, view_by};
 ghost use Rattle.cip_manager.specs.Check.{demand, refusal_by, first_failure};
-ghost use Rattle.cip_manager.specs.Opening.{direction_of, opening_of, is_point_to_point, are_point_to_point, is_size};
+ghost use Rattle.cip_manager.specs.Opening.{direction_of, large_direction_of, opening_of, large_opening_of};
+ghost use Rattle.cip_manager.specs.Opening.{opening_with, is_point_to_point, are_point_to_point, is_size};
 ghost use Rattle.cip_manager.specs.Opening.{key_in, key_refusal, is_message_router, names_message_router, CanBeOpened};
 
 use crate::connection::Triad;
 use cip_class3::LARGEST_SIZE;
-use cip_message::{Device, Key, OpenPath, OpenRequest, Parameters, Path, read_open_path};
+use cip_message::{
+    Device, Key, LargeParameters, OpenPath, OpenRequest, Parameters, Path, read_open_path,
+};
 
 /// Extended status: an open connection has the same triad.
 pub const DOUBLE_OPEN: u16 = 0x0100;
@@ -54,6 +57,16 @@ impl Direction {
         }
     }
 
+    fn of_large(rpi: u32, parameters: LargeParameters) -> Direction
+        ensures { result ≡ large_direction_of rpi parameters.bits }
+    {
+        Direction {
+            rpi,
+            connection_type: parameters.connection_type(),
+            size: parameters.size(),
+        }
+    }
+
     fn is_point_to_point(self) -> bool
         ensures { result ≡ is_point_to_point self }
     {
@@ -88,6 +101,24 @@ impl Opening {
     pub fn of(request: &OpenRequest<'_>) -> Opening
         ensures { result ≡ opening_of (view request.now) }
     {
+        let o_to_t = Direction::of(request.o_to_t_rpi, request.o_to_t_parameters);
+        let t_to_o = Direction::of(request.t_to_o_rpi, request.t_to_o_parameters);
+        Opening::with(o_to_t, t_to_o, request)
+    }
+
+    /// What a Large_Forward_Open asks for.
+    pub fn of_large(request: &OpenRequest<'_, LargeParameters>) -> Opening
+        ensures { result ≡ large_opening_of (large_view request.now) }
+    {
+        let o_to_t = Direction::of_large(request.o_to_t_rpi, request.o_to_t_parameters);
+        let t_to_o = Direction::of_large(request.t_to_o_rpi, request.t_to_o_parameters);
+        Opening::with(o_to_t, t_to_o, request)
+    }
+
+    /// What a request asks for in either layout, and what for either direction.
+    fn with<P>(o_to_t: Direction, t_to_o: Direction, request: &OpenRequest<'_, P>) -> Opening
+        ensures { (bits : P → ℕ) → result ≡ opening_with o_to_t t_to_o (view_by bits request.now) }
+    {
         Opening {
             t_to_o_id: request.t_to_o_id,
             triad: Triad {
@@ -96,8 +127,8 @@ impl Opening {
                 originator_serial: request.originator_serial,
             },
             timeout_multiplier: request.timeout_multiplier,
-            o_to_t: Direction::of(request.o_to_t_rpi, request.o_to_t_parameters),
-            t_to_o: Direction::of(request.t_to_o_rpi, request.t_to_o_parameters),
+            o_to_t,
+            t_to_o,
             is_server: request.transport.is_server(),
             transport_class: request.transport.class(),
             path: read_open_path(request.path),

@@ -1,4 +1,4 @@
-//! The router replies to Forward_Open and Forward_Close, written in place (Volume 1, Connection Manager).
+//! The router replies to Forward_Open, Large_Forward_Open and Forward_Close, written in place (Volume 1, Connection Manager).
 ghost use Rattle.std.specs.Prelude.{◌≡◌, ◌≤◌, ◌<◌, ◌+◌, [], ◌∷◌, ◌++◌, length};
 ghost use Rattle.arrayvec.specs.ArrayVec.{array_vec_len};
 ghost use Rattle.cip_manager.specs.Opening.{open_success};
@@ -15,6 +15,7 @@ use cip_objects::{REPLY_LIMIT, ReplyBuf, Status};
 #[derive(Clone, Copy, Debug, PartialEq, Eq)]
 pub enum Service {
     ForwardOpen,
+    LargeForwardOpen,
     ForwardClose,
 }
 
@@ -25,6 +26,7 @@ impl Service {
     {
         match self {
             Service::ForwardOpen => 0x54,
+            Service::LargeForwardOpen => 0x5b,
             Service::ForwardClose => 0x4e,
         }
     }
@@ -81,10 +83,10 @@ pub fn write_failure(service: Service, extended: u16, triad: Triad, reply: &mut 
 }
 
 /// The connection was opened with this O->T ID.
-pub fn write_open_success(id: u32, asked: &Opening, reply: &mut ReplyBuf)
-    ensures { reply.new.items ≡ open_success id asked.now }
+pub fn write_open_success(service: Service, id: u32, asked: &Opening, reply: &mut ReplyBuf)
+    ensures { reply.new.items ≡ open_success service id asked.now }
 {
-    begin(Service::ForwardOpen, Status::Success, reply);
+    begin(service, Status::Success, reply);
     append_u32(reply, id);
     append_u32(reply, asked.t_to_o_id);
     append_triad(asked.triad, reply);

@@ -1,7 +1,8 @@
 -- What a frame leaves of what all peers share, one of a few kinds of change.
 use Rattle.std.proofs.Common.{not, ltb, eqb, length, ℕ, List, Result, Ok, Err}
+use Rattle.cip_message.specs.Open.{Layout}
 use Rattle.cip_manager.specs.Closing.{close_turn}
-use Rattle.cip_manager.specs.Opening.{open_turn}
+use Rattle.cip_manager.specs.Opening.{open_turn_in}
 use Rattle.cip_objects.specs.Contents.{Contents}
 use Rattle.enip_wire.specs.Bodies.{rr_body_of, unit_body_of}
 use Rattle.enip_wire.specs.Frames.{Frame}
@@ -18,7 +19,8 @@ use Rattle.enip_adapter.proofs.ListLemmas.{both}
 -- What holds of what is shared, and after each change of it by a session.
 pub record Changes (P : Shared → Type 0) (shared : Shared) (session : Session) : Type 0 where
   pub same : P shared
-  pub opens : (bytes : List ℕ) → P (managed shared (open_turn shared.manager shared.moment session.handle bytes)).shared
+  pub opens : (layout : Layout) (bytes : List ℕ) →
+      P (managed shared (open_turn_in layout shared.manager shared.moment session.handle bytes)).shared
   pub closes : (bytes : List ℕ) → P (managed shared (close_turn shared.manager session.handle bytes)).shared
   pub executes : (objects : Contents) → P (record shared { objects = objects })
   pub receives : (id : ℕ) (item : List ℕ) → P (record shared {
@@ -28,7 +30,7 @@ pub record Changes (P : Shared → Type 0) (shared : Shared) (session : Session)
 
 module _ (P : Shared → Type 0) (shared : Shared) (session : Session) (changes : Changes P shared session) where
   after_routed : (request : List ℕ) (to : Destination) → P (routed_to shared session request to).shared
-  after_routed request (Opens bytes) = changes.opens bytes
+  after_routed request (Opens layout bytes) = changes.opens layout bytes
   after_routed request (Closes bytes) = changes.closes bytes
   after_routed request Executes = changes.executes _
 

@@ -238,7 +238,7 @@ rises-command shared session f drawn =
     after_command (λ t. Rises m t.manager) shared session
     (record {
       same = rises-same m drawn;
-      opens = λ bytes. after_open (λ t. Rises m t.manager) m shared.moment session.handle bytes
+      opens = λ layout bytes. after_open (λ t. Rises m t.manager) layout m shared.moment session.handle bytes
           (λ reply refused. rises-same m drawn)
           (λ asked check. rises-opening m (new_connection m.next_id shared.moment session.handle asked) refl drawn);
       closes = λ bytes. after_close (Rises m) m session.handle bytes (rises-same m drawn)

@@ -61,8 +61,8 @@ leaves-command peer shared session f differ =
     after_command (Leaves peer shared) shared session
     (record {
       same = leaves-same peer shared;
-      opens = λ bytes. record {
-        connections = leaves-manager peer shared (Opens shared.moment session.handle bytes) differ
+      opens = λ layout bytes. record {
+        connections = leaves-manager peer shared (Opens layout shared.moment session.handle bytes) differ
             ∙ filter-true (connections_of peer shared);
         moment = refl;
       };

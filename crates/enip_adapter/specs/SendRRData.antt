@@ -3,10 +3,11 @@ use Rattle.std.specs.Prelude.{ℕ, Bool, List, length, ◌==◌, ◌&&◌, nat_l
 use Rattle.cip_message.specs.declared.path.Path.{Path}
 use Rattle.cip_message.specs.declared.path.PathFault.{PathFault}
 use Rattle.cip_message.specs.declared.request.RequestFault.{RequestFault}
+use Rattle.cip_message.specs.Open.{Layout, small, large}
 use Rattle.cip_message.specs.PathReading.{path_of}
 use Rattle.cip_message.specs.Request.{Request, request_of}
 use Rattle.cip_manager.specs.Manager.{Turn}
-use Rattle.cip_manager.specs.Opening.{open_turn}
+use Rattle.cip_manager.specs.Opening.{open_turn_in}
 use Rattle.cip_manager.specs.Closing.{close_turn}
 use Rattle.cip_objects.specs.Execution.{exec}
 use Rattle.enip_wire.specs.Bodies.{rr_text, rr_body_of}
@@ -21,20 +22,22 @@ use Rattle.enip_adapter.specs.Replies.{Served, leaving, replied, refused, is_reg
 abbrev pub UNCONNECTED_ROOM : ℕ
 UNCONNECTED_ROOM = 504
 
--- Where a request goes: to the Connection Manager as a Forward_Open or a Forward_Close, with its data, or to the
--- objects.
+-- Where a request goes: to the Connection Manager as a Forward_Open or a Large_Forward_Open, by its layout, or as a
+-- Forward_Close, with its data, or to the objects.
 pub data Destination : Type 0 where
-  Opens : (bytes : List ℕ) → Destination
+  Opens : (layout : Layout) (bytes : List ℕ) → Destination
   Closes : (bytes : List ℕ) → Destination
   Executes : Destination
 
 abbrev pub is_manager : Path → Bool
 is_manager path = (path.class == 0x06) && (path.instance == 1)
 
--- The two services of the Connection Manager, class 0x06, instance 1.
+-- The three services of the Connection Manager, class 0x06, instance 1.
 abbrev pub manager_service : ℕ → List ℕ → Destination
 manager_service service bytes =
-    if service == 0x54 then Opens bytes else if service == 0x4e then Closes bytes else Executes
+    if service == 0x54 then Opens small bytes
+    else if service == 0x5b then Opens large bytes
+    else if service == 0x4e then Closes bytes else Executes
 
 abbrev pub destination_by_path : Request → Result Path PathFault → Destination
 destination_by_path request (Err fault) = Executes
@@ -58,8 +61,8 @@ abbrev pub managed : Shared → Turn → Routed
 managed shared turn = record { shared = record shared { manager = turn.manager }; reply = turn.reply }
 
 abbrev pub routed_to : Shared → Session → List ℕ → Destination → Routed
-routed_to shared session request (Opens bytes) =
-    managed shared (open_turn shared.manager shared.moment session.handle bytes)
+routed_to shared session request (Opens layout bytes) =
+    managed shared (open_turn_in layout shared.manager shared.moment session.handle bytes)
 routed_to shared session request (Closes bytes) = managed shared (close_turn shared.manager session.handle bytes)
 routed_to shared session request Executes = record {
   shared = record shared { objects = (exec shared.objects UNCONNECTED_ROOM request).after };

@@ -54,9 +54,6 @@ above n e = grind (arith, nat_tests)
 timeout-above : (rpi multiplier : ℕ) → 0 < rpi → 0 < timeout_of rpi multiplier
 timeout-above rpi multiplier some = mul-lt 0 0 (rpi * 4) (2 ^ multiplier) (omega (arith, some)) (pow_pos multiplier)
 
-size-again : (size : ℕ) → size ≤ 511 → (0x4200 + size % 512) % 512 ≡ size
-size-again size small = omega arith
-
 pub is_checked : (manager : ManagerState) (asked : Opening) → opening_check manager asked ≡ Ok tt →
     IsChecked asked.o_to_t.rpi manager.next_id
 is_checked manager asked e =
@@ -115,7 +112,7 @@ module _ (objects : Contents) (listen : Listen) (limits : Limits) (wants : Wants
         session = refl;
         id = refl;
         t_to_o_id = refl;
-        is_target = ap₂ target_at_opening (size-again wants.o_to_t_size is.o_to_t_to) (size-again wants.t_to_o_size is.t_to_o_to);
+        is_target = refl;
         moment = refl;
         deadline = omega (arith, timeout);
         last = omega arith;

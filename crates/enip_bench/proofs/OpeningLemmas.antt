@@ -1,11 +1,13 @@
 -- An opening that nothing refuses leaves the item world's opening.
-use Rattle.std.proofs.Common.{◌≡◌, ℕ, ◌<◌, ◌^◌, false, List, [], Result, Ok, Err, refl, ap, ◌∙◌, subst, arith}
-use Rattle.cip_message.specs.Reply.{Reply, reply_of, reply_of_fields}
-use Rattle.cip_manager.specs.declared.reply.Service.TheVariants.{ForwardOpen}
+use Rattle.std.proofs.Common.{◌≡◌, ℕ, ◌<◌, ◌≤◌, ◌^◌, false, Some, List, [], length, Result, Ok, Err, refl, ap, ◌∙◌, subst, arith}
+use Rattle.cip_class3.specs.Item.{LARGEST_SIZE}
+use Rattle.cip_message.specs.Reply.{Reply, reply_of, reply_of_fields, reply_service}
+use Rattle.cip_message.specs.Open.{Layout, small, large}
+use Rattle.cip_manager.specs.declared.connection.Triad.{Triad}
 use Rattle.cip_manager.specs.declared.opening.Opening.{Opening}
 use Rattle.cip_manager.specs.Manager.{Turn}
-use Rattle.cip_manager.specs.Opening.{opening_of, opening_check, decided_opening, read_opening_turn, open_success}
-use Rattle.cip_manager.specs.Replies.{failure_reply, open_success_data}
+use Rattle.cip_manager.specs.Opening.{opening_check, opening_turn, decided_opening, service_in, opening_in, read_opening_turn, open_success}
+use Rattle.cip_manager.specs.Replies.{service_code, failure_reply, open_success_data}
 use Rattle.cip_objects.specs.Contents.{Contents}
 use Rattle.enip_wire.specs.Bodies.{rr_text}
 use Rattle.enip_wire.specs.Frames.{Frame, frame}
@@ -23,14 +25,14 @@ use Rattle.enip_adapter.specs.SendRRData.{Routed, routed, routed_to, managed}
 use Rattle.enip_adapter.specs.Turn.{new_session}
 use Rattle.enip_client.specs.Calls.{registers, opens, after_lending}
 use Rattle.enip_client.specs.Client.{ClientState, new_client, fed, with_state}
-use Rattle.enip_client.specs.Frames.{register_frame, request_frame, open_request, open_asked, sent as framed}
-use Rattle.enip_client.specs.Hears.{hears, opening_turn, answer_in, answer_read, Turned}
+use Rattle.enip_client.specs.Frames.{register_frame, request_frame, layout_of, open_service_in, open_service, open_request, sent as framed}
+use Rattle.enip_client.specs.Hears.{hears, opening_turn as hears_opening, answer_in, answer_read, Answer, Turned}
 use Rattle.enip_client.specs.Hears.News.{Registered, Opened}
 use Rattle.enip_client.specs.declared.wants.Wants.{Wants}
 use Rattle.enip_bench.specs.CountingOpening.{ARefusal, IsWanted, is_registered_news, is_opened_news, exchange}
 use Rattle.enip_bench.proofs.AdapterShows.{registered_as, request-served}
 use Rattle.enip_bench.proofs.FeedLemmas.{IsHeardWhole, client-fed, is_framed, is_rr}
-use Rattle.enip_bench.proofs.OpeningParts.{single, IsSingleFed, single-fed, heard-done, heard-refused, register-served, goes-to-manager, open-read}
+use Rattle.enip_bench.proofs.OpeningParts.{single, IsSingleFed, single-fed, heard-done, heard-refused, register-served, goes-to-manager, asked_in, open-read, request-size, wanted, asked-is}
 
 -- the client that waits for its session, and the one that has it
 abbrev pub registering : Wants → ClientState
@@ -71,57 +73,82 @@ module _ (objects : Contents) (listen : Listen) (limits : Limits) (wants : Wants
   connecting = with_state (registered wants peer)
       (after_lending (registered wants peer).state (opens (registered wants peer).state))
 
+  abbrev pub layout : Layout
+  layout = layout_of wants
+
   abbrev pub asked : Opening
-  asked = opening_of (open_asked wants)
+  asked = wanted wants
 
   abbrev pub checked : Result (Unit {0}) ℕ
   checked = opening_check (new_shared objects listen limits).manager asked
 
   -- what the Connection Manager does with the client's request, by what the checks said
   abbrev pub decided : Result (Unit {0}) ℕ → Turn
-  decided r = decided_opening (new_shared objects listen limits).manager 0 peer asked r
+  decided r = decided_opening (service_in layout) (new_shared objects listen limits).manager 0 peer asked r
 
   abbrev open_served : Turn → Served
   open_served turn = leaving (managed shared turn).shared
       (replied (registered_as peer) (request_frame peer 2 (open_request wants)).header (rr_text (managed shared turn).reply))
 
   routed-open : IsWanted wants → routed shared (registered_as peer) (open_request wants) ≡ managed shared (decided checked)
-  routed-open is = ap (routed_to shared (registered_as peer) (open_request wants)) (goes-to-manager wants)
-      ∙ ap (λ r. managed shared (read_opening_turn shared.manager 0 peer r)) (open-read wants is)
+  routed-open is = ap (routed_to shared (registered_as peer) (open_request wants)) (goes-to-manager layout wants)
+      ∙ (ap (λ r. managed shared (read_opening_turn layout shared.manager 0 peer r)) (open-read layout wants is)
+      ∙ ap (λ o. managed shared (opening_turn (service_in layout) shared.manager 0 peer o)) (asked-is wants is))
 
   open-fed : IsWanted wants → peer < 2 ^ 32 →
       IsSingleFed limits.peers next shared (registered_as peer) (request_frame peer 2 (open_request wants))
       (open_served (decided checked))
   open-fed is below =
+      let size = request-size layout wants in
       single-fed limits.peers next shared (registered_as peer) (request_frame peer 2 (open_request wants))
-      (open_served (decided checked)) refl (is_rr peer 2 (open_request wants) below (omega arith))
-      (request-served shared peer 2 (open_request wants) (omega arith) (omega arith)
+      (open_served (decided checked)) refl (is_rr peer 2 (open_request wants) below (omega (arith, size.1)))
+      (request-served shared peer 2 (open_request wants) size.0 (omega (arith, size.1))
       ∙ ap (λ (x : Routed). leaving x.shared
       (replied (registered_as peer) (request_frame peer 2 (open_request wants)).header (rr_text x.reply))) (routed-open is))
       refl
 
-  -- the reply to an opening that succeeds, as it is read
-  abbrev pub success : Reply
-  success = reply_of_fields 0xd4 0 []
-      (open_success_data (new_shared objects listen limits).manager.next_id asked.t_to_o_id asked.triad asked.o_to_t.rpi asked.t_to_o.rpi)
+  -- the reply to an opening that succeeds, and as it is read
+  abbrev pub success_data : List ℕ
+  success_data =
+      open_success_data (new_shared objects listen limits).manager.next_id asked.t_to_o_id asked.triad asked.o_to_t.rpi asked.t_to_o.rpi
 
-  abbrev success_bytes : List ℕ
-  success_bytes = open_success (new_shared objects listen limits).manager.next_id asked
+  abbrev success_bytes_in : Layout → List ℕ
+  success_bytes_in l = open_success (service_in l) (new_shared objects listen limits).manager.next_id asked
 
-  success-read : reply_of success_bytes ≡ Ok success
+  abbrev success_in : Layout → Answer
+  success_in l = record {
+    bytes = success_bytes_in l;
+    reply = reply_of_fields (reply_service (service_code (service_in l))) 0 [] success_data;
+  }
+
+  success-read : (l : Layout) →
+      answer_read (open_service_in l) (success_bytes_in l) (reply_of (success_bytes_in l)) ≡ Some (success_in l)
   unfolding reply_of
-  success-read = refl
+  success-read small = refl
+  success-read large = refl
 
-  refusal-heard : (extended : ℕ) →
-      is_opened_news (opening_turn connecting.state
-      (answer_read 0x54 (failure_reply ForwardOpen extended asked.triad) (reply_of (failure_reply ForwardOpen extended asked.triad)))).news
+  success-size : (l : Layout) → length (success_bytes_in l) ≤ 30
+  success-size small = omega arith
+  success-size large = omega arith
+
+  abbrev failure_in : Layout → ℕ → List ℕ
+  failure_in l extended = failure_reply (service_in l) extended asked.triad
+
+  refusal-heard : (l : Layout) (extended : ℕ) →
+      is_opened_news (hears_opening connecting.state
+      (answer_read (open_service_in l) (failure_in l extended) (reply_of (failure_in l extended)))).news
       ≡ false
   unfolding reply_of
-  refusal-heard extended = refl
+  refusal-heard small extended = refl
+  refusal-heard large extended = refl
+
+  failure-size : (l : Layout) (extended : ℕ) → length (failure_in l extended) ≤ 30
+  failure-size small extended = omega arith
+  failure-size large extended = omega arith
 
   -- the client whose connection is open
   abbrev pub opened : ClientState
-  opened = record { state = (opening_turn connecting.state (answer_read 0x54 success_bytes (Ok success))).state; held = [] }
+  opened = record { state = (hears_opening connecting.state (Some (success_in layout))).state; held = [] }
 
   pub second-exchange : IsWanted wants → peer < 2 ^ 32 → (r : Result (Unit {0}) ℕ) → checked ≡ r →
       exchange (record { adapter = begun_single (registered_as peer); client = registered wants peer }) peer is_opened_news
@@ -132,26 +159,30 @@ module _ (objects : Contents) (listen : Listen) (limits : Limits) (wants : Wants
       ]
   second-exchange is below (Err extended) check =
       let f : Frame = request_frame peer 2 (open_request wants) in
-      let reply : List ℕ = failure_reply ForwardOpen extended asked.triad in
+      let reply : List ℕ = failure_in layout extended in
+      let short : length reply ≤ 30 = failure-size layout extended in
       let answer : Frame = request_frame peer 2 reply in
       let done : IsSingleFed limits.peers next shared (registered_as peer) f (open_served (decided (Err extended)))
       = subst (λ r. IsSingleFed limits.peers next shared (registered_as peer) f (open_served (decided r))) check (open-fed is below) in
       let whole : IsHeardWhole connecting answer (fed connecting (frame answer))
-      = client-fed connecting answer refl refl (is_rr peer 2 reply below (omega arith)) in
+      = client-fed connecting answer refl refl (is_rr peer 2 reply below (omega (arith, short))) in
       heard-refused is_opened_news (begun_single (registered_as peer)) connecting (Feeds 0 peer (frame f)) (frame answer)
       (hears connecting.state answer).news done.said whole.news
-      (ap (λ b. is_opened_news (opening_turn connecting.state (answer_in 0x54 b)).news) (rr_again reply (omega arith))
-      ∙ refusal-heard extended)
+      (ap (λ b. is_opened_news (hears_opening connecting.state (answer_in (open_service wants) b)).news)
+      (rr_again reply (omega (arith, short)))
+      ∙ refusal-heard layout extended)
   second-exchange is below (Ok done) check =
       let f : Frame = request_frame peer 2 (open_request wants) in
-      let answer : Frame = request_frame peer 2 success_bytes in
+      let reply : List ℕ = success_bytes_in layout in
+      let short : length reply ≤ 30 = success-size layout in
+      let answer : Frame = request_frame peer 2 reply in
       let fed_once : IsSingleFed limits.peers next shared (registered_as peer) f (open_served (decided (Ok tt)))
       = subst (λ r. IsSingleFed limits.peers next shared (registered_as peer) f (open_served (decided r))) check (open-fed is below) in
       let whole : IsHeardWhole connecting answer (fed connecting (frame answer))
-      = client-fed connecting answer refl refl (is_rr peer 2 success_bytes below (omega arith)) in
-      let turn : hears connecting.state answer ≡ opening_turn connecting.state (answer_read 0x54 success_bytes (Ok success))
-      = ap (λ b. opening_turn connecting.state (answer_in 0x54 b)) (rr_again success_bytes (omega arith))
-      ∙ ap (λ r. opening_turn connecting.state (answer_read 0x54 success_bytes r)) success-read in
+      = client-fed connecting answer refl refl (is_rr peer 2 reply below (omega (arith, short))) in
+      let turn : hears connecting.state answer ≡ hears_opening connecting.state (Some (success_in layout))
+      = ap (λ b. hears_opening connecting.state (answer_in (open_service wants) b)) (rr_again reply (omega (arith, short)))
+      ∙ ap (λ a. hears_opening connecting.state a) (success-read layout) in
       heard-done is_opened_news (begun_single (registered_as peer))
       (single limits.peers next (managed shared (decided (Ok tt))).shared (registered_as peer)) connecting opened
       (Feeds 0 peer (frame f)) (frame answer) Opened fed_once.adapter fed_once.said

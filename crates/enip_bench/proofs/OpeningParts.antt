@@ -1,12 +1,17 @@
 -- The parts of an opening: a peer that begins, an exchange, and the Forward_Open that the client writes.
-use Rattle.std.proofs.Common.{◌≡◌, ℕ, ◌+◌, ◌%◌, ◌<◌, ◌^◌, Bool, true, false, not, cond, ltb, Some, None, List, [], ◌∷◌, ◌++◌, length, Result, Ok, Err, refl, ap, ap₂, sym, ◌∙◌, subst, arith, ltb-false}
+use Rattle.std.proofs.Common.{◌≡◌, ℕ, ◌+◌, ◌%◌, ◌<◌, ◌≤◌, ◌^◌, Bool, true, false, not, ◌||◌, cond, ltb, Some, None, List, [], ◌∷◌, ◌++◌, length, Result, Ok, Err, refl, ap, ap₂, sym, ◌∙◌, subst, arith, ltb-false}
 use Rattle.std.proofs.lemmas.Bool.{eq-eqb}
 use Rattle.cip_bytes.proofs.Bytes.{le2_again, le4_again}
-use Rattle.cip_message.specs.Open.{«open», open_of, open_fields}
+use Rattle.cip_class3.specs.Item.{LARGEST_SIZE}
+use Rattle.cip_message.specs.Open.{Layout, small, large, Open, open_of, open_fields, large_open_of, large_open_fields}
+use Rattle.cip_message.specs.Open.{connection_type, size_of, large_connection_type, large_size_of}
 use Rattle.cip_message.specs.PathReading.{path_of, class_of, instance_of, attribute_of, member_of, whole_of, segment_of}
 use Rattle.cip_message.specs.Request.{request_of}
 use Rattle.cip_message.proofs.Opens.{same_open}
+use Rattle.cip_manager.specs.declared.opening.Direction.{Direction}
+use Rattle.cip_manager.specs.declared.opening.Opening.{Opening}
 use Rattle.cip_manager.specs.Check.{demand, first_failure}
+use Rattle.cip_manager.specs.Opening.{direction_of, large_direction_of, opening_with, open_in, opening_in}
 use Rattle.enip_wire.specs.Frames.{Frame, frame, IsFrame}
 use Rattle.enip_adapter.specs.declared.adapter.Full.TheVariants.{Places, Handles}
 use Rattle.enip_adapter.specs.declared.peer.Session.{Session}
@@ -20,7 +25,8 @@ use Rattle.enip_adapter.specs.SendRRData.{Opens, destination_of}
 use Rattle.enip_adapter.specs.Turn.{State, Turned, turned, with_peer, session_after, without_connections, sent, at_moment}
 use Rattle.enip_adapter.specs.Turn.Said.{Sends, Begins, Refuses}
 use Rattle.enip_client.specs.Client.{ClientState, fed}
-use Rattle.enip_client.specs.Frames.{register_frame, open_request, open_asked}
+use Rattle.enip_client.specs.Frames.{register_frame, parameters_of, large_parameters_of, is_large, layout_of, open_asked, large_asked}
+use Rattle.enip_client.specs.Frames.{open_data_in, open_request_in}
 use Rattle.enip_client.specs.Hears.{News}
 use Rattle.enip_client.specs.declared.wants.Wants.{Wants}
 use Rattle.enip_bench.specs.CountingOpening.{ARefusal, IsWanted, begins, handle_said, fed_any, if_heard}
@@ -138,20 +144,81 @@ pub register-served : (shared : Shared) (session : Session) (number : ℕ) →
 unfolding command_served
 register-served shared session number = refl
 
--- the Forward_Open goes to the Connection Manager, and is read as it was written
-pub goes-to-manager : (wants : Wants) → destination_of (open_request wants) ≡ Opens («open» (open_asked wants))
+-- the opening goes to the Connection Manager, and is read as it was written
+pub goes-to-manager : (layout : Layout) (wants : Wants) →
+    destination_of (open_request_in layout wants) ≡ Opens layout (open_data_in layout wants)
 unfolding request_of path_of class_of instance_of attribute_of member_of whole_of segment_of
-goes-to-manager wants = refl
+goes-to-manager small wants = refl
+goes-to-manager large wants = refl
 
-pub open-read : (wants : Wants) → IsWanted wants → open_of («open» (open_asked wants)) ≡ Ok (open_asked wants)
-unfolding open_of open_fields
-open-read wants is =
+abbrev pub asked_in : Layout → Wants → Open
+asked_in small wants = open_asked wants
+asked_in large wants = large_asked wants
+
+pub open-read : (layout : Layout) (wants : Wants) → IsWanted wants →
+    open_in layout (open_data_in layout wants) ≡ Ok (asked_in layout wants)
+unfolding open_of open_fields large_open_of large_open_fields
+open-read large wants is =
+    ap (λ o. Ok o)
+    (same_open (large_asked wants) _ _ _ _ _ _ _ _ _ _ _ _ _ _ refl refl refl (le4_again wants.t_to_o_id is.t_to_o_id [])
+    (le2_again wants.connection_serial is.connection_serial []) (le2_again wants.originator_vendor is.originator_vendor [])
+    (le4_again wants.originator_serial is.originator_serial []) refl (le4_again wants.rpi is.rpi [])
+    (le4_again (0x42000000 + wants.o_to_t_size) (omega (arith, is.o_to_t_to)) []) (le4_again wants.rpi is.rpi [])
+    (le4_again (0x42000000 + wants.t_to_o_size) (omega (arith, is.t_to_o_to)) []) refl refl)
+open-read small wants is =
     ap (λ o. Ok o)
     (same_open (open_asked wants) _ _ _ _ _ _ _ _ _ _ _ _ _ _ refl refl refl (le4_again wants.t_to_o_id is.t_to_o_id [])
     (le2_again wants.connection_serial is.connection_serial []) (le2_again wants.originator_vendor is.originator_vendor [])
     (le4_again wants.originator_serial is.originator_serial []) refl (le4_again wants.rpi is.rpi [])
     (le2_again (0x4200 + wants.o_to_t_size % 512) (omega arith) []) (le4_again wants.rpi is.rpi [])
     (le2_again (0x4200 + wants.t_to_o_size % 512) (omega arith) []) refl refl)
+
+-- how many bytes the opening has
+pub request-size : (layout : Layout) (wants : Wants) →
+    (2 ≤ length (open_request_in layout wants)) × (length (open_request_in layout wants) ≤ 50)
+request-size small wants = (omega arith, omega arith)
+request-size large wants = (omega arith, omega arith)
+
+-- what the client asks for, whichever its layout is
+abbrev pub wanted_direction : Wants → ℕ → Direction
+wanted_direction wants size = record { rpi = wants.rpi; connection_type = 2; size = size }
+
+abbrev pub wanted : Wants → Opening
+wanted wants =
+    opening_with (wanted_direction wants wants.o_to_t_size) (wanted_direction wants wants.t_to_o_size) (open_asked wants)
+
+small-direction : (wants : Wants) (size : ℕ) → size ≤ 511 →
+    direction_of wants.rpi (parameters_of size) ≡ wanted_direction wants size
+small-direction wants size fits =
+    let kind : connection_type (parameters_of size) ≡ 2 = omega (arith, fits) in
+    let same : size_of (parameters_of size) ≡ size = omega (arith, fits) in
+    ap₂ (λ k n. (let d : Direction = record { rpi = wants.rpi; connection_type = k; size = n } in d)) kind same
+
+large-direction : (wants : Wants) (size : ℕ) → size ≤ LARGEST_SIZE →
+    large_direction_of wants.rpi (large_parameters_of size) ≡ wanted_direction wants size
+large-direction wants size fits =
+    let kind : large_connection_type (large_parameters_of size) ≡ 2 = omega (arith, fits) in
+    let same : large_size_of (large_parameters_of size) ≡ size = omega (arith, fits) in
+    ap₂ (λ k n. (let d : Direction = record { rpi = wants.rpi; connection_type = k; size = n } in d)) kind same
+
+pub asked-is : (wants : Wants) → IsWanted wants →
+    opening_in (layout_of wants) (asked_in (layout_of wants) wants) ≡ wanted wants
+asked-is wants is = go (is_large wants) refl
+  where
+    go : (b : Bool) → is_large wants ≡ b →
+        opening_in (cond b large small) (asked_in (cond b large small) wants) ≡ wanted wants
+    go true e =
+        ap₂ (λ x y. opening_with x y (open_asked wants)) (large-direction wants wants.o_to_t_size is.o_to_t_to)
+        (large-direction wants wants.t_to_o_size is.t_to_o_to)
+    go false e =
+        let fit = neither (ltb 511 wants.o_to_t_size) (ltb 511 wants.t_to_o_size) e in
+        ap₂ (λ x y. opening_with x y (open_asked wants))
+        (small-direction wants wants.o_to_t_size (ltb-false 511 wants.o_to_t_size fit.0))
+        (small-direction wants wants.t_to_o_size (ltb-false 511 wants.t_to_o_size fit.1))
+
+    neither : (a b : Bool) → (a || b) ≡ false → (a ≡ false) × (b ≡ false)
+    neither true b f = absurd (cc)
+    neither false b f = (refl, f)
 
 -- what a list of checks says that passes
 pub passed : (x : Result (Unit {0}) ℕ) (xs : List (Result (Unit {0}) ℕ)) → first_failure (x ∷ xs) ≡ Ok tt →

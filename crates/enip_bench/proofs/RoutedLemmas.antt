@@ -74,7 +74,7 @@ routed-objects shared session request = by_request (request_of request) refl
   where
     unchanged : (d : Destination) → (exec shared.objects UNCONNECTED_ROOM request).after ≡ shared.objects →
         IsRouted shared request (routed_to shared session request d)
-    unchanged (Opens bytes) same = record { objects = sym same; moment = refl }
+    unchanged (Opens layout bytes) same = record { objects = sym same; moment = refl }
     unchanged (Closes bytes) same = record { objects = sym same; moment = refl }
     unchanged Executes same = record { objects = refl; moment = refl }
 

@@ -78,7 +78,7 @@ mild_closing s (Some a) healthy =
 
 mild_shaped : (s : State) (w : Awaited) (f : Frame) → s.fault ≡ None → Mild (shaped s w f)
 mild_shaped s awaited.Session f healthy = mild_session s f healthy
-mild_shaped s awaited.Connection f healthy = mild_opening s (answer_to 0x54 f.body) healthy
+mild_shaped s awaited.Connection f healthy = mild_opening s (answer_to (open_service s.wants) f.body) healthy
 mild_shaped s (awaited.Reply service) f healthy = mild_reply s (answer_to service f.body) healthy
 mild_shaped s awaited.End f healthy = mild_closing s (answer_to 0x4e f.body) healthy
 

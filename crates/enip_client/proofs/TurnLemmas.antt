@@ -175,7 +175,7 @@ module _ (s : State) (f : Frame) (number : ℕ) where
 
   shape : (what : Awaited) → s.awaiting ≡ Some (waits what) → IsTurn s None (shaped s what f)
   shape awaited.Session is = session (length f.body == 4) is
-  shape awaited.Connection is = opening (answer_to 0x54 f.body) is
+  shape awaited.Connection is = opening (answer_to (open_service s.wants) f.body) is
   shape (awaited.Reply service) is = reply service (answer_to service f.body) refl is
   shape awaited.End is = closing (answer_to 0x4e f.body) is
 

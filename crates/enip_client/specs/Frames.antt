@@ -1,7 +1,7 @@
 -- The frames that a client sends (Volume 2, encapsulation commands; Volume 1, Connection Manager).
 use Rattle.std.specs.Prelude.{ℕ, ◌+◌, ◌%◌, ◌^◌, nat_lt, Bool, ◌||◌, if◌then◌else◌, List, [], ◌∷◌, ◌++◌, length}
 use Rattle.cip_bytes.specs.Numbers.{le}
-use Rattle.cip_message.specs.Open.{Open, «open», large_open}
+use Rattle.cip_message.specs.Open.{Layout, small, large, Open, «open», large_open}
 use Rattle.cip_message.specs.Close.{Close, close}
 use Rattle.cip_message.specs.Request.{request}
 use Rattle.enip_wire.specs.Bodies.{rr_text, unit_text}
@@ -75,6 +75,9 @@ large_parameters_of size = 0x42000000 + size
 abbrev pub is_large : Wants → Bool
 is_large wants = nat_lt 511 wants.o_to_t_size || nat_lt 511 wants.t_to_o_size
 
+abbrev pub layout_of : Wants → Layout
+layout_of wants = if is_large wants then large else small
+
 -- What an open asks for, with the parameters that a size has. The target chooses the O->T ID; the client is the
 -- originator of a class 3 connection.
 abbrev pub asked_with : (ℕ → ℕ) → Wants → Open
@@ -101,17 +104,24 @@ open_asked wants = asked_with parameters_of wants
 abbrev pub large_asked : Wants → Open
 large_asked wants = asked_with large_parameters_of wants
 
--- The service that opens: Large_Forward_Open for a large connection, else Forward_Open.
+-- Forward_Open, or Large_Forward_Open, in its layout.
+abbrev pub open_service_in : Layout → ℕ
+open_service_in small = 0x54
+open_service_in large = 0x5b
+
+abbrev pub open_data_in : Layout → Wants → List ℕ
+open_data_in small wants = «open» (open_asked wants)
+open_data_in large wants = large_open (large_asked wants)
+
+abbrev pub open_request_in : Layout → Wants → List ℕ
+open_request_in layout wants = manager_request (open_service_in layout) (open_data_in layout wants)
+
+-- A large connection is opened by Large_Forward_Open, any other by Forward_Open.
 abbrev pub open_service : Wants → ℕ
-open_service wants = if is_large wants then 0x5b else 0x54
+open_service wants = open_service_in (layout_of wants)
 
--- The data of the opening, in the layout of its service.
-abbrev pub open_data : Wants → List ℕ
-open_data wants = if is_large wants then large_open (large_asked wants) else «open» (open_asked wants)
-
--- Forward_Open or Large_Forward_Open.
 abbrev pub open_request : Wants → List ℕ
-open_request wants = manager_request (open_service wants) (open_data wants)
+open_request wants = open_request_in (layout_of wants) wants
 
 -- Which connection a close means.
 abbrev pub close_asked : Wants → Close

@@ -81,14 +81,19 @@ pub(super) fn list_interfaces(asked: &Header, answer: &mut Answer)
 
 /// ListIdentity: protocol version 1, the socket address, and the attributes of the Identity object.
 ///
-/// Each attribute is read in `reply`, whose old content is dropped.
-pub(super) fn list_identity(shared: &Shared, asked: &Header, reply: &mut ReplyBuf, answer: &mut Answer)
+/// Each attribute is read in `value`, whose old content is dropped.
+pub(super) fn list_identity(
+    shared: &Shared,
+    asked: &Header,
+    value: &mut ReplyBuf,
+    answer: &mut Answer,
+)
     ensures { answer.new.items
         ≡ reply asked.now asked.now.session Success (identity_text shared.now.listen shared.now.objects) }
 {
     let mut item = Item::new();
     append_socket(shared.listen, &mut item);
-    append_identity(&shared.objects, reply, &mut item);
+    append_identity(&shared.objects, value, &mut item);
     write_identity(asked, item.as_slice(), answer);
 }
 
@@ -127,22 +132,22 @@ fn append_socket(listen: Listen, item: &mut Item)
 }
 
 /// Appends the attributes of the Identity object.
-fn append_identity(objects: &Objects, reply: &mut ReplyBuf, item: &mut Item)
+fn append_identity(objects: &Objects, value: &mut ReplyBuf, item: &mut Item)
     requires { array_vec_len item.old ≡ SOCKET_SIZE }
     ensures text { item.new.items ≡ item.old.items ++ identity_bytes objects.now }
     ensures size { array_vec_len item.new ≤ ITEM_SIZE }
 {
     for attribute in &ATTRIBUTES {
-        append_attribute(objects, *attribute, reply, item);
+        append_attribute(objects, *attribute, value, item);
     }
 }
 
 /// Appends an attribute of the Identity object, if there is one of this number.
-fn append_attribute(objects: &Objects, attribute: u16, reply: &mut ReplyBuf, item: &mut Item)
+fn append_attribute(objects: &Objects, attribute: u16, value: &mut ReplyBuf, item: &mut Item)
     requires { array_vec_len item.old + LONGEST_ATTRIBUTE ≤ ITEM_SIZE }
     ensures text { item.new.items ≡ item.old.items ++ bytes_at objects.now 1 1 attribute }
     ensures size { array_vec_len item.new ≤ array_vec_len item.old + LONGEST_ATTRIBUTE }
 {
-    objects.read_attribute(IDENTITY, 1, attribute, reply);
-    let _ = item.try_extend_from_slice(reply.as_slice());
+    objects.read_attribute(IDENTITY, 1, attribute, value);
+    let _ = item.try_extend_from_slice(value.as_slice());
 }

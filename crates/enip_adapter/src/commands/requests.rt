@@ -21,6 +21,8 @@ const CONNECTION_MANAGER: u16 = 0x06;
 
 const FORWARD_OPEN: u8 = 0x54;
 
+const LARGE_FORWARD_OPEN: u8 = 0x5b;
+
 const FORWARD_CLOSE: u8 = 0x4e;
 
 /// Where a request goes.
@@ -28,6 +30,8 @@ const FORWARD_CLOSE: u8 = 0x4e;
 enum Destination<'a> {
     /// To the Connection Manager, as the data of a Forward_Open.
     Open(&'a [u8]),
+    /// To the Connection Manager, as the data of a Large_Forward_Open.
+    OpenLarge(&'a [u8]),
     /// To the Connection Manager, as the data of a Forward_Close.
     Close(&'a [u8]),
     /// To the objects.
@@ -45,6 +49,9 @@ impl<'a> Destination<'a> {
         match request.service {
             // class 0x06, instance 1 (objects)
             FORWARD_OPEN if is_to_manager(request.path) => Destination::Open(request.data),
+            LARGE_FORWARD_OPEN if is_to_manager(request.path) => {
+                Destination::OpenLarge(request.data)
+            }
             FORWARD_CLOSE if is_to_manager(request.path) => Destination::Close(request.data),
             _ => Destination::Objects,
         }
@@ -105,6 +112,11 @@ fn route(shared: &mut Shared, session: Session, request: &[u8], reply: &mut Repl
             shared
                 .manager
                 .open(shared.moment, session.handle, data, reply);
+        }
+        Destination::OpenLarge(data) => {
+            shared
+                .manager
+                .open_large(shared.moment, session.handle, data, reply);
         }
         Destination::Close(data) => shared.manager.close(session.handle, data, reply),
         Destination::Objects => shared.objects.execute(request, UNCONNECTED_ROOM, reply),
