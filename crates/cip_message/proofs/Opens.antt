@@ -1,5 +1,5 @@
 -- An open request that is read is the one spelled, and what is spelled is read.
-use Rattle.std.proofs.Common.{◌≡◌, ◌↔◌, ℕ, ◌+◌, ◌*◌, ◌/◌, ◌%◌, ◌^◌, ◌<◌, ◌≤◌, Bool, true, false, cond, ltb, List, [], ◌∷◌, ◌++◌, length, slice_index, drop, Result, Ok, Err, refl, sym, ap, subst, ◌∙◌, arith}
+use Rattle.std.proofs.Common.{◌≡◌, ◌↔◌, ℕ, suc, ◌+◌, ◌*◌, ◌/◌, ◌%◌, ◌^◌, ◌<◌, ◌≤◌, Bool, true, false, cond, ltb, List, [], ◌∷◌, ◌++◌, length, slice_index, drop, Result, Ok, Err, refl, sym, ap, subst, ◌∙◌, arith}
 use Rattle.std.proofs.Common.{append_assoc}
 use Rattle.std.proofs.lemmas.Bool.{ltb-true, ltb-false, le-ltb, lt-ltb}
 use Rattle.std.proofs.lemmas.List.{length-drop, get_or_append_left}
@@ -8,9 +8,9 @@ use Rattle.cip_bytes.specs.Reading.{Gives}
 use Rattle.cip_message.specs.declared.open.OpenRequest.{OpenRequest}
 use Rattle.cip_message.specs.declared.open.LengthFault.{LengthFault}
 use Rattle.cip_message.specs.declared.open.LengthFault.TheVariants.{Short, Long}
-use Rattle.cip_bytes.proofs.Bytes.{AreBytes-drop, le2_again, le4_again, at1, at2, at3, at4, parts_then}
+use Rattle.cip_bytes.proofs.Bytes.{AreBytes-drop, le2_again, le4_again, at1, at2, at3, at4, Parts, parts_then}
 use Rattle.cip_bytes.proofs.Steps.{ok_is, gives_iff, iff_then}
-use Rattle.cip_message.specs.Open.{Open, IsOpen, SpellsOpen, front, back, open_with, open_fields, open_of, said_length, view, OneOpen}
+use Rattle.cip_message.specs.Open.{Open, Layout, small, large, width, before_path, IsOpenIn, SpellsIn, front, back_in, open_with_in, open_fields_in, open_of_in, said_length_in, OneOpenIn}
 use Rattle.cip_bytes.proofs.Joined.{same_front}
 
 abbrev pub made : ℕ → ℕ → ℕ → ℕ → ℕ → ℕ → ℕ → ℕ → ℕ → ℕ → ℕ → ℕ → ℕ → List ℕ → Open
@@ -42,9 +42,8 @@ same_open o p t a b c d e m f g h i j q ep et ea eb ec ed ee em ef eg eh ei ej e
 half_of : (n k : ℕ) → k ≡ 2 * n → (k / 2 ≡ n) × (k % 2 ≡ 0)
 half_of n k e = (omega arith, omega arith)
 
-front_text : (b : List ℕ) → AreBytes b → 36 ≤ length b → b ≡ front (open_fields b) ++ drop 18 b
-unfolding open_fields
-front_text b fits h =
+front_text : (layout : Layout) (b : List ℕ) → AreBytes b → 18 ≤ length b → b ≡ front (open_fields_in layout b) ++ drop 18 b
+front_text layout b fits h =
     let p0 = at1 0 b (omega arith) in
     let p1 = parts_then p0 (at1 1 b (omega arith)) in
     let p2 = parts_then p1 (at4 2 b fits (omega arith)) in
@@ -53,81 +52,106 @@ front_text b fits h =
     let p5 = parts_then p4 (at2 12 b fits (omega arith)) in
     (parts_then p5 (at4 14 b fits (omega arith))).is
 
--- the fields behind, with any number in place of the path's
-abbrev back_by : ℕ → ℕ → Open → List ℕ
-back_by words reserved o =
-    o.timeout_multiplier ∷ [] ++ le 3 reserved ++ le 4 o.o_to_t_rpi ++ le 2 o.o_to_t_parameters ++ le 4 o.t_to_o_rpi ++ le 2 o.t_to_o_parameters ++ o.transport ∷ words ∷ []
+-- the parameters of a direction
+at_parameters : (layout : Layout) (k : ℕ) (b : List ℕ) → AreBytes b → k + width layout ≤ length b
+    → Parts (drop k b) (le (width layout) (number_at k (width layout) b)) (drop (k + width layout) b)
+at_parameters small k b fits h = at2 k b fits h
+at_parameters large k b fits h = at4 k b fits h
 
-back_text : (b : List ℕ) → AreBytes b → 36 ≤ length b → drop 18 b ≡ back_by (slice_index b 35) (number_at 19 3 b) (open_fields b) ++ drop 36 b
-unfolding open_fields
-back_text b fits h =
+-- the same place, written in another way
+until : {b text : List ℕ} (whole : List ℕ) (k m : ℕ) → k ≡ m → Parts b text (drop k whole) → Parts b text (drop m whole)
+until {b} {text} whole k m e p = subst (λ (i : ℕ). Parts b text (drop i whole)) e p
+
+-- the fields behind, with any number in place of the path's
+abbrev back_by : Layout → ℕ → ℕ → Open → List ℕ
+back_by layout words reserved o =
+    o.timeout_multiplier ∷ [] ++ le 3 reserved ++ le 4 o.o_to_t_rpi ++ le (width layout) o.o_to_t_parameters ++ le 4 o.t_to_o_rpi ++ le (width layout) o.t_to_o_parameters ++ o.transport ∷ words ∷ []
+
+-- the byte before the path, which counts its words
+abbrev words_at : Layout → List ℕ → ℕ
+words_at layout b = slice_index b (31 + 2 * width layout)
+
+back_text : (layout : Layout) (b : List ℕ) → AreBytes b → before_path layout ≤ length b
+    → drop 18 b ≡ back_by layout (words_at layout b) (number_at 19 3 b) (open_fields_in layout b) ++ drop (before_path layout) b
+back_text layout b fits h =
+    let w = width layout in
     let p0 = at1 18 b (omega arith) in
     let p1 = parts_then p0 (at3 19 b fits (omega arith)) in
     let p2 = parts_then p1 (at4 22 b fits (omega arith)) in
-    let p3 = parts_then p2 (at2 26 b fits (omega arith)) in
-    let p4 = parts_then p3 (at4 28 b fits (omega arith)) in
-    let p5 = parts_then p4 (at2 32 b fits (omega arith)) in
-    let last = parts_then (at1 34 b (omega arith)) (at1 35 b (omega arith)) in
+    let p3 = parts_then p2 (at_parameters layout 26 b fits (omega arith)) in
+    let p4 = parts_then p3 (until b (26 + w + 4) (30 + w) (omega arith) (at4 (26 + w) b fits (omega arith))) in
+    let p5 = parts_then p4 (until b (30 + w + w) (30 + 2 * w) (omega arith) (at_parameters layout (30 + w) b fits (omega arith))) in
+    let last = parts_then (until b (suc (30 + 2 * w)) (31 + 2 * w) (omega arith) (at1 (30 + 2 * w) b (omega arith))) (until b (suc (31 + 2 * w)) (32 + 2 * w) (omega arith) (at1 (31 + 2 * w) b (omega arith))) in
     (parts_then p5 last).is
 
-fields_fit : (b : List ℕ) (n : ℕ) → AreBytes b → n ≡ slice_index b 35 → length b ≡ 36 + 2 * n → IsOpen (open_fields b)
-unfolding open_fields
-fields_fit b n fits e len = record {
+number2 : (k : ℕ) (b : List ℕ) → AreBytes b → number_at k 2 b < 2 ^ 16
+number2 k b fits = let f = AreBytes-drop k b fits in omega (arith, f 0, f 1)
+
+number4 : (k : ℕ) (b : List ℕ) → AreBytes b → number_at k 4 b < 2 ^ 32
+number4 k b fits = let f = AreBytes-drop k b fits in omega (arith, f 0, f 1, f 2, f 3)
+
+number_of_parameters : (layout : Layout) (k : ℕ) (b : List ℕ) → AreBytes b → number_at k (width layout) b < 2 ^ (8 * width layout)
+number_of_parameters small k b fits = number2 k b fits
+number_of_parameters large k b fits = number4 k b fits
+
+fields_fit : (layout : Layout) (b : List ℕ) (n : ℕ) → AreBytes b → n ≡ words_at layout b → length b ≡ before_path layout + 2 * n → IsOpenIn layout (open_fields_in layout b)
+fields_fit layout b n fits e len = record {
   front = record {
     priority_and_tick_time = fits 0;
     timeout_ticks = fits 1;
-    o_to_t_id = number4 2;
-    t_to_o_id = number4 6;
-    connection_serial = number2 10;
-    originator_vendor = number2 12;
-    originator_serial = number4 14;
+    o_to_t_id = number4 2 b fits;
+    t_to_o_id = number4 6 b fits;
+    connection_serial = number2 10 b fits;
+    originator_vendor = number2 12 b fits;
+    originator_serial = number4 14 b fits;
   };
   back = record {
     timeout_multiplier = fits 18;
-    o_to_t_rpi = number4 22;
-    o_to_t_parameters = number2 26;
-    t_to_o_rpi = number4 28;
-    t_to_o_parameters = number2 32;
-    transport = fits 34;
+    o_to_t_rpi = number4 22 b fits;
+    o_to_t_parameters = number_of_parameters layout 26 b fits;
+    t_to_o_rpi = number4 (26 + width layout) b fits;
+    t_to_o_parameters = number_of_parameters layout (30 + width layout) b fits;
+    transport = fits (30 + 2 * width layout);
   };
-  whole_words = (half_of n (length (drop 36 b)) (omega (arith, length-drop 36 b))).1;
-  counted = omega (arith, length-drop 36 b, fits 35);
-  path = AreBytes-drop 36 b fits;
+  whole_words = (half_of n (length (drop (before_path layout) b)) (omega (arith, length-drop (before_path layout) b))).1;
+  counted = omega (arith, length-drop (before_path layout) b, fits (31 + 2 * width layout));
+  path = AreBytes-drop (before_path layout) b fits;
 }
-  where
-    number2 : (k : ℕ) → number_at k 2 b < 2 ^ 16
-    number2 k = let f = AreBytes-drop k b fits in omega (arith, f 0, f 1)
 
-    number4 : (k : ℕ) → number_at k 4 b < 2 ^ 32
-    number4 k = let f = AreBytes-drop k b fits in omega (arith, f 0, f 1, f 2, f 3)
-
-open_text : (b : List ℕ) → AreBytes b → length b ≡ said_length b → SpellsOpen (open_fields b) b
-unfolding open_fields
-open_text b fits len =
-    let n = slice_index b 35 in
-    let long : 36 ≤ length b = omega arith in
-    let half : length (drop 36 b) / 2 ≡ n = (half_of n (length (drop 36 b)) (omega (arith, length-drop 36 b))).0 in
-    let back_is = back_text b fits long ∙ ap (λ (k : ℕ). back_by k (number_at 19 3 b) (open_fields b) ++ drop 36 b) (sym half) in
+open_text : (layout : Layout) (b : List ℕ) → AreBytes b → length b ≡ said_length_in layout b → SpellsIn layout (open_fields_in layout b) b
+open_text layout b fits len =
+    let n = words_at layout b in
+    let o = open_fields_in layout b in
+    let rest = drop (before_path layout) b in
+    let long : before_path layout ≤ length b = omega arith in
+    let front_long : 18 ≤ length b = omega arith in
+    let half : length rest / 2 ≡ n = (half_of n (length rest) (omega (arith, length-drop (before_path layout) b))).0 in
+    let back_is = back_text layout b fits long ∙ ap (λ (k : ℕ). back_by layout k (number_at 19 3 b) o ++ rest) (sym half) in
     record {
       reserved = number_at 19 3 b;
-      is_open = fields_fit b n fits refl len;
-      spelled = front_text b fits long ∙ ap (λ (t : List ℕ). front (open_fields b) ++ t) back_is ∙ sym (append_assoc (front (open_fields b)) (back (number_at 19 3 b) (open_fields b)) (drop 36 b));
+      is_open = fields_fit layout b n fits refl len;
+      spelled = front_text layout b fits front_long ∙ ap (λ (t : List ℕ). front o ++ t) back_is ∙ sym (append_assoc (front o) (back_in layout (number_at 19 3 b) o) rest);
     }
 
 -- ---- what is spelled is read
 
-spelled_length : (r : ℕ) (o : Open) → length (open_with r o) ≡ 36 + length o.path
-spelled_length r o = omega arith
+spelled_length : (layout : Layout) (r : ℕ) (o : Open) → length (open_with_in layout r o) ≡ before_path layout + length o.path
+spelled_length small r o = omega arith
+spelled_length large r o = omega arith
 
-spelled_said : (r : ℕ) (o : Open) → IsOpen o → said_length (open_with r o) ≡ 36 + length o.path
-spelled_said r o h = let whole = h.whole_words in omega arith
+spelled_said : (layout : Layout) (r : ℕ) (o : Open) → IsOpenIn layout o → said_length_in layout (open_with_in layout r o) ≡ before_path layout + length o.path
+spelled_said small r o h = let whole = h.whole_words in omega arith
+spelled_said large r o h = let whole = h.whole_words in omega arith
 
-spelled_fields : (r : ℕ) (o : Open) → IsOpen o → open_fields (open_with r o) ≡ o
-unfolding open_fields
-spelled_fields r o h =
+spelled_fields : (layout : Layout) (r : ℕ) (o : Open) → IsOpenIn layout o → open_fields_in layout (open_with_in layout r o) ≡ o
+spelled_fields small r o h =
     same_open o _ _ _ _ _ _ _ _ _ _ _ _ _ _ refl refl (le4_again o.o_to_t_id h.front.o_to_t_id []) (le4_again o.t_to_o_id h.front.t_to_o_id []) (le2_again o.connection_serial h.front.connection_serial [])
     (le2_again o.originator_vendor h.front.originator_vendor []) (le4_again o.originator_serial h.front.originator_serial []) refl (le4_again o.o_to_t_rpi h.back.o_to_t_rpi [])
     (le2_again o.o_to_t_parameters h.back.o_to_t_parameters []) (le4_again o.t_to_o_rpi h.back.t_to_o_rpi []) (le2_again o.t_to_o_parameters h.back.t_to_o_parameters []) refl refl
+spelled_fields large r o h =
+    same_open o _ _ _ _ _ _ _ _ _ _ _ _ _ _ refl refl (le4_again o.o_to_t_id h.front.o_to_t_id []) (le4_again o.t_to_o_id h.front.t_to_o_id []) (le2_again o.connection_serial h.front.connection_serial [])
+    (le2_again o.originator_vendor h.front.originator_vendor []) (le4_again o.originator_serial h.front.originator_serial []) refl (le4_again o.o_to_t_rpi h.back.o_to_t_rpi [])
+    (le4_again o.o_to_t_parameters h.back.o_to_t_parameters []) (le4_again o.t_to_o_rpi h.back.t_to_o_rpi []) (le4_again o.t_to_o_parameters h.back.t_to_o_parameters []) refl refl
 
 -- ---- both
 
@@ -150,59 +174,65 @@ tests_long true y o e = absurd cc
 tests_long false true o e = refl
 tests_long false false o e = absurd cc
 
-open_taken : (b : List ℕ) (o : Open) → AreBytes b → open_of b ≡ Ok o → SpellsOpen o b
-unfolding open_of
-open_taken b o fits e =
-    let t = tests_ok (ltb (length b) (said_length b)) (ltb (said_length b) (length b)) (open_fields b) o e in
-    let low : said_length b ≤ length b = ltb-false _ _ t.0 in
-    let high : length b ≤ said_length b = ltb-false _ _ t.1 in
-    subst (λ (q : Open). SpellsOpen q b) t.2 (open_text b fits (omega arith))
+open_taken : (layout : Layout) (b : List ℕ) (o : Open) → AreBytes b → open_of_in layout b ≡ Ok o → SpellsIn layout o b
+open_taken layout b o fits e =
+    let said = said_length_in layout b in
+    let t = tests_ok (ltb (length b) said) (ltb said (length b)) (open_fields_in layout b) o e in
+    let low : said ≤ length b = ltb-false _ _ t.0 in
+    let high : length b ≤ said = ltb-false _ _ t.1 in
+    subst (λ (q : Open). SpellsIn layout q b) t.2 (open_text layout b fits (omega arith))
 
-open_as_said : (b : List ℕ) (o : Open) → length b ≡ said_length b → open_fields b ≡ o → open_of b ≡ Ok o
-unfolding open_of
-open_as_said b o len e =
-    let low : ltb (length b) (said_length b) ≡ false = le-ltb _ _ (omega arith) in
-    let high : ltb (said_length b) (length b) ≡ false = le-ltb _ _ (omega arith) in
+open_as_said : (layout : Layout) (b : List ℕ) (o : Open) → length b ≡ said_length_in layout b → open_fields_in layout b ≡ o → open_of_in layout b ≡ Ok o
+open_as_said layout b o len e =
+    let said = said_length_in layout b in
+    let low : ltb (length b) said ≡ false = le-ltb _ _ (omega arith) in
+    let high : ltb said (length b) ≡ false = le-ltb _ _ (omega arith) in
     rw (low, high) (ap (λ (q : Open). Ok q) e)
 
-as_said : (o : Open) (b : List ℕ) → SpellsOpen o b → length b ≡ said_length b
-as_said o b h =
-    ap length h.spelled ∙ spelled_length h.reserved o ∙ sym (ap said_length h.spelled ∙ spelled_said h.reserved o h.is_open)
+as_said : (layout : Layout) (o : Open) (b : List ℕ) → SpellsIn layout o b → length b ≡ said_length_in layout b
+as_said layout o b h =
+    ap length h.spelled ∙ spelled_length layout h.reserved o ∙ sym (ap (said_length_in layout) h.spelled ∙ spelled_said layout h.reserved o h.is_open)
 
-open_again : (b : List ℕ) (o : Open) → SpellsOpen o b → open_of b ≡ Ok o
-open_again b o h =
-    open_as_said b o (as_said o b h) (ap open_fields h.spelled ∙ spelled_fields h.reserved o h.is_open)
+open_again : (layout : Layout) (b : List ℕ) (o : Open) → SpellsIn layout o b → open_of_in layout b ≡ Ok o
+open_again layout b o h =
+    open_as_said layout b o (as_said layout o b h) (ap (open_fields_in layout) h.spelled ∙ spelled_fields layout h.reserved o h.is_open)
 
-short_iff : (b : List ℕ) → (open_of b ≡ Err Short) ↔ (length b < said_length b)
-unfolding open_of
-short_iff b =
-    ((λ e. ltb-true _ _ (tests_short (ltb (length b) (said_length b)) (ltb (said_length b) (length b)) (open_fields b) e)), (λ h. rw (lt-ltb (length b) (said_length b) h) refl))
+short_iff : (layout : Layout) (b : List ℕ) → (open_of_in layout b ≡ Err Short) ↔ (length b < said_length_in layout b)
+short_iff layout b =
+    let said = said_length_in layout b in
+    ((λ e. ltb-true _ _ (tests_short (ltb (length b) said) (ltb said (length b)) (open_fields_in layout b) e)), (λ h. rw (lt-ltb (length b) said h) refl))
 
-long_iff : (b : List ℕ) → (open_of b ≡ Err Long) ↔ (said_length b < length b)
-unfolding open_of
-long_iff b = (
-  (λ e. ltb-true _ _ (tests_long (ltb (length b) (said_length b)) (ltb (said_length b) (length b)) (open_fields b) e)),
-  (λ h. let low : ltb (length b) (said_length b) ≡ false = le-ltb _ _ (omega arith) in rw (low, lt-ltb (said_length b) (length b) h) refl),
-)
+long_iff : (layout : Layout) (b : List ℕ) → (open_of_in layout b ≡ Err Long) ↔ (said_length_in layout b < length b)
+long_iff layout b =
+    let said = said_length_in layout b in (
+      (λ e. ltb-true _ _ (tests_long (ltb (length b) said) (ltb said (length b)) (open_fields_in layout b) e)),
+      (λ h. let low : ltb (length b) said ≡ false = le-ltb _ _ (omega arith) in rw (low, lt-ltb said (length b) h) refl),
+    )
 
 -- ---- of what a reader returned
 
-pub reads_open : (b : List ℕ) (r : Result OpenRequest LengthFault) → AreBytes b → Gives view r (open_of b) → (o : Open) → Gives view r (Ok o) ↔ SpellsOpen o b
-reads_open b r fits e o = iff_then (gives_iff view r (open_of b) (Ok o) e) (open_taken b o fits, open_again b o)
+module _ {P : Type 0} (view : OpenRequest P → Open) (layout : Layout) (b : List ℕ) (r : Result (OpenRequest P) LengthFault) where
+  pub reads_open : AreBytes b → Gives view r (open_of_in layout b) → (o : Open) → Gives view r (Ok o) ↔ SpellsIn layout o b
+  reads_open fits e o = iff_then (gives_iff view r (open_of_in layout b) (Ok o) e) (open_taken layout b o fits, open_again layout b o)
 
-pub reads_short : (b : List ℕ) (r : Result OpenRequest LengthFault) → Gives view r (open_of b) → Gives view r (Err Short) ↔ (length b < said_length b)
-reads_short b r e = iff_then (gives_iff view r (open_of b) (Err Short) e) (short_iff b)
+  pub reads_short : Gives view r (open_of_in layout b) → Gives view r (Err Short) ↔ (length b < said_length_in layout b)
+  reads_short e = iff_then (gives_iff view r (open_of_in layout b) (Err Short) e) (short_iff layout b)
 
-pub reads_long : (b : List ℕ) (r : Result OpenRequest LengthFault) → Gives view r (open_of b) → Gives view r (Err Long) ↔ (said_length b < length b)
-reads_long b r e = iff_then (gives_iff view r (open_of b) (Err Long) e) (long_iff b)
+  pub reads_long : Gives view r (open_of_in layout b) → Gives view r (Err Long) ↔ (said_length_in layout b < length b)
+  reads_long e = iff_then (gives_iff view r (open_of_in layout b) (Err Long) e) (long_iff layout b)
 
 -- ---- one open request at the front
 
-pub open_is_one : OneOpen
-open_is_one o q a b x y h g e =
-    let la = as_said o a h in
-    let lb = as_said q b g in
-    let words : slice_index a 35 ≡ slice_index b 35 =
-    sym (get_or_append_left a x 0 35 (omega arith)) ∙ ap (λ (t : List ℕ). slice_index t 35) e ∙ get_or_append_left b y 0 35 (omega arith) in
+-- the byte before the path stands in the spelling itself
+counted_within : (layout : Layout) (o : Open) (b : List ℕ) → SpellsIn layout o b → 31 + 2 * width layout < length b
+counted_within layout o b h = let len = ap length h.spelled ∙ spelled_length layout h.reserved o in omega arith
+
+pub open_is_one : (layout : Layout) → OneOpenIn layout
+open_is_one layout o q a b x y h g e =
+    let k = 31 + 2 * width layout in
+    let la = as_said layout o a h in
+    let lb = as_said layout q b g in
+    let words : slice_index a k ≡ slice_index b k =
+    sym (get_or_append_left a x 0 k (counted_within layout o a h)) ∙ ap (λ (t : List ℕ). slice_index t k) e ∙ get_or_append_left b y 0 k (counted_within layout q b g) in
     let both = same_front a b x y (omega arith) e in
-    (ok_is {E = LengthFault} o q (sym (open_again a o h) ∙ ap open_of both.0 ∙ open_again b q g), both.0, both.1)
+    (ok_is {E = LengthFault} o q (sym (open_again layout a o h) ∙ ap (open_of_in layout) both.0 ∙ open_again layout b q g), both.0, both.1)

@@ -1,44 +1,20 @@
 //! The data of a Forward_Open request, which opens a connection (Volume 1, Connection Manager).
 
-ghost use Rattle.std.specs.Prelude.{◌≡◌, ◌↔◌, ◌+◌, ◌%◌, ◌<◌, ◌≤◌, ◌++◌, length, IsOk, OnOk, OnErr};
+ghost use Rattle.std.specs.Prelude.{◌≡◌, ◌↔◌, ◌+◌, ◌*◌, ◌%◌, ◌<◌, ◌≤◌, ◌++◌, length, IsOk, OnOk, OnErr};
 ghost use Rattle.arrayvec.specs.ArrayVec.{array_vec_len};
 ghost use Rattle.cip_bytes.specs.Reading.{Gives};
-ghost use Rattle.cip_message.specs.Open.{Open, FrontFits, BackFits, IsOpen, SpellsOpen, front, back, «open», view};
-ghost use Rattle.cip_message.specs.Open.{said_length, open_fields, open_of, connection_type, size_of, is_server_of};
+ghost use Rattle.cip_message.specs.Open.{Open, FrontFits, IsOpen, SpellsOpen, front, «open», view};
+ghost use Rattle.cip_message.specs.Open.{said_length, open_of, is_server_of};
 ghost use Rattle.cip_message.specs.Open.{class_of_transport, length_fault_number};
+ghost use Rattle.cip_message.specs.Open.{IsLargeOpen, SpellsLarge, large_open, large_view, large_said_length};
+ghost use Rattle.cip_message.specs.Open.{large_open_of, width, before_path, IsOpenIn, BackFitsIn, back_in, open_with_in};
+ghost use Rattle.cip_message.specs.Open.{open_of_in, open_fields_in, view_by};
 
+use crate::parameters::{DirectionParameters, LargeParameters, Parameters, append_parameters};
 use arrayvec::ArrayVec;
 use byteorder::{ByteOrder, LittleEndian};
 use cip_bytes::{Full, append, append_u8, append_u16, append_u32};
 use thiserror::Error;
-
-/// How many bytes stand before the path.
-const SIZE_BEFORE_PATH: usize = 36;
-
-/// The parameters of one direction of a connection. (Volume 1, network connection parameters.)
-#[derive(Clone, Copy, Debug, PartialEq, Eq)]
-pub struct Parameters {
-    /// Bit 15 redundant owner, 14 and 13 type, 11 and 10 priority, 9 variable, 8 to 0 size.
-    pub bits: u16,
-}
-
-impl Parameters {
-    /// The connection's type; 2 is point to point.
-    pub fn connection_type(self) -> u8
-        ensures { result ≡ connection_type self.bits }
-    {
-        // bits 14 and 13 (network connection parameters)
-        (self.bits >> 13 & 3) as u8
-    }
-
-    /// The size of an item in bytes, its count included.
-    pub fn size(self) -> u16
-        ensures { result ≡ size_of self.bits }
-    {
-        // bits 8 to 0 (network connection parameters)
-        self.bits & 0x1ff
-    }
-}
 
 /// A connection's transport: who serves, what triggers, and the class.
 #[derive(Clone, Copy, Debug, PartialEq, Eq)]
@@ -63,10 +39,10 @@ impl Transport {
     }
 }
 
-/// What a request to open a connection asks for. Intervals (RPI) are in microseconds; `path` is its
-/// bytes, of whole words.
+/// What a request to open a connection asks for, a Forward_Open, or with `LargeParameters` a
+/// Large_Forward_Open. Intervals (RPI) are in microseconds; `path` is its bytes, of whole words.
 #[derive(Clone, Copy, Debug)]
-pub struct OpenRequest<'a> {
+pub struct OpenRequest<'a, P = Parameters> {
     /// Priority and tick time.
     pub priority_and_tick_time: u8,
     /// Timeout ticks.
@@ -86,11 +62,11 @@ pub struct OpenRequest<'a> {
     /// The requested interval from originator to target, in microseconds.
     pub o_to_t_rpi: u32,
     /// The parameters from originator to target.
-    pub o_to_t_parameters: Parameters,
+    pub o_to_t_parameters: P,
     /// The requested interval from target to originator, in microseconds.
     pub t_to_o_rpi: u32,
     /// The parameters from target to originator.
-    pub t_to_o_parameters: Parameters,
+    pub t_to_o_parameters: P,
     /// Who serves, what triggers, and the class.
     pub transport: Transport,
     /// The bytes of the path, of whole words.
@@ -144,7 +120,53 @@ impl<'a> OpenRequest<'a> {
         ensures spelled { OnOk result (IsOpen (view self.now)) }
         ensures err { OnErr result (out.new ≡ out.old) }
     {
-        if out.remaining_capacity() < SIZE_BEFORE_PATH + self.path.len() {
+        self.append_to(out)
+    }
+}
+
+impl<'a> OpenRequest<'a, LargeParameters> {
+    /// The large open request that is the whole text, whose reserved bytes may have any value. The path is
+    /// lent from it.
+    pub fn read_large(bytes: &'a [u8]) -> Result<OpenRequest<'a, LargeParameters>, LengthFault>
+        // What is read is spelled so, and what is spelled so is read.
+        ensures open_request { (o : Open) → Gives large_view result (Ok o) ↔ SpellsLarge o bytes.now }
+        ensures short { Gives large_view result (Err LengthFault.Short) ↔ (length bytes.now < large_said_length bytes.now) }
+        ensures long { Gives large_view result (Err LengthFault.Long) ↔ (large_said_length bytes.now < length bytes.now) }
+        ensures exact { Gives large_view result (large_open_of bytes.now) }
+    {
+        open_at(bytes)
+    }
+
+    /// Appends the request's spelling, with 0 in the reserved bytes. The path is whole words, at most
+    /// 255 of them.
+    ///
+    /// # Errors
+    ///
+    /// `Full` where the request doesn't fit, and then nothing is written.
+    pub fn write_large<const N: usize>(&self, out: &mut ArrayVec<u8, N>) -> Result<(), Full>
+        requires whole_words { length self.now.path.now % 2 ≡ 0 }
+        requires counted { length self.now.path.now ≤ 510 }
+        ensures fits { IsOk result ↔ (array_vec_len out.old + length (large_open (large_view self.now)) ≤ N) }
+        ensures ok { OnOk result (out.new.items ≡ out.old.items ++ large_open (large_view self.now)) }
+        ensures spelled { OnOk result (IsLargeOpen (large_view self.now)) }
+        ensures err { OnErr result (out.new ≡ out.old) }
+    {
+        self.append_to(out)
+    }
+}
+
+impl<P: DirectionParameters> OpenRequest<'_, P> {
+    /// Appends the request's spelling in the layout of its parameters.
+    fn append_to<const N: usize>(&self, out: &mut ArrayVec<u8, N>) -> Result<(), Full>
+        requires whole_words { length self.now.path.now % 2 ≡ 0 }
+        requires counted { length self.now.path.now ≤ 510 }
+        ensures fits { IsOk result
+            ↔ (array_vec_len out.old + before_path P.layout + length self.now.path.now ≤ N) }
+        ensures ok { OnOk result (out.new.items ≡ out.old.items ++ open_with_in P.layout 0 (view_by P.bits self.now)) }
+        ensures spelled { OnOk result (IsOpenIn P.layout (view_by P.bits self.now)) }
+        ensures err { OnErr result (out.new ≡ out.old) }
+    {
+        if out.remaining_capacity() < size_before_path::<P>() + self.path.len() {
             return Err(Full);
         }
         self.append_front(out);
@@ -156,9 +178,9 @@ impl<'a> OpenRequest<'a> {
     /// Appends the fields up to the originator's serial.
     fn append_front<const N: usize>(&self, out: &mut ArrayVec<u8, N>)
         requires { array_vec_len out.old + 18 ≤ N }
-        ensures text { out.new.items ≡ out.old.items ++ front (view self.now) }
+        ensures text { out.new.items ≡ out.old.items ++ front (view_by P.bits self.now) }
         ensures len { array_vec_len out.new ≡ array_vec_len out.old + 18 }
-        ensures fits { FrontFits (view self.now) }
+        ensures fits { FrontFits (view_by P.bits self.now) }
     {
         append_u8(out, self.priority_and_tick_time);
         append_u8(out, self.timeout_ticks);
@@ -171,33 +193,41 @@ impl<'a> OpenRequest<'a> {
 
     /// Appends the fields from the timeout multiplier on, up to the path.
     fn append_back<const N: usize>(&self, out: &mut ArrayVec<u8, N>)
-        requires room { array_vec_len out.old + 18 ≤ N }
+        requires room { array_vec_len out.old + 14 + 2 * width P.layout ≤ N }
         requires counted { length self.now.path.now ≤ 510 }
-        ensures text { out.new.items ≡ out.old.items ++ back 0 (view self.now) }
-        ensures len { array_vec_len out.new ≡ array_vec_len out.old + 18 }
-        ensures fits { BackFits (view self.now) }
+        ensures text { out.new.items ≡ out.old.items ++ back_in P.layout 0 (view_by P.bits self.now) }
+        ensures len { array_vec_len out.new ≡ array_vec_len out.old + 14 + 2 * width P.layout }
+        ensures fits { BackFitsIn P.layout (view_by P.bits self.now) }
     {
         append_u8(out, self.timeout_multiplier);
         append(out, &[0, 0, 0]);
         append_u32(out, self.o_to_t_rpi);
-        append_u16(out, self.o_to_t_parameters.bits);
+        append_parameters(out, self.o_to_t_parameters);
         append_u32(out, self.t_to_o_rpi);
-        append_u16(out, self.t_to_o_parameters.bits);
+        append_parameters(out, self.t_to_o_parameters);
         append_u8(out, self.transport.bits);
         append_u8(out, (self.path.len() / 2) as u8);
     }
 }
 
-/// The open request that is the whole text, as a computation.
-#[tactic(auto, unfolding(crate::specs::Open::open_of))]
-fn open_at(bytes: &[u8]) -> Result<OpenRequest<'_>, LengthFault>
-    ensures { Gives view result (open_of bytes.now) }
+/// How many bytes stand before the path.
+fn size_before_path<P: DirectionParameters>() -> usize
+    ensures exact { result ≡ before_path P.layout }
+    ensures narrow { result ≤ 40 }
 {
-    if bytes.len() < SIZE_BEFORE_PATH {
+    32 + 2 * P::width()
+}
+
+/// The open request that is the whole text, as a computation.
+fn open_at<P: DirectionParameters>(bytes: &[u8]) -> Result<OpenRequest<'_, P>, LengthFault>
+    ensures { Gives (view_by P.bits) result (open_of_in P.layout bytes.now) }
+{
+    let before_path = size_before_path::<P>();
+    if bytes.len() < before_path {
         return Err(LengthFault::Short);
     }
-    // byte 35 counts the words of the path (Forward_Open)
-    let said = SIZE_BEFORE_PATH + 2 * usize::from(bytes[35]);
+    // the byte before the path counts the words of it (Forward_Open, Large_Forward_Open)
+    let said = before_path + 2 * usize::from(bytes[before_path - 1]);
     if bytes.len() < said {
         return Err(LengthFault::Short);
     }
@@ -208,11 +238,11 @@ fn open_at(bytes: &[u8]) -> Result<OpenRequest<'_>, LengthFault>
 }
 
 /// The fields, each read at its place.
-#[tactic(auto, unfolding(crate::specs::Open::open_fields))]
-fn fields_at(bytes: &[u8]) -> OpenRequest<'_>
-    requires { 36 ≤ length bytes.now }
-    ensures { view result ≡ open_fields bytes.now }
+fn fields_at<P: DirectionParameters>(bytes: &[u8]) -> OpenRequest<'_, P>
+    requires { before_path P.layout ≤ length bytes.now }
+    ensures { view_by P.bits result ≡ open_fields_in P.layout bytes.now }
 {
+    let width = P::width();
     OpenRequest {
         priority_and_tick_time: bytes[0],
         timeout_ticks: bytes[1],
@@ -223,14 +253,12 @@ fn fields_at(bytes: &[u8]) -> OpenRequest<'_>
         originator_serial: LittleEndian::read_u32(&bytes[14..]),
         timeout_multiplier: bytes[18],
         o_to_t_rpi: LittleEndian::read_u32(&bytes[22..]),
-        o_to_t_parameters: Parameters {
-            bits: LittleEndian::read_u16(&bytes[26..]),
+        o_to_t_parameters: P::read_front(&bytes[26..]),
+        t_to_o_rpi: LittleEndian::read_u32(&bytes[26 + width..]),
+        t_to_o_parameters: P::read_front(&bytes[30 + width..]),
+        transport: Transport {
+            bits: bytes[30 + 2 * width],
         },
-        t_to_o_rpi: LittleEndian::read_u32(&bytes[28..]),
-        t_to_o_parameters: Parameters {
-            bits: LittleEndian::read_u16(&bytes[32..]),
-        },
-        transport: Transport { bits: bytes[34] },
-        path: &bytes[36..],
+        path: &bytes[size_before_path::<P>()..],
     }
 }

@@ -2,6 +2,8 @@ use super::*;
 use arrayvec::ArrayVec;
 use std::test::*;
 
+mod large_open;
+
 const EVERY_PART: Path = Path {
     class: 4,
     instance: 0x1_0000,

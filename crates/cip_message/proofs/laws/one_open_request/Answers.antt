@@ -1,5 +1,6 @@
+use Rattle.cip_message.specs.Open.{small}
 use Rattle.cip_message.proofs.Opens.{open_is_one}
 use Rattle.cip_message.proofs.laws.one_open_request.Goals as goal
 
 pub returns : goal.returns
-returns c = open_is_one
+returns c = open_is_one small
