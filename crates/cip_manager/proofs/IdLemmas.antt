@@ -72,8 +72,13 @@ draws-open : (layout : Layout) (manager : ManagerState) (now session : ℕ) (byt
 draws-open layout manager now session bytes =
     after_open (λ turn. Draws manager.next_id turn.manager.next_id (given turn)) layout manager now session bytes
     (λ reply refused. record { drawn = inl (ap (λ b. cond b (o_to_t_id_in reply ∷ []) []) refused, refl) })
-    (λ asked check. record { drawn = inr (given-opened layout manager now session asked
-    (little_number-reads_back 4 manager.next_id [] (has_room manager asked check).id_left), refl) })
+    (λ asked check. record {
+      drawn = inr (
+        given-opened layout manager now session asked
+            (little_number-reads_back 4 manager.next_id [] (has_room manager asked check).id_left),
+        refl,
+      );
+    })
 
 module _ {M : Type 0} (after : M → ℕ → List ℕ → M) (answer : M → ℕ → List ℕ → List ℕ) where
   draws-call : (state : State M) (call : Call) → Draws state.manager.next_id (state_after_call after answer state call).manager.next_id (ids_of_call after answer state call)

@@ -103,7 +103,7 @@ impl Opening {
     {
         let o_to_t = Direction::of(request.o_to_t_rpi, request.o_to_t_parameters);
         let t_to_o = Direction::of(request.t_to_o_rpi, request.t_to_o_parameters);
-        Opening::with(o_to_t, t_to_o, request)
+        Opening::asked(o_to_t, t_to_o, request)
     }
 
     /// What a Large_Forward_Open asks for.
@@ -112,11 +112,11 @@ impl Opening {
     {
         let o_to_t = Direction::of_large(request.o_to_t_rpi, request.o_to_t_parameters);
         let t_to_o = Direction::of_large(request.t_to_o_rpi, request.t_to_o_parameters);
-        Opening::with(o_to_t, t_to_o, request)
+        Opening::asked(o_to_t, t_to_o, request)
     }
 
     /// What a request asks for in either layout, and what for either direction.
-    fn with<P>(o_to_t: Direction, t_to_o: Direction, request: &OpenRequest<'_, P>) -> Opening
+    fn asked<P>(o_to_t: Direction, t_to_o: Direction, request: &OpenRequest<'_, P>) -> Opening
         ensures { (bits : P → ℕ) → result ≡ opening_with o_to_t t_to_o (view_by bits request.now) }
     {
         Opening {
