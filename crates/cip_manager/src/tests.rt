@@ -6,6 +6,7 @@ ghost use Rattle.arrayvec.specs.ArrayVec.{array_vec_len};
 mod closing;
 mod counter;
 mod items;
+mod large_open;
 mod opening;
 
 use super::*;
