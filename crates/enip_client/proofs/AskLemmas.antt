@@ -30,6 +30,7 @@ use Rattle.cip_message.specs.Reply.{Reply}
 use Rattle.cip_bytes.specs.Numbers.{number_at}
 use Rattle.enip_client.specs.declared.state.Link.TheVariants.{Open}
 use Rattle.enip_client.specs.declared.state.Registration.TheVariants as registrations
+use Rattle.enip_client.specs.Frames.{open_service}
 use Rattle.enip_client.specs.Hears.{answered, refuses, accepted, is_answer, is_for_connection, Turned, News, Answer, tells, faulted, session_turn, opening_turn, reply_turn, closing_turn, shaped, answer_to, answer_turn, item_turn, other_turn, hears_awaiting, hears_sight}
 use Rattle.enip_client.specs.Hears.News.{Nothing, Registered, Opened, Replied, Accepted, Closed}
 use Rattle.enip_client.specs.Asking.{Stand, Exchange, LONGEST_REPLY, is_awaiting, failed, lends, lends_plainly, requests, submit_failure, says, opening, requesting, closing, leaving, goes_on, hears_unless, after_sight}

@@ -6,6 +6,7 @@ pub mod ActionLemmas
 pub mod RunLemmas
 pub mod ConnectionLemmas
 pub mod FaultLemmas
+pub mod SendingLemmas
 pub mod StreamLemmas
 pub mod CutLemmas
 pub mod AskLemmas

@@ -23,6 +23,7 @@ use Rattle.enip_client.specs.declared.state.Registration.{Registration}
 use Rattle.enip_client.specs.declared.state.Registration.TheVariants as registrations
 use Rattle.enip_client.specs.declared.state.State.{State}
 use Rattle.enip_client.specs.State.{is_registered, session_in, is_open}
+use Rattle.enip_client.specs.Frames.{open_service}
 use Rattle.enip_client.specs.Hears.{News, Turned, Answer, tells, faulted, answered, hears, hears_awaiting, is_answer}
 use Rattle.enip_client.specs.Hears.{command_of, answer_turn, shaped, opening_turn, reply_turn, closing_turn}
 use Rattle.enip_client.specs.Hears.{other_turn, item_turn, accepted, is_for_connection, answer_to, refuses}

@@ -78,10 +78,10 @@ is_large wants = nat_lt 511 wants.o_to_t_size || nat_lt 511 wants.t_to_o_size
 abbrev pub layout_of : Wants → Layout
 layout_of wants = if is_large wants then large else small
 
--- What an open asks for, with the parameters that a size has. The target chooses the O->T ID; the client is the
+-- What an open asks for, with the parameters of either direction. The target chooses the O->T ID; the client is the
 -- originator of a class 3 connection.
-abbrev pub asked_with : (ℕ → ℕ) → Wants → Open
-asked_with parameters wants = record {
+abbrev pub asked_by : ℕ → ℕ → Wants → Open
+asked_by o_to_t_parameters t_to_o_parameters wants = record {
   priority_and_tick_time = 0x0a;
   timeout_ticks = 0x0e;
   o_to_t_id = 0;
@@ -91,18 +91,19 @@ asked_with parameters wants = record {
   originator_serial = wants.originator_serial;
   timeout_multiplier = wants.timeout_multiplier;
   o_to_t_rpi = wants.rpi;
-  o_to_t_parameters = parameters wants.o_to_t_size;
+  o_to_t_parameters = o_to_t_parameters;
   t_to_o_rpi = wants.rpi;
-  t_to_o_parameters = parameters wants.t_to_o_size;
+  t_to_o_parameters = t_to_o_parameters;
   transport = 0xa3;
   path = message_router;
 }
 
 abbrev pub open_asked : Wants → Open
-open_asked wants = asked_with parameters_of wants
+open_asked wants = asked_by (parameters_of wants.o_to_t_size) (parameters_of wants.t_to_o_size) wants
 
 abbrev pub large_asked : Wants → Open
-large_asked wants = asked_with large_parameters_of wants
+large_asked wants =
+    asked_by (large_parameters_of wants.o_to_t_size) (large_parameters_of wants.t_to_o_size) wants
 
 -- Forward_Open, or Large_Forward_Open, in its layout.
 abbrev pub open_service_in : Layout → ℕ

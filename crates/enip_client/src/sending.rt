@@ -1,12 +1,14 @@
 //! The frames that a client sends. (Volume 2, encapsulation commands.)
 
-ghost use Rattle.std.specs.Prelude.{◌≡◌, ◌≤◌, length, []};
+ghost use Rattle.std.specs.Prelude.{◌≡◌, ℕ, ◌≤◌, length, []};
 ghost use Rattle.arrayvec.specs.ArrayVec.{array_vec_len};
 ghost use Rattle.enip_wire.specs.Headers.{header_spelling};
 ghost use Rattle.enip_wire.specs.Frames.{frame};
 ghost use Rattle.enip_client.specs.Frames.{command_number, sent_header, register_frame, unregister_frame};
 ghost use Rattle.enip_client.specs.Frames.{request_frame, item_frame, manager_request, parameters_of, open_request};
-ghost use Rattle.enip_client.specs.Frames.{close_request, open_service, is_large, large_parameters_of};
+ghost use Rattle.cip_message.specs.Open.{small, large, view_by};
+ghost use Rattle.enip_client.specs.Frames.{close_request, open_service, open_request_in, is_large, large_parameters_of};
+ghost use Rattle.enip_client.specs.Frames.{asked_by, message_router};
 
 use crate::wants::Wants;
 use arrayvec::ArrayVec;
@@ -157,19 +159,47 @@ pub(crate) fn open_service(wants: &Wants) -> u8
 pub(crate) fn open_request(wants: &Wants) -> ManagerRequest
     ensures { result.items ≡ open_request wants.now }
 {
-    let mut request = begin_manager_request(open_service(wants));
     if is_large(wants) {
-        let asked = asked(wants, large_parameters(wants.o_to_t_size), large_parameters(wants.t_to_o_size));
-        let _ = asked.write_large(&mut request);
+        large_open_request(wants)
     } else {
-        let asked = asked(wants, parameters(wants.o_to_t_size), parameters(wants.t_to_o_size));
-        let _ = asked.write(&mut request);
+        small_open_request(wants)
     }
+}
+
+/// A Forward_Open.
+fn small_open_request(wants: &Wants) -> ManagerRequest
+    ensures { result.items ≡ open_request_in small wants.now }
+{
+    let mut request = begin_manager_request(FORWARD_OPEN);
+    let asked = asked(
+        wants,
+        parameters(wants.o_to_t_size),
+        parameters(wants.t_to_o_size),
+    );
+    let _ = asked.write(&mut request);
+    request
+}
+
+/// A Large_Forward_Open.
+fn large_open_request(wants: &Wants) -> ManagerRequest
+    ensures { result.items ≡ open_request_in large wants.now }
+{
+    let mut request = begin_manager_request(LARGE_FORWARD_OPEN);
+    let asked = asked(
+        wants,
+        large_parameters(wants.o_to_t_size),
+        large_parameters(wants.t_to_o_size),
+    );
+    let _ = asked.write_large(&mut request);
     request
 }
 
 /// What is asked for, with the parameters of either direction.
-fn asked<P>(wants: &Wants, o_to_t_parameters: P, t_to_o_parameters: P) -> OpenRequest<'static, P> {
+fn asked<P>(wants: &Wants, o_to_t_parameters: P, t_to_o_parameters: P) -> OpenRequest<'static, P>
+    ensures asked { (bits : P → ℕ) →
+        view_by bits result ≡ asked_by (bits o_to_t_parameters) (bits t_to_o_parameters) wants.now }
+    ensures path { result.path.now ≡ message_router }
+{
     OpenRequest {
         priority_and_tick_time: PRIORITY_AND_TICK_TIME,
         timeout_ticks: TIMEOUT_TICKS,
