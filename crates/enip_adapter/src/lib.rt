@@ -10,6 +10,8 @@
 
 mod adapter;
 mod commands;
+#[cfg(test)]
+mod large_tests;
 pub mod laws;
 mod peer;
 mod reply;

@@ -8,7 +8,7 @@ use std::process::Abort;
 use std::test::Fail;
 
 /// A RegisterSession, and its answer to the first peer.
-const REGISTER: &[u8] =
+pub(crate) const REGISTER: &[u8] =
     b"\x65\0\x04\0\0\0\0\0\0\0\0\0\x01\x02\x03\x04\x05\x06\x07\x08\0\0\0\0\x01\0\0\0";
 
 const REGISTERED: &[u8] =
@@ -34,12 +34,12 @@ const LONG: &[u8] = b"\0\0\xe8\xff\0\0\0\0\0\0\0\0\x01\x02\x03\x04\x05\x06\x07\x
 const REFUSED: &[u8] = b"\0\0\0\0\0\0\0\0\x65\0\0\0\x01\x02\x03\x04\x05\x06\x07\x08\0\0\0\0";
 
 /// Where the adapters of these tests listen, and what they have room for.
-const LISTEN: Listen = Listen {
+pub(crate) const LISTEN: Listen = Listen {
     address: [127, 0, 0, 1],
     port: 44_818,
 };
 
-const LIMITS: Limits = Limits {
+pub(crate) const LIMITS: Limits = Limits {
     peers: 9,
     connections: 16,
     first_handle: 1,

@@ -46,15 +46,15 @@ const ADDED: [u8; 30] = [
     0xb1, 0x00, 0x0a, 0x00, 0x01, 0x00, 0xb2, 0x00, 0x00, 0x00, 0x05, 0x00, 0x00, 0x00,
 ];
 
-/// The objects of the demo configuration.
-pub(crate) fn demo(alloc: Global) -> Result<Objects, Fail> {
+/// The demo configuration.
+pub(crate) fn config(alloc: Global) -> Result<Config, Fail> {
     let mut assemblies = Vec::new(alloc);
     assemblies.push(AssemblyConfig {
         instance: 100,
         settable: true,
         members: Vec::from_slice(alloc, &[1, 2, 1])?,
     })?;
-    let config = Config {
+    Ok(Config {
         vendor: 0x1234,
         device_type: 43,
         product_code: 7,
@@ -69,9 +69,13 @@ pub(crate) fn demo(alloc: Global) -> Result<Objects, Fail> {
             limit: 100,
         },
         assemblies,
-    };
+    })
+}
+
+/// The objects of the demo configuration.
+pub(crate) fn demo(alloc: Global) -> Result<Objects, Fail> {
     Ok(
-        Objects::new(alloc, &config)
+        Objects::new(alloc, &config(alloc)?)
             .ok()
             .ok_or("the objects are made")?,
     )

@@ -201,6 +201,10 @@ large-direction wants size fits =
     let same : large_size_of (large_parameters_of size) ≡ size = omega (arith, fits) in
     ap₂ (λ k n. (let d : Direction = record { rpi = wants.rpi; connection_type = k; size = n } in d)) kind same
 
+neither : (a b : Bool) → (a || b) ≡ false → (a ≡ false) × (b ≡ false)
+neither true b e = absurd (cc)
+neither false b e = (refl, e)
+
 pub asked-is : (wants : Wants) → IsWanted wants →
     opening_in (layout_of wants) (asked_in (layout_of wants) wants) ≡ wanted wants
 asked-is wants is = go (is_large wants) refl
@@ -215,10 +219,6 @@ asked-is wants is = go (is_large wants) refl
         ap₂ (λ x y. opening_with x y (open_asked wants))
         (small-direction wants wants.o_to_t_size (ltb-false 511 wants.o_to_t_size fit.0))
         (small-direction wants wants.t_to_o_size (ltb-false 511 wants.t_to_o_size fit.1))
-
-    neither : (a b : Bool) → (a || b) ≡ false → (a ≡ false) × (b ≡ false)
-    neither true b f = absurd (cc)
-    neither false b f = (refl, f)
 
 -- what a list of checks says that passes
 pub passed : (x : Result (Unit {0}) ℕ) (xs : List (Result (Unit {0}) ℕ)) → first_failure (x ∷ xs) ≡ Ok tt →

@@ -29,4 +29,6 @@ pub use wants::Wants;
 #[cfg(test)]
 mod asking_tests;
 #[cfg(test)]
+mod large_tests;
+#[cfg(test)]
 mod tests;

@@ -40,7 +40,7 @@ What `configuration N` means, by the first that holds of
   9    a key is unknown
   8    a key is missing, or its value is of another type or out of its range
   1    `name` is over 32 bytes, or has a byte that can't be printed
-  2    there are over 16 tables `assembly`, or the `members` of one have 0 or over 480 bytes
+  2    there are over 16 tables `assembly`, or the `members` of one have 0 or over 3,900 bytes
   3    the `members` of an assembly are over 64, or one has 0 bytes
   4    the `instance` of an assembly is 0, or stands twice
   5    `value` of the counter is over its `limit`";

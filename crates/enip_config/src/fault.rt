@@ -12,7 +12,7 @@ use thiserror::Error;
 pub enum Refusal {
     /// The product's name is over 32 bytes, or has a byte outside 0x20 to 0x7e.
     Name = 1,
-    /// There are over 16 assemblies, or one has 0 or over 480 bytes.
+    /// There are over 16 assemblies, or one has 0 or over 3,900 bytes.
     Size = 2,
     /// An assembly has over 64 members, or one of 0 bytes.
     Members = 3,

@@ -13,46 +13,32 @@ const LARGE_TRANSPORT: usize = 38;
 
 const LARGE_PATH_SIZE: usize = 39;
 
-/// Some bytes in place of those of `LARGE`, and the extended status that refuses them.
-struct Row {
-    place: usize,
-    bytes: &'static [u8],
-    extended: u16,
-}
-
-static ROWS: [Row; 16] = [
+/// Where some bytes stand in place of those of `LARGE`, and the extended status that refuses them.
+static ROWS: [(usize, &[u8], u16); 16] = [
     // A route through port 1.
-    row(LARGE_PATH_SIZE, b"\x02\x01\x00\x20\x02", 0x0315),
+    (LARGE_PATH_SIZE, b"\x02\x01\x00\x20\x02", 0x0315),
     // Class 1, and a transport that is no server: the path is looked at first.
-    row(LARGE_TRANSPORT, b"\x23\x02\x20\x01\x24\x01", 0x0117),
-    row(LARGE_TRANSPORT, b"\x23", 0x0103),
-    row(LARGE_TRANSPORT, b"\xa1", 0x0103),
+    (LARGE_TRANSPORT, b"\x23\x02\x20\x01\x24\x01", 0x0117),
+    (LARGE_TRANSPORT, b"\x23", 0x0103),
+    (LARGE_TRANSPORT, b"\xa1", 0x0103),
     // No server, and types that are not point to point.
-    row(LARGE_T_TO_O_PARAMETERS, b"\xa2\x0f\x00\x22\x23", 0x0103),
-    row(LARGE_T_TO_O_PARAMETERS, b"\xa2\x0f\x00\x22", 0x0108),
-    row(O_TO_T_PARAMETERS, b"\xa2\x0f\x00\x62", 0x0108),
+    (LARGE_T_TO_O_PARAMETERS, b"\xa2\x0f\x00\x22\x23", 0x0103),
+    (LARGE_T_TO_O_PARAMETERS, b"\xa2\x0f\x00\x22", 0x0108),
+    (O_TO_T_PARAMETERS, b"\xa2\x0f\x00\x62", 0x0108),
     // A multiplier of 8, and a size that is too small.
-    row(MULTIPLIER, b"\x08\0\0\0\x80\x84\x1e\x00\x03\x00\x00\x42", 0x0108),
+    (MULTIPLIER, b"\x08\0\0\0\x80\x84\x1e\x00\x03\x00\x00\x42", 0x0108),
     // Type and size at the places of 16 bits.
-    row(O_TO_T_PARAMETERS, b"\x00\x42\x00\x00", 0x0108),
+    (O_TO_T_PARAMETERS, b"\x00\x42\x00\x00", 0x0108),
     // Sizes 3 and 4,003 from originator to target, 9, 4,003 and 65,535 from target to originator.
-    row(O_TO_T_PARAMETERS, b"\x03\x00\x00\x42", 0x0109),
-    row(O_TO_T_PARAMETERS, b"\xa3\x0f\x00\x42", 0x0109),
-    row(LARGE_T_TO_O_PARAMETERS, b"\x09\x00\x00\x42", 0x0109),
-    row(LARGE_T_TO_O_PARAMETERS, b"\xa3\x0f\x00\x42", 0x0109),
-    row(LARGE_T_TO_O_PARAMETERS, b"\xff\xff\x00\x42", 0x0109),
+    (O_TO_T_PARAMETERS, b"\x03\x00\x00\x42", 0x0109),
+    (O_TO_T_PARAMETERS, b"\xa3\x0f\x00\x42", 0x0109),
+    (LARGE_T_TO_O_PARAMETERS, b"\x09\x00\x00\x42", 0x0109),
+    (LARGE_T_TO_O_PARAMETERS, b"\xa3\x0f\x00\x42", 0x0109),
+    (LARGE_T_TO_O_PARAMETERS, b"\xff\xff\x00\x42", 0x0109),
     // An interval of 0, and a size that is too small.
-    row(O_TO_T_RPI, b"\0\0\0\0\x03\x00\x00\x42", 0x0109),
-    row(O_TO_T_RPI, b"\0\0\0\0", 0x0111),
+    (O_TO_T_RPI, b"\0\0\0\0\x03\x00\x00\x42", 0x0109),
+    (O_TO_T_RPI, b"\0\0\0\0", 0x0111),
 ];
-
-const fn row(place: usize, bytes: &'static [u8], extended: u16) -> Row {
-    Row {
-        place,
-        bytes,
-        extended,
-    }
-}
 
 fn reply_to_large_open(manager: &mut Manager, data: &[u8]) -> ReplyBuf {
     let mut reply = ArrayVec::new();
@@ -82,7 +68,7 @@ fn large_openings_are_checked(rt: HostRuntime) -> Result<(), Fail> {
     longer[..44].copy_from_slice(&LARGE);
     let reply = reply_to_large_open(&mut manager, &longer);
     assert!(rt; reply.as_slice() == [0xdb, 0x00, 0x15, 0x00].as_slice());
-    for Row { place, bytes, extended } in &ROWS {
+    for (place, bytes, extended) in &ROWS {
         let mut data = LARGE;
         assert!(rt; place + bytes.len() <= 44);
         data[*place..place + bytes.len()].copy_from_slice(bytes);

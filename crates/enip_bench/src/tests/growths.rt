@@ -1,6 +1,7 @@
 //! What is refused, and what stands then.
 
 ghost use Rattle.std.specs.Prelude.{◌≤◌};
+ghost use Rattle.cip_class3.specs.Item.{LARGEST_SIZE};
 
 use super::*;
 use cip_class3::Stage;
@@ -14,9 +15,9 @@ fn opened(alloc: Global, limits: Limits, wants: &Wants) -> Result<Result<(), Ben
     requires handle { 1 ≤ limits.first_handle }
     requires id { 1 ≤ limits.first_id }
     requires o_to_t_from { 4 ≤ wants.now.o_to_t_size }
-    requires o_to_t_to { wants.now.o_to_t_size ≤ 511 }
+    requires o_to_t_to { wants.now.o_to_t_size ≤ LARGEST_SIZE }
     requires t_to_o_from { 10 ≤ wants.now.t_to_o_size }
-    requires t_to_o_to { wants.now.t_to_o_size ≤ 511 }
+    requires t_to_o_to { wants.now.t_to_o_size ≤ LARGEST_SIZE }
 {
     let adapter = Adapter::new(alloc, demo(alloc, 100)?, LISTEN, limits)?;
     let Ok(client) = Client::new(alloc, wants) else {
