@@ -4,3 +4,5 @@ pub mod ItemLemmas
 pub mod ListLemmas
 pub mod Places
 pub mod SessionLemmas
+pub mod TableLemmas
+pub mod WalkLemmas

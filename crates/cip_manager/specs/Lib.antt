@@ -8,3 +8,4 @@ pub mod Replies
 pub mod Room
 pub mod Rows
 pub mod Runs
+pub mod Table

@@ -9,10 +9,12 @@
 #![tactic(auto)]
 
 mod connection;
+mod group;
 pub mod laws;
 mod manager;
 mod opening;
 mod reply;
+mod table;
 
 pub use manager::{Answer, LONGEST_REPLY, Manager};
 

@@ -3,7 +3,7 @@ use Rattle.std.specs.List.{position}
 use Rattle.cip_manager.specs.Connection.{is_named}
 use Rattle.cip_manager.proofs.ItemLemmas.{unanswered_place}
 use Rattle.cip_manager.proofs.Places.{stays, receives_at, place-dropped, place-answered}
-use Rattle.cip_manager.proofs.manager.receive.Goals as goal
+use Rattle.cip_manager.proofs.table.receive.Goals as goal
 
 -- no connection has these numbers
 pub returns-in_err-place-clause-at : goal.returns-in_err-place-clause-at

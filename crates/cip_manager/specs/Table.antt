@@ -1,0 +1,25 @@
+-- The open connections of a `Manager`.
+use Rattle.std.specs.Prelude.{ℕ, ◌<◌, Bool, not, List, [], All}
+use Rattle.cip_manager.specs.declared.connection.Connection.{Connection}
+use Rattle.cip_manager.specs.declared.group.Group.{Group}
+use Rattle.cip_manager.specs.declared.group.Group.TheVariants.{Overdue, OfSession, WithTriad, OfSessionWith}
+use Rattle.cip_manager.specs.Connection.{is_of_session, is_of_session_with, has_triad, is_open_at}
+
+-- how many connections can be open, and those that are, in the order in which they were opened
+pub record TableState : Type 0 where
+  pub places : ℕ
+  pub connections : List Connection
+
+abbrev pub no_entry : ℕ → TableState
+no_entry places = record { places = places; connections = [] }
+
+-- the connection is one of the group
+abbrev pub is_in : Group → Connection → Bool
+is_in (Overdue now) connection = not (is_open_at now connection)
+is_in (OfSession session) connection = is_of_session session connection
+is_in (WithTriad triad) connection = has_triad triad connection
+is_in (OfSessionWith session triad) connection = is_of_session_with session triad connection
+
+-- the O->T ID of each connection is below this one
+abbrev pub AreBelow : ℕ → List Connection → Type 0
+AreBelow id connections = All (λ connection. connection.o_to_t_id < id) connections
