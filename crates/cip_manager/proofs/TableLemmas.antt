@@ -1,12 +1,12 @@
 -- What an item leaves of a table.
-use Rattle.std.proofs.Common.{◌≡◌, ℕ, ◌<◌, List, [], ◌∷◌, true, Option, Some, length, subst, sym, ap, ◌∙◌, arith}
-use Rattle.std.specs.Prelude.{is_some, slice_index_or}
+use Rattle.std.proofs.Common.{◌≡◌, ℕ, ◌<◌, List, [], ◌∷◌, true, Option, Some, None, length, subst, sym, ap, ◌∙◌, arith}
+use Rattle.std.specs.Prelude.{is_some, slice_index_or, IfNone}
 use Rattle.cip_manager.specs.declared.connection.Connection.{Connection}
 use Rattle.cip_manager.specs.Connection.{is_named}
 use Rattle.cip_manager.specs.Items.{Reply, reply_of, item_turn, is_taken, IsAt}
 use Rattle.cip_manager.specs.Table.{AreBelow}
 use Rattle.cip_manager.proofs.CallLemmas.{after_item_turn}
-use Rattle.cip_manager.proofs.ItemLemmas.{answered_item}
+use Rattle.cip_manager.proofs.ItemLemmas.{answered_item, unanswered_place}
 use Rattle.cip_manager.proofs.ListLemmas.{All-with_first}
 
 -- what is said of the connection at a place whatever stands past the end is said of it
@@ -41,3 +41,12 @@ module _ {M : Type 0} (after : M → ℕ → List ℕ → M) (answer : M → ℕ
   answered_at cs left now session id bytes router moved place reply at shows =
       let told = same_reply left place reply (item_turn after answer cs now session id bytes router).reply at.reply.0 at.reply.1 shows in
       record { told = told; taken = ap is_some told ∙ answered_item after answer cs now session id bytes router }
+
+  -- where no place answers, what follows from nothing being changed
+  pub silent_at : (P : Type 0) (cs left : List Connection) (now session id : ℕ) (bytes : List ℕ) (router moved : M) (place : Option ℕ)
+      → IsAt place (item_turn after answer cs now session id bytes router) left moved
+      → (left ≡ cs → moved ≡ router → P) → IfNone place P
+  silent_at P cs left now session id bytes router moved None at then =
+      let unchanged = unanswered_place after answer cs now session id bytes router left moved at in
+      then unchanged.0 unchanged.1
+  silent_at P cs left now session id bytes router moved (Some i) at then = tt

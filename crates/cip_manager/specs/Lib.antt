@@ -1,6 +1,7 @@
 pub mod Check
 pub mod Closing
 pub mod Connection
+pub mod Index
 pub mod Items
 pub mod Manager
 pub mod Opening

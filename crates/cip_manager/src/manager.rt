@@ -1,17 +1,19 @@
 //! The open connections, and the calls that change them (Volume 1, Connection Manager).
-ghost use Rattle.std.specs.Prelude.{◌≡◌, ◌≢◌, ◌≤◌, ◌-◌, ◌<◌, ◌^◌, ◌&&◌, nat_lt, not, [], ◌∷◌, length, is_some, IfNone};
+ghost use Rattle.std.specs.Prelude.{◌≡◌, ◌≢◌, ◌≤◌, ◌+◌, ◌-◌, ◌<◌, ◌^◌, ◌&&◌, nat_lt, not, [], ◌∷◌, length, is_some, IfNone};
 ghost use Rattle.std.specs.Prelude.{IfSome, IfOk, OnOk};
-ghost use Rattle.std.specs.List.{list_any, position};
+ghost use Rattle.std.specs.List.{list_any};
 ghost use Rattle.std.specs.Option.{option_map};
 ghost use Rattle.std.specs.Borrow.{sem};
 ghost use Rattle.std.specs.Io.BufRead.{Rests};
-ghost use Rattle.cip_manager.specs.Items.{view as reply_in, item_turn, is_taken, IsAt};
+ghost use Rattle.cip_manager.specs.Items.{view as reply_in, item_turn, is_taken};
 ghost use Rattle.cip_manager.specs.Check.{demand, first_failure};
-ghost use Rattle.cip_manager.specs.Connection.{has_triad, is_named, is_of_session_with};
+ghost use Rattle.cip_manager.specs.Connection.{has_id, has_triad};
+ghost use Rattle.cip_manager.specs.Index.{binary_digits};
 ghost use Rattle.cip_manager.specs.Opening.{CanBeOpened};
 
 use crate::connection::{Connection, Triad};
 use crate::group::Group;
+use crate::index::Steps;
 use crate::opening::{DOUBLE_OPEN, NO_MORE_CONNECTIONS, NO_SUCH_CONNECTION, Opening};
 use crate::reply::{
     Service, write_close_success, write_failure, write_length_fault, write_open_success,
@@ -157,6 +159,18 @@ impl Manager {
     {
         let place = self.table.receive(now, session, id, item, router)?;
         Some(self.table.answer(place))
+    }
+
+    /// Whether a connection with an O->T ID is open, whichever session opened it. Each comparison of an ID with it adds
+    /// 1 to `steps`: no more than the number of open connections has binary digits, so at most 7.
+    pub fn find(&self, id: u32, steps: &mut Steps) -> bool
+        requires { steps.old.count ≤ 18446744073709551608 }
+        ensures found { result ≡ list_any (has_id id) self.now.connections }
+        ensures bound { steps.new.count ≤ steps.old.count + binary_digits (length self.now.connections) }
+        ensures seven { steps.new.count ≤ steps.old.count + 7 }
+        ensures rises { steps.old.count ≤ steps.new.count }
+    {
+        self.table.find(id, steps)
     }
 
     /// Ends the connections whose deadline is at or before the moment.

@@ -3,15 +3,19 @@ ghost use Rattle.std.specs.Prelude.{◌≡◌, ◌≤◌, ◌+◌, ◌-◌, ◌<
 ghost use Rattle.std.specs.Prelude.{IfOk, IfNone};
 ghost use Rattle.std.specs.List.{list_any, position, remove};
 ghost use Rattle.cip_manager.specs.declared.connection.Connection.{Connection as OpenConnection};
-ghost use Rattle.cip_manager.specs.Connection.{is_named};
+ghost use Rattle.cip_manager.specs.Connection.{has_id, is_named};
+ghost use Rattle.cip_manager.specs.Index.{binary_digits};
 ghost use Rattle.cip_manager.specs.Items.{view as reply_in, reply_of, item_turn, IsAt};
 ghost use Rattle.cip_manager.specs.Table.{is_in, no_entry, AreBelow};
 
 use crate::connection::Connection;
 use crate::group::Group;
+use crate::index::{Index, Steps};
 use crate::manager::Answer;
+use crate::search::place_of;
 use cip_class3::Received;
 use cip_objects::Router;
+use slab::Slab;
 use std::alloc::{AllocError, Global};
 use std::marker::Model;
 
@@ -19,7 +23,8 @@ use std::marker::Model;
 #[derive(Drop)]
 pub struct Table {
     places: u16,
-    connections: Vec<Connection>,
+    index: Index,
+    connections: Slab<Connection>,
 }
 
 impl Model for Table {
@@ -27,11 +32,12 @@ impl Model for Table {
 
     ghost Value = { TableState };
 
-    ghost use Rattle.cip_manager.specs.Room.{HasPlaces};
+    ghost use Rattle.cip_manager.specs.Table.{listed};
+    ghost use Rattle.cip_manager.specs.Room.{IsSound};
 
-    ghost view = { λ t. record { places = t.places; connections = t.connections.items } };
+    ghost view = { λ t. record { places = t.places; connections = listed t.connections t.index } };
 
-    ghost invariant = { λ t. HasPlaces t.places t.connections };
+    ghost invariant = { λ t. IsSound t.places t.index t.connections };
 }
 
 impl Table {
@@ -43,7 +49,8 @@ impl Table {
     {
         Ok(Table {
             places,
-            connections: Vec::with_capacity(alloc, usize::from(places))?,
+            index: Index::new(),
+            connections: Slab::with_capacity(alloc, usize::from(places))?,
         })
     }
 
@@ -52,7 +59,7 @@ impl Table {
         ensures count { result ≡ length self.now.connections }
         ensures taken { result ≤ self.now.places }
     {
-        self.connections.len()
+        self.index.len()
     }
 
     /// How many places are free.
@@ -74,6 +81,18 @@ impl Table {
         false
     }
 
+    /// Whether a connection with an O->T ID is open. It takes no more steps than the number of open connections has
+    /// binary digits.
+    pub fn find(&self, id: u32, steps: &mut Steps) -> bool
+        requires { steps.old.count ≤ 18446744073709551608 }
+        ensures found { result ≡ list_any (has_id id) self.now.connections }
+        ensures bound { steps.new.count ≤ steps.old.count + binary_digits (length self.now.connections) }
+        ensures seven { steps.new.count ≤ steps.old.count + 7 }
+        ensures rises { steps.old.count ≤ steps.new.count }
+    {
+        place_of(&self.index, id, steps).is_some()
+    }
+
     /// Opens a connection behind the others. Its ID is above theirs.
     pub fn push(&mut self, connection: Connection)
         requires place { length self.old.connections < self.old.places }
@@ -82,7 +101,9 @@ impl Table {
             ≡ record self.old { connections = self.old.connections ++ connection ∷ [] } }
         ensures below { AreBelow (connection.o_to_t_id + 1) self.new.connections }
     {
-        self.connections.push_reserved(connection);
+        let id = connection.o_to_t_id;
+        let key = self.connections.insert_reserved(connection);
+        self.index.push(id, key);
     }
 
     /// Ends the connections of the group.
@@ -114,7 +135,12 @@ impl Table {
         ensures places { self.new.places ≡ self.old.places }
         ensures silent { IfNone result ((self.new ≡ self.old) × (router.new ≡ router.old)) }
     {
-        receive(&mut self.connections, now, session, id, item, router)
+        let place = self.place_named(session, id)?;
+        let key = self.index.key(place);
+        match self.connections[key].receive(now, item, router) {
+            Received::Dropped => None,
+            Received::Repeated | Received::Executed => Some(place),
+        }
     }
 
     /// What answers the last request of the connection at a place.
@@ -132,7 +158,7 @@ impl Table {
         requires { place < length self.now.connections }
         ensures { (d : OpenConnection) → result.now ≡ slice_index_or self.now.connections place d }
     {
-        &self.connections[place]
+        &self.connections[self.index.key(place)]
     }
 
     /// Ends the connection at a place.
@@ -140,35 +166,19 @@ impl Table {
         requires { place < length self.old.connections }
         ensures { self.new ≡ record self.old { connections = remove self.old.connections place } }
     {
-        self.connections.remove(place);
+        let key = self.index.remove(place);
+        self.connections.remove(key);
     }
-}
 
-/// Where the connection is that a session and an O->T ID name.
-fn position(connections: &[Connection], session: u32, id: u32) -> Option<usize>
-    ensures { result ≡ position (is_named session id) connections.now }
-{
-    connections
-        .iter()
-        .position(|connection| connection.is_named(session, id))
-}
-
-/// Gives an item to the connection that it names: where that is, if it answers.
-fn receive<R: Router>(
-    connections: &mut [Connection],
-    now: u64,
-    session: u32,
-    id: u32,
-    item: &[u8],
-    router: &mut R,
-) -> Option<usize>
-    ensures at { IsAt result (item_turn R.after R.answer connections.old now session id item.now router.old)
-        connections.new router.new }
-    ensures silent { IfNone result ((connections.new ≡ connections.old) × (router.new ≡ router.old)) }
-{
-    let place = position(connections, session, id)?;
-    match connections[place].receive(now, item, router) {
-        Received::Dropped => None,
-        Received::Repeated | Received::Executed => Some(place),
+    /// Where the connection is that a session and an O->T ID name.
+    fn place_named(&self, session: u32, id: u32) -> Option<usize>
+        ensures { result ≡ position (is_named session id) self.now.connections }
+    {
+        let place = place_of(&self.index, id, &mut Steps::default())?;
+        if self.connections[self.index.key(place)].session == session {
+            Some(place)
+        } else {
+            None
+        }
     }
 }
