@@ -1,6 +1,12 @@
 pub mod CallLemmas
+pub mod FindLemmas
 pub mod IdLemmas
+pub mod IndexLemmas
 pub mod ItemLemmas
 pub mod ListLemmas
 pub mod Places
+pub mod SearchLemmas
 pub mod SessionLemmas
+pub mod SlotLemmas
+pub mod TableLemmas
+pub mod WalkLemmas

@@ -42,6 +42,9 @@ has_triad triad connection = is_same_triad connection.triad triad
 abbrev pub is_of_session : ℕ → Connection → Bool
 is_of_session session connection = connection.session == session
 
+abbrev pub has_id : ℕ → Connection → Bool
+has_id id connection = connection.o_to_t_id == id
+
 -- the connection that a session and an O->T ID name
 abbrev pub is_named : ℕ → ℕ → Connection → Bool
 is_named session id connection = is_of_session session connection && (connection.o_to_t_id == id)

@@ -1,6 +1,7 @@
 pub mod Check
 pub mod Closing
 pub mod Connection
+pub mod Index
 pub mod Items
 pub mod Manager
 pub mod Opening
@@ -8,3 +9,4 @@ pub mod Replies
 pub mod Room
 pub mod Rows
 pub mod Runs
+pub mod Table

@@ -1,14 +1,23 @@
--- What a `Manager` keeps.
-use Rattle.std.specs.Prelude.{ℕ, ◌≤◌, ◌^◌, vec_len}
-use Rattle.std.specs.Global.{Vec}
-use Rattle.std.specs.Vec.{vec_capacity}
+-- What a `Manager` and its `Table` keep.
+use Rattle.std.specs.Prelude.{◌≡◌, ℕ, ◌≤◌, ◌^◌, List, length}
+use Rattle.std.specs.List.{AllByRecursion}
+use Rattle.slab.specs.Slab.{Slab, slab_len}
 use Rattle.cip_manager.specs.declared.connection.Connection.{Connection}
+use Rattle.cip_manager.specs.declared.index.Entry.{Entry}
+use Rattle.cip_manager.specs.Table.{Names, AreBelow}
 
--- there is room for each place, no more connections than places are open, and at most the last ID was drawn
-pub record IsRoomy (places next_id : ℕ) (connections : Vec Connection) : Type 0 where
+-- Each entry of the index names a connection of the slab, and the slab has no others. There is room for each place,
+-- and no more connections than places are open.
+pub record IsSound (places : ℕ) (entries : List Entry) (slab : Slab Connection) : Type 0 where
   pub from : 1 ≤ places
   pub to : places ≤ 64
-  pub room : places ≤ vec_capacity connections
-  pub taken : vec_len connections ≤ places
+  pub named : AllByRecursion (Names slab) entries
+  pub others : slab_len slab ≡ length entries
+  pub taken : length entries ≤ places
+  pub room : places ≤ slab.capacity
+
+-- at most the last ID was drawn, and the next one is above those of the open connections
+pub record IsNumbered (next_id : ℕ) (connections : List Connection) : Type 0 where
   pub first : 1 ≤ next_id
   pub drawn : next_id ≤ 2 ^ 32
+  pub below : AreBelow next_id connections

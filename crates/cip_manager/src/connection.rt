@@ -3,7 +3,7 @@ ghost use Rattle.std.specs.Prelude.{◌≡◌, ◌≤◌, length};
 ghost use Rattle.cip_manager.specs.Opening.{CanBeOpened, new_connection};
 ghost use Rattle.cip_class3.specs.Item.{LARGEST_SIZE};
 ghost use Rattle.cip_manager.specs.Items.{view as reply_in, reply_of, connection_turn, turn_of_connection};
-ghost use Rattle.cip_manager.specs.Connection.{timeout_of, moment_after, is_named, is_of_session_with};
+ghost use Rattle.cip_manager.specs.Connection.{timeout_of, moment_after, is_of_session_with};
 
 use crate::manager::Answer;
 use crate::opening::Opening;
@@ -72,13 +72,6 @@ impl Connection {
             deadline: moment_after(now, timeout.max(LEAST_FIRST_TIMEOUT)),
             target: Target::new(asked.o_to_t.size, asked.t_to_o.size),
         }
-    }
-
-    /// Whether a session and an O->T ID name it.
-    pub fn is_named(&self, session: u32, id: u32) -> bool
-        ensures { result ≡ is_named session id self.now }
-    {
-        self.session == session && self.o_to_t_id == id
     }
 
     /// Whether a Forward_Close of a session with this triad means it.

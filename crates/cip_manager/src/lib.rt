@@ -9,11 +9,16 @@
 #![tactic(auto)]
 
 mod connection;
+mod group;
+mod index;
 pub mod laws;
 mod manager;
 mod opening;
 mod reply;
+mod search;
+mod table;
 
+pub use index::Steps;
 pub use manager::{Answer, LONGEST_REPLY, Manager};
 
 #[cfg(test)]

@@ -1,22 +1,25 @@
 //! The open connections, and the calls that change them (Volume 1, Connection Manager).
-ghost use Rattle.std.specs.Prelude.{◌≡◌, ◌≢◌, ◌≤◌, ◌-◌, ◌<◌, ◌^◌, ◌&&◌, nat_lt, not, [], ◌∷◌, length, is_some, IfNone};
+ghost use Rattle.std.specs.Prelude.{◌≡◌, ◌≢◌, ◌≤◌, ◌+◌, ◌-◌, ◌<◌, ◌^◌, ◌&&◌, nat_lt, not, [], ◌∷◌, length, is_some, IfNone};
 ghost use Rattle.std.specs.Prelude.{IfSome, IfOk, OnOk};
-ghost use Rattle.std.specs.List.{list_any, position};
+ghost use Rattle.std.specs.List.{list_any};
 ghost use Rattle.std.specs.Option.{option_map};
 ghost use Rattle.std.specs.Borrow.{sem};
 ghost use Rattle.std.specs.Io.BufRead.{Rests};
 ghost use Rattle.cip_class3.specs.Item.{LARGEST_SIZE};
-ghost use Rattle.cip_manager.specs.Items.{view as reply_in, item_turn, is_taken, IsAt};
+ghost use Rattle.cip_manager.specs.Items.{view as reply_in, item_turn, is_taken};
 ghost use Rattle.cip_manager.specs.Check.{demand, first_failure};
-ghost use Rattle.cip_manager.specs.Connection.{has_triad, is_named, is_of_session_with};
+ghost use Rattle.cip_manager.specs.Connection.{has_id, has_triad};
+ghost use Rattle.cip_manager.specs.Index.{binary_digits};
 ghost use Rattle.cip_manager.specs.Opening.{CanBeOpened};
 
 use crate::connection::{Connection, Triad};
+use crate::group::Group;
+use crate::index::Steps;
 use crate::opening::{DOUBLE_OPEN, NO_MORE_CONNECTIONS, NO_SUCH_CONNECTION, Opening};
 use crate::reply::{
     Service, write_close_success, write_failure, write_length_fault, write_open_success,
 };
-use cip_class3::Received;
+use crate::table::Table;
 use cip_message::{CloseRequest, Device, OpenRequest};
 use cip_objects::{ReplyBuf, Router};
 use std::alloc::{AllocError, Global};
@@ -37,11 +40,10 @@ pub struct Answer<'a> {
 /// The open connections of a device.
 #[derive(Drop)]
 pub struct Manager {
-    places: u16,
     // Past the greatest ID once that was drawn.
     next_id: u64,
     device: Device,
-    connections: Vec<Connection>,
+    table: Table,
 }
 
 impl Model for Manager {
@@ -49,16 +51,16 @@ impl Model for Manager {
 
     ghost Value = { ManagerState };
 
-    ghost use Rattle.cip_manager.specs.Room.{IsRoomy};
+    ghost use Rattle.cip_manager.specs.Room.{IsNumbered};
 
     ghost view = { λ m. record {
-      places = m.places;
+      places = m.table.places;
       next_id = m.next_id;
       device = m.device;
-      connections = m.connections.items;
+      connections = m.table.connections;
     } };
 
-    ghost invariant = { λ m. IsRoomy m.places m.next_id m.connections };
+    ghost invariant = { λ m. IsNumbered m.next_id m.table.connections };
 }
 
 impl Manager {
@@ -82,10 +84,9 @@ impl Manager {
         ensures { IfOk result (λ manager. manager ≡ no_connection places first_id device) }
     {
         Ok(Manager {
-            places,
             next_id: u64::from(first_id),
             device,
-            connections: Vec::with_capacity(alloc, usize::from(places))?,
+            table: Table::new(alloc, places)?,
         })
     }
 
@@ -93,7 +94,7 @@ impl Manager {
     pub fn free(&self) -> u16
         ensures { result ≡ self.now.places - length self.now.connections }
     {
-        self.places - self.connections.len() as u16
+        self.table.free()
     }
 
     /// Forward_Open: opens the connection that the data of a session's request ask for, at a moment, and leaves
@@ -179,36 +180,46 @@ impl Manager {
             ≡ (item_turn R.after R.answer self.old.connections now session id item.now router.old).router }
         ensures fits { IfSome result (λ answer. length answer.bytes.now ≤ LARGEST_SIZE) }
     {
-        let place = receive(&mut self.connections, now, session, id, item, router)?;
-        Some(self.connections[place].answer())
+        let place = self.table.receive(now, session, id, item, router)?;
+        Some(self.table.answer(place))
+    }
+
+    /// Whether a connection with an O->T ID is open, whichever session opened it. Each comparison of an ID with it adds
+    /// 1 to `steps`: no more than the number of open connections has binary digits, so at most 7.
+    pub fn find(&self, id: u32, steps: &mut Steps) -> bool
+        requires { steps.old.count ≤ 18446744073709551608 }
+        ensures found { result ≡ list_any (has_id id) self.now.connections }
+        ensures bound { steps.new.count ≤ steps.old.count + binary_digits (length self.now.connections) }
+        ensures seven { steps.new.count ≤ steps.old.count + 7 }
+        ensures rises { steps.old.count ≤ steps.new.count }
+    {
+        self.table.find(id, steps)
     }
 
     /// Ends the connections whose deadline is at or before the moment.
     pub fn expire(&mut self, now: u64)
         ensures { self.new ≡ without_overdue self.old now }
     {
-        self.connections
-            .retain(|connection| now < connection.deadline);
+        self.table.end(&Group::Overdue(now));
     }
 
     /// Ends the connections that a session opened.
     pub fn end_session(&mut self, session: u32)
         ensures { self.new ≡ without_session self.old session }
     {
-        self.connections
-            .retain(|connection| connection.session != session);
+        self.table.end(&Group::OfSession(session));
     }
 
     fn close_named(&mut self, session: u32, triad: Triad, reply: &mut ReplyBuf)
         ensures turn { turn self.new reply.new.items ≡ closing_turn self.old session triad }
         ensures fits { length reply.new.items ≤ LONGEST_REPLY }
     {
-        if !has_open(&self.connections, session, triad) {
+        let named = Group::OfSessionWith(session, triad);
+        if !self.table.has_any(&named) {
             write_failure(Service::ForwardClose, NO_SUCH_CONNECTION, triad, reply);
             return;
         }
-        self.connections
-            .retain(|connection| !connection.is_closed_by(session, triad));
+        self.table.end(&named);
         write_close_success(triad, reply);
     }
 
@@ -231,8 +242,7 @@ impl Manager {
         }
         let id = self.next_id as u32;
         self.next_id += 1;
-        self.connections
-            .push_reserved(Connection::new(id, now, session, asked));
+        self.table.push(Connection::new(id, now, session, asked));
         write_open_success(service, id, asked, reply);
     }
 
@@ -257,61 +267,12 @@ impl Manager {
         ensures place { OnOk result (length self.now.connections < self.now.places) }
         ensures id { OnOk result (self.now.next_id < 2 ^ 32) }
     {
-        if is_open(&self.connections, triad) {
+        if self.table.has_any(&Group::WithTriad(triad)) {
             return Err(DOUBLE_OPEN);
         }
-        if self.connections.len() >= usize::from(self.places)
-            || self.next_id > u64::from(u32::MAX)
-        {
+        if self.table.free() == 0 || self.next_id > u64::from(u32::MAX) {
             return Err(NO_MORE_CONNECTIONS);
         }
         Ok(())
-    }
-}
-
-/// Whether a connection has this triad.
-fn is_open(connections: &[Connection], triad: Triad) -> bool
-    ensures { result ≡ list_any (has_triad triad) connections.now }
-{
-    connections
-        .iter()
-        .any(|connection| connection.triad == triad)
-}
-
-/// Whether a connection of this session has this triad.
-fn has_open(connections: &[Connection], session: u32, triad: Triad) -> bool
-    ensures { result ≡ list_any (is_of_session_with session triad) connections.now }
-{
-    connections
-        .iter()
-        .any(|connection| connection.is_closed_by(session, triad))
-}
-
-/// Where the connection is that a session and an O->T ID name.
-fn position(connections: &[Connection], session: u32, id: u32) -> Option<usize>
-    ensures { result ≡ position (is_named session id) connections.now }
-{
-    connections
-        .iter()
-        .position(|connection| connection.is_named(session, id))
-}
-
-/// Gives an item to the connection that it names: where that is, if it answers.
-fn receive<R: Router>(
-    connections: &mut [Connection],
-    now: u64,
-    session: u32,
-    id: u32,
-    item: &[u8],
-    router: &mut R,
-) -> Option<usize>
-    ensures at { IsAt result (item_turn R.after R.answer connections.old now session id item.now router.old)
-        connections.new router.new }
-    ensures silent { IfNone result ((connections.new ≡ connections.old) × (router.new ≡ router.old)) }
-{
-    let place = position(connections, session, id)?;
-    match connections[place].receive(now, item, router) {
-        Received::Dropped => None,
-        Received::Repeated | Received::Executed => Some(place),
     }
 }

@@ -1,0 +1,20 @@
+use Rattle.std.proofs.Common.{get_or, ap, subst, sym, ◌∙◌}
+use Rattle.slab.specs.Slab.{ContainsKey}
+use Rattle.cip_manager.proofs.SlotLemmas.{within, has-key, listed-at}
+use Rattle.cip_manager.proofs.table.Table.at.Goals as goal
+
+pub key-requires : goal.key-requires
+key-requires c =
+    within c.self.inside.connections c.self.inside.index c.args.self.now.connections c.args.place c.self.invariant.named (ap (λ t. t.connections) c.self.view_is) c.requires
+
+pub index-requires : goal.index-requires
+index-requires c =
+    let inside = within c.self.inside.connections c.self.inside.index c.args.self.now.connections c.args.place c.self.invariant.named (ap (λ t. t.connections) c.self.view_is) c.requires in
+    subst (ContainsKey c.self.inside.connections) (sym c.key.ensures.key)
+    (has-key c.self.inside.connections c.self.inside.index c.args.place c.self.invariant.named inside)
+
+pub returns : goal.returns
+returns c = λ d.
+    let inside = within c.self.inside.connections c.self.inside.index c.args.self.now.connections c.args.place c.self.invariant.named (ap (λ t. t.connections) c.self.view_is) c.requires in
+    sym (listed-at c.self.inside.connections c.self.inside.index c.args.place c.key.result c.index.result.now d c.self.invariant.named inside c.key.ensures.key c.index.ensures)
+    ∙ ap (λ t. get_or t.connections c.args.place d) c.self.view_is

@@ -1,0 +1,8 @@
+use Rattle.std.proofs.Common.{◌≡◌, false, take}
+use Rattle.std.specs.List.{list_any}
+use Rattle.cip_manager.specs.Table.{is_in}
+use Rattle.cip_manager.proofs.table.Table.has_any.Given as goal
+
+-- none so far is in the group
+abbrev pub invariant-loop-place : goal.invariant-loop-place
+invariant-loop-place l = list_any (is_in l.group) (take l.place l.self.connections) ≡ false

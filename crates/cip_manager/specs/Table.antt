@@ -1,0 +1,37 @@
+-- The open connections of a `Manager`.
+use Rattle.std.specs.Prelude.{◌≡◌, ℕ, ◌<◌, Bool, not, List, [], All, filter_map, Some}
+use Rattle.slab.specs.Slab.{Slab, get}
+use Rattle.cip_manager.specs.declared.connection.Connection.{Connection}
+use Rattle.cip_manager.specs.declared.group.Group.{Group}
+use Rattle.cip_manager.specs.declared.group.Group.TheVariants.{Overdue, OfSession, WithTriad, OfSessionWith}
+use Rattle.cip_manager.specs.declared.index.Entry.{Entry}
+use Rattle.cip_manager.specs.Connection.{is_of_session, is_of_session_with, has_triad, is_open_at}
+
+-- how many connections can be open, and those that are, in the order in which they were opened
+pub record TableState : Type 0 where
+  pub places : ℕ
+  pub connections : List Connection
+
+abbrev pub no_entry : ℕ → TableState
+no_entry places = record { places = places; connections = [] }
+
+-- the connection is one of the group
+abbrev pub is_in : Group → Connection → Bool
+is_in (Overdue now) connection = not (is_open_at now connection)
+is_in (OfSession session) connection = is_of_session session connection
+is_in (WithTriad triad) connection = has_triad triad connection
+is_in (OfSessionWith session triad) connection = is_of_session_with session triad connection
+
+-- the O->T ID of each connection is below this one
+abbrev pub AreBelow : ℕ → List Connection → Type 0
+AreBelow id connections = All (λ connection. connection.o_to_t_id < id) connections
+
+-- the connections that the slab has at the entries' keys, in the entries' order
+abbrev pub listed : Slab Connection → List Entry → List Connection
+listed slab entries = filter_map (λ entry. get slab entry.key) entries
+
+-- the slab has a connection at the entry's key, with the entry's ID
+pub record Names (slab : Slab Connection) (entry : Entry) : Type 0 where
+  pub connection : Connection
+  pub kept : get slab entry.key ≡ Some connection
+  pub same : connection.o_to_t_id ≡ entry.id

@@ -1,0 +1,106 @@
+//! Which connections are open, by their O->T IDs, and where each of them is kept.
+ghost use Rattle.std.specs.Prelude.{◌≡◌, ◌≤◌, ◌<◌, ◌+◌, ◌^◌, [], ◌∷◌, ◌++◌, length, slice_index};
+ghost use Rattle.std.specs.List.{AllByRecursion, remove};
+ghost use Rattle.std.specs.Ordering.{nat_cmp};
+ghost use Rattle.cip_manager.specs.Index.{ids, keys, Rises};
+
+use arrayvec::ArrayVec;
+use std::cmp::Ordering;
+use std::marker::Model;
+
+/// The most entries that an index has room for.
+const MOST_ENTRIES: usize = 64;
+
+/// How many comparisons with an ID were made.
+#[derive(Clone, Copy, Debug, Default, PartialEq, Eq)]
+pub struct Steps {
+    pub count: u64,
+}
+
+/// The ID of an open connection, and the key under which that connection is kept. A key is no ID: it comes again.
+#[derive(Clone, Copy, Default)]
+pub struct Entry {
+    id: u32,
+    key: usize,
+}
+
+/// An entry for each open connection, by rising ID.
+///
+/// What is looked for by its ID is found by `compare` alone, which tells of one entry and counts that. A walk over
+/// all connections takes their keys, one place after the other, and no ID.
+#[derive(Drop)]
+pub struct Index {
+    entries: ArrayVec<Entry, MOST_ENTRIES>,
+}
+
+impl Model for Index {
+    ghost use Rattle.std.specs.Prelude.{List};
+    ghost use Rattle.cip_manager.specs.declared.index.Entry.{Entry as IndexEntry};
+
+    ghost Value = { List IndexEntry };
+
+    ghost use Rattle.cip_manager.specs.Index.{ids, Rises};
+
+    ghost view = { λ i. i.entries.items };
+
+    ghost invariant = { λ i. Rises (ids i.entries.items) };
+}
+
+impl Index {
+    /// An index with no entry.
+    pub fn new() -> Index
+        ensures { result ≡ [] }
+    {
+        Index {
+            entries: ArrayVec::new(),
+        }
+    }
+
+    /// How many entries there are.
+    pub fn len(&self) -> usize
+        ensures count { result ≡ length self.now }
+        ensures most { result ≤ 64 }
+        ensures rising { Rises (ids self.now) }
+    {
+        self.entries.len()
+    }
+
+    /// How the ID of the entry at a place stands to an ID. This is one step.
+    pub fn compare(&self, place: usize, id: u32, steps: &mut Steps) -> Ordering
+        requires place { place < length self.now }
+        requires counts { steps.old.count + 1 < 2 ^ 64 }
+        ensures order { result ≡ nat_cmp (slice_index (ids self.now) place) id }
+        ensures counted { steps.new.count ≡ steps.old.count + 1 }
+    {
+        steps.count += 1;
+        self.entries[place].id.cmp(&id)
+    }
+
+    /// The key of the entry at a place.
+    pub fn key(&self, place: usize) -> usize
+        requires { place < length self.now }
+        ensures key { result ≡ slice_index (keys self.now) place }
+        ensures rising { Rises (ids self.now) }
+    {
+        self.entries[place].key
+    }
+
+    /// Puts an entry at the end, with an ID above the others.
+    pub fn push(&mut self, id: u32, key: usize)
+        requires room { length self.old < 64 }
+        requires above { AllByRecursion (λ other. other < id) (ids self.old) }
+        ensures { self.new ≡ self.old ++ record { id = id; key = key } ∷ [] }
+    {
+        self.entries.push(Entry { id, key });
+    }
+
+    /// Takes out the entry at a place, and answers its key. Those behind it close up.
+    pub fn remove(&mut self, place: usize) -> usize
+        requires { place < length self.old }
+        ensures key { result ≡ slice_index (keys self.old) place }
+        ensures removed { self.new ≡ remove self.old place }
+        ensures rising { Rises (ids self.old) }
+    {
+        self.entries.remove(place).key
+    }
+}

@@ -1,0 +1,184 @@
+//! The open connections, in the order in which they were opened.
+ghost use Rattle.std.specs.Prelude.{◌≡◌, ◌≤◌, ◌+◌, ◌-◌, ◌<◌, ℕ, not, filter, [], ◌∷◌, ◌++◌, length, slice_index_or};
+ghost use Rattle.std.specs.Prelude.{IfOk, IfNone};
+ghost use Rattle.std.specs.List.{list_any, position, remove};
+ghost use Rattle.cip_manager.specs.declared.connection.Connection.{Connection as OpenConnection};
+ghost use Rattle.cip_manager.specs.Connection.{has_id, is_named};
+ghost use Rattle.cip_manager.specs.Index.{binary_digits};
+ghost use Rattle.cip_manager.specs.Items.{view as reply_in, reply_of, item_turn, IsAt};
+ghost use Rattle.cip_manager.specs.Table.{is_in, no_entry, AreBelow};
+
+use crate::connection::Connection;
+use crate::group::Group;
+use crate::index::{Index, Steps};
+use crate::manager::Answer;
+use crate::search::place_of;
+use cip_class3::Received;
+use cip_objects::Router;
+use slab::Slab;
+use std::alloc::{AllocError, Global};
+use std::marker::Model;
+
+/// The open connections, in the order in which they were opened.
+#[derive(Drop)]
+pub struct Table {
+    places: u16,
+    index: Index,
+    connections: Slab<Connection>,
+}
+
+impl Model for Table {
+    ghost use Rattle.cip_manager.specs.Table.{TableState};
+
+    ghost Value = { TableState };
+
+    ghost use Rattle.cip_manager.specs.Table.{listed};
+    ghost use Rattle.cip_manager.specs.Room.{IsSound};
+
+    ghost view = { λ t. record { places = t.places; connections = listed t.connections t.index } };
+
+    ghost invariant = { λ t. IsSound t.places t.index t.connections };
+}
+
+impl Table {
+    /// A table with no connection. All its memory is taken here.
+    pub fn new(alloc: Global, places: u16) -> Result<Table, AllocError>
+        requires from { 1 ≤ places }
+        requires to { places ≤ 64 }
+        ensures { IfOk result (λ table. table ≡ no_entry places) }
+    {
+        Ok(Table {
+            places,
+            index: Index::new(),
+            connections: Slab::with_capacity(alloc, usize::from(places))?,
+        })
+    }
+
+    /// How many connections are open.
+    fn len(&self) -> usize
+        ensures count { result ≡ length self.now.connections }
+        ensures taken { result ≤ self.now.places }
+    {
+        self.index.len()
+    }
+
+    /// How many places are free.
+    pub fn free(&self) -> u16
+        ensures { result ≡ self.now.places - length self.now.connections }
+    {
+        self.places - self.len() as u16
+    }
+
+    /// Whether a connection of the group is open.
+    pub fn has_any(&self, group: &Group) -> bool
+        ensures { result ≡ list_any (is_in group.now) self.now.connections }
+    {
+        for place in 0..self.len() {
+            if group.has(self.at(place)) {
+                return true;
+            }
+        }
+        false
+    }
+
+    /// Whether a connection with an O->T ID is open. It takes no more steps than the number of open connections has
+    /// binary digits.
+    pub fn find(&self, id: u32, steps: &mut Steps) -> bool
+        requires { steps.old.count ≤ 18446744073709551608 }
+        ensures found { result ≡ list_any (has_id id) self.now.connections }
+        ensures bound { steps.new.count ≤ steps.old.count + binary_digits (length self.now.connections) }
+        ensures seven { steps.new.count ≤ steps.old.count + 7 }
+        ensures rises { steps.old.count ≤ steps.new.count }
+    {
+        place_of(&self.index, id, steps).is_some()
+    }
+
+    /// Opens a connection behind the others. Its ID is above theirs.
+    pub fn push(&mut self, connection: Connection)
+        requires place { length self.old.connections < self.old.places }
+        requires above { AreBelow connection.o_to_t_id self.old.connections }
+        ensures pushed { self.new
+            ≡ record self.old { connections = self.old.connections ++ connection ∷ [] } }
+        ensures below { AreBelow (connection.o_to_t_id + 1) self.new.connections }
+    {
+        let id = connection.o_to_t_id;
+        let key = self.connections.insert_reserved(connection);
+        self.index.push(id, key);
+    }
+
+    /// Ends the connections of the group.
+    pub fn end(&mut self, group: &Group)
+        ensures ended { self.new
+            ≡ record self.old { connections = filter (λ c. not (is_in group.now c)) self.old.connections } }
+        ensures below { (n : ℕ) → AreBelow n self.old.connections → AreBelow n self.new.connections }
+    {
+        for place in (0..self.len()).rev() {
+            if group.has(self.at(place)) {
+                self.remove(place);
+            }
+        }
+    }
+
+    /// Gives an item to the connection that a session and an O->T ID name, at a moment: the place of that
+    /// connection, if it answers.
+    pub fn receive<R: Router>(
+        &mut self,
+        now: u64,
+        session: u32,
+        id: u32,
+        item: &[u8],
+        router: &mut R,
+    ) -> Option<usize>
+        ensures at { IsAt result
+            (item_turn R.after R.answer self.old.connections now session id item.now router.old)
+            self.new.connections router.new }
+        ensures places { self.new.places ≡ self.old.places }
+        ensures silent { IfNone result ((self.new ≡ self.old) × (router.new ≡ router.old)) }
+    {
+        let place = self.place_named(session, id)?;
+        let key = self.index.key(place);
+        match self.connections[key].receive(now, item, router) {
+            Received::Dropped => None,
+            Received::Repeated | Received::Executed => Some(place),
+        }
+    }
+
+    /// What answers the last request of the connection at a place.
+    pub fn answer(&self, place: usize) -> Answer<'_>
+        requires { place < length self.now.connections }
+        ensures reply { (d : OpenConnection) →
+            reply_in result ≡ reply_of (slice_index_or self.now.connections place d) }
+        ensures fits { length result.bytes.now ≤ 511 }
+    {
+        self.at(place).answer()
+    }
+
+    /// The connection at a place.
+    fn at(&self, place: usize) -> &Connection
+        requires { place < length self.now.connections }
+        ensures { (d : OpenConnection) → result.now ≡ slice_index_or self.now.connections place d }
+    {
+        &self.connections[self.index.key(place)]
+    }
+
+    /// Ends the connection at a place.
+    fn remove(&mut self, place: usize)
+        requires { place < length self.old.connections }
+        ensures { self.new ≡ record self.old { connections = remove self.old.connections place } }
+    {
+        let key = self.index.remove(place);
+        self.connections.remove(key);
+    }
+
+    /// Where the connection is that a session and an O->T ID name.
+    fn place_named(&self, session: u32, id: u32) -> Option<usize>
+        ensures { result ≡ position (is_named session id) self.now.connections }
+    {
+        let place = place_of(&self.index, id, &mut Steps::default())?;
+        if self.connections[self.index.key(place)].session == session {
+            Some(place)
+        } else {
+            None
+        }
+    }
+}
