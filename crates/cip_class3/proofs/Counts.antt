@@ -149,9 +149,9 @@ pub record IsAllowed (since_accepted : ℕ) (waits : Bool) (form : Option Refuse
   pub free : waits ≡ false
   pub formed : form ≡ None
 
-pub allows : (since_accepted : ℕ) (waits : Bool) (form : Option Refused) → first_refusal since_accepted waits form ≡ None →
+pub first_refusal-none : (since_accepted : ℕ) (waits : Bool) (form : Option Refused) → first_refusal since_accepted waits form ≡ None →
     IsAllowed since_accepted waits form
-allows since_accepted waits form is = go (nat_lt since_accepted MOST_UNACCEPTED) waits refl is
+first_refusal-none since_accepted waits form is = go (nat_lt since_accepted MOST_UNACCEPTED) waits refl is
   where
     go : (room waiting : Bool) → nat_lt since_accepted MOST_UNACCEPTED ≡ room →
         (if room then (if waiting then Some refusals.Busy else form) else Some refusals.TooManyAbandoned) ≡ None →
@@ -171,7 +171,7 @@ submit_fewer : (why : Option Refused) (originator : OriginatorState) (request : 
     ≤ MOST_UNACCEPTED
 submit_fewer None originator request calls is fits later =
     later (with_next_request originator request)
-    (omega (arith, (allows originator.tries (is_waiting originator.phase) (form_refusal originator.o_to_t_size request) is).room))
+    (omega (arith, (first_refusal-none originator.tries (is_waiting originator.phase) (form_refusal originator.o_to_t_size request) is).room))
 submit_fewer (Some why) originator request calls is fits later = later originator fits
 
 receive_fewer : (is : Bool) (originator : OriginatorState) (bytes : List ℕ) (calls : List Call) →
