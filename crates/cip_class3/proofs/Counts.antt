@@ -1,10 +1,11 @@
 -- An originator under calls in any order.
-use Rattle.std.proofs.Common.{◌≡◌, ℕ, zero, suc, ◌+◌, ◌%◌, ◌<◌, ◌^◌, Bool, true, false, if◌then◌else◌, Option, Some, None, List, [], ◌∷◌, length, refl, sym, ap, ◌∙◌, slice_index, arith}
-use Rattle.std.proofs.lemmas.Bool.{and_parts, eqb-true}
+use Rattle.std.proofs.Common.{◌≡◌, ℕ, zero, suc, ◌+◌, ◌%◌, ◌<◌, ◌≤◌, ◌^◌, nat_lt, Bool, true, false, if◌then◌else◌, Option, Some, None, List, [], ◌∷◌, length, refl, sym, ap, ◌∙◌, slice_index, arith}
+use Rattle.std.proofs.lemmas.Bool.{and_parts, eqb-true, ltb-true}
 use Rattle.cip_class3.specs.Item.{sequence_count_of, NeighboursDiffer}
-use Rattle.cip_class3.specs.OriginatorRule.{OriginatorState, Phase, Idle, Waiting, GivenUp, originator_at_opening, form_refusal, submit_refusal, with_next_request, answers, is_reply, idle_again, is_waiting}
-use Rattle.cip_class3.specs.Calls.{Call, Submit, Resend, Receive, GiveUp, Event, Took, Accepted, after_submit, seen_of_submit, events_of, counts_taken, AcceptedOnce}
+use Rattle.cip_class3.specs.OriginatorRule.{OriginatorState, Phase, Idle, Waiting, GivenUp, originator_at_opening, MOST_UNACCEPTED, form_refusal, first_refusal, submit_refusal, with_next_request, answers, is_reply, idle_again, is_waiting}
+use Rattle.cip_class3.specs.Calls.{Call, Submit, Resend, Receive, GiveUp, Event, Took, Accepted, after_submit, seen_of_submit, events_of, counts_taken, taken_since_accepted, AcceptedOnce}
 use Rattle.cip_class3.specs.declared.originator.Refused.{Refused}
+use Rattle.cip_class3.specs.declared.originator.Refused.TheVariants as refusals
 
 -- each count is the one after the count before it, from this one on
 abbrev AreInOrder : ℕ → List ℕ → Type 0
@@ -91,11 +92,20 @@ took_before count [] once = tt
 took_before count (Took next ∷ events) once = once
 took_before count (Accepted same ∷ events) once = absurd once
 
-submit_sound : (why : Option Refused) (o_to_t_size t_to_o_size next tries : ℕ) (request : List ℕ) (calls : List Call) → AllSound calls →
-    let originator = state o_to_t_size t_to_o_size next tries Idle in
+submit_sound : (why : Option Refused) (o_to_t_size t_to_o_size next tries : ℕ) (phase : Phase) (request : List ℕ) (calls : List Call) →
+    AllSound calls → AcceptedOnce (events_of (state o_to_t_size t_to_o_size next tries phase) calls) →
+    let originator = state o_to_t_size t_to_o_size next tries phase in
     AcceptedOnce (seen_of_submit why next (events_of (after_submit why originator request) calls))
-submit_sound None o_to_t_size t_to_o_size next tries request calls later = later o_to_t_size t_to_o_size ((next + 1) % 2 ^ 16) (tries + 1) (Waiting next request)
-submit_sound (Some why) o_to_t_size t_to_o_size next tries request calls later = later o_to_t_size t_to_o_size next tries Idle
+submit_sound None o_to_t_size t_to_o_size next tries phase request calls later once = later o_to_t_size t_to_o_size ((next + 1) % 2 ^ 16) (tries + 1) (Waiting next request)
+submit_sound (Some why) o_to_t_size t_to_o_size next tries phase request calls later once = once
+
+-- while a request waits, none is taken
+waiting_sound : (room : Bool) (o_to_t_size t_to_o_size next tries count : ℕ) (waiting request : List ℕ) (calls : List Call) → AllSound calls →
+    let originator = state o_to_t_size t_to_o_size next tries (Waiting count waiting) in
+    let why : Option Refused = if room then Some refusals.Busy else Some refusals.TooManyAbandoned in
+    AcceptedOnce (Took count ∷ seen_of_submit why next (events_of (after_submit why originator request) calls))
+waiting_sound true o_to_t_size t_to_o_size next tries count waiting request calls later = later o_to_t_size t_to_o_size next tries (Waiting count waiting)
+waiting_sound false o_to_t_size t_to_o_size next tries count waiting request calls later = later o_to_t_size t_to_o_size next tries (Waiting count waiting)
 
 receive_sound : (is : Bool) (o_to_t_size t_to_o_size next tries count : ℕ) (request bytes : List ℕ) (calls : List Call) →
     answers t_to_o_size count (slice_index request 0) bytes ≡ is → AllSound calls →
@@ -110,9 +120,14 @@ sound : (calls : List Call) → AllSound calls
 sound [] o_to_t_size t_to_o_size next tries Idle = tt
 sound [] o_to_t_size t_to_o_size next tries (Waiting count request) = tt
 sound [] o_to_t_size t_to_o_size next tries GivenUp = tt
-sound (Submit request ∷ calls) o_to_t_size t_to_o_size next tries Idle = submit_sound (form_refusal o_to_t_size request) o_to_t_size t_to_o_size next tries request calls (sound calls)
-sound (Submit request ∷ calls) o_to_t_size t_to_o_size next tries (Waiting count waiting) = sound calls o_to_t_size t_to_o_size next tries (Waiting count waiting)
-sound (Submit request ∷ calls) o_to_t_size t_to_o_size next tries GivenUp = sound calls o_to_t_size t_to_o_size next tries GivenUp
+sound (Submit request ∷ calls) o_to_t_size t_to_o_size next tries Idle =
+    submit_sound (submit_refusal (state o_to_t_size t_to_o_size next tries Idle) request) o_to_t_size t_to_o_size next tries Idle request calls (sound calls)
+    (sound calls o_to_t_size t_to_o_size next tries Idle)
+sound (Submit request ∷ calls) o_to_t_size t_to_o_size next tries (Waiting count waiting) =
+    waiting_sound (nat_lt tries MOST_UNACCEPTED) o_to_t_size t_to_o_size next tries count waiting request calls (sound calls)
+sound (Submit request ∷ calls) o_to_t_size t_to_o_size next tries GivenUp =
+    submit_sound (submit_refusal (state o_to_t_size t_to_o_size next tries GivenUp) request) o_to_t_size t_to_o_size next tries GivenUp request calls (sound calls)
+    (sound calls o_to_t_size t_to_o_size next tries GivenUp)
 sound (Resend ∷ calls) o_to_t_size t_to_o_size next tries Idle = sound calls o_to_t_size t_to_o_size next tries Idle
 sound (Resend ∷ calls) o_to_t_size t_to_o_size next tries (Waiting count request) = sound calls o_to_t_size t_to_o_size next tries (Waiting count request)
 sound (Resend ∷ calls) o_to_t_size t_to_o_size next tries GivenUp = sound calls o_to_t_size t_to_o_size next tries GivenUp
@@ -127,3 +142,60 @@ sound (GiveUp ∷ calls) o_to_t_size t_to_o_size next tries GivenUp = sound call
 -- from a state in which no request waits, a reply is accepted at most once for each request
 pub events_of-accepted_once : (first o_to_t_size t_to_o_size : ℕ) (calls : List Call) → AcceptedOnce (events_of (originator_at_opening first o_to_t_size t_to_o_size) calls)
 events_of-accepted_once first o_to_t_size t_to_o_size calls = sound calls o_to_t_size t_to_o_size first 0 Idle
+
+-- what holds where a request is not refused
+pub record IsAllowed (since_accepted : ℕ) (waits : Bool) (form : Option Refused) : Type 0 where
+  pub room : since_accepted < MOST_UNACCEPTED
+  pub free : waits ≡ false
+  pub formed : form ≡ None
+
+pub first_refusal-none : (since_accepted : ℕ) (waits : Bool) (form : Option Refused) → first_refusal since_accepted waits form ≡ None →
+    IsAllowed since_accepted waits form
+first_refusal-none since_accepted waits form is = go (nat_lt since_accepted MOST_UNACCEPTED) waits refl is
+  where
+    go : (room waiting : Bool) → nat_lt since_accepted MOST_UNACCEPTED ≡ room →
+        (if room then (if waiting then Some refusals.Busy else form) else Some refusals.TooManyAbandoned) ≡ None →
+        IsAllowed since_accepted waiting form
+    go true true e f = absurd (cc)
+    go true false e f = record { room = ltb-true since_accepted MOST_UNACCEPTED e; free = refl; formed = f }
+    go false waiting e f = absurd (cc)
+
+-- what is to hold of the events from a state on, of how many requests were taken since the last accepted reply
+abbrev Fewer : List Call → Type 0
+Fewer calls = (originator : OriginatorState) → originator.tries ≤ MOST_UNACCEPTED →
+    taken_since_accepted originator.tries (events_of originator calls) ≤ MOST_UNACCEPTED
+
+submit_fewer : (why : Option Refused) (originator : OriginatorState) (request : List ℕ) (calls : List Call) →
+    submit_refusal originator request ≡ why → originator.tries ≤ MOST_UNACCEPTED → Fewer calls →
+    taken_since_accepted originator.tries (seen_of_submit why originator.next (events_of (after_submit why originator request) calls))
+    ≤ MOST_UNACCEPTED
+submit_fewer None originator request calls is fits later =
+    later (with_next_request originator request)
+    (omega (arith, (first_refusal-none originator.tries (is_waiting originator.phase) (form_refusal originator.o_to_t_size request) is).room))
+submit_fewer (Some why) originator request calls is fits later = later originator fits
+
+receive_fewer : (is : Bool) (originator : OriginatorState) (bytes : List ℕ) (calls : List Call) →
+    originator.tries ≤ MOST_UNACCEPTED → Fewer calls →
+    taken_since_accepted originator.tries (let later = events_of (if is then idle_again originator else originator) calls in
+    if is then Accepted (sequence_count_of bytes) ∷ later else later) ≤ MOST_UNACCEPTED
+receive_fewer true originator bytes calls fits later = later (idle_again originator) (omega arith)
+receive_fewer false originator bytes calls fits later = later originator fits
+
+give_up_fewer : (is : Bool) (originator : OriginatorState) (calls : List Call) → originator.tries ≤ MOST_UNACCEPTED → Fewer calls →
+    taken_since_accepted originator.tries (events_of (if is then record originator { phase = GivenUp } else originator) calls) ≤ MOST_UNACCEPTED
+give_up_fewer true originator calls fits later = later (record originator { phase = GivenUp }) fits
+give_up_fewer false originator calls fits later = later originator fits
+
+fewer : (calls : List Call) → Fewer calls
+fewer [] originator fits = fits
+fewer (Submit request ∷ calls) originator fits =
+    submit_fewer (submit_refusal originator request) originator request calls refl fits (fewer calls)
+fewer (Resend ∷ calls) originator fits = fewer calls originator fits
+fewer (Receive bytes ∷ calls) originator fits =
+    receive_fewer (is_reply originator.t_to_o_size originator.phase bytes) originator bytes calls fits (fewer calls)
+fewer (GiveUp ∷ calls) originator fits = give_up_fewer (is_waiting originator.phase) originator calls fits (fewer calls)
+
+-- since the last accepted reply never more requests are taken
+pub events_of-fewer : (first o_to_t_size t_to_o_size : ℕ) (calls : List Call) →
+    taken_since_accepted 0 (events_of (originator_at_opening first o_to_t_size t_to_o_size) calls) ≤ MOST_UNACCEPTED
+events_of-fewer first o_to_t_size t_to_o_size calls = fewer calls (originator_at_opening first o_to_t_size t_to_o_size) (omega arith)

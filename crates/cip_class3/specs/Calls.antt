@@ -1,5 +1,5 @@
 -- Calls of an originator in any order, and what is seen of them.
-use Rattle.std.specs.Prelude.{◌≡◌, ℕ, if◌then◌else◌, Option, Some, None, List, [], ◌∷◌}
+use Rattle.std.specs.Prelude.{◌≡◌, ℕ, ◌+◌, if◌then◌else◌, Option, Some, None, List, [], ◌∷◌}
 use Rattle.cip_class3.specs.Item.{sequence_count_of}
 use Rattle.cip_class3.specs.OriginatorRule.{OriginatorState, submit_refusal, with_next_request, is_reply, after_item}
 use Rattle.cip_class3.specs.OriginatorRule.{after_give_up}
@@ -51,6 +51,13 @@ abbrev pub counts_taken : List Event → List ℕ
 counts_taken [] = []
 counts_taken (Took count ∷ events) = count ∷ counts_taken events
 counts_taken (Accepted count ∷ events) = counts_taken events
+
+-- How many requests were taken since the last one whose reply was accepted, after these events, where so many were
+-- before them.
+abbrev pub taken_since_accepted : ℕ → List Event → ℕ
+taken_since_accepted before [] = before
+taken_since_accepted before (Took count ∷ events) = taken_since_accepted (before + 1) events
+taken_since_accepted before (Accepted count ∷ events) = taken_since_accepted 0 events
 
 -- Each accepted reply has the count of the request that was taken last before it, and no other is accepted
 -- before the next request is taken.

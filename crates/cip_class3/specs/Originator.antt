@@ -12,20 +12,13 @@ phase_of progress.Idle block = Idle
 phase_of (progress.Waiting count length) block = Waiting count (drop 2 (take length block))
 phase_of progress.GivenUp block = GivenUp
 
--- A request can be submitted only once the one before it was answered: the count of submits since then
--- follows from the phase.
-abbrev pub tries_of : Progress → ℕ
-tries_of progress.Idle = 0
-tries_of (progress.Waiting count length) = 1
-tries_of progress.GivenUp = 1
-
 abbrev pub originator_state : Inside → OriginatorState
 originator_state originator = record {
   o_to_t_size = originator.o_to_t_size;
   t_to_o_size = originator.t_to_o_size;
   next = originator.next;
   phase = phase_of originator.progress originator.block.items;
-  tries = tries_of originator.progress;
+  tries = originator.tries;
 }
 
 -- an item of this count and length stands at the front of the block

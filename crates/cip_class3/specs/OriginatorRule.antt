@@ -8,14 +8,14 @@ use Rattle.cip_class3.specs.declared.originator.Stage.TheVariants as stages
 use Rattle.cip_class3.specs.declared.originator.Refused.{Refused}
 use Rattle.cip_class3.specs.declared.originator.Refused.TheVariants as refusals
 
--- no request waits, this one waits for its reply with this count, or one was given up
+-- no request waits, this one waits for its reply with this count, or the last one was given up
 pub data Phase : Type 0 where
   Idle : Phase
   Waiting : (count : ℕ) (request : List ℕ) → Phase
   GivenUp : Phase
 
 -- the originator's end: both sizes, the sequence count included, the count of the next request, the phase,
--- and how many requests were submitted since the last reply was accepted
+-- and how many requests were submitted since the last one whose reply was accepted
 pub record OriginatorState : Type 0 where
   pub o_to_t_size : ℕ
   pub t_to_o_size : ℕ
@@ -34,6 +34,12 @@ refused_number refusals.Busy = 1
 refused_number refusals.TooLong = 2
 refused_number refusals.NoRequest = 3
 refused_number refusals.GivenUp = 4
+refused_number refusals.TooManyAbandoned = 5
+
+-- The most requests that are submitted since the last one whose reply was accepted: one less than there are counts. One
+-- more would have the count of that one, which a target may still hold.
+abbrev pub MOST_UNACCEPTED : ℕ
+MOST_UNACCEPTED = 65535
 
 -- two bytes at least, and a service without bit 7
 abbrev pub is_request : List ℕ → Bool
@@ -45,13 +51,22 @@ form_refusal o_to_t_size request =
     if is_request request then (if nat_le (length request + 2) o_to_t_size then None else Some refusals.TooLong)
     else Some refusals.NoRequest
 
+abbrev pub is_waiting : Phase → Bool
+is_waiting Idle = false
+is_waiting (Waiting count request) = true
+is_waiting GivenUp = false
+
+-- The first reason not to take a request, if there is one: so many were submitted since the last one whose reply was
+-- accepted, one waits, or it is of no such form. One that was given up is no reason.
+abbrev pub first_refusal : ℕ → Bool → Option Refused → Option Refused
+first_refusal since_accepted waits form =
+    if nat_lt since_accepted MOST_UNACCEPTED then (if waits then Some refusals.Busy else form)
+    else Some refusals.TooManyAbandoned
+
 -- why a request is not taken now, if it isn't
 abbrev pub submit_refusal : OriginatorState → List ℕ → Option Refused
-submit_refusal originator request = elim originator.phase [
-  | Idle ↦ form_refusal originator.o_to_t_size request
-  | Waiting _ _ ↦ Some refusals.Busy
-  | GivenUp ↦ Some refusals.GivenUp
-]
+submit_refusal originator request =
+    first_refusal originator.tries (is_waiting originator.phase) (form_refusal originator.o_to_t_size request)
 
 -- the request waits with the next count, and the count after it is the next one, modulo 65,536
 abbrev pub with_next_request : OriginatorState → List ℕ → OriginatorState
@@ -93,11 +108,6 @@ after_item originator bytes =
 abbrev pub accepted_reply : OriginatorState → List ℕ → Option (List ℕ)
 accepted_reply originator bytes =
     if is_reply originator.t_to_o_size originator.phase bytes then Some (message_of bytes) else None
-
-abbrev pub is_waiting : Phase → Bool
-is_waiting Idle = false
-is_waiting (Waiting count request) = true
-is_waiting GivenUp = false
 
 -- the request that waits is given up
 abbrev pub after_give_up : OriginatorState → OriginatorState

@@ -3,8 +3,8 @@ use Rattle.std.specs.Prelude.{◌≡◌, ℕ, true, false, Some, None, List, [],
 use Rattle.cip_class3.specs.Item.{item, sequence_count_of}
 use Rattle.cip_class3.specs.TargetRule.{is_held}
 use Rattle.cip_class3.specs.OriginatorRule.{OriginatorState, Waiting, originator_at_opening, submit_refusal}
-use Rattle.cip_class3.specs.OriginatorRule.{with_next_request, is_reply}
-use Rattle.cip_class3.specs.declared.originator.Refused.TheVariants.{Busy, TooLong, NoRequest}
+use Rattle.cip_class3.specs.OriginatorRule.{with_next_request, is_reply, after_give_up, after_item}
+use Rattle.cip_class3.specs.declared.originator.Refused.TheVariants.{Busy, TooLong, NoRequest, TooManyAbandoned}
 
 -- service 0x32 at class 0x64, instance 1, with the number 5
 abbrev pub add_five : List ℕ
@@ -44,6 +44,25 @@ submit_refusal-reply = refl
 -- a second request while one waits, of whatever form
 pub submit_refusal-waiting : submit_refusal (with_next_request idle add_five) (0x32 ∷ []) ≡ Some Busy
 submit_refusal-waiting = refl
+
+-- this many were submitted since the last accepted reply, and the last one was given up
+abbrev pub abandoned : ℕ → OriginatorState
+abandoned tries = record (after_give_up (with_next_request idle add_five)) { tries = tries }
+
+-- after giving up a request is taken, up to the 65,535th since the last accepted reply
+pub submit_refusal-given_up : submit_refusal (abandoned 65534) add_five ≡ None
+submit_refusal-given_up = refl
+
+pub submit_refusal-too_many : submit_refusal (abandoned 65535) add_five ≡ Some TooManyAbandoned
+submit_refusal-too_many = refl
+
+-- while the 65,535th waits, of whatever form
+pub submit_refusal-last : submit_refusal (with_next_request (abandoned 65534) add_five) (0x32 ∷ []) ≡ Some TooManyAbandoned
+submit_refusal-last = refl
+
+-- its reply is accepted, and the submits are counted from there
+pub tries-accepted : (after_item (with_next_request (abandoned 65534) add_five) (0 ∷ 0 ∷ 0xb2 ∷ 0 ∷ 0 ∷ 0 ∷ [])).tries ≡ 0
+tries-accepted = refl
 
 -- count 0 follows count 65,535
 pub next-with_next_request : (with_next_request idle add_five).next ≡ 0

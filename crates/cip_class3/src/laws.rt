@@ -2,13 +2,13 @@
 //!
 //! The functions do nothing: each one's clauses are the law.
 
-ghost use Rattle.std.specs.Prelude.{◌≡◌, ℕ, ◌+◌, ◌%◌, ◌<◌, ◌^◌, List, length, slice_index};
+ghost use Rattle.std.specs.Prelude.{◌≡◌, ℕ, ◌+◌, ◌%◌, ◌<◌, ◌≤◌, ◌^◌, List, length, slice_index};
 ghost use Rattle.cip_class3.specs.Item.{NeighboursDiffer};
 ghost use Rattle.cip_class3.specs.TargetRule.{TargetState, room_of};
 ghost use Rattle.cip_class3.specs.Deliveries.{Delivery, AreDelivered, items_of, requests_of, router_after, answers_to};
 ghost use Rattle.cip_class3.specs.Deliveries.{router_after_requests, answers_once};
-ghost use Rattle.cip_class3.specs.OriginatorRule.{originator_at_opening};
-ghost use Rattle.cip_class3.specs.Calls.{Call, events_of, counts_taken, AcceptedOnce};
+ghost use Rattle.cip_class3.specs.OriginatorRule.{originator_at_opening, MOST_UNACCEPTED};
+ghost use Rattle.cip_class3.specs.Calls.{Call, events_of, counts_taken, taken_since_accepted, AcceptedOnce};
 
 use cip_objects::Router;
 
@@ -43,6 +43,13 @@ pub fn counts_in_order()
 pub fn counts_differ()
     ensures { (first o_to_t_size t_to_o_size : ℕ) (calls : List Call) → first < 2 ^ 16 →
         NeighboursDiffer (counts_taken (events_of (originator_at_opening first o_to_t_size t_to_o_size) calls)) }
+{}
+
+/// An originator never takes so many requests, without an accepted reply between them, that a count would come again.
+pub fn fewer_than_counts()
+    ensures { (first o_to_t_size t_to_o_size : ℕ) (calls : List Call) →
+        taken_since_accepted 0 (events_of (originator_at_opening first o_to_t_size t_to_o_size) calls)
+        ≤ MOST_UNACCEPTED }
 {}
 
 /// A reply is accepted at most once for each request that an originator takes, whatever the calls.

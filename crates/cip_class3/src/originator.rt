@@ -27,9 +27,12 @@ pub enum Refused {
     /// The request has under 2 bytes, or a service with bit 7, as a reply has.
     #[error("this is no request")]
     NoRequest = 3,
-    /// A request was given up.
+    /// Not answered any more: the originator goes on after it gave a request up.
     #[error("a request was given up")]
     GivenUp = 4,
+    /// 65,535 requests were submitted since the last one whose reply was accepted, or since the opening.
+    #[error("too many requests were submitted since the last accepted reply")]
+    TooManyAbandoned = 5,
 }
 
 impl Refused {
@@ -50,9 +53,13 @@ pub enum Stage {
     Idle,
     /// A request waits for its reply.
     Waiting,
-    /// The last request was given up.
+    /// The last request was given up. Another can be submitted.
     GivenUp,
 }
+
+/// The most requests that are submitted since the last one whose reply was accepted: one less than there are counts,
+/// so that what is held, on the way or awaited never has the count of another one.
+const MOST_UNACCEPTED: u16 = 65_535;
 
 /// What came in an item.
 #[derive(Clone, Copy, Debug, PartialEq, Eq)]
@@ -78,6 +85,8 @@ pub struct Originator {
     t_to_o_size: u16,
     /// The sequence count of the next request.
     next: u16,
+    /// How many requests were submitted since the last one whose reply was accepted.
+    tries: u16,
     progress: Progress,
     /// The item of the request that waits, at the front of as many bytes as the O->T size.
     block: Vec<u8>,
@@ -125,6 +134,7 @@ impl Originator {
             o_to_t_size,
             t_to_o_size,
             next: first,
+            tries: 0,
             progress: Progress::Idle,
             block: vec![in alloc; 0; o_to_t_size as usize]?,
         })
@@ -134,7 +144,7 @@ impl Originator {
     ///
     /// # Errors
     ///
-    /// The first of these: `GivenUp`, `Busy`, `NoRequest`, `TooLong`. Nothing changed, and no count was taken.
+    /// The first of these: `TooManyAbandoned`, `Busy`, `NoRequest`, `TooLong`. Nothing changed, and no count was taken.
     pub fn submit(&mut self, request: &[u8]) -> Result<&[u8], Refused>
         ensures refused { IfErr result (λ why. submit_refusal self.old request.now ≡ Some why) }
         ensures allowed { OnOk result (submit_refusal self.old request.now ≡ None) }
@@ -156,6 +166,7 @@ impl Originator {
         };
         // After count 65,535 comes count 0 (the originator's end).
         self.next = sequence_count.wrapping_add(1);
+        self.tries += 1;
         Ok(&self.block[..length])
     }
 
@@ -180,12 +191,13 @@ impl Originator {
             return Came::Ignored;
         }
         self.progress = Progress::Idle;
+        self.tries = 0;
         Came::Accepted(&item[COUNT..])
     }
 
-    /// Gives the request that waits up: from then on none is taken. False where none waits.
+    /// Gives the request that waits up: its reply is never accepted. False where none waits.
     ///
-    /// Nobody knows whether it was executed, so the originator never goes on (the originator's end).
+    /// It may be executed once or not at all, now or later. Another request can be submitted (the originator's end).
     pub fn give_up(&mut self) -> bool
         ensures waited { result ≡ is_waiting self.old.phase }
         ensures state { self.new ≡ after_give_up self.old }
@@ -212,10 +224,12 @@ impl Originator {
     fn submit_refusal(&self, request: &[u8]) -> Option<Refused>
         ensures { result ≡ submit_refusal self.now request.now }
     {
-        match self.progress {
-            Progress::GivenUp => return Some(Refused::GivenUp),
-            Progress::Waiting { .. } => return Some(Refused::Busy),
-            Progress::Idle => {}
+        // The next count would be one that may still be held, or on the way (the originator's end).
+        if self.tries == MOST_UNACCEPTED {
+            return Some(Refused::TooManyAbandoned);
+        }
+        if matches!(self.progress, Progress::Waiting { .. }) {
+            return Some(Refused::Busy);
         }
         // A service and a path size at least, and bit 7 marks a reply (router messages).
         if request.len() < SMALLEST_REQUEST || request[0] >= 0x80 {

@@ -119,9 +119,26 @@ fn requests_are_refused_by_the_first_check_that_fails(rt: HostRuntime) -> Result
 
     assert!(rt; originator.give_up());
     assert!(rt; originator.stage() == Stage::GivenUp);
-    assert!(rt; originator.submit(&[0x32]).err() == Some(Refused::GivenUp));
     assert!(rt; originator.resend().is_none());
     assert!(rt; !originator.give_up());
+    Ok(())
+}
+
+#[test]
+fn a_request_is_taken_after_giving_up(rt: HostRuntime) -> Result<(), Fail> {
+    let mut originator = Originator::new(rt.alloc(), 0, 500, 500)?;
+    let taken = originator.submit(&ADD_FIVE).is_ok();
+    assert!(rt; taken && originator.give_up());
+    let long = [0x0e; 499];
+    assert!(rt; originator.submit(&[0x32]).err() == Some(Refused::NoRequest));
+    assert!(rt; originator.submit(&long).err() == Some(Refused::TooLong));
+    assert!(rt; originator.stage() == Stage::GivenUp);
+    let item = originator.submit(&ADD_FIVE)?;
+    assert!(rt; item.starts_with(&[0x01, 0x00, 0x32]));
+    // The reply to the one that was given up, and to the one after it.
+    assert!(rt; originator.receive(&[0x00, 0x00, 0xb2, 0x00, 0x00, 0x00]) == Came::Ignored);
+    let came = originator.receive(&[0x01, 0x00, 0xb2, 0x00, 0x00, 0x00]);
+    assert!(rt; matches!(came, Came::Accepted(_)));
     Ok(())
 }
 
@@ -131,6 +148,7 @@ fn refusals_have_their_numbers(rt: HostRuntime) {
     assert_eq!(rt; Refused::TooLong.number(), 2);
     assert_eq!(rt; Refused::NoRequest.number(), 3);
     assert_eq!(rt; Refused::GivenUp.number(), 4);
+    assert_eq!(rt; Refused::TooManyAbandoned.number(), 5);
 }
 
 #[test]
@@ -186,9 +204,53 @@ fn each_of_many_requests_is_executed_once(rt: HostRuntime) -> Result<(), Fail> {
 }
 
 #[test]
+fn requests_are_taken_up_to_the_bound(rt: HostRuntime) -> Result<(), Fail> {
+    let mut originator = Originator::new(rt.alloc(), 1, 500, 500)?;
+    for n in 0..65_534u32 {
+        let taken = originator.submit(&ADD_FIVE).is_ok();
+        assert!(rt; taken && originator.give_up(), "at {n}");
+    }
+    // The 65,535th waits, with a count of its own: while it does, the bound is named first.
+    let item = originator.submit(&ADD_FIVE)?;
+    assert!(rt; item.starts_with(&[0xff, 0xff, 0x32]));
+    assert!(rt; originator.submit(&[0x32]).err() == Some(Refused::TooManyAbandoned));
+    // Its reply is accepted, and another 65,535 are taken.
+    let came = originator.receive(&[0xff, 0xff, 0xb2, 0x00, 0x00, 0x00]);
+    assert!(rt; matches!(came, Came::Accepted(_)));
+    for n in 0..65_535u32 {
+        let taken = originator.submit(&ADD_FIVE).is_ok();
+        assert!(rt; taken && originator.give_up(), "at {n}");
+    }
+    assert!(rt; originator.submit(&ADD_FIVE).err() == Some(Refused::TooManyAbandoned));
+    assert!(rt; originator.submit(&[0x32]).err() == Some(Refused::TooManyAbandoned));
+    assert!(rt; originator.stage() == Stage::GivenUp && !originator.give_up());
+    Ok(())
+}
+
+#[test]
+fn one_more_than_the_bound_would_get_the_old_reply(rt: HostRuntime) {
+    let mut count = 7u16;
+    for later in 1..=65_536u32 {
+        let mut served = Served {
+            target: Target::new(500, 500),
+            counter: Counter { executions: 0 },
+        };
+        served.check(&rt, 7, Received::Executed, 1);
+        // All between are lost.
+        count = count.wrapping_add(1);
+        if later < 65_536 {
+            served.check(&rt, count, Received::Executed, 2);
+        } else {
+            served.check(&rt, count, Received::Repeated, 1);
+        }
+    }
+}
+
+#[test]
 fn the_laws_hold_at_a_router() {
     laws::each_request_once::<Counter>();
     laws::counts_in_order();
     laws::counts_differ();
+    laws::fewer_than_counts();
     laws::one_reply_each();
 }

@@ -2,6 +2,7 @@
 ghost use Rattle.std.specs.Prelude.{◌≡◌, ◌≤◌, ◌+◌, ◌-◌, ◌<◌, ℕ, not, filter, [], ◌∷◌, ◌++◌, length, slice_index_or};
 ghost use Rattle.std.specs.Prelude.{IfOk, IfNone};
 ghost use Rattle.std.specs.List.{list_any, position, remove};
+ghost use Rattle.cip_class3.specs.Item.{LARGEST_SIZE};
 ghost use Rattle.cip_manager.specs.declared.connection.Connection.{Connection as OpenConnection};
 ghost use Rattle.cip_manager.specs.Connection.{has_id, is_named};
 ghost use Rattle.cip_manager.specs.Index.{binary_digits};
@@ -148,7 +149,7 @@ impl Table {
         requires { place < length self.now.connections }
         ensures reply { (d : OpenConnection) →
             reply_in result ≡ reply_of (slice_index_or self.now.connections place d) }
-        ensures fits { length result.bytes.now ≤ 511 }
+        ensures fits { length result.bytes.now ≤ LARGEST_SIZE }
     {
         self.at(place).answer()
     }

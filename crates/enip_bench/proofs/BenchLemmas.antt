@@ -1,5 +1,5 @@
 -- How the bench's code moves as the counting world does.
-use Rattle.std.proofs.Common.{◌≡◌, ℕ, zero, suc, ◌+◌, ◌-◌, ◌<◌, ◌≤◌, Bool, true, false, cond, Option, Some, None, option_map, List, [], ◌∷◌, ◌++◌, length, take, map, slice_index_or, slice_get, Result, Ok, Err, refl, ap, ap₂, sym, ◌∙◌, subst, arith}
+use Rattle.std.proofs.Common.{◌≡◌, ℕ, zero, suc, ◌+◌, ◌-◌, ◌<◌, ◌≤◌, true, cond, Option, Some, None, option_map, List, [], ◌∷◌, ◌++◌, length, take, map, slice_index_or, slice_get, Result, Ok, Err, refl, ap, ap₂, sym, ◌∙◌, subst, arith}
 use Rattle.std.proofs.Math.Seq.{take-suc}
 use Rattle.std.proofs.lemmas.List.{take-map, take_all}
 use Rattle.std.proofs.lemmas.Option.{same_Some, slice_get_within}
@@ -8,23 +8,32 @@ use Rattle.cip_objects.specs.Contents.{Contents}
 use Rattle.enip_wire.specs.Frames.{frame}
 use Rattle.enip_adapter.specs.Calls.{AdapterState, after_call}
 use Rattle.enip_adapter.specs.Calls.Call.{Begins_peer, Feeds}
-use Rattle.enip_client.specs.Calls.{registers, opens}
-use Rattle.enip_client.specs.Client.{ClientState, Fed, fed}
+use Rattle.enip_client.specs.Calls.{Lent, registers, opens, submits, submitted, item_sent, after_lending, bytes_lent}
+use Rattle.enip_client.specs.declared.fault.SubmitFault.{SubmitFault}
+use Rattle.enip_client.specs.declared.fault.SubmitFault.TheVariants as submit_faults
+use Rattle.enip_client.specs.declared.state.State.{State}
+use Rattle.cip_class3.specs.Item.{item}
+use Rattle.cip_class3.specs.OriginatorRule.{submit_refusal}
+use Rattle.cip_class3.specs.declared.originator.Refused.{Refused}
+use Rattle.enip_client.specs.Client.{ClientState, fed, with_state}
 use Rattle.enip_client.specs.Frames.{register_frame, request_frame}
 use Rattle.enip_bench.specs.CountingOpening.{Setup, Ends, begins, exchange, is_registered_news, is_opened_news, ends_at_beginning, counting_at_opening, opening_between, opening}
-use Rattle.enip_bench.specs.CountingWorld.{CountingWorld, reply_heard, acceptance, with_fed, after_back, after_other, counting_step, counting_run}
-use Rattle.enip_bench.specs.Events.{Event, Back, Other, delivery, is_unconnected_request, with_any}
+use Rattle.enip_bench.specs.CountingWorld.{CountingWorld, reply_heard, acceptance, after_submit, after_back, after_other, counting_step, counting_run}
+use Rattle.enip_bench.specs.Events.{Event, Submit, Back, Other, delivery, is_unconnected_request, with_any}
 use Rattle.enip_bench.specs.Reached.{IsNewAdapter, IsNewClient, IsReached}
 use Rattle.enip_bench.specs.Seen.{Seen}
 use Rattle.enip_bench.specs.Stored.{world_in, acceptances_in, event_in, events_in, last_reply, IsTold, IsStepped, IsOfOpening}
-use Rattle.enip_bench.specs.Telling.{Telling, Accepts, Done, Impossible, reply_telling, back_telling}
+use Rattle.enip_bench.specs.Telling.{Sends, Accepts, Done, Impossible, submit_telling, reply_telling, back_telling}
 use Rattle.enip_bench.specs.declared.event.Event.{Event as EventInCode}
 use Rattle.enip_bench.specs.declared.event.Told.{Told}
 use Rattle.enip_bench.specs.declared.event.Told.TheVariants as tolds
 use Rattle.enip_bench.specs.declared.world.Accepted.{Accepted as Accepted_reply}
 use Rattle.enip_bench.specs.declared.world.World.{World}
 use Rattle.enip_bench.proofs.PositionLemmas.{map-push}
-use Rattle.enip_bench.proofs.ReachedLemmas.{run_joined, reached_again}
+use Rattle.enip_bench.proofs.ReachedLemmas.{run_joined, reached_again, submits_as_ruled}
+
+same_Ok : {E : Type 0} (a b : List ℕ) → (let r : Result (List ℕ) E = Ok a in r) ≡ Ok b → a ≡ b
+same_Ok a b e = cc
 
 -- another session's request was executed
 pub other_told : (world : CountingWorld) (request bytes : List ℕ) (adapter : AdapterState) →
@@ -80,6 +89,62 @@ accepted_told world position bytes reply client accepted found heard news put =
           heard same ∙ sym (ap (λ o. after_back o world position) found);
       telling_is = ap (λ r. Accepts r) (ap last_reply put ∙ last-push world.accepted (world.submits - 1, reply))
           ∙ (sym (ap reply_telling news) ∙ sym (ap (back_telling world) found));
+    }
+
+refused_by : (s : State) (request : List ℕ) (o : Option Refused) (why : Refused) →
+    bytes_lent (submitted s request o) ≡ Err (submit_faults.Refused why) → o ≡ Some why
+refused_by s request (Some other) why e = cc
+refused_by s request None why e = absurd (cc)
+
+taken_by : (s : State) (request bytes : List ℕ) (o : Option Refused) →
+    bytes_lent (submitted s request o) ≡ Ok bytes → o ≡ None
+taken_by s request bytes None e = refl
+taken_by s request bytes (Some why) e = absurd (cc)
+
+-- the client after a submit
+abbrev went_on : CountingWorld → List ℕ → Result Lent SubmitFault → ClientState
+went_on world request lent = with_state world.client (after_lending world.client.state lent)
+
+-- a request was refused
+pub refused_told : (world : CountingWorld) (request : List ℕ) (why : Refused) (client : ClientState)
+    (sent : List (List ℕ)) → IsReached world →
+    bytes_lent (submits world.client.state request) ≡ Err (submit_faults.Refused why) →
+    client ≡ went_on world request (submits world.client.state request) → sent ≡ world.sent →
+    IsTold world (Submit request) (record world { client = client; sent = sent }) (tolds.Refused why)
+refused_told world request why client sent reached lent went kept =
+    let o : Option Refused = submit_refusal world.client.state.originator request in
+    let is : o ≡ Some why = refused_by world.client.state request o why
+    (sym (ap bytes_lent (submits_as_ruled world request reached)) ∙ lent) in
+    let ruled : submits world.client.state request ≡ submitted world.client.state request (Some why) =
+    submits_as_ruled world request reached ∙ ap (submitted world.client.state request) is in
+    record {
+      world = ap₂ (λ c s. (let x : CountingWorld = record world { client = c; sent = s } in x))
+          (went ∙ ap (went_on world request) ruled) kept
+          ∙ sym (ap (λ r. after_submit r world) ruled);
+      telling_is = sym (ap (submit_telling world) is);
+    }
+
+-- a request was taken, and its frame is sent
+pub sent_told : (world : CountingWorld) (request bytes : List ℕ) (client : ClientState) (sent : List (List ℕ))
+    (position : ℕ) → IsReached world → bytes_lent (submits world.client.state request) ≡ Ok bytes →
+    client ≡ went_on world request (submits world.client.state request) → sent ≡ world.sent ++ bytes ∷ [] →
+    position ≡ length world.sent →
+    IsTold world (Submit request) (record world { client = client; sent = sent; submits = world.submits + 1 })
+    (tolds.Sent world.submits position)
+sent_told world request bytes client sent position reached lent went put at =
+    let o : Option Refused = submit_refusal world.client.state.originator request in
+    let s : State = world.client.state in
+    let is : o ≡ None = taken_by s request bytes o
+    (sym (ap bytes_lent (submits_as_ruled world request reached)) ∙ lent) in
+    let ruled : submits s request ≡ submitted s request None =
+    submits_as_ruled world request reached ∙ ap (submitted s request) is in
+    let same : bytes ≡ frame (item_sent s (item s.originator.next request)) =
+    same_Ok bytes (frame (item_sent s (item s.originator.next request))) (sym lent ∙ ap bytes_lent ruled) in
+    record {
+      world = ap₂ (λ c f. (let x : CountingWorld = record world { client = c; sent = f; submits = world.submits + 1 } in x))
+          (went ∙ ap (went_on world request) ruled) (put ∙ ap (λ b. world.sent ++ b ∷ []) same)
+          ∙ sym (ap (λ r. after_submit r world) ruled);
+      telling_is = ap (λ p. Sends world.submits p) at ∙ sym (ap (submit_telling world) is);
     }
 
 -- it came of an opening still

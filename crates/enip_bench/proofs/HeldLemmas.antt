@@ -101,7 +101,7 @@ module _ {M : Type 0} (after : M → ℕ → List ℕ → M) (answer : M → ℕ
     IsReplyTo request (answer router room request))
     (within : (router : M) (room : ℕ) (request : List ℕ) → 8 ≤ room → 2 ≤ length request →
     length (answer router room request) ≤ room) where
-  answered-now : (submits : List (List ℕ)) (router : M) (own : Own) → IsSubmitted submits own → 2 ≤ length own.request →
+  pub answered-now : (submits : List (List ℕ)) (router : M) (own : Own) → IsSubmitted submits own → 2 ≤ length own.request →
       IsAnswered t_to_o_size submits own.number (answer router (t_to_o_size - 2) own.request)
   answered-now submits router own is least = record {
     request = own.request;

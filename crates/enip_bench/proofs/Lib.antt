@@ -3,6 +3,7 @@ pub mod AgreementLemmas
 pub mod AnswerLemmas
 pub mod ArrivalLemmas
 pub mod BenchLemmas
+pub mod BoundLemmas
 pub mod ClientShows
 pub mod CountLemmas
 pub mod FeedLemmas

@@ -1,9 +1,10 @@
 -- No item of a connection is longer than its sizes, so each fits a frame.
 use Rattle.std.proofs.Common.{◌≡◌, ℕ, ◌-◌, ◌≤◌, Bool, true, false, cond, Option, Some, None, List, length, refl, subst, arith}
 use Rattle.std.proofs.lemmas.Option.{same_Some}
+use Rattle.cip_class3.proofs.Counts.{IsAllowed, first_refusal-none}
 use Rattle.cip_class3.specs.Deliveries.{answer_to}
 use Rattle.cip_class3.specs.Item.{LARGEST_SIZE, item, sequence_count_of, message_of}
-use Rattle.cip_class3.specs.OriginatorRule.{OriginatorState, Phase, Idle, Waiting, GivenUp, submit_refusal, with_next_request, waiting_item, is_reply, idle_again, after_item, after_give_up}
+use Rattle.cip_class3.specs.OriginatorRule.{OriginatorState, Phase, Idle, Waiting, GivenUp, is_waiting, form_refusal, submit_refusal, with_next_request, waiting_item, is_reply, idle_again, after_item, after_give_up}
 use Rattle.cip_class3.specs.TargetRule.{TargetState, TargetStep, step_of, target_step, after_execution, kept_bytes, is_of_size, is_held}
 use Rattle.cip_class3.specs.declared.target.Received.{Received}
 use Rattle.cip_class3.specs.declared.target.Received.TheVariants.{Dropped, Repeated, Executed}
@@ -36,15 +37,11 @@ each-any (Some x) xs each one = each-push IsShort xs x each (one x refl)
 -- an item that is submitted
 pub submitted-short : (originator : OriginatorState) (request : List ℕ) → IsSmallOriginator originator →
     submit_refusal originator request ≡ None → IsShort (item originator.next request)
-submitted-short originator request small e = go originator.phase e
-  where
-    go : (phase : Phase) → submit_refusal (record originator { phase = phase }) request ≡ None →
-        IsShort (item originator.next request)
-    go Idle f =
-        let form : IsOfForm originator.o_to_t_size request = has_form originator.o_to_t_size request f in
-        omega (arith, form.fits, small.o_to_t_to)
-    go (Waiting count before) f = absurd (cc)
-    go GivenUp f = absurd (cc)
+submitted-short originator request small e =
+    let is : IsAllowed originator.tries (is_waiting originator.phase) (form_refusal originator.o_to_t_size request) =
+    first_refusal-none originator.tries (is_waiting originator.phase) (form_refusal originator.o_to_t_size request) e in
+    let form : IsOfForm originator.o_to_t_size request = has_form originator.o_to_t_size request is.formed in
+    omega (arith, form.fits, small.o_to_t_to)
 
 pub small-submit : (originator : OriginatorState) (request : List ℕ) → IsSmallOriginator originator →
     submit_refusal originator request ≡ None → IsSmallOriginator (with_next_request originator request)

@@ -3,11 +3,12 @@ use Rattle.std.proofs.Common.{◌≡◌, ℕ, ◌+◌, ◌<◌, ◌≤◌, ◌�
 use Rattle.std.proofs.lemmas.Bool.{cases_lt, or_left}
 use Rattle.std.proofs.lemmas.List.{length_push}
 use Rattle.std.proofs.lemmas.Option.{slice_get_within}
+use Rattle.cip_class3.proofs.Counts.{IsAllowed, first_refusal-none}
 use Rattle.cip_class3.specs.OriginatorRule.{form_refusal}
 use Rattle.cip_class3.specs.declared.originator.Refused.{Refused}
 use Rattle.enip_bench.specs.Events.{Event, Submit, Resend, Reach, Back, Other, Shut, GiveUp, delivery, is_unconnected_request}
 use Rattle.enip_bench.proofs.LogLemmas.{next_logged, Falls, IsSubmitted, AreSubmitted, logged_below, new_above, next_logged-within, submitted-kept, logged-kept}
-use Rattle.enip_bench.specs.NumberedWorld.{after_last, refusal}
+use Rattle.enip_bench.specs.NumberedWorld.{after_last, submits_since_accepted, is_awaiting, refusal}
 use Rattle.enip_bench.proofs.Plain.{number_of, plain}
 use Rattle.enip_bench.proofs.PositionLemmas.{map-push, get-kept, get-last, each-push, ordered-push, delivered, delivered_later, delivered-push, not_lower}
 use Rattle.enip_bench.proofs.Soundness.{IsSentSound, IsBackSound, IsSound}
@@ -29,7 +30,7 @@ opening_sound o_to_t_size = record {
     near = λ k own e. omega arith;
   };
   accepted = record { logged = λ i x e. absurd (cc); order = λ i j x y lt e f. absurd (cc) };
-  course = refl;
+  course = tt;
   window = record { since = refl; span = omega arith; bound = omega arith };
 }
 
@@ -39,13 +40,15 @@ after_last-push (before ∷ []) number = refl
 after_last-push (before ∷ next ∷ numbers) number = after_last-push (next ∷ numbers) number
 
 -- A request is taken only where there is room for one more since the last accepted reply.
-allowed : (o_to_t_size : ℕ) (world : TrackedWorld) (course : Course) (request : List ℕ) →
-    IsSound o_to_t_size (record world { course = course }) →
-    refusal o_to_t_size (plain (record world { course = course })) request ≡ None →
+allowed : (o_to_t_size : ℕ) (world : TrackedWorld) (request : List ℕ) → IsSound o_to_t_size world →
+    refusal o_to_t_size (plain world) request ≡ None →
     (form_refusal o_to_t_size request ≡ None) × (world.tries < 65535)
-allowed o_to_t_size world Resting request sound e = (e, omega (arith, sound.course))
-allowed o_to_t_size world (Awaiting own) request sound e = absurd (cc)
-allowed o_to_t_size world Abandoned request sound e = absurd (cc)
+allowed o_to_t_size world request sound e =
+    let is : IsAllowed (submits_since_accepted (plain world)) (is_awaiting (plain world).progress)
+    (form_refusal o_to_t_size request) =
+    first_refusal-none (submits_since_accepted (plain world)) (is_awaiting (plain world).progress)
+    (form_refusal o_to_t_size request) e in
+    (is.formed, omega (arith, is.room, sound.window.since))
 
 -- a number that was sent is sent once more, or the next one is
 sent-push : (submits : List (List ℕ)) (sent : List Own) (last : Option ℕ) (log : List Logged) (own : Own) →
@@ -112,7 +115,7 @@ at_submit : (o_to_t_size : ℕ) (world : TrackedWorld) (request : List ℕ) (why
     refusal o_to_t_size (plain world) request ≡ why → IsSound o_to_t_size (after_submit why world request)
 at_submit o_to_t_size world request None sound e =
     submit_sound o_to_t_size world request sound
-    (allowed o_to_t_size world world.course request sound e)
+    (allowed o_to_t_size world request sound e)
 at_submit o_to_t_size world request (Some why) sound e = sound
 
 at_resend : (o_to_t_size : ℕ) (world : TrackedWorld) (course : Course) →
@@ -290,7 +293,7 @@ accepted_sound o_to_t_size world own waiting position sound found same =
         order = ordered-push (λ (x : Own) (y : Own). x.number < y.number) world.accepted own sound.accepted.order
             (λ i x e. omega (arith, sound.course.2 i x e));
       };
-      course = refl;
+      course = tt;
       window = record {
         since = omega (
           arith,

@@ -38,13 +38,12 @@ pub record IsAcceptedSound (accepted : List Own) (log : List Logged) : Type 0 wh
   pub logged : Each (λ own. is_logged own.number log ≡ true) accepted
   pub order : Ordered (λ (x : Own) (y : Own). x.number < y.number) accepted
 
--- Where no request waits, none was submitted since the last accepted reply. The one that waits is the last submit, and
--- is above all whose reply was accepted.
-abbrev pub IsCourseSound : List (List ℕ) → List Own → Course → ℕ → Type 0
-IsCourseSound submits accepted Resting tries = tries ≡ 0
-IsCourseSound submits accepted (Awaiting own) tries =
+-- The request that waits is the last submit, and is above all whose reply was accepted.
+abbrev pub IsCourseSound : List (List ℕ) → List Own → Course → Type 0
+IsCourseSound submits accepted Resting = Unit {0}
+IsCourseSound submits accepted (Awaiting own) =
     (length submits ≡ own.number + 1) × IsSubmitted submits own × Each (λ before. before.number < own.number) accepted
-IsCourseSound submits accepted Abandoned tries = Unit {0}
+IsCourseSound submits accepted Abandoned = Unit {0}
 
 -- since the last accepted reply there were fewer submits than counts, and all before were executed or left behind
 pub record IsWindow (submits : List (List ℕ)) (accepted : List Own) (log : List Logged) (tries : ℕ) : Type 0 where
@@ -58,5 +57,5 @@ pub record IsSound (o_to_t_size : ℕ) (world : TrackedWorld) : Type 0 where
   pub sent : IsSentSound world.submits world.sent world.last_reached world.log
   pub back : IsBackSound world.submits world.back world.last_back world.log world.tries
   pub accepted : IsAcceptedSound world.accepted world.log
-  pub course : IsCourseSound world.submits world.accepted world.course world.tries
+  pub course : IsCourseSound world.submits world.accepted world.course
   pub window : IsWindow world.submits world.accepted world.log world.tries

@@ -6,7 +6,7 @@ use Rattle.std.proofs.lemmas.Option.{same_Some, slice_get_within}
 use Rattle.cip_class3.proofs.Repeats.{sequence_count_of-item, is_of_size-item, step-first}
 use Rattle.cip_class3.specs.Deliveries.{Delivery, IsDeliverable}
 use Rattle.cip_class3.specs.Item.{item, sequence_count_of}
-use Rattle.cip_class3.specs.OriginatorRule.{Waiting, submit_refusal, waiting_item, answers, is_reply, idle_again}
+use Rattle.cip_class3.specs.OriginatorRule.{Waiting, is_waiting, form_refusal, first_refusal, submit_refusal, waiting_item, answers, is_reply, idle_again}
 use Rattle.cip_class3.specs.TargetRule.{TargetState, Kept, TargetStep, step_of, target_step, is_of_size, is_held}
 use Rattle.cip_class3.specs.declared.originator.Refused.{Refused}
 use Rattle.cip_class3.specs.declared.target.Received.TheVariants.{Repeated, Executed}
@@ -19,8 +19,8 @@ use Rattle.enip_bench.proofs.CountLemmas.{count_of, count_of-below, count_of-nex
 use Rattle.enip_bench.proofs.HeldLemmas.{IsOfForm, has_form, IsAnswered, held-logged, kept-newest, reply-new, reply-kept, reply-answers}
 use Rattle.enip_bench.proofs.Image.{item_of, phase_of, router_of, reply_of, held_of, answer_of, acceptance_of, image}
 use Rattle.enip_bench.proofs.LogLemmas.{next_logged, IsSubmitted}
-use Rattle.enip_bench.specs.NumberedWorld.{refusal}
-use Rattle.enip_bench.proofs.Plain.{plain}
+use Rattle.enip_bench.specs.NumberedWorld.{submits_since_accepted, is_awaiting, refusal}
+use Rattle.enip_bench.proofs.Plain.{progress_of, plain}
 use Rattle.enip_bench.proofs.PositionLemmas.{delivered, delivery-map, map-push, map-with_any, map-same}
 use Rattle.enip_bench.proofs.SoundLemmas.{step_sound}
 use Rattle.enip_bench.proofs.Soundness.{IsCourseSound, IsSound}
@@ -56,15 +56,22 @@ module _ {M : Type 0} (after : M → ℕ → List ℕ → M) (answer : M → ℕ
   waiting-awaited (Awaiting own) = refl
   waiting-awaited Abandoned = refl
 
-  refusal-same : (world : TrackedWorld) (course : Course) (request : List ℕ) →
-      IsSound o_to_t_size (record world { course = course }) →
-      submit_refusal (shown (record world { course = course })).originator request
-      ≡ refusal o_to_t_size (plain (record world { course = course })) request
-  refusal-same world Resting request sound = refl
-  refusal-same world (Awaiting own) request sound = refl
-  refusal-same world Abandoned request sound = refl
+  waiting-same : (course : Course) → is_waiting (phase_of first course) ≡ is_awaiting (progress_of course)
+  waiting-same Resting = refl
+  waiting-same (Awaiting own) = refl
+  waiting-same Abandoned = refl
 
-  at_submit : (world : TrackedWorld) (why : Option Refused) (request : List ℕ) →
+  -- the submits since the last accepted reply, as they are counted
+  tries-since : (world : TrackedWorld) → IsSound o_to_t_size world → world.tries ≡ submits_since_accepted (plain world)
+  tries-since world sound = omega (arith, sound.window.since)
+
+  pub refusal-same : (world : TrackedWorld) (request : List ℕ) → IsSound o_to_t_size world →
+      submit_refusal (shown world).originator request ≡ refusal o_to_t_size (plain world) request
+  refusal-same world request sound =
+      ap₂ (λ tries waits. first_refusal tries waits (form_refusal o_to_t_size request)) (tries-since world sound)
+      (waiting-same world.course)
+
+  pub at_submit : (world : TrackedWorld) (why : Option Refused) (request : List ℕ) →
       items.after_submit why (shown world) request ≡ shown (after_submit why world request)
   at_submit world None request =
       let more : length (world.submits ++ request ∷ []) ≡ length world.submits + 1 =
@@ -124,7 +131,7 @@ module _ {M : Type 0} (after : M → ℕ → List ℕ → M) (answer : M → ℕ
   is_deliverable : (own : Own) → IsOfForm o_to_t_size own.request → IsDeliverable o_to_t_size (deliverable own)
   is_deliverable own form = record { count = count_of-below first own.number; request = form.least; size = form.fits }
 
-  repeats : (world : TrackedWorld) (own : Own) → IsOfForm o_to_t_size own.request →
+  pub repeats : (world : TrackedWorld) (own : Own) → IsOfForm o_to_t_size own.request →
       is_held (held_of after answer first t_to_o_size start world.log) (count_of first own.number) ≡ true →
       target_step after answer (target world) (show world).router (item_of first own)
       ≡ step_of Repeated (target world) (show world).router
@@ -210,7 +217,7 @@ module _ {M : Type 0} (after : M → ℕ → List ℕ → M) (answer : M → ℕ
   at_reach world position (Some own) sound e = at_reached world own position world.is_open sound e
 
   -- the waiting request's reply is taken as such
-  is_reply-same : (submits : List (List ℕ)) (waiting : Own) (number : ℕ) (reply : List ℕ) (is : Bool) →
+  pub is_reply-same : (submits : List (List ℕ)) (waiting : Own) (number : ℕ) (reply : List ℕ) (is : Bool) →
       (waiting.number == number) ≡ is →
       IsAnswered t_to_o_size submits number reply → IsSubmitted submits waiting → number ≤ waiting.number →
       waiting.number ≤ number + 65535 →
@@ -235,7 +242,7 @@ module _ {M : Type 0} (after : M → ℕ → List ℕ → M) (answer : M → ℕ
       (sym (sequence_count_of-item (count_of first number) reply (count_of-below first number)) ∙ same))))
 
   is_reply-awaited : (world : TrackedWorld) (course : Course) (own : Own) (position : ℕ) → IsSound o_to_t_size world →
-      IsCourseSound world.submits world.accepted course world.tries → delivery world.last_back world.back position
+      IsCourseSound world.submits world.accepted course → delivery world.last_back world.back position
       ≡ Some own →
       is_reply t_to_o_size (phase_of first course) (answers_by world.log own) ≡ is_own_awaited course own.number
   is_reply-awaited world Resting own position sound course found = refl
@@ -262,7 +269,7 @@ module _ {M : Type 0} (after : M → ℕ → List ℕ → M) (answer : M → ℕ
 
   came-same : (world : TrackedWorld) (course : Course) (own : Own) (position : ℕ) (is : Bool) →
       is_own_awaited course own.number ≡ is →
-      IsCourseSound world.submits world.accepted course world.tries →
+      IsCourseSound world.submits world.accepted course →
       came is (record world { course = course }) own position
       ≡ show (came_back is (record world { course = course }) own position)
   came-same world course own position false e sound = refl
@@ -290,7 +297,7 @@ module _ {M : Type 0} (after : M → ℕ → List ℕ → M) (answer : M → ℕ
       item_step after answer (show world) event ≡ show (tracked_step o_to_t_size world event)
   step_same world (Submit request) sound =
       ap (λ why. items.after_submit why (show world) request)
-      (refusal-same after answer first o_to_t_size t_to_o_size start world world.course request sound)
+      (refusal-same after answer first o_to_t_size t_to_o_size start world request sound)
       ∙ at_submit after answer first o_to_t_size t_to_o_size start world (refusal o_to_t_size (plain world) request)
       request
   step_same world Resend sound = at_resend after answer first o_to_t_size t_to_o_size start world

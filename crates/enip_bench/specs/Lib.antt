@@ -1,3 +1,4 @@
+pub mod Bound
 pub mod CountingOpening
 pub mod CountingWorld
 pub mod Events

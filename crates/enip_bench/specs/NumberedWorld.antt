@@ -1,9 +1,8 @@
 -- The numbered world: requests have numbers that never wrap, and each that reaches the target is executed once.
 use Rattle.std.specs.Prelude.{ℕ, ◌+◌, ◌-◌, ◌%◌, ◌==◌, Bool, true, false, ◌||◌, if◌then◌else◌, Option, Some, None, List, [], ◌∷◌, ◌++◌, length, map, slice_index_or}
 use Rattle.cip_class3.specs.Item.{item}
-use Rattle.cip_class3.specs.OriginatorRule.{form_refusal}
+use Rattle.cip_class3.specs.OriginatorRule.{first_refusal, form_refusal}
 use Rattle.cip_class3.specs.declared.originator.Refused.{Refused}
-use Rattle.cip_class3.specs.declared.originator.Refused.TheVariants as refusals
 use Rattle.cip_class3.specs.declared.originator.Stage.{Stage}
 use Rattle.cip_class3.specs.declared.originator.Stage.TheVariants as stages
 use Rattle.enip_bench.specs.Events.{Event, Submit, Resend, Reach, Back, Other, Shut, GiveUp, delivery, is_unconnected_request, UNCONNECTED_ROOM, with_any}
@@ -14,7 +13,7 @@ pub data Entry : Type 0 where
   OwnRequest : (number : ℕ) → Entry
   OtherRequest : (request : List ℕ) → Entry
 
--- no request waits for its reply, the one of this number does, or it was given up
+-- no request waits for its reply, the one of this number does, or the last one was given up
 pub data Progress : Type 0 where
   Idle : Progress
   WaitingFor : (number : ℕ) → Progress
@@ -58,13 +57,17 @@ after_last (number ∷ next ∷ numbers) = after_last (next ∷ numbers)
 abbrev pub submits_since_accepted : NumberedWorld → ℕ
 submits_since_accepted world = length world.submits - after_last world.accepted
 
--- why a request is not taken now, if it isn't: one was given up, one waits, or it is of no such form
+-- a reply is awaited
+abbrev pub is_awaiting : Progress → Bool
+is_awaiting Idle = false
+is_awaiting (WaitingFor number) = true
+is_awaiting GivenUp = false
+
+-- why a request is not taken now, if it isn't: too many were submitted since the last accepted reply, one waits, or it
+-- is of no such form
 abbrev pub refusal : ℕ → NumberedWorld → List ℕ → Option Refused
-refusal o_to_t_size world request = elim world.progress [
-  | Idle ↦ form_refusal o_to_t_size request
-  | WaitingFor number ↦ Some refusals.Busy
-  | GivenUp ↦ Some refusals.GivenUp
-]
+refusal o_to_t_size world request =
+    first_refusal (submits_since_accepted world) (is_awaiting world.progress) (form_refusal o_to_t_size request)
 
 -- the number whose reply is awaited
 abbrev pub awaited : Progress → Option ℕ

@@ -77,7 +77,7 @@ wrap-numbers = refl
 -- accepted. Unconnected requests are executed as often as they come, but for those of under 2 bytes or over 504.
 abbrev pub giving_up : List Event
 giving_up =
-    Submit (add 5) ∷ GiveUp ∷ Submit (add 7) ∷ Resend ∷ Reach 0 ∷ Back 0 ∷ Other (add 20) ∷ Other (add 20)
+    Submit (add 5) ∷ GiveUp ∷ Submit (0x32 ∷ []) ∷ Resend ∷ Reach 0 ∷ Back 0 ∷ Other (add 20) ∷ Other (add 20)
     ∷ Other (0x32 ∷ []) ∷ Other (replicate 505 1) ∷ []
 
 abbrev pub giving_up_seen : Seen ℕ
@@ -88,6 +88,42 @@ giving_up-items = refl
 
 pub giving_up-numbers : by_numbers 0 giving_up ≡ giving_up_seen
 giving_up-numbers = refl
+
+-- Who gave up goes on. The late reply to what was given up is not accepted; it was executed all the same.
+abbrev pub going_on : List Event
+going_on = Submit (add 5) ∷ GiveUp ∷ Submit (add 7) ∷ Reach 0 ∷ Back 0 ∷ Reach 1 ∷ Back 1 ∷ []
+
+abbrev pub going_on_seen : Seen ℕ
+going_on_seen = record {
+  router = 12;
+  back = (1 ∷ 0 ∷ added 5) ∷ (2 ∷ 0 ∷ added 12) ∷ [];
+  accepted = (1, added 12) ∷ [];
+  stage = stages.Idle;
+}
+
+pub going_on-items : by_items 1 going_on ≡ going_on_seen
+going_on-items = refl
+
+pub going_on-numbers : by_numbers 1 going_on ≡ going_on_seen
+going_on-numbers = refl
+
+-- One that was lost is never executed, and none is accepted before the one that is awaited.
+abbrev pub lost : List Event
+lost = Submit (add 5) ∷ GiveUp ∷ Submit (add 7) ∷ Reach 1 ∷ Reach 0 ∷ Back 0 ∷ GiveUp ∷ Submit (add 1) ∷ []
+
+abbrev pub lost_seen : Seen ℕ
+lost_seen = record {
+  router = 7;
+  back = (2 ∷ 0 ∷ added 7) ∷ [];
+  accepted = (1, added 7) ∷ [];
+  stage = stages.Waiting;
+}
+
+pub lost-items : by_items 1 lost ≡ lost_seen
+lost-items = refl
+
+pub lost-numbers : by_numbers 1 lost ≡ lost_seen
+lost-numbers = refl
 
 -- a target that was closed is silent, and executes nothing; other sessions are still served
 abbrev pub closing : List Event

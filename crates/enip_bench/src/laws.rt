@@ -4,6 +4,7 @@
 //! request waits, and nothing was sent. They are any list of submits, resends, deliveries in order with any losses
 //! and repeats, other sessions' requests, closings and givings up, so any number of wraps of the count.
 
+ghost use Rattle.enip_bench.specs.Bound.{bound_law, refusals_law, raised_law};
 ghost use Rattle.enip_bench.specs.FrameLaw.{frame_law};
 ghost use Rattle.enip_bench.specs.ObjectsRun.{run_law};
 ghost use Rattle.enip_bench.specs.WorldLaws.{agreement_law, once_law, order_law, window_law, arrival_law};
@@ -44,6 +45,21 @@ pub fn answered_alike<R: Router>()
 /// Since the last accepted reply fewer requests were submitted than there are counts.
 pub fn fewer_than_counts()
     ensures { window_law }
+{}
+
+/// A request is refused as one too many exactly where 65,535 were submitted since the last accepted reply, and both
+/// worlds refuse the same requests, for the same reasons. So the worlds agree while the bound holds, and it holds after
+/// every list of events.
+pub fn refused_at_the_bound<R: Router>()
+    ensures bound { bound_law }
+    ensures refusals { refusals_law R.after R.answer }
+{}
+
+/// The bound can't be raised. A request is executed and its reply accepted, and 65,535 more are submitted, given up and
+/// lost. Were one more taken, it would have the count of the first one: an open target would not execute it, would send
+/// the first one's reply again, and the originator would accept that as the reply to the last one.
+pub fn bound_cannot_be_raised<R: Router>()
+    ensures { raised_law R.after R.answer }
 {}
 
 /// At the objects, a log of the numbered world is a run of requests: the map after it, and each reply at its place.

@@ -60,6 +60,8 @@ fn the_laws_hold_at_the_objects() {
     laws::accepted_once::<Objects>();
     laws::answered_alike::<Objects>();
     laws::fewer_than_counts();
+    laws::refused_at_the_bound::<Objects>();
+    laws::bound_cannot_be_raised::<Objects>();
     laws::log_is_a_run();
     laws::frames_agree();
 }

@@ -2,13 +2,13 @@
 use Rattle.std.proofs.Common.{◌≡◌, ℕ, ◌+◌, ◌%◌, ◌<◌, ◌^◌, Bool, true, false, cond, Option, Some, None, Result, Ok}
 use Rattle.std.proofs.Common.{Err, List, [], ◌∷◌, drop, slice_index, refl, sym, ap, subst, ◌∙◌, arith}
 use Rattle.std.proofs.lemmas.Bool.{and_parts, eqb-true}
+use Rattle.cip_class3.proofs.Counts.{first_refusal-none}
 use Rattle.cip_class3.specs.Calls as originators
 use Rattle.cip_class3.specs.OriginatorRule.{OriginatorState, Phase, Idle, Waiting, GivenUp, originator_at_opening}
-use Rattle.cip_class3.specs.OriginatorRule.{submit_refusal, form_refusal}
+use Rattle.cip_class3.specs.OriginatorRule.{submit_refusal, first_refusal, form_refusal}
 use Rattle.cip_class3.specs.OriginatorRule.{with_next_request, after_item, accepted_reply, after_give_up, is_reply}
 use Rattle.cip_class3.specs.OriginatorRule.{answers, idle_again, is_waiting}
 use Rattle.cip_class3.specs.declared.originator.Refused.{Refused}
-use Rattle.cip_class3.specs.declared.originator.Refused.TheVariants as refusals
 use Rattle.cip_class3.specs.Item.{item, message_of}
 use Rattle.enip_wire.specs.Frames.{Frame}
 use Rattle.enip_client.specs.declared.fault.ClientFault.{ClientFault}
@@ -239,25 +239,20 @@ Once Idle more = RepliedOnce more
 Once (Waiting count request) more = RepliedOnce (Requested request ∷ more)
 Once GivenUp more = RepliedOnce more
 
-abbrev refused_at : ℕ → List ℕ → Phase → Option Refused
-refused_at size request phase = elim phase [
-  | Idle ↦ form_refusal size request
-  | Waiting _ _ ↦ Some refusals.Busy
-  | GivenUp ↦ Some refusals.GivenUp
-]
-
-submit-once : (size : ℕ) (request : List ℕ) (later : List Exchange) (p : Phase) → refused_at size request p ≡ None
+submit-once : (size tries : ℕ) (request : List ℕ) (later : List Exchange) (p : Phase)
+    → first_refusal tries (is_waiting p) (form_refusal size request) ≡ None
     → RepliedOnce (Requested request ∷ later) → Once p (Requested request ∷ later)
-submit-once size request later Idle free once = once
-submit-once size request later (Waiting count waiting) free once = cc
-submit-once size request later GivenUp free once = cc
+submit-once size tries request later Idle free once = once
+submit-once size tries request later (Waiting count waiting) free once =
+    absurd (let no : true ≡ false = (first_refusal-none tries true (form_refusal size request) free).free in cc)
+submit-once size tries request later GivenUp free once = once
 
 submitted-once : (s t : State) (request : List ℕ) (lent : Option Frame) (later : List Exchange)
     → IsSubmit s request lent t
     → Once t.originator.phase later → Once s.originator.phase (requested_before lent request later)
 submitted-once s t request lent later Not_sent once = once
 submitted-once s t request lent later (Sent free) once =
-    submit-once s.originator.o_to_t_size request later s.originator.phase free once
+    submit-once s.originator.o_to_t_size s.originator.tries request later s.originator.phase free once
 
 requested-before : (request : List ℕ) (later : List Exchange) → RepliedOnce later
     → RepliedOnce (Requested request ∷ later)

@@ -280,7 +280,7 @@ fn forms_of_unconnected_requests(rt: HostRuntime) -> Result<(), Fail> {
     Ok(())
 }
 
-/// Who gave up submits no more, and a late reply is not accepted.
+/// A late reply is not accepted after giving up, and the next request has the next count.
 #[test]
 fn giving_up(rt: HostRuntime) -> Result<(), Fail> {
     let mut client = opened(rt.alloc())?;
@@ -291,10 +291,30 @@ fn giving_up(rt: HostRuntime) -> Result<(), Fail> {
     assert_eq!(rt; client.give_up(), false);
     assert_eq!(rt; client.resend(), None);
     assert_eq!(rt; client.feed(ADDED).heard, Heard::Nothing);
+    assert_eq!(rt; client.submit(ADD).is_ok(), true);
+    assert_eq!(rt; client.stage(), Some(Stage::Waiting));
+    assert_eq!(rt; client.feed(ADDED).heard, Heard::Nothing);
     assert_eq!(rt;
         client.submit(ADD),
-        Err(SubmitFault::Refused(Refused::GivenUp))
+        Err(SubmitFault::Refused(Refused::Busy))
     );
+    assert_eq!(rt; client.close(), Ok(CLOSE));
+    Ok(())
+}
+
+/// 65,535 requests that were given up, and one more is refused. The connection still closes.
+#[test]
+fn giving_up_to_the_bound(rt: HostRuntime) -> Result<(), Fail> {
+    let mut client = opened(rt.alloc())?;
+    for n in 0..65_535u32 {
+        let taken = client.submit(ADD).is_ok();
+        assert!(rt; taken && client.give_up(), "at {n}");
+    }
+    assert_eq!(rt;
+        client.submit(ADD),
+        Err(SubmitFault::Refused(Refused::TooManyAbandoned))
+    );
+    assert_eq!(rt; client.stage(), Some(Stage::GivenUp));
     assert_eq!(rt; client.close(), Ok(CLOSE));
     Ok(())
 }

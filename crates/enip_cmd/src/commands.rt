@@ -53,7 +53,8 @@ it:
 
   line          printed
   submit HEX    submit N sent K      the client's request N, from 0, was sent at position K
-                submit refused R     one waits (1), it is too long (2), it is no request (3), one was given up (4)
+                submit refused R     one waits (1), it is too long (2), it is no request (3), 65,535 were submitted since
+                                     the last accepted reply (5)
   resend        resend K             the request that waits was sent once more, at position K
                 resend none          no request waits
   reach K       reach K back J       what was sent at K reached the adapter, whose answer was sent back at position J
@@ -65,7 +66,7 @@ it:
   other HEX     other done           the second session had this request executed, without a connection
                 other impossible     it has under 2 or over 504 bytes
   shut          shut                 the time of the connection is over
-  giveup        giveup               the client gave up the request that waits
+  giveup        giveup               the client gave up the request that waits, and can submit another
 
 K and J are decimal. HEX may have spaces. Empty lines and lines that begin with # are skipped. At the end it prints
 

@@ -61,13 +61,89 @@ fn cleared_between(rt: HostRuntime) -> Result<(), Fail> {
         (Row::Submit(READ), Step::Sent(1, 2)),
         (Row::Reach(2), Step::Reached(None)),
         (Row::GiveUp, Step::Done),
-        (Row::Submit(READ), Step::Refused(Refused::GivenUp)),
     ];
     let mut bench = bench(rt.alloc(), 100)?;
     compare(rt.alloc(), &mut bench, &rows)?;
     assert_eq!(rt; bench.seen().stage, Stage::GivenUp);
     assert_eq!(rt; counter(&bench, 1)?, 0);
     assert_eq!(rt; counter(&bench, 3)?, 1);
+    Ok(())
+}
+
+/// Who gave up goes on. The late reply to what was given up is ignored; it was executed all the same.
+#[test]
+fn going_on_after_giving_up(rt: HostRuntime) -> Result<(), Fail> {
+    let rows = [
+        (Row::Submit(ADD_5), Step::Sent(0, 0)),
+        (Row::GiveUp, Step::Done),
+        (Row::Submit(ADD_7), Step::Sent(1, 1)),
+        (Row::Reach(0), Step::Reached(Some(0))),
+        (Row::Back(0), Step::Ignored),
+        (Row::Reach(1), Step::Reached(Some(1))),
+        (Row::Back(1), Step::Accepted(IS_12)),
+    ];
+    let mut bench = bench(rt.alloc(), 100)?;
+    compare(rt.alloc(), &mut bench, &rows)?;
+    assert_eq!(rt; bench.seen().stage, Stage::Idle);
+    assert_eq!(rt; counter(&bench, 1)?, 12);
+    assert_eq!(rt; counter(&bench, 3)?, 2);
+    Ok(())
+}
+
+/// A bench after one accepted request, and then as many that were submitted, given up and lost.
+fn abandoned(alloc: Global, count: usize) -> Result<Bench, Fail> {
+    let rows = [
+        (Row::Submit(ADD_5), Step::Sent(0, 0)),
+        (Row::Reach(0), Step::Reached(Some(0))),
+        (Row::Back(0), Step::Accepted(IS_5)),
+    ];
+    let mut bench = bench(alloc, 100)?;
+    compare(alloc, &mut bench, &rows)?;
+    for _ in 0..count {
+        let events = [Row::Submit(ADD_5).event(alloc)?, Event::GiveUp];
+        if bench.run(&events).is_err() {
+            return Err(Fail::from("there is memory"));
+        }
+    }
+    Ok(bench)
+}
+
+/// The 65,535th request since the last accepted reply: while it waits the bound is named, and its reply is accepted.
+#[test]
+fn the_last_request_that_is_taken(rt: HostRuntime) -> Result<(), Fail> {
+    let rows = [
+        (Row::Submit(ADD_7), Step::Sent(65_535, 65_535)),
+        (Row::Submit(ADD_7), Step::Refused(Refused::TooManyAbandoned)),
+        (Row::Reach(65_535), Step::Reached(Some(1))),
+        (Row::Back(1), Step::Accepted(IS_12)),
+        (Row::Submit(ADD_7), Step::Sent(65_536, 65_536)),
+    ];
+    let mut bench = abandoned(rt.alloc(), 65_534)?;
+    compare(rt.alloc(), &mut bench, &rows)?;
+    assert_eq!(rt; counter(&bench, 1)?, 12);
+    assert_eq!(rt; counter(&bench, 3)?, 2);
+    Ok(())
+}
+
+/// One more is refused, whatever its form; the one that was given up last can still be executed.
+#[test]
+fn too_many_abandoned(rt: HostRuntime) -> Result<(), Fail> {
+    let rows = [
+        (Row::Submit(ADD_7), Step::Refused(Refused::TooManyAbandoned)),
+        (
+            Row::Submit(b"\x0e"),
+            Step::Refused(Refused::TooManyAbandoned),
+        ),
+        (Row::Resend, Step::Resent(None)),
+        (Row::Reach(65_535), Step::Reached(Some(1))),
+        (Row::Back(1), Step::Ignored),
+        (Row::Submit(ADD_7), Step::Refused(Refused::TooManyAbandoned)),
+    ];
+    let mut bench = abandoned(rt.alloc(), 65_535)?;
+    compare(rt.alloc(), &mut bench, &rows)?;
+    assert_eq!(rt; bench.seen().stage, Stage::GivenUp);
+    assert_eq!(rt; counter(&bench, 1)?, 10);
+    assert_eq!(rt; counter(&bench, 3)?, 2);
     Ok(())
 }
 
@@ -108,7 +184,7 @@ fn refusals(rt: HostRuntime) -> Result<(), Fail> {
         (Row::Submit(&ZEROS[..498]), Step::Sent(0, 0)),
         (Row::Submit(b"\x0e"), Step::Refused(Refused::Busy)),
         (Row::GiveUp, Step::Done),
-        (Row::Submit(b"\x0e"), Step::Refused(Refused::GivenUp)),
+        (Row::Submit(b"\x0e"), Step::Refused(Refused::NoRequest)),
         (Row::Resend, Step::Resent(None)),
     ];
     let mut bench = bench(rt.alloc(), 100)?;

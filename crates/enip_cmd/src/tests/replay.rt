@@ -73,7 +73,7 @@ const REPLAYS: [Row; 9] = [
         config: None,
         input: "submit 32\nsubmit \nsubmit b200\nsubmit 32022064240105000000\nsubmit 32\ngiveup\nsubmit 32\nresend\n",
         output: "submit refused 3\nsubmit refused 3\nsubmit refused 3\nsubmit 0 sent 0\nsubmit refused 1\ngiveup\n\
-        submit refused 4\nresend none\ncounter 0 100 0\nassembly 100 00000000\nclient given up\n",
+        submit refused 3\nresend none\ncounter 0 100 0\nassembly 100 00000000\nclient given up\n",
         status: 0,
         errors: "",
     },
@@ -105,6 +105,15 @@ const REPLAYS: [Row; 9] = [
         input: "submit 32022064240160000000\nreach 0\nback 0\nsubmit 32022064240105000000\nreach 1\ngiveup\nback 1\n",
         output: "submit 0 sent 0\nreach 0 back 0\nback 0 accepted b200000060000000\nsubmit 1 sent 1\n\
         reach 1 back 1\ngiveup\nback 1 ignored\ncounter 96 100 1\nassembly 100 00000000\nclient given up\n",
+        status: 0,
+        errors: "",
+    },
+    Row {
+        name: "going on after giving up",
+        config: None,
+        input: "submit 32022064240105000000\ngiveup\nsubmit 32022064240107000000\nreach 0\nback 0\nreach 1\nback 1\n",
+        output: "submit 0 sent 0\ngiveup\nsubmit 1 sent 1\nreach 0 back 0\nback 0 ignored\nreach 1 back 1\n\
+        back 1 accepted b20000000c000000\ncounter 12 100 2\nassembly 100 00000000\nclient idle\n",
         status: 0,
         errors: "",
     },
