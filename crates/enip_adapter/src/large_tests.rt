@@ -33,7 +33,8 @@ const EMPTY: &[u8] = b"\x6f\0\x16\0\x01\0\0\0\0\0\0\0\x01\x02\x03\x04\x05\x06\x0
 const TOO_SHORT: &[u8] = b"\x6f\0\x14\0\x01\0\0\0\0\0\0\0\x01\x02\x03\x04\x05\x06\x07\x08\0\0\0\0\
     \0\0\0\0\0\0\x02\0\0\0\0\0\xb2\0\x04\0\xdb\0\x13\0";
 /// The data of assembly 101, on the connection, and what the answer begins with.
-const GET_CONNECTED: &[u8] = b"\x70\0\x1e\0\x01\0\0\0\0\0\0\0\x01\x02\x03\x04\x05\x06\x07\x08\0\0\0\0\
+const GET_CONNECTED: &[u8] =
+    b"\x70\0\x1e\0\x01\0\0\0\0\0\0\0\x01\x02\x03\x04\x05\x06\x07\x08\0\0\0\0\
     \0\0\0\0\0\0\x02\0\xa1\0\x04\0\x01\0\0\0\xb1\0\x0a\0\x01\0\x0e\x03\x20\x04\x24\x65\
     \x30\x03";
 
@@ -43,13 +44,16 @@ const FRONT: &[u8] = b"\x70\0\x56\x0f\x01\0\0\0\0\0\0\0\x01\x02\x03\x04\x05\x06\
 const GET: &[u8] = b"\x6f\0\x18\0\x01\0\0\0\0\0\0\0\x01\x02\x03\x04\x05\x06\x07\x08\0\0\0\0\
     \0\0\0\0\0\0\x02\0\0\0\0\0\xb2\0\x08\0\x0e\x03\x20\x04\x24\x65\x30\x03";
 
-const REPLY_TOO_LARGE: &[u8] = b"\x6f\0\x14\0\x01\0\0\0\0\0\0\0\x01\x02\x03\x04\x05\x06\x07\x08\0\0\0\0\
+const REPLY_TOO_LARGE: &[u8] =
+    b"\x6f\0\x14\0\x01\0\0\0\0\0\0\0\x01\x02\x03\x04\x05\x06\x07\x08\0\0\0\0\
     \0\0\0\0\0\0\x02\0\0\0\0\0\xb2\0\x04\0\x8e\0\x11\0";
 /// An opening on the connection.
-const OPEN_CONNECTED: &[u8] = b"\x70\0\x1c\0\x01\0\0\0\0\0\0\0\x01\x02\x03\x04\x05\x06\x07\x08\0\0\0\0\
+const OPEN_CONNECTED: &[u8] =
+    b"\x70\0\x1c\0\x01\0\0\0\0\0\0\0\x01\x02\x03\x04\x05\x06\x07\x08\0\0\0\0\
     \0\0\0\0\0\0\x02\0\xa1\0\x04\0\x01\0\0\0\xb1\0\x08\0\x02\0\x5b\x02\x20\x06\x24\x01";
 
-const NOT_SUPPORTED: &[u8] = b"\x70\0\x1a\0\x01\0\0\0\0\0\0\0\x01\x02\x03\x04\x05\x06\x07\x08\0\0\0\0\
+const NOT_SUPPORTED: &[u8] =
+    b"\x70\0\x1a\0\x01\0\0\0\0\0\0\0\x01\x02\x03\x04\x05\x06\x07\x08\0\0\0\0\
     \0\0\0\0\0\0\x02\0\xa1\0\x04\0\x44\x33\x22\x11\xb1\0\x06\0\x02\0\xdb\0\x08\0";
 
 /// The objects of the demo configuration, and assembly 101 of 3,900 bytes.

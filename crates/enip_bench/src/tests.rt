@@ -1,6 +1,7 @@
 //! Worked lists of events, through a bench of the demo configuration.
 
 mod growths;
+mod large;
 mod rows;
 
 use super::*;
@@ -66,15 +67,15 @@ fn the_laws_hold_at_the_objects() {
     laws::frames_agree();
 }
 
-/// The objects of the demo configuration, whose counter has this limit.
-fn demo(alloc: Global, limit: u32) -> Result<Objects, Fail> {
+/// The demo configuration, whose counter has this limit.
+fn config(alloc: Global, limit: u32) -> Result<Config, Fail> {
     let mut assemblies = Vec::new(alloc);
     assemblies.push(AssemblyConfig {
         instance: 100,
         settable: true,
         members: Vec::from_slice(alloc, &[1, 2, 1])?,
     })?;
-    let config = Config {
+    Ok(Config {
         vendor: 0x1234,
         device_type: 43,
         product_code: 7,
@@ -86,9 +87,13 @@ fn demo(alloc: Global, limit: u32) -> Result<Objects, Fail> {
         state: 3,
         counter: CounterConfig { value: 0, limit },
         assemblies,
-    };
+    })
+}
+
+/// Its objects.
+fn demo(alloc: Global, limit: u32) -> Result<Objects, Fail> {
     Ok(
-        Objects::new(alloc, &config)
+        Objects::new(alloc, &config(alloc, limit)?)
             .ok()
             .ok_or("the objects are made")?,
     )

@@ -3,7 +3,8 @@
 use super::*;
 
 /// The data of a Large_Forward_Open: as `OPEN`, with connection serial 6 and both sizes 4,002.
-const LARGE: [u8; 44] = *b"\x0a\x0e\x00\x00\x00\x00\x44\x33\x22\x11\x06\x00\x42\x00\x78\x56\x34\x12\x00\0\0\0\
+const LARGE: [u8; 44] =
+    *b"\x0a\x0e\x00\x00\x00\x00\x44\x33\x22\x11\x06\x00\x42\x00\x78\x56\x34\x12\x00\0\0\0\
     \x80\x84\x1e\x00\xa2\x0f\x00\x42\x80\x84\x1e\x00\xa2\x0f\x00\x42\xa3\x02\x20\x02\x24\x01";
 
 // Where the fields of `LARGE` stand that do not stand there in `OPEN`.
@@ -26,7 +27,11 @@ static ROWS: [(usize, &[u8], u16); 16] = [
     (LARGE_T_TO_O_PARAMETERS, b"\xa2\x0f\x00\x22", 0x0108),
     (O_TO_T_PARAMETERS, b"\xa2\x0f\x00\x62", 0x0108),
     // A multiplier of 8, and a size that is too small.
-    (MULTIPLIER, b"\x08\0\0\0\x80\x84\x1e\x00\x03\x00\x00\x42", 0x0108),
+    (
+        MULTIPLIER,
+        b"\x08\0\0\0\x80\x84\x1e\x00\x03\x00\x00\x42",
+        0x0108,
+    ),
     // Type and size at the places of 16 bits.
     (O_TO_T_PARAMETERS, b"\x00\x42\x00\x00", 0x0108),
     // Sizes 3 and 4,003 from originator to target, 9, 4,003 and 65,535 from target to originator.
@@ -77,7 +82,8 @@ fn large_openings_are_checked(rt: HostRuntime) -> Result<(), Fail> {
     }
     // No refused open took a place or an ID.
     assert!(rt; manager.free() == 16);
-    let success = *b"\xdb\0\0\0\x01\0\0\0\x44\x33\x22\x11\x06\0\x42\0\x78\x56\x34\x12\x80\x84\x1e\0\x80\x84\x1e\0\0\0";
+    let success =
+        *b"\xdb\0\0\0\x01\0\0\0\x44\x33\x22\x11\x06\0\x42\0\x78\x56\x34\x12\x80\x84\x1e\0\x80\x84\x1e\0\0\0";
     let reply = reply_to_large_open(&mut manager, &LARGE);
     assert!(rt; reply.as_slice() == success.as_slice());
     assert!(rt; manager.free() == 15);
@@ -94,7 +100,11 @@ fn large_and_small_openings(rt: HostRuntime) -> Result<(), Fail> {
     let mut other = LARGE;
     other[SERIAL] = 5;
     let reply = reply_to_large_open(&mut manager, &other);
-    assert!(rt; reply.as_slice().starts_with(&[0xdb, 0x00, 0x00, 0x00, 0x08, 0x00]));
+    assert!(rt;
+        reply
+            .as_slice()
+            .starts_with(&[0xdb, 0x00, 0x00, 0x00, 0x08, 0x00])
+    );
     // Both places are taken: a double open is seen before that.
     let reply = reply_to_large_open(&mut manager, &LARGE);
     assert!(rt; reply.as_slice() == refusal(0x0100).as_slice());
@@ -102,7 +112,11 @@ fn large_and_small_openings(rt: HostRuntime) -> Result<(), Fail> {
     close[2] = 6;
     reply_to_close(&mut manager, 1, &close);
     let reply = reply_to_large_open(&mut manager, &LARGE);
-    assert!(rt; reply.as_slice().starts_with(&[0xdb, 0x00, 0x00, 0x00, 0x09, 0x00]));
+    assert!(rt;
+        reply
+            .as_slice()
+            .starts_with(&[0xdb, 0x00, 0x00, 0x00, 0x09, 0x00])
+    );
     check_refused(&rt, &reply_to_open(&mut manager, 0, 1, &OPEN), 0x0113);
     Ok(())
 }

@@ -2,9 +2,10 @@
 
 use super::*;
 use cip_class3::{Refused, Stage};
+use std::process::Abort;
 
 /// A reply that is lost, a request that is sent again, and one more.
-const EXACTLY_ONCE: [(Row, Step); 9] = [
+pub(super) const EXACTLY_ONCE: [(Row, Step); 9] = [
     (Row::Submit(ADD_5), Step::Sent(0, 0)),
     (Row::Reach(0), Step::Reached(Some(0))),
     (Row::Reach(0), Step::Reached(Some(1))),
@@ -20,8 +21,13 @@ const EXACTLY_ONCE: [(Row, Step); 9] = [
 fn exactly_once(rt: HostRuntime) -> Result<(), Fail> {
     let mut bench = bench(rt.alloc(), 100)?;
     compare(rt.alloc(), &mut bench, &EXACTLY_ONCE)?;
-    assert_eq!(rt; counter(&bench, 1)?, 12);
-    assert_eq!(rt; counter(&bench, 3)?, 2);
+    check_exactly_once(&rt, &bench)
+}
+
+/// What is seen after these rows: 5 and 7 were added once each.
+pub(super) fn check_exactly_once<A: Abort>(rt: &A, bench: &Bench) -> Result<(), Fail> {
+    assert_eq!(rt; counter(bench, 1)?, 12);
+    assert_eq!(rt; counter(bench, 3)?, 2);
     assert_eq!(rt; bench.seen().stage, Stage::Idle);
     assert_eq!(rt; bench.seen().back.len(), 3);
     Ok(())

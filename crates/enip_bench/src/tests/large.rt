@@ -1,0 +1,96 @@
+//! A connection of 4,002 bytes each way.
+
+use super::rows::{EXACTLY_ONCE, check_exactly_once};
+use super::*;
+use cip_class3::Refused;
+
+/// What the client asks of its connection: both sizes are the greatest.
+const LARGE: Wants = Wants {
+    originator_vendor: 66,
+    originator_serial: 305_419_896,
+    connection_serial: 1,
+    t_to_o_id: 287_454_020,
+    rpi: 2_000_000,
+    timeout_multiplier: 0,
+    o_to_t_size: 4_002,
+    t_to_o_size: 4_002,
+    first_count: 1,
+};
+
+/// A bench of the demo configuration and of assembly 101, which has 3,900 bytes.
+fn large_bench(alloc: Global) -> Result<Bench, Fail> {
+    let mut config = config(alloc, 100)?;
+    config.assemblies.push(AssemblyConfig {
+        instance: 101,
+        settable: true,
+        members: Vec::from_slice(alloc, &[3_900])?,
+    })?;
+    let Ok(objects) = Objects::new(alloc, &config) else {
+        return Err(Fail::from("the objects are made"));
+    };
+    let adapter = Adapter::new(alloc, objects, LISTEN, LIMITS)?;
+    let Ok(client) = Client::new(alloc, &LARGE) else {
+        return Err(Fail::from("the client is made"));
+    };
+    let Ok(bench) = Bench::new(alloc, adapter, client) else {
+        return Err(Fail::from("the ends open"));
+    };
+    Ok(bench)
+}
+
+#[test]
+fn exactly_once_on_a_large_connection(rt: HostRuntime) -> Result<(), Fail> {
+    let mut bench = large_bench(rt.alloc())?;
+    compare(rt.alloc(), &mut bench, &EXACTLY_ONCE)?;
+    check_exactly_once(&rt, &bench)
+}
+
+/// Some bytes, and then one byte again and again.
+fn filled(alloc: Global, front: &[u8], byte: u8, length: usize) -> Result<Vec<u8>, Fail> {
+    let mut bytes = Vec::from_slice(alloc, front)?;
+    for _ in front.len()..length {
+        bytes.push(byte)?;
+    }
+    Ok(bytes)
+}
+
+/// Does an event, and compares what is told of it.
+fn does(bench: &mut Bench, event: Event, step: Step<'_>) -> Result<(), Fail> {
+    if bench.step(&event)? == step {
+        Ok(())
+    } else {
+        Err(Fail::from("another step is told"))
+    }
+}
+
+/// Submits a request, which is executed, and compares the reply.
+fn replies(bench: &mut Bench, number: usize, request: Vec<u8>, reply: &[u8]) -> Result<(), Fail> {
+    does(bench, Event::Submit(request), Step::Sent(number as u64, number))?;
+    does(bench, Event::Reach(number), Step::Reached(Some(number)))?;
+    does(bench, Event::Back(number), Step::Accepted(reply))
+}
+
+/// The 3,900 bytes of an assembly are set; the longest reply has them and 22 attributes more; the longest request is
+/// taken, and has too much data for its service; one byte more is refused.
+#[test]
+fn longest_requests_and_replies(rt: HostRuntime) -> Result<(), Fail> {
+    let mut bench = large_bench(rt.alloc())?;
+    let set = filled(rt.alloc(), b"\x10\x03\x20\x04\x24\x65\x30\x03", 0xa5, 3_908)?;
+    replies(&mut bench, 0, set, b"\x90\0\0\0")?;
+    let mut list = Vec::from_slice(rt.alloc(), b"\x03\x02\x20\x04\x24\x65\x17\0")?;
+    let mut front = Vec::from_slice(rt.alloc(), b"\x83\0\x0a\0\x17\0")?;
+    for _ in 0..21 {
+        list.extend_from_slice(b"\x63\0")?;
+        front.extend_from_slice(b"\x63\0\x14\0")?;
+    }
+    list.extend_from_slice(b"\x01\0\x03\0")?;
+    front.extend_from_slice(b"\x01\0\0\0\x01\0\x03\0\0\0")?;
+    let listed = filled(rt.alloc(), &front, 0xa5, 4_000)?;
+    replies(&mut bench, 1, list, &listed)?;
+    let longest = filled(rt.alloc(), CLEAR, 0, 4_000)?;
+    replies(&mut bench, 2, longest, b"\xb3\0\x15\0")?;
+    let longer = filled(rt.alloc(), CLEAR, 0, 4_001)?;
+    does(&mut bench, Event::Submit(longer), Step::Refused(Refused::TooLong))?;
+    assert_eq!(rt; bench.seen().back.len(), 3);
+    Ok(())
+}
