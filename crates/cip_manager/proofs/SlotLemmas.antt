@@ -26,6 +26,11 @@ module _ (slab : Slab Connection) where
       → i < length connections → i < length entries
   within entries connections i named same h = omega (arith, length-listed entries named, ap length same, h)
 
+  -- where connections leave a place, the entries do
+  pub leaves-place : (entries : List Entry) (connections : List Connection) (places : ℕ) → AllByRecursion (Names slab) entries → listed slab entries ≡ connections
+      → length connections < places → length entries < places
+  leaves-place entries connections places named same h = omega (arith, length-listed entries named, ap length same, h)
+
   -- their IDs are those of the entries
   pub ids-listed : (entries : List Entry) → AllByRecursion (Names slab) entries → map (λ c. c.o_to_t_id) (listed slab entries) ≡ ids entries
   ids-listed [] named = refl

@@ -3,31 +3,18 @@ use Rattle.std.specs.List.{AllByRecursion}
 use Rattle.std.proofs.lemmas.List.{length_push}
 use Rattle.std.proofs.lemmas.List.Elements.{All-push, All-weaker}
 use Rattle.cip_manager.specs.Table.{listed, Names, AreBelow}
-use Rattle.cip_manager.proofs.SlotLemmas.{length-listed, ids-below, Shows-push}
+use Rattle.cip_manager.proofs.SlotLemmas.{leaves-place, ids-below, Shows-push}
 use Rattle.cip_manager.proofs.table.Table.push.Goals as goal
 
 pub insert_reserved-key-requires : goal.insert_reserved-key-requires
 insert_reserved-key-requires c =
-    omega (
-      arith,
-      c.requires.place,
-      c.self.invariant.others,
-      c.self.invariant.room,
-      ap (λ t. length t.connections) c.self.view_is,
-      ap (λ t. t.places) c.self.view_is,
-      length-listed c.self.inside.connections c.self.inside.index c.self.invariant.named,
-    )
+    let left = leaves-place c.self.inside.connections c.self.inside.index c.args.self.now.connections c.args.self.now.places c.self.invariant.named (ap (λ t. t.connections) c.self.view_is) c.requires.place in
+    omega (arith, left, ap (λ t. t.places) c.self.view_is, c.self.invariant.others, c.self.invariant.room)
 
 pub push-requires-clause-room : goal.push-requires-clause-room
 push-requires-clause-room c =
-    omega (
-      arith,
-      c.requires.place,
-      c.self.invariant.to,
-      ap (λ t. length t.connections) c.self.view_is,
-      ap (λ t. t.places) c.self.view_is,
-      length-listed c.self.inside.connections c.self.inside.index c.self.invariant.named,
-    )
+    let left = leaves-place c.self.inside.connections c.self.inside.index c.args.self.now.connections c.args.self.now.places c.self.invariant.named (ap (λ t. t.connections) c.self.view_is) c.requires.place in
+    omega (arith, left, ap (λ t. t.places) c.self.view_is, c.self.invariant.to)
 
 pub push-requires-clause-above : goal.push-requires-clause-above
 push-requires-clause-above c =
@@ -40,15 +27,13 @@ invariant_of-self c =
     let put = c.insert_reserved-key in
     let shows = Shows-push c.self.inside.connections put.new.self put.result (Some c.args.connection) put.ensures.updates c.self.inside.index c.args.connection put.ensures.was_vacant refl c.self.invariant.named in
     let longer = ap length c.push.ensures ∙ length_push c.self.inside.index (record { id = c.args.connection.o_to_t_id; key = put.result }) in
-    let before = ap (λ t. length t.connections) c.self.view_is in
-    let places = ap (λ t. t.places) c.self.view_is in
-    let entries = length-listed c.self.inside.connections c.self.inside.index c.self.invariant.named in
+    let left = leaves-place c.self.inside.connections c.self.inside.index c.args.self.now.connections c.args.self.now.places c.self.invariant.named (ap (λ t. t.connections) c.self.view_is) c.requires.place in
     record {
       from = c.self.invariant.from;
       to = c.self.invariant.to;
       named = subst (AllByRecursion (Names put.new.self)) (sym c.push.ensures) shows.named;
       others = omega (arith, longer, put.ensures.len, c.self.invariant.others);
-      taken = omega (arith, longer, c.requires.place, before, places, entries);
+      taken = omega (arith, longer, left, ap (λ t. t.places) c.self.view_is);
       room = omega (arith, put.ensures.capacity, c.self.invariant.room);
     }
 
