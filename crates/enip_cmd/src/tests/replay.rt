@@ -45,7 +45,7 @@ instance = 1
 members = [2, 1]
 ";
 
-const REPLAYS: [Row; 9] = [
+const REPLAYS: [Row; 10] = [
     Row {
         name: "a doubled request and a doubled reply",
         config: None,
