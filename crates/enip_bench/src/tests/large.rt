@@ -65,7 +65,11 @@ fn does(bench: &mut Bench, event: Event, step: Step<'_>) -> Result<(), Fail> {
 
 /// Submits a request, which is executed, and compares the reply.
 fn replies(bench: &mut Bench, number: usize, request: Vec<u8>, reply: &[u8]) -> Result<(), Fail> {
-    does(bench, Event::Submit(request), Step::Sent(number as u64, number))?;
+    does(
+        bench,
+        Event::Submit(request),
+        Step::Sent(number as u64, number),
+    )?;
     does(bench, Event::Reach(number), Step::Reached(Some(number)))?;
     does(bench, Event::Back(number), Step::Accepted(reply))
 }
@@ -90,7 +94,11 @@ fn longest_requests_and_replies(rt: HostRuntime) -> Result<(), Fail> {
     let longest = filled(rt.alloc(), CLEAR, 0, 4_000)?;
     replies(&mut bench, 2, longest, b"\xb3\0\x15\0")?;
     let longer = filled(rt.alloc(), CLEAR, 0, 4_001)?;
-    does(&mut bench, Event::Submit(longer), Step::Refused(Refused::TooLong))?;
+    does(
+        &mut bench,
+        Event::Submit(longer),
+        Step::Refused(Refused::TooLong),
+    )?;
     assert_eq!(rt; bench.seen().back.len(), 3);
     Ok(())
 }
