@@ -82,6 +82,7 @@ impl Connection {
     }
 
     /// Gives an item to the target, at a moment. What is not dropped moves the deadline.
+    #[inline(always)]
     pub fn receive<R: Router>(&mut self, now: u64, item: &[u8], router: &mut R) -> Received
         ensures { connection_turn result self.new router.new
             ≡ turn_of_connection R.after R.answer self.old now item.now router.old }
@@ -94,6 +95,7 @@ impl Connection {
     }
 
     /// What answers the connection's last request.
+    #[inline(always)]
     pub fn answer(&self) -> Answer<'_>
         ensures reply { reply_in result ≡ reply_of self.now }
         ensures fits { length result.bytes.now ≤ LARGEST_SIZE }
@@ -114,6 +116,7 @@ fn timeout_of(rpi: u32, multiplier: u8) -> u64
 }
 
 /// So long after a moment, at most the greatest moment.
+#[inline(always)]
 fn moment_after(now: u64, time: u64) -> u64
     ensures { result ≡ moment_after now time }
 {

@@ -19,6 +19,7 @@ pub enum Group {
 
 impl Group {
     /// Whether a connection is one of them.
+    #[inline(always)]
     pub fn has(&self, connection: &Connection) -> bool
         ensures { result ≡ is_in self.now connection.now }
     {

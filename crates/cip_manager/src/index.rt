@@ -57,6 +57,7 @@ impl Index {
     }
 
     /// How many entries there are.
+    #[inline(always)]
     pub fn len(&self) -> usize
         ensures count { result ≡ length self.now }
         ensures most { result ≤ 64 }
@@ -66,6 +67,7 @@ impl Index {
     }
 
     /// How the ID of the entry at a place stands to an ID. This is one step.
+    #[inline(always)]
     pub fn compare(&self, place: usize, id: u32, steps: &mut Steps) -> Ordering
         requires place { place < length self.now }
         requires counts { steps.old.count + 1 < 2 ^ 64 }
@@ -77,6 +79,7 @@ impl Index {
     }
 
     /// The key of the entry at a place.
+    #[inline(always)]
     pub fn key(&self, place: usize) -> usize
         requires { place < length self.now }
         ensures key { result ≡ slice_index (keys self.now) place }

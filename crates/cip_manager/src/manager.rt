@@ -156,6 +156,7 @@ impl Manager {
     ///
     /// It ends no connection: `expire` with the same moment comes first.
     #[tactic(auto, using(crate::proofs::ItemLemmas::answered_item))]
+    #[inline(always)]
     pub fn connected<R: Router>(
         &mut self,
         now: u64,
@@ -197,6 +198,7 @@ impl Manager {
     }
 
     /// Ends the connections whose deadline is at or before the moment.
+    #[inline(always)]
     pub fn expire(&mut self, now: u64)
         ensures { self.new ≡ without_overdue self.old now }
     {

@@ -7,6 +7,7 @@ use crate::index::{Index, Steps};
 use std::cmp::Ordering;
 
 /// The place of the entry with an ID. It takes no more steps than the number of entries has binary digits.
+#[inline(always)]
 pub fn place_of(index: &Index, id: u32, steps: &mut Steps) -> Option<usize>
     requires { steps.old.count ≤ 18446744073709551608 }
     ensures place { result ≡ position (λ other. other == id) (ids index.now) }

@@ -56,6 +56,7 @@ impl Table {
     }
 
     /// How many connections are open.
+    #[inline(always)]
     fn len(&self) -> usize
         ensures count { result ≡ length self.now.connections }
         ensures taken { result ≤ self.now.places }
@@ -108,6 +109,7 @@ impl Table {
     }
 
     /// Ends the connections of the group.
+    #[inline(always)]
     pub fn end(&mut self, group: &Group)
         ensures ended { self.new
             ≡ record self.old { connections = filter (λ c. not (is_in group.now c)) self.old.connections } }
@@ -122,6 +124,7 @@ impl Table {
 
     /// Gives an item to the connection that a session and an O->T ID name, at a moment: the place of that
     /// connection, if it answers.
+    #[inline(always)]
     pub fn receive<R: Router>(
         &mut self,
         now: u64,
@@ -145,6 +148,7 @@ impl Table {
     }
 
     /// What answers the last request of the connection at a place.
+    #[inline(always)]
     pub fn answer(&self, place: usize) -> Answer<'_>
         requires { place < length self.now.connections }
         ensures reply { (d : OpenConnection) →
@@ -155,6 +159,7 @@ impl Table {
     }
 
     /// The connection at a place.
+    #[inline(always)]
     fn at(&self, place: usize) -> &Connection
         requires { place < length self.now.connections }
         ensures { (d : OpenConnection) → result.now ≡ slice_index_or self.now.connections place d }
@@ -172,6 +177,7 @@ impl Table {
     }
 
     /// Where the connection is that a session and an O->T ID name.
+    #[inline(always)]
     fn place_named(&self, session: u32, id: u32) -> Option<usize>
         ensures { result ≡ position (is_named session id) self.now.connections }
     {
