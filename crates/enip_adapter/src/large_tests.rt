@@ -77,6 +77,25 @@ fn check<A: Abort>(rt: &A, adapter: &mut Adapter, peer: &Peer, rows: &[(&[u8], &
     }
 }
 
+/// The data of assembly 101 are read whole on the connection.
+fn check_data<A: Abort>(rt: &A, adapter: &mut Adapter, peer: &Peer) {
+    let data = adapter.feed(0, peer, GET_CONNECTED).answer.unwrap_or(&[]);
+    assert!(rt; data.starts_with(FRONT));
+    assert_eq!(rt; data.len(), 24 + 20 + 2 + 4 + 3_900);
+    assert!(rt; data[50..].iter().all(|byte| *byte == 0));
+}
+
+/// A session with a large connection.
+fn check_session<A: Abort>(rt: &A, adapter: &mut Adapter, peer: &Peer) {
+    assert!(rt; adapter.feed(0, peer, REGISTER).answer.is_some());
+    let before: [(&[u8], &[u8]); 3] = [(TOO_LARGE, REFUSED), (EMPTY, TOO_SHORT), (OPEN, OPENED)];
+    check(rt, adapter, peer, &before);
+    check_data(rt, adapter, peer);
+    let after: [(&[u8], &[u8]); 2] = [(GET, REPLY_TOO_LARGE), (OPEN_CONNECTED, NOT_SUPPORTED)];
+    check(rt, adapter, peer, &after);
+    assert_eq!(rt; adapter.free(), (8, 15));
+}
+
 /// `new` takes all memory, so this ends well whichever growth after the objects is refused.
 #[test]
 fn large_connections_take_no_memory(rt: HostRuntime) -> Result<(), Fail> {
@@ -86,20 +105,7 @@ fn large_connections_take_no_memory(rt: HostRuntime) -> Result<(), Fail> {
         Ok(adapter) => adapter,
         Err(AllocError) => Adapter::new(rt.alloc(), again, LISTEN, LIMITS)?,
     };
-    let Ok(peer) = adapter.begin() else {
-        return Err(Fail::from("no place is free"));
-    };
-    assert!(rt; adapter.feed(0, &peer, REGISTER).answer.is_some());
-    let before: [(&[u8], &[u8]); 3] = [(TOO_LARGE, REFUSED), (EMPTY, TOO_SHORT), (OPEN, OPENED)];
-    check(&rt, &mut adapter, &peer, &before);
-    let Some(data) = adapter.feed(0, &peer, GET_CONNECTED).answer else {
-        return Err(Fail::from("no answer"));
-    };
-    assert!(rt; data.starts_with(FRONT));
-    assert_eq!(rt; data.len(), 24 + 20 + 2 + 4 + 3_900);
-    assert!(rt; data[50..].iter().all(|byte| *byte == 0));
-    let after: [(&[u8], &[u8]); 2] = [(GET, REPLY_TOO_LARGE), (OPEN_CONNECTED, NOT_SUPPORTED)];
-    check(&rt, &mut adapter, &peer, &after);
-    assert_eq!(rt; adapter.free(), (8, 15));
+    let peer = adapter.begin().ok().ok_or("a place is free")?;
+    check_session(&rt, &mut adapter, &peer);
     Ok(())
 }
