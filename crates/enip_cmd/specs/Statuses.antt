@@ -57,6 +57,11 @@ IsOfDevices Device = ⊤
 IsOfDevices Memory = ⊤
 IsOfDevices _ = ⊥
 
+-- No configuration is refused.
+abbrev pub IsNoRefusal : Fault → Type 0
+IsNoRefusal (Refused refusal) = ⊥
+IsNoRefusal _ = ⊤
+
 -- This line is refused, which is so only where it may be, or else a device or memory failed.
 abbrev pub EndsAt : Type 0 → ℕ → Fault → Type 0
 EndsAt refused number (Line n) = (n ≡ number) × refused

@@ -9,7 +9,7 @@ ghost use Rattle.enip_config.specs.Told.{IsRefused};
 ghost use Rattle.enip_cmd.specs.Replay.{IsOpeningOf, IsOpeningRefused, IsStopOf, IsDone, IsRun, ending};
 ghost use Rattle.enip_cmd.specs.Replay.{objects_printed, assembly_printed, assemblies_printed};
 ghost use Rattle.enip_cmd.specs.Script.{IsRefusedLine};
-ghost use Rattle.enip_cmd.specs.Statuses.{IsAccepted, IsOfDevices, IsReplayStatus, replay_stop_status};
+ghost use Rattle.enip_cmd.specs.Statuses.{IsNoRefusal, IsAccepted, IsOfDevices, IsReplayStatus, replay_stop_status};
 
 use crate::answer::adapter_from;
 use crate::asking::WANTS;
@@ -88,9 +88,16 @@ fn run<W: Write + Drop>(alloc: Global, config: &[u8], script: &[u8], output: W) 
         output: BufWriter::new(alloc, output)?,
         digits: Vec::new(alloc),
     };
-    let ran = read_lines(alloc, script, &mut player);
-    player.end(ran)?;
+    play(alloc, script, &mut player)?;
     Ok(())
+}
+
+/// Runs the lines of a script, and prints where both ends stand.
+fn play<W: Write + Drop>(alloc: Global, script: &[u8], player: &mut Player<W>) -> Result<(), Fault>
+    ensures { IfErr result IsNoRefusal }
+{
+    let ran = read_lines(alloc, script, player);
+    player.end(ran)
 }
 
 /// Why a replay ends early. Its text goes to standard error.
