@@ -31,9 +31,3 @@ pub seven_grow : (old a b c d e f g n1 n2 n3 n4 n5 n6 n7 : List ℕ) → n1 ≡ 
 seven_grow old a b c d e f g n1 n2 n3 n4 n5 n6 n7 p1 p2 p3 p4 p5 p6 p7 =
     let g6 : Grows old (a ++ b ++ c ++ d ++ e ++ f) n6 = record { is = six_grow old a b c d e f n1 n2 n3 n4 n5 n6 p1 p2 p3 p4 p5 p6 } in
     (grows_then old (a ++ b ++ c ++ d ++ e ++ f) n6 g n7 g6 p7).is
-
-pub eight_grow : (old a b c d e f g h n1 n2 n3 n4 n5 n6 n7 n8 : List ℕ) → n1 ≡ old ++ a → n2 ≡ n1 ++ b → n3 ≡ n2 ++ c → n4 ≡ n3 ++ d → n5 ≡ n4 ++ e → n6 ≡ n5 ++ f → n7 ≡ n6 ++ g → n8 ≡ n7 ++ h
-    → n8 ≡ old ++ (a ++ b ++ c ++ d ++ e ++ f ++ g ++ h)
-eight_grow old a b c d e f g h n1 n2 n3 n4 n5 n6 n7 n8 p1 p2 p3 p4 p5 p6 p7 p8 =
-    let g7 : Grows old (a ++ b ++ c ++ d ++ e ++ f ++ g) n7 = record { is = seven_grow old a b c d e f g n1 n2 n3 n4 n5 n6 n7 p1 p2 p3 p4 p5 p6 p7 } in
-    (grows_then old (a ++ b ++ c ++ d ++ e ++ f ++ g) n7 h n8 g7 p8).is

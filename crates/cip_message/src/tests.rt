@@ -1,5 +1,8 @@
+ghost use Rattle.std.specs.Prelude.{◌≡◌};
+
 use super::*;
 use arrayvec::ArrayVec;
+use std::process::Abort;
 use std::test::*;
 
 mod large_open;
@@ -285,6 +288,45 @@ const OPEN: [u8; 40] = [
     0, 0x80, 0x84, 0x1e, 0, 0xf4, 0x43, 0x81, 0x84, 0x1e, 0, 0xf5, 0x43, 0xa3, 2, 0x20, 2, 0x24, 1,
 ];
 
+/// Each field of an open request but its parameters has its own value.
+fn check_fields<P>(rt: &impl Abort, open: &OpenRequest<'_, P>) {
+    assert_eq!(rt; open.priority_and_tick_time, 0x0a);
+    assert_eq!(rt; open.timeout_ticks, 0x0e);
+    assert_eq!(rt; open.o_to_t_id, 1);
+    assert_eq!(rt; open.t_to_o_id, 0x1122_3344);
+    assert_eq!(rt; open.connection_serial, 3);
+    assert_eq!(rt; open.originator_vendor, 66);
+    assert_eq!(rt; open.originator_serial, 0x1234_5678);
+    assert_eq!(rt; open.timeout_multiplier, 2);
+    assert_eq!(rt; open.o_to_t_rpi, 2_000_000);
+    assert_eq!(rt; open.t_to_o_rpi, 2_000_001);
+    assert!(rt; open.transport.is_server());
+    assert_eq!(rt; open.transport.class(), 3);
+    assert_eq!(rt; open.path, [0x20, 2, 0x24, 1].as_slice());
+}
+
+/// The open request with those fields.
+fn open_with<P>(o_to_t_parameters: P, t_to_o_parameters: P, path: &[u8]) -> OpenRequest<'_, P>
+    ensures { result.path.now ≡ path.now }
+{
+    OpenRequest {
+        priority_and_tick_time: 0x0a,
+        timeout_ticks: 0x0e,
+        o_to_t_id: 1,
+        t_to_o_id: 0x1122_3344,
+        connection_serial: 3,
+        originator_vendor: 66,
+        originator_serial: 0x1234_5678,
+        timeout_multiplier: 2,
+        o_to_t_rpi: 2_000_000,
+        o_to_t_parameters,
+        t_to_o_rpi: 2_000_001,
+        t_to_o_parameters,
+        transport: Transport { bits: 0xa3 },
+        path,
+    }
+}
+
 #[test]
 fn open_requests(rt: HostRuntime) -> Result<(), Fail> {
     assert!(rt; matches!(OpenRequest::read(&OPEN[..39]), Err(LengthFault::Short)));
@@ -296,44 +338,21 @@ fn open_requests(rt: HostRuntime) -> Result<(), Fail> {
     let open = OpenRequest::read(&OPEN)
         .ok()
         .ok_or("the bytes are an open request")?;
-    assert_eq!(rt; open.priority_and_tick_time, 0x0a);
-    assert_eq!(rt; open.timeout_ticks, 0x0e);
-    assert_eq!(rt; open.o_to_t_id, 1);
-    assert_eq!(rt; open.t_to_o_id, 0x1122_3344);
-    assert_eq!(rt; open.connection_serial, 3);
-    assert_eq!(rt; open.originator_vendor, 66);
-    assert_eq!(rt; open.originator_serial, 0x1234_5678);
-    assert_eq!(rt; open.timeout_multiplier, 2);
-    assert_eq!(rt; open.o_to_t_rpi, 2_000_000);
+    check_fields(&rt, &open);
     assert_eq!(rt; open.o_to_t_parameters.connection_type(), 2);
     assert_eq!(rt; open.o_to_t_parameters.size(), 500);
-    assert_eq!(rt; open.t_to_o_rpi, 2_000_001);
     assert_eq!(rt; open.t_to_o_parameters.size(), 501);
-    assert!(rt; open.transport.is_server());
-    assert_eq!(rt; open.transport.class(), 3);
-    assert_eq!(rt; open.path, [0x20, 2, 0x24, 1].as_slice());
     Ok(())
 }
 
 #[test]
 fn open_request_written(rt: HostRuntime) {
     let path = [0x20, 2, 0x24, 1];
-    let open = OpenRequest {
-        priority_and_tick_time: 0x0a,
-        timeout_ticks: 0x0e,
-        o_to_t_id: 1,
-        t_to_o_id: 0x1122_3344,
-        connection_serial: 3,
-        originator_vendor: 66,
-        originator_serial: 0x1234_5678,
-        timeout_multiplier: 2,
-        o_to_t_rpi: 2_000_000,
-        o_to_t_parameters: Parameters { bits: 0x43f4 },
-        t_to_o_rpi: 2_000_001,
-        t_to_o_parameters: Parameters { bits: 0x43f5 },
-        transport: Transport { bits: 0xa3 },
-        path: &path,
-    };
+    let open = open_with(
+        Parameters { bits: 0x43f4 },
+        Parameters { bits: 0x43f5 },
+        &path,
+    );
     let mut out: ArrayVec<u8, 40> = ArrayVec::new();
     assert_eq!(rt; open.write(&mut out), Ok(()));
     assert_eq!(rt; out.as_slice(), OPEN.as_slice());

@@ -1,8 +1,6 @@
 //! Large_Forward_Open requests: each field with its own value.
 
-use crate::{Full, LargeParameters, LengthFault, OpenRequest, Transport};
-use arrayvec::ArrayVec;
-use std::test::Fail;
+use super::*;
 
 /// O->T RPI 2,000,000 microseconds and size 4,002, T->O RPI 2,000,001 and size 4,001, both point to point.
 const LARGE_OPEN: [u8; 44] =
@@ -14,21 +12,9 @@ fn read(rt: HostRuntime) -> Result<(), Fail> {
     let open = OpenRequest::read_large(&LARGE_OPEN)
         .ok()
         .ok_or("the bytes are a large open request")?;
-    assert_eq!(rt; open.priority_and_tick_time, 0x0a);
-    assert_eq!(rt; open.timeout_ticks, 0x0e);
-    assert_eq!(rt; open.o_to_t_id, 1);
-    assert_eq!(rt; open.t_to_o_id, 0x1122_3344);
-    assert_eq!(rt; open.connection_serial, 3);
-    assert_eq!(rt; open.originator_vendor, 66);
-    assert_eq!(rt; open.originator_serial, 0x1234_5678);
-    assert_eq!(rt; open.timeout_multiplier, 2);
-    assert_eq!(rt; open.o_to_t_rpi, 2_000_000);
+    check_fields(&rt, &open);
     assert_eq!(rt; open.o_to_t_parameters.bits, 0x4200_0fa2);
-    assert_eq!(rt; open.t_to_o_rpi, 2_000_001);
     assert_eq!(rt; open.t_to_o_parameters.bits, 0xc200_0fa1);
-    assert!(rt; open.transport.is_server());
-    assert_eq!(rt; open.transport.class(), 3);
-    assert_eq!(rt; open.path, [0x20, 2, 0x24, 1].as_slice());
     Ok(())
 }
 
@@ -67,22 +53,11 @@ fn parameters(rt: HostRuntime) {
 #[test]
 fn written(rt: HostRuntime) {
     let path = [0x20, 2, 0x24, 1];
-    let open = OpenRequest {
-        priority_and_tick_time: 0x0a,
-        timeout_ticks: 0x0e,
-        o_to_t_id: 1,
-        t_to_o_id: 0x1122_3344,
-        connection_serial: 3,
-        originator_vendor: 66,
-        originator_serial: 0x1234_5678,
-        timeout_multiplier: 2,
-        o_to_t_rpi: 2_000_000,
-        o_to_t_parameters: LargeParameters { bits: 0x4200_0fa2 },
-        t_to_o_rpi: 2_000_001,
-        t_to_o_parameters: LargeParameters { bits: 0xc200_0fa1 },
-        transport: Transport { bits: 0xa3 },
-        path: &path,
-    };
+    let open = open_with(
+        LargeParameters { bits: 0x4200_0fa2 },
+        LargeParameters { bits: 0xc200_0fa1 },
+        &path,
+    );
     let mut out: ArrayVec<u8, 44> = ArrayVec::new();
     assert_eq!(rt; open.write_large(&mut out), Ok(()));
     assert_eq!(rt; out.as_slice(), LARGE_OPEN.as_slice());

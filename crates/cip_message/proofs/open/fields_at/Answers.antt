@@ -1,4 +1,4 @@
-use Rattle.std.proofs.Common.{◌≡◌, ℕ, ◌+◌, ◌*◌, List, take, drop, length, ◌-◌, slice_index, refl, ap, sym, subst, ◌∙◌}
+use Rattle.std.proofs.Common.{◌≡◌, ℕ, ◌+◌, ◌*◌, drop, slice_index, refl, ap, ◌∙◌}
 use Rattle.cip_bytes.proofs.Bytes.{number_behind, rest_slice}
 use Rattle.cip_bytes.specs.Numbers.{number_at}
 use Rattle.cip_message.specs.Open.{width, open_fields_in}
