@@ -1,10 +1,10 @@
 //! The open connections, in the order in which they were opened.
 ghost use Rattle.std.specs.Prelude.{◌≡◌, ◌≤◌, ◌+◌, ◌-◌, ◌<◌, ℕ, not, filter, [], ◌∷◌, ◌++◌, length, slice_index_or};
 ghost use Rattle.std.specs.Prelude.{IfOk, IfNone};
-ghost use Rattle.std.specs.List.{list_any, position, remove};
+ghost use Rattle.std.specs.List.{list_any, remove};
 ghost use Rattle.cip_class3.specs.Item.{LARGEST_SIZE};
 ghost use Rattle.cip_manager.specs.declared.connection.Connection.{Connection as OpenConnection};
-ghost use Rattle.cip_manager.specs.Connection.{has_id, is_named};
+ghost use Rattle.cip_manager.specs.Connection.{has_id};
 ghost use Rattle.cip_manager.specs.Index.{binary_digits};
 ghost use Rattle.cip_manager.specs.Items.{view as reply_in, reply_of, item_turn, IsAt};
 ghost use Rattle.cip_manager.specs.Table.{is_in, no_entry, AreBelow};
@@ -139,9 +139,12 @@ impl Table {
         ensures places { self.new.places ≡ self.old.places }
         ensures silent { IfNone result ((self.new ≡ self.old) × (router.new ≡ router.old)) }
     {
-        let place = self.place_named(session, id)?;
-        let key = self.index.key(place);
-        match self.connections[key].receive(now, item, router) {
+        let place = place_of(&self.index, id, &mut Steps::default())?;
+        let connection = &mut self.connections[self.index.key(place)];
+        if connection.session != session {
+            return None;
+        }
+        match connection.receive(now, item, router) {
             Received::Dropped => None,
             Received::Repeated | Received::Executed => Some(place),
         }
@@ -174,18 +177,5 @@ impl Table {
     {
         let key = self.index.remove(place);
         self.connections.remove(key);
-    }
-
-    /// Where the connection is that a session and an O->T ID name.
-    #[inline(always)]
-    fn place_named(&self, session: u32, id: u32) -> Option<usize>
-        ensures { result ≡ position (is_named session id) self.now.connections }
-    {
-        let place = place_of(&self.index, id, &mut Steps::default())?;
-        if self.connections[self.index.key(place)].session == session {
-            Some(place)
-        } else {
-            None
-        }
     }
 }
