@@ -4,10 +4,10 @@ ghost use Rattle.std.specs.Prelude.{IfOk, IfNone};
 ghost use Rattle.std.specs.List.{list_any, remove};
 ghost use Rattle.cip_class3.specs.Item.{LARGEST_SIZE};
 ghost use Rattle.cip_manager.specs.declared.connection.Connection.{Connection as OpenConnection};
-ghost use Rattle.cip_manager.specs.Connection.{has_id};
+ghost use Rattle.cip_manager.specs.Connection.{has_id, is_open_at};
 ghost use Rattle.cip_manager.specs.Index.{binary_digits};
 ghost use Rattle.cip_manager.specs.Items.{view as reply_in, reply_of, item_turn, IsAt};
-ghost use Rattle.cip_manager.specs.Table.{is_in, no_entry, AreBelow};
+ghost use Rattle.cip_manager.specs.Table.{is_in, no_entry, AreBelow, AreOpenUntil};
 
 use crate::connection::Connection;
 use crate::group::Group;
@@ -24,6 +24,8 @@ use std::marker::Model;
 #[derive(Drop)]
 pub struct Table {
     places: u16,
+    // No open connection's deadline is before this moment.
+    earliest: u64,
     index: Index,
     connections: Slab<Connection>,
 }
@@ -38,7 +40,7 @@ impl Model for Table {
 
     ghost view = { λ t. record { places = t.places; connections = listed t.connections t.index } };
 
-    ghost invariant = { λ t. IsSound t.places t.index t.connections };
+    ghost invariant = { λ t. IsSound t.places t.earliest t.index t.connections };
 }
 
 impl Table {
@@ -50,6 +52,7 @@ impl Table {
     {
         Ok(Table {
             places,
+            earliest: u64::MAX,
             index: Index::new(),
             connections: Slab::with_capacity(alloc, usize::from(places))?,
         })
@@ -104,6 +107,7 @@ impl Table {
         ensures below { AreBelow (connection.o_to_t_id + 1) self.new.connections }
     {
         let id = connection.o_to_t_id;
+        self.earliest = self.earliest.min(connection.deadline);
         let key = self.connections.insert_reserved(connection);
         self.index.push(id, key);
     }
@@ -120,6 +124,20 @@ impl Table {
                 self.remove(place);
             }
         }
+    }
+
+    /// Ends the connections whose deadline is at or before a moment. Before the earliest of the deadlines it looks at
+    /// no connection.
+    #[inline(always)]
+    pub fn expire(&mut self, now: u64)
+        ensures ended { self.new
+            ≡ record self.old { connections = filter (is_open_at now) self.old.connections } }
+        ensures below { (n : ℕ) → AreBelow n self.old.connections → AreBelow n self.new.connections }
+    {
+        if now < self.earliest {
+            return;
+        }
+        self.end_overdue(now);
     }
 
     /// Gives an item to the connection that a session and an O->T ID name, at a moment: the place of that
@@ -144,7 +162,9 @@ impl Table {
         if connection.session != session {
             return None;
         }
-        match connection.receive(now, item, router) {
+        let received = connection.receive(now, item, router);
+        self.earliest = self.earliest.min(connection.deadline);
+        match received {
             Received::Dropped => None,
             Received::Repeated | Received::Executed => Some(place),
         }
@@ -168,6 +188,28 @@ impl Table {
         ensures { (d : OpenConnection) → result.now ≡ slice_index_or self.now.connections place d }
     {
         &self.connections[self.index.key(place)]
+    }
+
+    /// Ends the connections whose deadline is at or before a moment, and finds the earliest deadline of the others.
+    #[inline(never)]
+    fn end_overdue(&mut self, now: u64)
+        ensures ended { self.new
+            ≡ record self.old { connections = filter (is_open_at now) self.old.connections } }
+        ensures below { (n : ℕ) → AreBelow n self.old.connections → AreBelow n self.new.connections }
+    {
+        self.end(&Group::Overdue(now));
+        self.earliest = self.earliest_deadline();
+    }
+
+    /// The earliest of the deadlines.
+    fn earliest_deadline(&self) -> u64
+        ensures { AreOpenUntil result self.now.connections }
+    {
+        let mut earliest = u64::MAX;
+        for place in 0..self.len() {
+            earliest = earliest.min(self.at(place).deadline);
+        }
+        earliest
     }
 
     /// Ends the connection at a place.
