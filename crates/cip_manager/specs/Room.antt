@@ -4,17 +4,18 @@ use Rattle.std.specs.List.{AllByRecursion}
 use Rattle.slab.specs.Slab.{Slab, slab_len}
 use Rattle.cip_manager.specs.declared.connection.Connection.{Connection}
 use Rattle.cip_manager.specs.declared.index.Entry.{Entry}
-use Rattle.cip_manager.specs.Table.{Names, AreBelow}
+use Rattle.cip_manager.specs.Table.{listed, Names, AreBelow, AreOpenUntil}
 
 -- Each entry of the index names a connection of the slab, and the slab has no others. There is room for each place,
--- and no more connections than places are open.
-pub record IsSound (places : ℕ) (entries : List Entry) (slab : Slab Connection) : Type 0 where
+-- and no more connections than places are open. No open connection's deadline is before the earliest.
+pub record IsSound (places earliest : ℕ) (entries : List Entry) (slab : Slab Connection) : Type 0 where
   pub from : 1 ≤ places
   pub to : places ≤ 64
   pub named : AllByRecursion (Names slab) entries
   pub others : slab_len slab ≡ length entries
   pub taken : length entries ≤ places
   pub room : places ≤ slab.capacity
+  pub until : AreOpenUntil earliest (listed slab entries)
 
 -- at most the last ID was drawn, and the next one is above those of the open connections
 pub record IsNumbered (next_id : ℕ) (connections : List Connection) : Type 0 where

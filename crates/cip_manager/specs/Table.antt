@@ -1,5 +1,5 @@
 -- The open connections of a `Manager`.
-use Rattle.std.specs.Prelude.{◌≡◌, ℕ, ◌<◌, Bool, not, List, [], All, filter_map, Some}
+use Rattle.std.specs.Prelude.{◌≡◌, ℕ, ◌<◌, ◌≤◌, Bool, not, List, [], All, filter_map, Some}
 use Rattle.slab.specs.Slab.{Slab, get}
 use Rattle.cip_manager.specs.declared.connection.Connection.{Connection}
 use Rattle.cip_manager.specs.declared.group.Group.{Group}
@@ -25,6 +25,10 @@ is_in (OfSessionWith session triad) connection = is_of_session_with session tria
 -- the O->T ID of each connection is below this one
 abbrev pub AreBelow : ℕ → List Connection → Type 0
 AreBelow id connections = All (λ connection. connection.o_to_t_id < id) connections
+
+-- no connection's deadline is before this moment
+abbrev pub AreOpenUntil : ℕ → List Connection → Type 0
+AreOpenUntil moment connections = All (λ connection. moment ≤ connection.deadline) connections
 
 -- the connections that the slab has at the entries' keys, in the entries' order
 abbrev pub listed : Slab Connection → List Entry → List Connection

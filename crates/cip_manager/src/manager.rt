@@ -202,7 +202,7 @@ impl Manager {
     pub fn expire(&mut self, now: u64)
         ensures { self.new ≡ without_overdue self.old now }
     {
-        self.table.end(&Group::Overdue(now));
+        self.table.expire(now);
     }
 
     /// Ends the connections that a session opened.

@@ -1,13 +1,13 @@
 //! The open connections, in the order in which they were opened.
 ghost use Rattle.std.specs.Prelude.{◌≡◌, ◌≤◌, ◌+◌, ◌-◌, ◌<◌, ℕ, not, filter, [], ◌∷◌, ◌++◌, length, slice_index_or};
 ghost use Rattle.std.specs.Prelude.{IfOk, IfNone};
-ghost use Rattle.std.specs.List.{list_any, position, remove};
+ghost use Rattle.std.specs.List.{list_any, remove};
 ghost use Rattle.cip_class3.specs.Item.{LARGEST_SIZE};
 ghost use Rattle.cip_manager.specs.declared.connection.Connection.{Connection as OpenConnection};
-ghost use Rattle.cip_manager.specs.Connection.{has_id, is_named};
+ghost use Rattle.cip_manager.specs.Connection.{has_id, is_open_at};
 ghost use Rattle.cip_manager.specs.Index.{binary_digits};
 ghost use Rattle.cip_manager.specs.Items.{view as reply_in, reply_of, item_turn, IsAt};
-ghost use Rattle.cip_manager.specs.Table.{is_in, no_entry, AreBelow};
+ghost use Rattle.cip_manager.specs.Table.{is_in, no_entry, AreBelow, AreOpenUntil};
 
 use crate::connection::Connection;
 use crate::group::Group;
@@ -24,6 +24,8 @@ use std::marker::Model;
 #[derive(Drop)]
 pub struct Table {
     places: u16,
+    // No open connection's deadline is before this moment.
+    earliest: u64,
     index: Index,
     connections: Slab<Connection>,
 }
@@ -38,7 +40,7 @@ impl Model for Table {
 
     ghost view = { λ t. record { places = t.places; connections = listed t.connections t.index } };
 
-    ghost invariant = { λ t. IsSound t.places t.index t.connections };
+    ghost invariant = { λ t. IsSound t.places t.earliest t.index t.connections };
 }
 
 impl Table {
@@ -50,6 +52,7 @@ impl Table {
     {
         Ok(Table {
             places,
+            earliest: u64::MAX,
             index: Index::new(),
             connections: Slab::with_capacity(alloc, usize::from(places))?,
         })
@@ -104,6 +107,7 @@ impl Table {
         ensures below { AreBelow (connection.o_to_t_id + 1) self.new.connections }
     {
         let id = connection.o_to_t_id;
+        self.earliest = self.earliest.min(connection.deadline);
         let key = self.connections.insert_reserved(connection);
         self.index.push(id, key);
     }
@@ -120,6 +124,20 @@ impl Table {
                 self.remove(place);
             }
         }
+    }
+
+    /// Ends the connections whose deadline is at or before a moment. Before the earliest of the deadlines it looks at
+    /// no connection.
+    #[inline(always)]
+    pub fn expire(&mut self, now: u64)
+        ensures ended { self.new
+            ≡ record self.old { connections = filter (is_open_at now) self.old.connections } }
+        ensures below { (n : ℕ) → AreBelow n self.old.connections → AreBelow n self.new.connections }
+    {
+        if now < self.earliest {
+            return;
+        }
+        self.end_overdue(now);
     }
 
     /// Gives an item to the connection that a session and an O->T ID name, at a moment: the place of that
@@ -139,9 +157,14 @@ impl Table {
         ensures places { self.new.places ≡ self.old.places }
         ensures silent { IfNone result ((self.new ≡ self.old) × (router.new ≡ router.old)) }
     {
-        let place = self.place_named(session, id)?;
-        let key = self.index.key(place);
-        match self.connections[key].receive(now, item, router) {
+        let place = place_of(&self.index, id, &mut Steps::default())?;
+        let connection = &mut self.connections[self.index.key(place)];
+        if connection.session != session {
+            return None;
+        }
+        let received = connection.receive(now, item, router);
+        self.earliest = self.earliest.min(connection.deadline);
+        match received {
             Received::Dropped => None,
             Received::Repeated | Received::Executed => Some(place),
         }
@@ -167,6 +190,28 @@ impl Table {
         &self.connections[self.index.key(place)]
     }
 
+    /// Ends the connections whose deadline is at or before a moment, and finds the earliest deadline of the others.
+    #[inline(never)]
+    fn end_overdue(&mut self, now: u64)
+        ensures ended { self.new
+            ≡ record self.old { connections = filter (is_open_at now) self.old.connections } }
+        ensures below { (n : ℕ) → AreBelow n self.old.connections → AreBelow n self.new.connections }
+    {
+        self.end(&Group::Overdue(now));
+        self.earliest = self.earliest_deadline();
+    }
+
+    /// The earliest of the deadlines.
+    fn earliest_deadline(&self) -> u64
+        ensures { AreOpenUntil result self.now.connections }
+    {
+        let mut earliest = u64::MAX;
+        for place in 0..self.len() {
+            earliest = earliest.min(self.at(place).deadline);
+        }
+        earliest
+    }
+
     /// Ends the connection at a place.
     fn remove(&mut self, place: usize)
         requires { place < length self.old.connections }
@@ -174,18 +219,5 @@ impl Table {
     {
         let key = self.index.remove(place);
         self.connections.remove(key);
-    }
-
-    /// Where the connection is that a session and an O->T ID name.
-    #[inline(always)]
-    fn place_named(&self, session: u32, id: u32) -> Option<usize>
-        ensures { result ≡ position (is_named session id) self.now.connections }
-    {
-        let place = place_of(&self.index, id, &mut Steps::default())?;
-        if self.connections[self.index.key(place)].session == session {
-            Some(place)
-        } else {
-            None
-        }
     }
 }

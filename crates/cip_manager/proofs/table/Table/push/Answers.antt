@@ -2,7 +2,8 @@ use Rattle.std.proofs.Common.{◌+◌, ◌<◌, Some, [], ◌∷◌, ◌++◌, l
 use Rattle.std.specs.List.{AllByRecursion}
 use Rattle.std.proofs.lemmas.List.{length_push}
 use Rattle.std.proofs.lemmas.List.Elements.{All-push, All-weaker}
-use Rattle.cip_manager.specs.Table.{listed, Names, AreBelow}
+use Rattle.cip_manager.specs.Table.{listed, Names, AreBelow, AreOpenUntil}
+use Rattle.cip_manager.proofs.DeadlineLemmas.{AreOpenUntil-push}
 use Rattle.cip_manager.proofs.SlotLemmas.{leaves-place, ids-below, Shows-push}
 use Rattle.cip_manager.proofs.table.Table.push.Goals as goal
 
@@ -35,6 +36,10 @@ invariant_of-self c =
       others = omega (arith, longer, put.ensures.len, c.self.invariant.others);
       taken = omega (arith, longer, left, ap (λ t. t.places) c.self.view_is);
       room = omega (arith, put.ensures.capacity, c.self.invariant.room);
+      until =
+          subst (AreOpenUntil c.min-self-inside.result) (sym (ap (listed put.new.self) c.push.ensures ∙ shows.connections))
+          (AreOpenUntil-push c.min-self-inside.result c.self.inside.earliest (listed c.self.inside.connections c.self.inside.index) c.args.connection
+          (omega (arith, c.min-self-inside.ensures)) (omega (arith, c.min-self-inside.ensures)) c.self.invariant.until);
     }
 
 pub returns-clause-pushed : goal.returns-clause-pushed

@@ -2,7 +2,8 @@ use Rattle.std.proofs.Common.{None, length, ap, subst, sym, ◌∙◌, arith}
 use Rattle.std.specs.List.{AllByRecursion, remove}
 use Rattle.std.proofs.lemmas.List.Edits.{length-remove}
 use Rattle.slab.specs.Slab.{ContainsKey}
-use Rattle.cip_manager.specs.Table.{listed, Names}
+use Rattle.cip_manager.specs.Table.{listed, Names, AreOpenUntil}
+use Rattle.cip_manager.proofs.DeadlineLemmas.{AreOpenUntil-remove}
 use Rattle.cip_manager.proofs.SlotLemmas.{within, has-key, Shows-remove}
 use Rattle.cip_manager.proofs.table.Table.remove.Goals as goal
 
@@ -31,6 +32,9 @@ invariant_of-self c =
       others = omega (arith, shorter, one, c.remove.ensures.len, c.self.invariant.others);
       taken = omega (arith, shorter, one, c.self.invariant.taken);
       room = omega (arith, c.remove.ensures.capacity, c.self.invariant.room);
+      until =
+          subst (AreOpenUntil c.self.inside.earliest) (sym (ap (listed c.remove.new.self) c.remove-key.ensures.removed ∙ shows.connections))
+          (AreOpenUntil-remove c.self.inside.earliest (listed c.self.inside.connections entries) c.args.place c.self.invariant.until);
     }
 
 pub returns : goal.returns
