@@ -126,8 +126,7 @@ impl Table {
         }
     }
 
-    /// Ends the connections whose deadline is at or before a moment. Before the earliest of the deadlines it looks at
-    /// no connection.
+    /// Ends the connections whose deadline is at or before a moment. Before `earliest` it looks at none of them.
     #[inline(always)]
     pub fn expire(&mut self, now: u64)
         ensures ended { self.new

@@ -5,6 +5,7 @@ ghost use Rattle.arrayvec.specs.ArrayVec.{array_vec_len};
 
 mod closing;
 mod counter;
+mod deadlines;
 mod find;
 mod items;
 mod large_open;
