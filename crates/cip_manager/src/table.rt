@@ -1,5 +1,5 @@
 //! The open connections, in the order in which they were opened.
-ghost use Rattle.std.specs.Prelude.{◌≡◌, ◌≤◌, ◌+◌, ◌-◌, ◌<◌, ℕ, not, filter, [], ◌∷◌, ◌++◌, length, slice_index_or};
+ghost use Rattle.std.specs.Prelude.{◌≡◌, ◌≤◌, ◌+◌, ◌-◌, ◌<◌, ◌^◌, ℕ, not, filter, [], ◌∷◌, ◌++◌, length, slice_index_or};
 ghost use Rattle.std.specs.Prelude.{IfOk, IfNone};
 ghost use Rattle.std.specs.List.{list_any, remove};
 ghost use Rattle.cip_class3.specs.Item.{LARGEST_SIZE};
@@ -200,9 +200,10 @@ impl Table {
         self.earliest = self.earliest_deadline();
     }
 
-    /// The earliest of the deadlines.
+    /// The earliest of the deadlines, or the greatest moment where there is none.
     fn earliest_deadline(&self) -> u64
-        ensures { AreOpenUntil result self.now.connections }
+        ensures until { AreOpenUntil result self.now.connections }
+        ensures latest { (n : ℕ) → n < 2 ^ 64 → AreOpenUntil n self.now.connections → n ≤ result }
     {
         let mut earliest = u64::MAX;
         for place in 0..self.len() {
