@@ -1,5 +1,5 @@
 -- The counting world at its opening shows the item world at its.
-use Rattle.std.proofs.Common.{◌≡◌, ℕ, zero, suc, ◌+◌, ◌*◌, ◌%◌, ◌<◌, ◌≤◌, ◌^◌, true, false, not, ◌&&◌, cond, eqb, ltb, ltb-true, Some, None, List, [], ◌∷◌, length, Result, Ok, refl, ap, ap₂, sym, ◌∙◌, subst, arith}
+use Rattle.std.proofs.Common.{◌≡◌, ℕ, zero, suc, ◌+◌, ◌*◌, ◌<◌, ◌^◌, true, false, not, ◌&&◌, cond, eqb, ltb, ltb-true, Some, None, List, [], ◌∷◌, length, Result, Ok, refl, ap, ap₂, sym, ◌∙◌, subst, arith}
 use Rattle.std.proofs.lemmas.Bool.{eq-eqb, ne_eqb, and_parts}
 use Rattle.std.proofs.lemmas.Bool.Decides.{nat_tests}
 use Rattle.std.proofs.lemmas.Nat.{mul-lt, pow_pos}

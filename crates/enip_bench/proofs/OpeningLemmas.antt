@@ -1,12 +1,10 @@
 -- An opening that nothing refuses leaves the item world's opening.
 use Rattle.std.proofs.Common.{◌≡◌, ℕ, ◌<◌, ◌≤◌, ◌^◌, false, Some, List, [], length, Result, Ok, Err, refl, ap, ◌∙◌, subst, arith}
-use Rattle.cip_class3.specs.Item.{LARGEST_SIZE}
-use Rattle.cip_message.specs.Reply.{Reply, reply_of, reply_of_fields, reply_service}
+use Rattle.cip_message.specs.Reply.{reply_of, reply_of_fields, reply_service}
 use Rattle.cip_message.specs.Open.{Layout, small, large}
-use Rattle.cip_manager.specs.declared.connection.Triad.{Triad}
 use Rattle.cip_manager.specs.declared.opening.Opening.{Opening}
 use Rattle.cip_manager.specs.Manager.{Turn}
-use Rattle.cip_manager.specs.Opening.{opening_check, opening_turn, decided_opening, service_in, opening_in, read_opening_turn, open_success}
+use Rattle.cip_manager.specs.Opening.{opening_check, opening_turn, decided_opening, service_in, read_opening_turn, open_success}
 use Rattle.cip_manager.specs.Replies.{service_code, failure_reply, open_success_data}
 use Rattle.cip_objects.specs.Contents.{Contents}
 use Rattle.enip_wire.specs.Bodies.{rr_text}
@@ -32,7 +30,7 @@ use Rattle.enip_client.specs.declared.wants.Wants.{Wants}
 use Rattle.enip_bench.specs.CountingOpening.{ARefusal, IsWanted, is_registered_news, is_opened_news, exchange}
 use Rattle.enip_bench.proofs.AdapterShows.{registered_as, request-served}
 use Rattle.enip_bench.proofs.FeedLemmas.{IsHeardWhole, client-fed, is_framed, is_rr}
-use Rattle.enip_bench.proofs.OpeningParts.{single, IsSingleFed, single-fed, heard-done, heard-refused, register-served, goes-to-manager, asked_in, open-read, request-size, wanted, asked-is}
+use Rattle.enip_bench.proofs.OpeningParts.{single, IsSingleFed, single-fed, heard-done, heard-refused, register-served, goes-to-manager, open-read, request-size, wanted, asked-is}
 
 -- the client that waits for its session, and the one that has it
 abbrev pub registering : Wants → ClientState

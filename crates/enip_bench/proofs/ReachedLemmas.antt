@@ -1,5 +1,5 @@
 -- What holds of every world that came of an opening.
-use Rattle.std.proofs.Common.{◌≡◌, ℕ, ◌+◌, ◌≤◌, ◌^◌, Bool, true, false, cond, Option, Some, None, option_map, List, [], ◌∷◌, ◌++◌, length, drop, ◌-◌, Ok, Err, append-nil, refl, ap, sym, ◌∙◌, subst, arith}
+use Rattle.std.proofs.Common.{◌≡◌, ℕ, ◌≤◌, Bool, true, false, cond, Option, Some, None, option_map, List, [], ◌∷◌, ◌++◌, length, Err, append-nil, refl, ap, sym, ◌∙◌, subst, arith}
 use Rattle.std.proofs.lemmas.List.{length-drop}
 use Rattle.std.proofs.lemmas.Option.{same_Some}
 use Rattle.cip_class3.specs.Item.{message_of}
@@ -12,7 +12,7 @@ use Rattle.enip_client.specs.declared.fault.ClientFault.{ClientFault}
 use Rattle.enip_client.specs.declared.fault.SubmitFault.TheVariants as submit_faults
 use Rattle.enip_client.specs.declared.state.State.{State}
 use Rattle.cip_class3.specs.declared.originator.Refused.{Refused}
-use Rattle.enip_client.specs.Hears.{News, accepted}
+use Rattle.enip_client.specs.Hears.{accepted}
 use Rattle.enip_bench.specs.CountingWorld.{CountingWorld, reply_heard, counting_step, counting_run, counting_seen}
 use Rattle.enip_bench.specs.Events.{Event, delivery}
 use Rattle.enip_bench.specs.FrameLaw.{headline}

@@ -2,12 +2,12 @@
 use Rattle.std.specs.Prelude.{◌≡◌, ◌<◌, ◌≤◌, ℕ, ⊤, Bool, if◌then◌else◌, map, take, length, Option, Some, None, List, [], ◌∷◌, Result, Ok, Err}
 use Rattle.bytes.specs.Filled.{Filled}
 use Rattle.cip_objects.specs.Contents.{Contents}
-use Rattle.enip_adapter.specs.Calls.{AdapterState, after_call, call_answer}
+use Rattle.enip_adapter.specs.Calls.{AdapterState, after_call}
 use Rattle.enip_adapter.specs.Calls.Call.{Begins_peer}
 use Rattle.enip_client.specs.Client.{ClientState}
 use Rattle.enip_client.specs.Hears.{News}
 use Rattle.enip_bench.specs.CountingOpening.{Setup, ARefusal, Ends, begins}
-use Rattle.enip_bench.specs.CountingWorld.{CountingWorld, reply_heard, counting_step, counting_run}
+use Rattle.enip_bench.specs.CountingWorld.{CountingWorld, reply_heard, counting_step}
 use Rattle.enip_bench.specs.Events.{Event, Submit, Resend, Reach, Back, Other, Shut, GiveUp}
 use Rattle.enip_bench.specs.Reached.{IsReached}
 use Rattle.enip_bench.specs.Seen.{Seen}

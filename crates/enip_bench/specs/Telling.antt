@@ -1,12 +1,11 @@
 -- What is told of an event.
 use Rattle.std.specs.Prelude.{ℕ, if◌then◌else◌, Option, Some, None, option_map, List, length}
-use Rattle.cip_class3.specs.OriginatorRule.{submit_refusal, waiting_item}
+use Rattle.cip_class3.specs.OriginatorRule.{submit_refusal}
 use Rattle.cip_class3.specs.declared.originator.Refused.{Refused}
 use Rattle.enip_adapter.specs.Calls.{call_answer}
 use Rattle.enip_adapter.specs.Calls.Call.{Feeds}
 use Rattle.enip_client.specs.Calls.{resends}
 use Rattle.enip_client.specs.Client.{fed}
-use Rattle.enip_wire.specs.Frames.{Frame}
 use Rattle.enip_bench.specs.CountingWorld.{CountingWorld, bytes_said, reply_heard}
 use Rattle.enip_bench.specs.Events.{Event, Submit, Resend, Reach, Back, Other, Shut, GiveUp, delivery, is_unconnected_request}
 

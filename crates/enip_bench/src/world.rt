@@ -1,6 +1,6 @@
 //! The two ends, what lies between them, and what each event does.
 
-ghost use Rattle.std.specs.Prelude.{ℕ, ◌≡◌, ◌<◌, ◌≤◌, [], length, IfOk, OnOk, vec_len, vec_capacity};
+ghost use Rattle.std.specs.Prelude.{ℕ, ◌≡◌, ◌<◌, ◌≤◌, ◌+◌, [], ◌∷◌, ◌++◌, length, IfOk, OnOk, vec_len, vec_capacity};
 ghost use Rattle.std.specs.Option.{option_map};
 ghost use Rattle.enip_bench.specs.CountingWorld.{reply_heard};
 ghost use Rattle.enip_bench.specs.Events.{Submit, Resend, Reach, Back, Other, Shut, GiveUp, delivery, is_unconnected_request};
@@ -80,7 +80,7 @@ impl World {
             Err(SubmitFault::Client(_)) => unreachable!(),
         }
         let told = Told::Sent(self.submits, self.sent.len());
-        self.sent.push_reserved(room);
+        put(self.alloc, &mut self.sent, room);
         self.submits += 1;
         Ok(told)
     }
@@ -97,7 +97,7 @@ impl World {
         };
         room.extend_reserved(frame);
         let position = self.sent.len();
-        self.sent.push_reserved(room);
+        put(self.alloc, &mut self.sent, room);
         Ok(Told::Resent(Some(position)))
     }
 
@@ -117,7 +117,7 @@ impl World {
         };
         room.extend_reserved(answer);
         let position = self.back.len();
-        self.back.push_reserved(room);
+        put(self.alloc, &mut self.back, room);
         Ok(Told::Reached(Some(position)))
     }
 
@@ -213,6 +213,27 @@ fn make_room(alloc: Global, frames: &mut Vec<BytesMut>, size: usize) -> Result<B
 {
     frames.reserve(1)?;
     BytesMut::with_capacity(alloc, size)
+}
+
+/// Puts a frame behind the others, in a room of its own size: most are far shorter than the longest. Where there is no
+/// memory for that room, it stays where it is.
+fn put(alloc: Global, frames: &mut Vec<BytesMut>, frame: BytesMut)
+    requires place { vec_len frames.old < vec_capacity frames.old }
+    ensures put { frames_in frames.new.items ≡ frames_in frames.old.items ++ frame.items ∷ [] }
+    ensures longer { length frames.new.items ≡ length frames.old.items + 1 }
+{
+    frames.push_reserved(fitted(alloc, frame));
+}
+
+/// The frame in a room of its own size, where there is memory for one.
+fn fitted(alloc: Global, frame: BytesMut) -> BytesMut
+    ensures { result.items ≡ frame.items }
+{
+    let Ok(mut room) = BytesMut::with_capacity(alloc, frame.len()) else {
+        return frame;
+    };
+    room.extend_reserved(frame.as_slice());
+    room
 }
 
 /// What a delivery brings: the frame at this position, where it was sent and none behind it was delivered.

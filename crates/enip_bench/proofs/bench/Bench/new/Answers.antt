@@ -1,6 +1,5 @@
-use Rattle.std.proofs.Common.{◌≡◌, Ok, None, ap, ◌∙◌, arith}
-use Rattle.enip_bench.specs.CountingOpening.{opening_between}
-use Rattle.enip_bench.specs.Stored.{world_in, frames_in, acceptances_in}
+use Rattle.std.proofs.Common.{ap, ◌∙◌, arith}
+use Rattle.enip_bench.specs.Stored.{frames_in, acceptances_in}
 use Rattle.enip_bench.proofs.BenchLemmas.{opened_so, opening_reached}
 use Rattle.enip_bench.proofs.bench.Bench.new.Goals as goal
 

@@ -1,6 +1,5 @@
-use Rattle.std.proofs.Common.{ap, sym, ◌∙◌, subst, arith, refl}
-use Rattle.enip_bench.specs.CountingWorld.{counting_run}
-use Rattle.enip_bench.specs.Stored.{world_in, event_in, events_in}
+use Rattle.std.proofs.Common.{◌∙◌}
+use Rattle.enip_bench.specs.Stored.{world_in, event_in}
 use Rattle.enip_bench.proofs.BenchLemmas.{ran, runs_more, stepped_reached}
 use Rattle.enip_bench.proofs.ReachedLemmas.{headline_holds}
 use Rattle.enip_bench.proofs.bench.Bench.run.Goals as goal

@@ -1,4 +1,4 @@
-use Rattle.std.proofs.Common.{◌≡◌, List, [], ◌∷◌, ◌++◌, ap₂, ◌≤◌, length, Some, ap, sym, ◌∙◌, arith, option_map}
+use Rattle.std.proofs.Common.{◌≡◌, [], ◌∷◌, ◌++◌, ap₂, ◌≤◌, length, Some, ap, sym, ◌∙◌, arith, option_map}
 use Rattle.enip_bench.specs.Events.{delivery}
 use Rattle.enip_bench.specs.Stored.{world_in, frames_in, acceptance_in, acceptances_in, reply_put}
 use Rattle.enip_bench.proofs.BenchLemmas.{accepted_told}

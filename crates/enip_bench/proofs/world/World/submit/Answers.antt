@@ -3,7 +3,6 @@ use Rattle.std.proofs.lemmas.List.{length-map}
 use Rattle.enip_client.specs.Calls.{bytes_in}
 use Rattle.enip_bench.specs.Stored.{world_in, frames_in}
 use Rattle.enip_bench.proofs.BenchLemmas.{refused_told, sent_told}
-use Rattle.enip_bench.proofs.PositionLemmas.{map-push}
 use Rattle.enip_bench.proofs.ReachedLemmas.{no_client_fault}
 use Rattle.enip_bench.proofs.world.World.submit.Goals as goal
 
@@ -23,12 +22,11 @@ returns-in-Err-Refused-clause-stepped c =
 pub returns-clause-stepped : goal.returns-clause-stepped
 returns-clause-stepped c =
     sent_told (world_in c.args.self.now) c.args.request.now c.in-Ok.frame.now c.submit.follows.lender-at-none
-    (frames_in c.push_reserved.new.self.items) c.len.result c.requires.reached
+    (frames_in c.put.new.frames.items) c.len.result c.requires.reached
     (sym c.submit.ensures.lent ∙ ap bytes_in c.in-Ok.is) c.submit.follows.holds-at-none
-    (ap frames_in c.push_reserved.ensures.items
-    ∙ (map-push (λ f. f.items) c.make_room.new.frames.items c.extend_reserved.new.self
+    (c.put.ensures.put
     ∙ ap₂ (λ xs b. frames_in xs ++ b ∷ []) c.make_room.ensures.kept
-    (c.extend_reserved.ensures.items ∙ ap (λ xs. xs ++ c.in-Ok.frame.now) c.in_ok-room.ensures.empty)))
+    (c.extend_reserved.ensures.items ∙ ap (λ xs. xs ++ c.in-Ok.frame.now) c.in_ok-room.ensures.empty))
     (c.len.ensures ∙ omega (
       arith,
       ap length c.make_room.ensures.kept,
