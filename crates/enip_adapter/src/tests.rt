@@ -110,11 +110,13 @@ fn adapter(alloc: Global, first_handle: u32) -> Result<Adapter, Fail>
 /// A frame with context 1 to 8.
 fn frame(alloc: Global, command: u16, session: u32, data: &[u8]) -> Result<Vec<u8>, Fail> {
     let length = u16::try_from(data.len()).ok().ok_or("a frame")?;
-    let mut bytes = Vec::new(alloc);
-    bytes.extend_from_slice(&command.to_le_bytes())?;
-    bytes.extend_from_slice(&length.to_le_bytes())?;
-    bytes.extend_from_slice(&session.to_le_bytes())?;
-    bytes.extend_from_slice(&[0, 0, 0, 0, 1, 2, 3, 4, 5, 6, 7, 8, 0, 0, 0, 0])?;
+    let mut header = [
+        0, 0, 0, 0, 0, 0, 0, 0, 0, 0, 0, 0, 1, 2, 3, 4, 5, 6, 7, 8, 0, 0, 0, 0,
+    ];
+    header[..2].copy_from_slice(&command.to_le_bytes());
+    header[2..4].copy_from_slice(&length.to_le_bytes());
+    header[4..8].copy_from_slice(&session.to_le_bytes());
+    let mut bytes = Vec::from_slice(alloc, &header)?;
     bytes.extend_from_slice(data)?;
     Ok(bytes)
 }
@@ -145,15 +147,19 @@ fn check_piece<A: Abort>(
     piece: &[u8],
     row: &Row<'_>,
 ) {
-    let command = row.command;
+    let (command, session) = (row.command, row.session);
     let fed = adapter.feed(now, peer, piece);
-    assert_eq!(rt; fed.taken, piece.len(), "{command}");
+    assert_eq!(rt; fed.taken, piece.len(), "{command} of session {session}");
     assert_eq!(rt;
         (fed.answer.is_some(), fed.close),
         (row.answer.is_some(), row.close),
-        "{command}"
+        "{command} of session {session}"
     );
-    assert_eq!(rt; told(fed.answer), row.answer, "{command}");
+    assert_eq!(rt;
+        told(fed.answer),
+        row.answer,
+        "{command} of session {session}"
+    );
 }
 
 /// What the frames of a peer do is what their rows say.
