@@ -9,6 +9,3 @@
 mod writing;
 
 pub use writing::{Full, append, append_u8, append_u16, append_u32};
-
-#[cfg(test)]
-mod tests;

@@ -32,6 +32,3 @@ pub use parameters::{LargeParameters, Parameters};
 pub use path::{Path, PathFault, Segment, read_path, write_path};
 pub use reply::{ReplyFault, ReplyView, reply_service, write_reply};
 pub use request::{RequestFault, RequestView};
-
-#[cfg(test)]
-mod tests;

@@ -31,6 +31,3 @@ pub use config::{AssemblyConfig, Config, ConfigFault, CounterConfig};
 pub use objects::Objects;
 pub use router::{REPLY_LIMIT, ReplyBuf, Router};
 pub use status::Status;
-
-#[cfg(test)]
-mod tests;

@@ -17,6 +17,3 @@ mod width;
 pub use configuration::Configuration;
 pub use fault::{Fault, Refusal};
 pub use key::NumberKey;
-
-#[cfg(test)]
-mod tests;

@@ -15,18 +15,10 @@
 #![tactic(auto)]
 
 mod device;
-#[cfg(test)]
-mod device_tests;
 mod header;
-#[cfg(test)]
-mod header_tests;
 pub mod laws;
 mod packet;
-#[cfg(test)]
-mod packet_tests;
 mod reader;
-#[cfg(test)]
-mod reader_tests;
 
 pub use cip_bytes::Full;
 pub use device::{Failed, MemorySink, MemorySource, Sink, Source, write_all};

@@ -1,6 +1,7 @@
 //! Numbers at the end of a buffer.
-use super::*;
+
 use arrayvec::ArrayVec;
+use cip_bytes::{append, append_u8, append_u16, append_u32};
 use std::test::*;
 
 #[test]

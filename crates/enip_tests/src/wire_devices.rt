@@ -4,7 +4,7 @@ ghost use Rattle.std.specs.Prelude.{ℕ, List, ◌≡◌, ◌<◌, ◌+◌, leng
 ghost use Rattle.std.specs.Io.KnownBytes.{Appends, Consumes};
 ghost use Rattle.enip_wire.specs.Devices.{failures_in};
 
-use crate::{Failed, MemorySink, MemorySource, Sink, Source, write_all};
+use enip_wire::{Failed, MemorySink, MemorySource, Sink, Source, write_all};
 use std::io::Read;
 use std::test::*;
 

@@ -1,7 +1,9 @@
-//! Items and bodies, read and written.
+//! Items and bodies that are written.
 
-use crate::*;
 use arrayvec::ArrayVec;
+use enip_wire::{
+    Full, ItemView, cpf_items, rr_body, unit_body, write_items, write_rr_body, write_unit_body,
+};
 use std::test::*;
 
 /// A SendRRData with the request of the vendor.
@@ -23,62 +25,6 @@ const UNIT: [u8; 22] = [
     // Two bytes of connected data.
     0xb1, 0x00, 0x02, 0x00, 0x07, 0x09,
 ];
-
-#[test]
-fn bodies_are_read(rt: HostRuntime) {
-    assert_eq!(rt;
-        rr_body(&ROW),
-        Ok([0x0e, 3, 0x20, 1, 0x24, 1, 0x30, 1].as_slice())
-    );
-    assert_eq!(rt; unit_body(&UNIT), Ok((0x0102_0304, [7, 9].as_slice())));
-    assert_eq!(rt; unit_body(&ROW), Err(CpfFault::Address));
-    let further = [
-        // Interface, another timeout, and three items.
-        0x00, 0x00, 0x00, 0x00, 0x09, 0x09, 0x03, 0x00,
-        // The null address, and one byte of unconnected data.
-        0x00, 0x00, 0x00, 0x00, 0xb2, 0x00, 0x01, 0x00, 0x05,
-        // An item that says nothing.
-        0x00, 0x80, 0x00, 0x00,
-    ];
-    assert_eq!(rt; rr_body(&further), Ok([5].as_slice()));
-}
-
-#[test]
-fn faults_are_told(rt: HostRuntime) {
-    let mut more = [0; 25];
-    more[..24].copy_from_slice(&ROW);
-    assert_eq!(rt; rr_body(&more), Err(CpfFault::Trailing));
-    assert_eq!(rt; rr_body(&ROW[..5]), Err(CpfFault::Short));
-    assert_eq!(rt; rr_body(&ROW[..23]), Err(CpfFault::Short));
-    let mut interface = ROW;
-    interface[0] = 1;
-    assert_eq!(rt; rr_body(&interface), Err(CpfFault::Interface));
-    // Interface, timeout, and one item, the null address.
-    let one_item = [
-        0x00, 0x00, 0x00, 0x00, 0x00, 0x00, 0x01, 0x00, 0x00, 0x00, 0x00, 0x00,
-    ];
-    assert_eq!(rt; rr_body(&one_item), Err(CpfFault::Data));
-    let mut data = ROW;
-    data[12] = 0xb1;
-    assert_eq!(rt; rr_body(&data), Err(CpfFault::Data));
-    let mut address = ROW;
-    address[8] = 0xa1;
-    assert_eq!(rt; rr_body(&address), Err(CpfFault::Address));
-}
-
-#[test]
-fn faults_have_their_numbers(rt: HostRuntime) {
-    let numbers = [
-        (CpfFault::Short, 1),
-        (CpfFault::Trailing, 2),
-        (CpfFault::Interface, 3),
-        (CpfFault::Address, 4),
-        (CpfFault::Data, 5),
-    ];
-    for (fault, number) in numbers {
-        assert_eq!(rt; fault.number(), number);
-    }
-}
 
 #[test]
 fn bodies_are_written(rt: HostRuntime) {

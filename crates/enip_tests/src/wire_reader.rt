@@ -1,9 +1,9 @@
-//! Frames from pieces.
+//! How many bytes of a piece are taken, and what is lent.
 
 ghost use Rattle.std.specs.Prelude.{◌≡◌, ◌<◌, ◌≤◌, length};
 ghost use Rattle.enip_wire.specs.Stream.{taken_of, sight_of, joined_of, cleared};
 
-use crate::{FrameReader, FrameView, Header, Held};
+use enip_wire::{FrameReader, FrameView, Header, Held};
 use std::test::*;
 
 /// A RegisterSession.
@@ -54,30 +54,6 @@ fn is_register(held: Held<'_>) -> bool {
 }
 
 #[test]
-fn byte_by_byte(rt: HostRuntime) -> Result<(), Fail> {
-    let mut reader = FrameReader::new(rt.alloc())?;
-    for byte in REGISTER {
-        assert!(rt; matches!(reader.state(), Held::More));
-        assert_eq!(rt; reader.push(&[byte]), 1);
-    }
-    assert!(rt; shows_register(&reader));
-    Ok(())
-}
-
-#[test]
-fn cut_in_two_at_every_place(rt: HostRuntime) -> Result<(), Fail> {
-    let mut reader = FrameReader::new(rt.alloc())?;
-    for place in 0..REGISTER.len() {
-        reader.clear();
-        assert_eq!(rt; reader.push(&REGISTER[..place]), place);
-        assert!(rt; matches!(reader.state(), Held::More), "cut at {place}");
-        assert_eq!(rt; reader.push(&REGISTER[place..]), 28 - place);
-        assert!(rt; shows_register(&reader), "cut at {place}");
-    }
-    Ok(())
-}
-
-#[test]
 fn two_frames_in_one_piece(rt: HostRuntime) -> Result<(), Fail> {
     let mut reader = FrameReader::new(rt.alloc())?;
     assert_eq!(rt; reader.push(&TWO_FRAMES), 28);
@@ -93,24 +69,6 @@ fn two_frames_in_one_piece(rt: HostRuntime) -> Result<(), Fail> {
     };
     assert_eq!(rt; (header.command, header.length, header.session), (0, 2, 7));
     assert_eq!(rt; body, [0xaa, 0xbb].as_slice());
-    Ok(())
-}
-
-#[test]
-fn the_longest_frame(rt: HostRuntime) -> Result<(), Fail> {
-    let mut reader = FrameReader::new(rt.alloc())?;
-    // A length of 65,511, and a byte more than that.
-    let mut header = [0; 24];
-    header[2] = 0xe7;
-    header[3] = 0xff;
-    let bytes = vec![in rt.alloc(); 0x55; 65_512]?;
-    assert_eq!(rt; reader.push(&header), 24);
-    assert!(rt; matches!(reader.state(), Held::More));
-    assert_eq!(rt; reader.push(bytes.as_slice()), 65_511);
-    let Held::Frame(FrameView { header, body }) = reader.state() else {
-        return Err("no frame".into());
-    };
-    assert_eq!(rt; (header.length, body.len()), (65_511, 65_511));
     Ok(())
 }
 
