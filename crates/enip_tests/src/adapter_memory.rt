@@ -1,7 +1,8 @@
 //! Sessions with all that needs room, where growths of memory are refused.
 
-use crate::adapter_demo::{ADD, ADDED, LIMITS, LISTEN, LONG, OPEN, REFUSED, REGISTER, REGISTERED};
-use crate::adapter_demo::{demo, value};
+use crate::adapter_demo::{
+    ADD, ADDED, LIMITS, LISTEN, LONG, OPEN, REFUSED, REGISTER, REGISTERED, demo, value,
+};
 use enip_adapter::{Adapter, Served, serve};
 use enip_wire::{MemorySink, MemorySource, Sink};
 use std::alloc::AllocError;

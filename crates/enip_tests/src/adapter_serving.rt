@@ -1,7 +1,9 @@
 //! Worked rows over devices in memory, and devices that fail.
 
-use crate::adapter_demo::{ADD, ADDED, LONG, OPEN, REFUSED, REGISTER, REGISTERED};
-use crate::adapter_demo::{adapter_with_peer, demo_with_connection, value};
+use crate::adapter_demo::{
+    ADD, ADDED, LONG, OPEN, REFUSED, REGISTER, REGISTERED, adapter_with_peer, demo_with_connection,
+    value,
+};
 use enip_adapter::{ServeFault, Served, serve};
 use enip_wire::{MemorySink, MemorySource, Sink, Source};
 use std::alloc::Global;
