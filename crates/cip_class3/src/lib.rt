@@ -16,6 +16,3 @@ mod target;
 pub use item::LARGEST_SIZE;
 pub use originator::{Came, Originator, Refused, Stage};
 pub use target::{Received, Target};
-
-#[cfg(test)]
-mod tests;

@@ -20,6 +20,3 @@ mod table;
 
 pub use index::Steps;
 pub use manager::{Answer, LONGEST_REPLY, Manager};
-
-#[cfg(test)]
-mod tests;

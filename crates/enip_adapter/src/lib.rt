@@ -10,14 +10,10 @@
 
 mod adapter;
 mod commands;
-#[cfg(test)]
-mod large_tests;
 pub mod laws;
 mod peer;
 mod reply;
 mod serving;
-#[cfg(test)]
-mod serving_tests;
 mod shared;
 
 pub use adapter::{Adapter, Fed, Full, Limits};
@@ -25,6 +21,3 @@ pub use peer::Peer;
 pub use reply::LONGEST_ANSWER;
 pub use serving::{ServeFault, Served, serve};
 pub use shared::Listen;
-
-#[cfg(test)]
-mod tests;

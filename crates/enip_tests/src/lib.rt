@@ -1,9 +1,18 @@
-//! Tests of the crates `enip_wire` to `enip_bench`: what the program `enip` can't show, as devices that fail, and results
-//! and lengths that no command prints. What it shows stands in `tests/rows`.
+//! Tests of the crates above `cip_manager`: what the program `enip` can't show, as calls in orders that no command makes,
+//! devices that fail, growths of memory that are refused, laws over lists of calls, and very long runs. What it shows
+//! stands in `tests/rows`.
 //!
-//! They are a crate of their own, so that no crate is proved twice.
+//! They are a crate of their own, above those that they test, so that no crate is proved twice.
 #![tactic(auto)]
 
+#[cfg(test)]
+mod adapter_demo;
+#[cfg(test)]
+mod adapter_large;
+#[cfg(test)]
+mod adapter_memory;
+#[cfg(test)]
+mod adapter_serving;
 #[cfg(test)]
 mod configuration;
 #[cfg(test)]

@@ -2,21 +2,16 @@
 
 ghost use Rattle.std.specs.Prelude.{◌<◌};
 
-use super::counter::Counter;
-use super::*;
+use crate::counting::objects;
+use crate::manager_openings::{DEVICE, check_id, close, is_answered, open};
+use cip_manager::{Manager, Steps};
+use cip_objects::Objects;
+use std::alloc::AllocError;
+use std::process::Abort;
+use std::test::Fail;
 
 /// How many connections can be open.
 const PLACES: u16 = 64;
-
-/// An item under count 1, with a request that the counter executes.
-const ITEM: [u8; 8] = [0x01, 0x00, 0x01, 0x02, 0x20, 0x01, 0x24, 0x01];
-
-/// `CLOSE` with another connection serial.
-fn close_of(serial: u16) -> [u8; 16] {
-    let mut data = CLOSE;
-    data[2..4].copy_from_slice(&serial.to_le_bytes());
-    data
-}
 
 /// Whether the manager finds the ID, in at most so many steps.
 fn is_found(rt: &impl Abort, manager: &Manager, id: u32, most: u64) -> bool {
@@ -30,14 +25,14 @@ fn is_found(rt: &impl Abort, manager: &Manager, id: u32, most: u64) -> bool {
 fn an_id_is_found_in_six_steps(rt: HostRuntime) -> Result<(), Fail> {
     let mut manager = Manager::new(rt.alloc(), PLACES, 1, DEVICE)?;
     for serial in 1..=64u16 {
-        let reply = reply_to_open(&mut manager, 0, 1, &open_of(serial));
+        let reply = open(&mut manager, 0, 1, serial);
         check_id(&rt, &reply, u32::from(serial));
     }
     for half in 1..=32u16 {
-        let reply = reply_to_close(&mut manager, 1, &close_of(2 * half));
+        let reply = close(&mut manager, 1, 2 * half);
         assert!(rt; reply.as_slice().starts_with(&[0xce, 0x00, 0x00, 0x00]));
     }
-    check_id(&rt, &reply_to_open(&mut manager, 0, 1, &open_of(65)), 65);
+    check_id(&rt, &open(&mut manager, 0, 1, 65), 65);
     assert!(rt; manager.free() == 31);
     for (id, is_open) in [
         (64, false),
@@ -66,6 +61,7 @@ struct Open {
 #[derive(Drop)]
 struct Beside {
     manager: Manager,
+    objects: Objects,
     list: Vec<Open>,
     next_id: u32,
     now: u64,
@@ -73,7 +69,7 @@ struct Beside {
 
 impl Beside {
     fn open(&mut self, rt: &impl Abort, session: u32, serial: u16) -> Result<(), AllocError> {
-        let reply = reply_to_open(&mut self.manager, self.now, session, &open_of(serial));
+        let reply = open(&mut self.manager, self.now, session, serial);
         if self.list.iter().any(|open| open.serial == serial) {
             assert!(rt;
                 reply
@@ -100,7 +96,7 @@ impl Beside {
     }
 
     fn close(&mut self, rt: &impl Abort, session: u32, serial: u16) {
-        let reply = reply_to_close(&mut self.manager, session, &close_of(serial));
+        let reply = close(&mut self.manager, session, serial);
         let is_open = self
             .list
             .iter()
@@ -126,11 +122,7 @@ impl Beside {
 
     /// An item on a connection, where the session has it, moves its deadline.
     fn receive(&mut self, rt: &impl Abort, session: u32, id: u32) {
-        let mut counter = Counter { executions: 0 };
-        let is_answered = self
-            .manager
-            .connected(self.now, session, id, &ITEM, &mut counter)
-            .is_some();
+        let answered = is_answered(&mut self.manager, &mut self.objects, self.now, session, id);
         let mut is_open = false;
         for open in self.list.iter_mut() {
             if open.session == session && open.id == id {
@@ -138,7 +130,7 @@ impl Beside {
                 is_open = true;
             }
         }
-        assert!(rt; is_answered == is_open);
+        assert!(rt; answered == is_open);
     }
 
     fn find(&self, rt: &impl Abort, id: u32) {
@@ -180,6 +172,7 @@ fn drawn(seed: &mut u64, bound: u32) -> u32
 fn a_thousand_calls_beside_a_plain_list(rt: HostRuntime) -> Result<(), Fail> {
     let mut beside = Beside {
         manager: Manager::new(rt.alloc(), PLACES, 1, DEVICE)?,
+        objects: objects(rt.alloc())?,
         list: Vec::new(rt.alloc()),
         next_id: 1,
         now: 0,

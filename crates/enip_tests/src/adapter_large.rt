@@ -1,9 +1,8 @@
 //! Large connections: one of 4,002 bytes each way is opened and used without any memory.
 
-use crate::serving_tests::{LIMITS, LISTEN, REGISTER};
-use crate::tests::config;
-use crate::{Adapter, Peer};
+use crate::adapter_demo::{LIMITS, LISTEN, REGISTER, config};
 use cip_objects::{AssemblyConfig, Objects};
+use enip_adapter::{Adapter, Peer};
 use std::alloc::{AllocError, Global};
 use std::process::Abort;
 use std::test::Fail;
