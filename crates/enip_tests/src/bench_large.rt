@@ -1,20 +1,20 @@
 //! A connection of 4,002 bytes each way.
 
-use super::rows::{EXACTLY_ONCE, check_exactly_once};
-use super::*;
-use cip_class3::Refused;
+use crate::bench_demo::{CLEAR, EXACTLY_ONCE, LIMITS, LISTEN, WANTS, compare, config, counter};
+use cip_class3::{Refused, Stage};
+use cip_objects::{AssemblyConfig, Objects};
+use enip_adapter::Adapter;
+use enip_bench::{Bench, Event, Step};
+use enip_client::{Client, Wants};
+use std::alloc::Global;
+use std::process::Abort;
+use std::test::Fail;
 
 /// What the client asks of its connection: both sizes are the greatest.
 const LARGE: Wants = Wants {
-    originator_vendor: 66,
-    originator_serial: 305_419_896,
-    connection_serial: 1,
-    t_to_o_id: 287_454_020,
-    rpi: 2_000_000,
-    timeout_multiplier: 0,
     o_to_t_size: 4_002,
     t_to_o_size: 4_002,
-    first_count: 1,
+    ..WANTS
 };
 
 /// A bench of the demo configuration and of assembly 101, which has 3,900 bytes.
@@ -36,6 +36,15 @@ fn large_bench(alloc: Global) -> Result<Bench, Fail> {
         return Err(Fail::from("the ends open"));
     };
     Ok(bench)
+}
+
+/// What is seen after these rows: 5 and 7 were added once each.
+fn check_exactly_once<A: Abort>(rt: &A, bench: &Bench) -> Result<(), Fail> {
+    assert_eq!(rt; counter(bench, 1)?, 12);
+    assert_eq!(rt; counter(bench, 3)?, 2);
+    assert_eq!(rt; bench.seen().stage, Stage::Idle);
+    assert_eq!(rt; bench.seen().back.len(), 3);
+    Ok(())
 }
 
 #[test]
