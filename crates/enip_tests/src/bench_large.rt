@@ -83,29 +83,55 @@ fn replies(bench: &mut Bench, number: usize, request: Vec<u8>, reply: &[u8]) -> 
     does(bench, Event::Back(number), Step::Accepted(reply))
 }
 
-/// The 3,900 bytes of an assembly are set; the longest reply has them and 22 attributes more; the longest request is
-/// taken, and has too much data for its service; one byte more is refused.
-fn exchange_longest(alloc: Global, bench: &mut Bench) -> Result<(), Fail> {
-    let set = filled(alloc, b"\x10\x03\x20\x04\x24\x65\x30\x03", 0xa5, 3_908)?;
-    replies(bench, 0, set, b"\x90\0\0\0")?;
-    let mut list = Vec::from_slice(alloc, b"\x03\x02\x20\x04\x24\x65\x17\0")?;
-    let mut front = Vec::from_slice(alloc, b"\x83\0\x0a\0\x17\0")?;
-    for _ in 0..21 {
-        list.extend_from_slice(b"\x63\0")?;
-        front.extend_from_slice(b"\x63\0\x14\0")?;
-    }
-    list.extend_from_slice(b"\x01\0\x03\0")?;
-    front.extend_from_slice(b"\x01\0\0\0\x01\0\x03\0\0\0")?;
-    let listed = filled(alloc, &front, 0xa5, 4_000)?;
-    replies(bench, 1, list, &listed)?;
+/// A Get_Attribute_List of 21 attributes that there are not, and of the size and the data of the assembly.
+const LIST: &[u8] = b"\x03\x02\x20\x04\x24\x65\x17\0\
+    \x63\0\x63\0\x63\0\x63\0\x63\0\x63\0\x63\0\x63\0\x63\0\x63\0\x63\0\
+    \x63\0\x63\0\x63\0\x63\0\x63\0\x63\0\x63\0\x63\0\x63\0\x63\0\
+    \x01\0\x03\0";
+
+/// What it is replied, up to the data.
+const LISTED: &[u8] = b"\x83\0\x0a\0\x17\0\
+    \x63\0\x14\0\x63\0\x14\0\x63\0\x14\0\x63\0\x14\0\x63\0\x14\0\x63\0\x14\0\x63\0\x14\0\
+    \x63\0\x14\0\x63\0\x14\0\x63\0\x14\0\x63\0\x14\0\x63\0\x14\0\x63\0\x14\0\x63\0\x14\0\
+    \x63\0\x14\0\x63\0\x14\0\x63\0\x14\0\x63\0\x14\0\x63\0\x14\0\x63\0\x14\0\x63\0\x14\0\
+    \x01\0\0\0\x01\0\x03\0\0\0";
+
+/// Sets the 3,900 bytes of the assembly.
+const SET: &[u8] = b"\x10\x03\x20\x04\x24\x65\x30\x03";
+
+/// The data are set.
+fn set_all(alloc: Global, bench: &mut Bench) -> Result<(), Fail> {
+    let set = filled(alloc, SET, 0xa5, 3_908)?;
+    replies(bench, 0, set, b"\x90\0\0\0")
+}
+
+/// The longest reply has the 3,900 bytes and 22 attributes more.
+fn list_all(alloc: Global, bench: &mut Bench) -> Result<(), Fail> {
+    let listed = filled(alloc, LISTED, 0xa5, 4_000)?;
+    replies(bench, 1, Vec::from_slice(alloc, LIST)?, &listed)
+}
+
+/// The longest request has too much data for its service.
+fn submit_longest(alloc: Global, bench: &mut Bench) -> Result<(), Fail> {
     let longest = filled(alloc, CLEAR, 0, 4_000)?;
-    replies(bench, 2, longest, b"\xb3\0\x15\0")?;
+    replies(bench, 2, longest, b"\xb3\0\x15\0")
+}
+
+/// One byte more than the longest request is refused.
+fn submit_longer(alloc: Global, bench: &mut Bench) -> Result<(), Fail> {
     let longer = filled(alloc, CLEAR, 0, 4_001)?;
     does(
         bench,
         Event::Submit(longer),
         Step::Refused(Refused::TooLong),
     )
+}
+
+fn exchange_longest(alloc: Global, bench: &mut Bench) -> Result<(), Fail> {
+    set_all(alloc, bench)?;
+    list_all(alloc, bench)?;
+    submit_longest(alloc, bench)?;
+    submit_longer(alloc, bench)
 }
 
 #[test]

@@ -4,13 +4,14 @@ ghost use Rattle.std.specs.Prelude.{None};
 
 use crate::client_stands::{
     ADD, ADD_SENT, ADDED, CLOSE, CLOSED, GET, GET_SENT, GOT, IS_5, OPEN, OPENED, REGISTER,
-    REGISTERED, UNREGISTER, made,
+    REGISTERED, Stand, UNREGISTER, VENDOR, made, standing,
 };
 use cip_class3::Refused;
 use cip_objects::ReplyBuf;
-use enip_client::{AskFault, ClientFault, ask};
+use enip_client::{AskFault, Client, ClientFault, ask};
 use enip_wire::{Failed, MemorySink, MemorySource, Source};
 use std::alloc::Global;
+use std::process::Abort;
 use std::test::Fail;
 
 /// The frames joined.
@@ -55,136 +56,182 @@ impl Source for Counted {
     }
 }
 
-/// Each read and each write has one byte.
-#[test]
-fn an_exchange_byte_by_byte(rt: HostRuntime) -> Result<(), Fail> {
-    let input = joined(rt.alloc(), &[REGISTERED, OPENED, ADDED, CLOSED])?;
-    let sent = joined(rt.alloc(), &[REGISTER, OPEN, ADD_SENT, CLOSE, UNREGISTER])?;
-    let mut room = [0; 400];
-    let mut client = made(rt.alloc())?;
-    let mut reader = MemorySource::new(input.as_slice(), &[]).with_largest_count(1);
-    let mut writer = MemorySink::new(&mut room).with_largest_count(1);
-    let mut reply = ReplyBuf::new();
-    let asked = ask(&mut client, &mut reader, &mut writer, ADD, true, &mut reply);
-    assert_eq!(rt; asked, Ok(()));
-    assert_eq!(rt; reply.as_slice(), IS_5);
-    assert_eq!(rt; writer.written(), sent.as_slice());
-    Ok(())
+/// An exchange over memory: where the client stands, what comes, how many bytes a read or a write has and after how many
+/// it fails, what is asked, what is told, and how many bytes of the frames are sent.
+struct Exchange<'a> {
+    name: &'static str,
+    stand: Stand,
+    heard: &'a [&'a [u8]],
+    largest_read: usize,
+    reads: u64,
+    largest_write: usize,
+    writes: u64,
+    request: &'a [u8],
+    connected: bool,
+    told: Result<(), AskFault>,
+    reply: &'a [u8],
+    sent: &'a [&'a [u8]],
+    count: usize,
 }
 
-/// What an exchange of this input answers, over a reader and a writer that meet no fault.
-fn answered(
-    alloc: Global,
-    input: &[u8],
-    request: &[u8],
-    connected: bool,
-) -> Result<Result<(), AskFault>, Fail> {
-    let mut room = [0; 400];
-    let mut client = made(alloc)?;
-    let mut reader = MemorySource::new(input, &[]);
-    let mut writer = MemorySink::new(&mut room);
-    let mut reply = ReplyBuf::new();
-    Ok(ask(
-        &mut client,
-        &mut reader,
-        &mut writer,
-        request,
-        connected,
-        &mut reply,
-    ))
-}
+/// An exchange in which no device fails.
+const WELL: Exchange<'static> = Exchange {
+    name: "no device fails",
+    stand: Stand::New,
+    heard: &[REGISTERED, GOT],
+    largest_read: 4_096,
+    reads: u64::MAX,
+    largest_write: 4_096,
+    writes: u64::MAX,
+    request: GET,
+    connected: false,
+    told: Ok(()),
+    reply: VENDOR,
+    sent: &[REGISTER, GET_SENT, UNREGISTER],
+    count: 100,
+};
 
 /// A request with bit 7 of its service.
-const REPLY: &[u8] = b"\xb2\x02\x20\x64\x24\x01";
+const NO_REQUEST: &[u8] = b"\xb2\x02\x20\x64\x24\x01";
 
-/// On a connection, and without one.
-static REFUSALS: [(bool, AskFault); 2] = [
-    (true, AskFault::Submit(Refused::NoRequest)),
-    (false, AskFault::Client(ClientFault::Request)),
+static EXCHANGES: [Exchange<'static>; 10] = [
+    WELL,
+    Exchange {
+        name: "each read and each write has one byte",
+        heard: &[REGISTERED, OPENED, ADDED, CLOSED],
+        largest_read: 1,
+        largest_write: 1,
+        request: ADD,
+        connected: true,
+        reply: IS_5,
+        sent: &[REGISTER, OPEN, ADD_SENT, CLOSE, UNREGISTER],
+        count: 256,
+        ..WELL
+    },
+    Exchange {
+        name: "no request, on a connection",
+        heard: &[REGISTERED, OPENED],
+        request: NO_REQUEST,
+        connected: true,
+        told: Err(AskFault::Submit(Refused::NoRequest)),
+        reply: &[],
+        sent: &[REGISTER, OPEN],
+        count: 114,
+        ..WELL
+    },
+    Exchange {
+        name: "no request, without a connection",
+        request: NO_REQUEST,
+        told: Err(AskFault::Client(ClientFault::Request)),
+        reply: &[],
+        count: 28,
+        ..WELL
+    },
+    Exchange {
+        name: "a client in use: nothing is read or written",
+        stand: Stand::AwaitsSession,
+        reads: 0,
+        writes: 0,
+        told: Err(AskFault::Client(ClientFault::State)),
+        reply: &[],
+        count: 0,
+        ..WELL
+    },
+    Exchange {
+        name: "a writer of 10 bytes a call fails after 0",
+        largest_write: 10,
+        writes: 0,
+        told: Err(AskFault::Write),
+        reply: &[],
+        count: 0,
+        ..WELL
+    },
+    Exchange {
+        name: "a writer of 10 bytes a call fails after 1",
+        largest_write: 10,
+        writes: 1,
+        told: Err(AskFault::Write),
+        reply: &[],
+        count: 10,
+        ..WELL
+    },
+    Exchange {
+        name: "a writer of 10 bytes a call fails after 3",
+        largest_write: 10,
+        writes: 3,
+        told: Err(AskFault::Write),
+        reply: &[],
+        count: 28,
+        ..WELL
+    },
+    Exchange {
+        name: "a writer of 10 bytes a call fails after 4",
+        largest_write: 10,
+        writes: 4,
+        told: Err(AskFault::Write),
+        reply: &[],
+        count: 38,
+        ..WELL
+    },
+    Exchange {
+        name: "a reader of 30 bytes a call fails at its second",
+        largest_read: 30,
+        reads: 1,
+        told: Err(AskFault::Read),
+        reply: &[],
+        count: 76,
+        ..WELL
+    },
 ];
 
-#[test]
-fn requests_that_are_refused(rt: HostRuntime) -> Result<(), Fail> {
-    let input = joined(rt.alloc(), &[REGISTERED, OPENED])?;
-    for (connected, fault) in &REFUSALS {
-        let asked = answered(rt.alloc(), input.as_slice(), REPLY, *connected)?;
-        assert_eq!(rt; asked, Err(*fault));
-    }
-    Ok(())
-}
-
-/// A client that is registered already begins no exchange: nothing is read or written.
-#[test]
-fn a_client_that_is_in_use(rt: HostRuntime) -> Result<(), Fail> {
+/// The exchange tells, replies and sends what the row says.
+fn check_devices<A: Abort>(
+    rt: &A,
+    client: &mut Client,
+    row: &Exchange<'_>,
+    heard: &[u8],
+    sent: &[u8],
+) {
+    assert!(rt; 0 < row.largest_read && 0 < row.largest_write);
     let mut room = [0; 400];
-    let mut client = made(rt.alloc())?;
-    let _ = client.register();
-    let mut reader = MemorySource::new(REGISTERED, &[]);
-    let mut writer = MemorySink::new(&mut room);
+    let mut reader = MemorySource::new(heard, &[])
+        .with_largest_count(row.largest_read)
+        .with_failure_after(row.reads);
+    let mut writer = MemorySink::new(&mut room)
+        .with_largest_count(row.largest_write)
+        .with_failure_after(row.writes);
     let mut reply = ReplyBuf::new();
-    let asked = ask(
-        &mut client,
+    let told = ask(
+        client,
         &mut reader,
         &mut writer,
-        GET,
-        false,
+        row.request,
+        row.connected,
         &mut reply,
     );
-    assert_eq!(rt; asked, Err(AskFault::Client(ClientFault::State)));
-    assert_eq!(rt; reader.reads(), 0);
-    assert_eq!(rt; writer.written(), b"".as_slice());
+    assert_eq!(rt; told, row.told, "{}", row.name);
+    assert_eq!(rt; reply.as_slice(), row.reply, "{}", row.name);
+    assert_eq!(rt;
+        Some(writer.written()),
+        sent.get(..row.count),
+        "{}",
+        row.name
+    );
+}
+
+fn check_exchange<A: Abort>(rt: &A, alloc: Global, row: &Exchange<'_>) -> Result<(), Fail> {
+    let heard = joined(alloc, row.heard)?;
+    let sent = joined(alloc, row.sent)?;
+    let mut client = standing(alloc, row.stand)?;
+    check_devices(rt, &mut client, row, heard.as_slice(), sent.as_slice());
     Ok(())
 }
 
-/// A writer that takes 10 bytes a call: its fourth call would write the second frame.
 #[test]
-fn a_writer_that_fails(rt: HostRuntime) -> Result<(), Fail> {
-    let input = joined(rt.alloc(), &[REGISTERED, GOT])?;
-    for (calls, count) in [(0, 0), (1, 10), (3, 28), (4, 38)] {
-        let sent = joined(rt.alloc(), &[REGISTER, GET_SENT, UNREGISTER])?;
-        let mut room = [0; 200];
-        let mut client = made(rt.alloc())?;
-        let mut reader = MemorySource::new(input.as_slice(), &[]);
-        let mut writer = MemorySink::new(&mut room)
-            .with_largest_count(10)
-            .with_failure_after(calls);
-        let mut reply = ReplyBuf::new();
-        let asked = ask(
-            &mut client,
-            &mut reader,
-            &mut writer,
-            GET,
-            false,
-            &mut reply,
-        );
-        assert_eq!(rt; asked, Err(AskFault::Write));
-        assert_eq!(rt; Some(writer.written()), sent.as_slice().get(..count));
+fn exchanges_over_memory(rt: HostRuntime) -> Result<(), Fail> {
+    for row in &EXCHANGES {
+        check_exchange(&rt, rt.alloc(), row)?;
     }
-    Ok(())
-}
-
-/// A reader of 30 bytes a call that fails at its second call.
-#[test]
-fn a_reader_that_fails(rt: HostRuntime) -> Result<(), Fail> {
-    let input = joined(rt.alloc(), &[REGISTERED, GOT])?;
-    let sent = joined(rt.alloc(), &[REGISTER, GET_SENT])?;
-    let mut room = [0; 200];
-    let mut client = made(rt.alloc())?;
-    let mut reader = MemorySource::new(input.as_slice(), &[])
-        .with_largest_count(30)
-        .with_failure_after(1);
-    let mut writer = MemorySink::new(&mut room);
-    let mut reply = ReplyBuf::new();
-    let asked = ask(
-        &mut client,
-        &mut reader,
-        &mut writer,
-        GET,
-        false,
-        &mut reply,
-    );
-    assert_eq!(rt; asked, Err(AskFault::Read));
-    assert_eq!(rt; writer.written(), sent.as_slice());
     Ok(())
 }
 
