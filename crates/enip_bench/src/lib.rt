@@ -16,6 +16,3 @@ mod world;
 pub use bench::{Bench, BenchFault, Seen};
 pub use event::{Event, Step};
 pub use world::Accepted;
-
-#[cfg(test)]
-mod tests;

@@ -25,10 +25,3 @@ pub use fault::{ClientFault, SubmitFault};
 pub use hearing::{Heard, Hearing};
 pub use sending::{LONGEST_SENT, Sent, write_register, write_request};
 pub use wants::Wants;
-
-#[cfg(test)]
-mod asking_tests;
-#[cfg(test)]
-mod large_tests;
-#[cfg(test)]
-mod tests;

@@ -14,6 +14,24 @@ mod adapter_memory;
 #[cfg(test)]
 mod adapter_serving;
 #[cfg(test)]
+mod bench_demo;
+#[cfg(test)]
+mod bench_growths;
+#[cfg(test)]
+mod bench_large;
+#[cfg(test)]
+mod bench_runs;
+#[cfg(test)]
+mod client_asking;
+#[cfg(test)]
+mod client_calls;
+#[cfg(test)]
+mod client_changed;
+#[cfg(test)]
+mod client_openings;
+#[cfg(test)]
+mod client_stands;
+#[cfg(test)]
 mod configuration;
 #[cfg(test)]
 mod wire_devices;

@@ -1,20 +1,20 @@
 //! A connection of 4,002 bytes each way.
 
-use super::rows::{EXACTLY_ONCE, check_exactly_once};
-use super::*;
-use cip_class3::Refused;
+use crate::bench_demo::{CLEAR, EXACTLY_ONCE, LIMITS, LISTEN, WANTS, compare, config, counter};
+use cip_class3::{Refused, Stage};
+use cip_objects::{AssemblyConfig, Objects};
+use enip_adapter::Adapter;
+use enip_bench::{Bench, Event, Step};
+use enip_client::{Client, Wants};
+use std::alloc::Global;
+use std::process::Abort;
+use std::test::Fail;
 
 /// What the client asks of its connection: both sizes are the greatest.
 const LARGE: Wants = Wants {
-    originator_vendor: 66,
-    originator_serial: 305_419_896,
-    connection_serial: 1,
-    t_to_o_id: 287_454_020,
-    rpi: 2_000_000,
-    timeout_multiplier: 0,
     o_to_t_size: 4_002,
     t_to_o_size: 4_002,
-    first_count: 1,
+    ..WANTS
 };
 
 /// A bench of the demo configuration and of assembly 101, which has 3,900 bytes.
@@ -36,6 +36,15 @@ fn large_bench(alloc: Global) -> Result<Bench, Fail> {
         return Err(Fail::from("the ends open"));
     };
     Ok(bench)
+}
+
+/// What is seen after these rows: 5 and 7 were added once each.
+fn check_exactly_once<A: Abort>(rt: &A, bench: &Bench) -> Result<(), Fail> {
+    assert_eq!(rt; counter(bench, 1)?, 12);
+    assert_eq!(rt; counter(bench, 3)?, 2);
+    assert_eq!(rt; bench.seen().stage, Stage::Idle);
+    assert_eq!(rt; bench.seen().back.len(), 3);
+    Ok(())
 }
 
 #[test]
@@ -74,29 +83,55 @@ fn replies(bench: &mut Bench, number: usize, request: Vec<u8>, reply: &[u8]) -> 
     does(bench, Event::Back(number), Step::Accepted(reply))
 }
 
-/// The 3,900 bytes of an assembly are set; the longest reply has them and 22 attributes more; the longest request is
-/// taken, and has too much data for its service; one byte more is refused.
-fn exchange_longest(alloc: Global, bench: &mut Bench) -> Result<(), Fail> {
-    let set = filled(alloc, b"\x10\x03\x20\x04\x24\x65\x30\x03", 0xa5, 3_908)?;
-    replies(bench, 0, set, b"\x90\0\0\0")?;
-    let mut list = Vec::from_slice(alloc, b"\x03\x02\x20\x04\x24\x65\x17\0")?;
-    let mut front = Vec::from_slice(alloc, b"\x83\0\x0a\0\x17\0")?;
-    for _ in 0..21 {
-        list.extend_from_slice(b"\x63\0")?;
-        front.extend_from_slice(b"\x63\0\x14\0")?;
-    }
-    list.extend_from_slice(b"\x01\0\x03\0")?;
-    front.extend_from_slice(b"\x01\0\0\0\x01\0\x03\0\0\0")?;
-    let listed = filled(alloc, &front, 0xa5, 4_000)?;
-    replies(bench, 1, list, &listed)?;
+/// A Get_Attribute_List of 21 attributes that there are not, and of the size and the data of the assembly.
+const LIST: &[u8] = b"\x03\x02\x20\x04\x24\x65\x17\0\
+    \x63\0\x63\0\x63\0\x63\0\x63\0\x63\0\x63\0\x63\0\x63\0\x63\0\x63\0\
+    \x63\0\x63\0\x63\0\x63\0\x63\0\x63\0\x63\0\x63\0\x63\0\x63\0\
+    \x01\0\x03\0";
+
+/// What it is replied, up to the data.
+const LISTED: &[u8] = b"\x83\0\x0a\0\x17\0\
+    \x63\0\x14\0\x63\0\x14\0\x63\0\x14\0\x63\0\x14\0\x63\0\x14\0\x63\0\x14\0\x63\0\x14\0\
+    \x63\0\x14\0\x63\0\x14\0\x63\0\x14\0\x63\0\x14\0\x63\0\x14\0\x63\0\x14\0\x63\0\x14\0\
+    \x63\0\x14\0\x63\0\x14\0\x63\0\x14\0\x63\0\x14\0\x63\0\x14\0\x63\0\x14\0\x63\0\x14\0\
+    \x01\0\0\0\x01\0\x03\0\0\0";
+
+/// Sets the 3,900 bytes of the assembly.
+const SET: &[u8] = b"\x10\x03\x20\x04\x24\x65\x30\x03";
+
+/// The data are set.
+fn set_all(alloc: Global, bench: &mut Bench) -> Result<(), Fail> {
+    let set = filled(alloc, SET, 0xa5, 3_908)?;
+    replies(bench, 0, set, b"\x90\0\0\0")
+}
+
+/// The longest reply has the 3,900 bytes and 22 attributes more.
+fn list_all(alloc: Global, bench: &mut Bench) -> Result<(), Fail> {
+    let listed = filled(alloc, LISTED, 0xa5, 4_000)?;
+    replies(bench, 1, Vec::from_slice(alloc, LIST)?, &listed)
+}
+
+/// The longest request has too much data for its service.
+fn submit_longest(alloc: Global, bench: &mut Bench) -> Result<(), Fail> {
     let longest = filled(alloc, CLEAR, 0, 4_000)?;
-    replies(bench, 2, longest, b"\xb3\0\x15\0")?;
+    replies(bench, 2, longest, b"\xb3\0\x15\0")
+}
+
+/// One byte more than the longest request is refused.
+fn submit_longer(alloc: Global, bench: &mut Bench) -> Result<(), Fail> {
     let longer = filled(alloc, CLEAR, 0, 4_001)?;
     does(
         bench,
         Event::Submit(longer),
         Step::Refused(Refused::TooLong),
     )
+}
+
+fn exchange_longest(alloc: Global, bench: &mut Bench) -> Result<(), Fail> {
+    set_all(alloc, bench)?;
+    list_all(alloc, bench)?;
+    submit_longest(alloc, bench)?;
+    submit_longer(alloc, bench)
 }
 
 #[test]

@@ -1,56 +1,24 @@
-//! What is refused, and what stands then.
+//! Growths of memory that are refused, and what stands then.
 
-ghost use Rattle.std.specs.Prelude.{◌≤◌};
-ghost use Rattle.cip_class3.specs.Item.{LARGEST_SIZE};
-
-use super::*;
+use crate::bench_demo::{ADD_5, ADD_7, CLEAR, LIMITS, LISTEN, Row, WANTS, bench, counter, demo};
 use cip_class3::Stage;
+use enip_adapter::Adapter;
+use enip_bench::{Bench, BenchFault, Event};
+use enip_client::{Client, Wants};
+use std::alloc::Global;
+use std::test::Fail;
 
-/// A bench over these ends of other limits and wants.
-fn opened(alloc: Global, limits: Limits, wants: &Wants) -> Result<Result<(), BenchFault>, Fail>
-    requires peers_from { 1 ≤ limits.peers }
-    requires peers_to { limits.peers ≤ 16 }
-    requires connections_from { 1 ≤ limits.connections }
-    requires connections_to { limits.connections ≤ 64 }
-    requires handle { 1 ≤ limits.first_handle }
-    requires id { 1 ≤ limits.first_id }
-    requires o_to_t_from { 4 ≤ wants.now.o_to_t_size }
-    requires o_to_t_to { wants.now.o_to_t_size ≤ LARGEST_SIZE }
-    requires t_to_o_from { 10 ≤ wants.now.t_to_o_size }
-    requires t_to_o_to { wants.now.t_to_o_size ≤ LARGEST_SIZE }
-{
-    let adapter = Adapter::new(alloc, demo(alloc, 100)?, LISTEN, limits)?;
-    let Ok(client) = Client::new(alloc, wants) else {
+/// What the adapter refuses to open: an interval of 0.
+const NO_INTERVAL: Wants = Wants { rpi: 0, ..WANTS };
+
+#[test]
+fn an_opening_that_is_refused(rt: HostRuntime) -> Result<(), Fail> {
+    let adapter = Adapter::new(rt.alloc(), demo(rt.alloc(), 100)?, LISTEN, LIMITS)?;
+    let Ok(client) = Client::new(rt.alloc(), &NO_INTERVAL) else {
         return Err(Fail::from("the client is made"));
     };
-    Ok(match Bench::new(alloc, adapter, client) {
-        Ok(_) => Ok(()),
-        Err(fault) => Err(fault),
-    })
-}
-
-/// No place for the second session, no handle for it, and an open that the adapter refuses.
-#[test]
-fn setup(rt: HostRuntime) -> Result<(), Fail> {
-    let one_peer = Limits { peers: 1, ..LIMITS };
-    let last_handle = Limits {
-        first_handle: 4_294_967_295,
-        ..LIMITS
-    };
-    let no_interval = Wants { rpi: 0, ..WANTS };
-    assert_eq!(rt; opened(rt.alloc(), LIMITS, &WANTS)?, Ok(()));
-    assert_eq!(rt;
-        opened(rt.alloc(), one_peer, &WANTS)?,
-        Err(BenchFault::Setup)
-    );
-    assert_eq!(rt;
-        opened(rt.alloc(), last_handle, &WANTS)?,
-        Err(BenchFault::Setup)
-    );
-    assert_eq!(rt;
-        opened(rt.alloc(), LIMITS, &no_interval)?,
-        Err(BenchFault::Setup)
-    );
+    let refused = Bench::new(rt.alloc(), adapter, client).err();
+    assert_eq!(rt; refused, Some(BenchFault::Setup));
     Ok(())
 }
 
@@ -118,7 +86,7 @@ fn made(alloc: Global) -> Result<Bench, Fail> {
 }
 
 /// Whichever growth of `new` and `run` is refused, the events before it stand and no other, and the rest can be done
-/// then. Each is refused in turn by `rt try --test --fail-alloc N -- tests::growths::events_before_a_refused_growth`.
+/// then. Each is refused in turn by `rt try --test --fail-alloc N -- bench_growths::events_before_a_refused_growth`.
 #[test]
 fn events_before_a_refused_growth(rt: HostRuntime) -> Result<(), Fail> {
     let mut events = Vec::new(rt.alloc());

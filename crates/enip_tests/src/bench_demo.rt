@@ -1,35 +1,29 @@
-//! Worked lists of events, through a bench of the demo configuration.
+//! A bench of the demo configuration, and lists of events for it. (Volume 1, transport class 3.)
 
-mod growths;
-mod large;
-mod rows;
-
-use super::*;
+use cip_class3::Refused;
 use cip_objects::{AssemblyConfig, Config, CounterConfig, Objects};
 use enip_adapter::{Adapter, Limits, Listen};
+use enip_bench::{Bench, Event, Step};
 use enip_client::{Client, Wants};
 use std::alloc::Global;
 use std::test::Fail;
 
 /// Adds 5 or 7 to the counter, and what is replied where it stood at 0 or 5.
-const ADD_5: &[u8] = b"\x32\x02\x20\x64\x24\x01\x05\0\0\0";
+pub(super) const ADD_5: &[u8] = b"\x32\x02\x20\x64\x24\x01\x05\0\0\0";
 
-const ADD_7: &[u8] = b"\x32\x02\x20\x64\x24\x01\x07\0\0\0";
+pub(super) const ADD_7: &[u8] = b"\x32\x02\x20\x64\x24\x01\x07\0\0\0";
 
-const IS_5: &[u8] = b"\xb2\0\0\0\x05\0\0\0";
+pub(super) const IS_5: &[u8] = b"\xb2\0\0\0\x05\0\0\0";
 
-const IS_12: &[u8] = b"\xb2\0\0\0\x0c\0\0\0";
+pub(super) const IS_12: &[u8] = b"\xb2\0\0\0\x0c\0\0\0";
 
 /// Adds 1.
-const ADD_1: &[u8] = b"\x32\x02\x20\x64\x24\x01\x01\0\0\0";
+pub(super) const ADD_1: &[u8] = b"\x32\x02\x20\x64\x24\x01\x01\0\0\0";
 
 /// Clears the counter.
-const CLEAR: &[u8] = b"\x33\x02\x20\x64\x24\x01";
+pub(super) const CLEAR: &[u8] = b"\x33\x02\x20\x64\x24\x01";
 
-/// Reads its value.
-const READ: &[u8] = b"\x0e\x03\x20\x64\x24\x01\x30\x01";
-
-const WANTS: Wants = Wants {
+pub(super) const WANTS: Wants = Wants {
     originator_vendor: 66,
     originator_serial: 305_419_896,
     connection_serial: 1,
@@ -41,34 +35,20 @@ const WANTS: Wants = Wants {
     first_count: 1,
 };
 
-const LISTEN: Listen = Listen {
+pub(super) const LISTEN: Listen = Listen {
     address: [127, 0, 0, 1],
     port: 44_818,
 };
 
-const LIMITS: Limits = Limits {
+pub(super) const LIMITS: Limits = Limits {
     peers: 9,
     connections: 16,
     first_handle: 1,
     first_id: 1,
 };
 
-#[test]
-fn the_laws_hold_at_the_objects() {
-    laws::worlds_agree::<Objects>();
-    laws::executed_once();
-    laws::executed_on_arrival();
-    laws::accepted_once::<Objects>();
-    laws::answered_alike::<Objects>();
-    laws::fewer_than_counts();
-    laws::refused_at_the_bound::<Objects>();
-    laws::bound_cannot_be_raised::<Objects>();
-    laws::log_is_a_run();
-    laws::frames_agree();
-}
-
 /// The demo configuration, whose counter has this limit.
-fn config(alloc: Global, limit: u32) -> Result<Config, Fail> {
+pub(super) fn config(alloc: Global, limit: u32) -> Result<Config, Fail> {
     let mut assemblies = Vec::new(alloc);
     assemblies.push(AssemblyConfig {
         instance: 100,
@@ -91,7 +71,7 @@ fn config(alloc: Global, limit: u32) -> Result<Config, Fail> {
 }
 
 /// Its objects.
-fn demo(alloc: Global, limit: u32) -> Result<Objects, Fail> {
+pub(super) fn demo(alloc: Global, limit: u32) -> Result<Objects, Fail> {
     Ok(
         Objects::new(alloc, &config(alloc, limit)?)
             .ok()
@@ -100,7 +80,7 @@ fn demo(alloc: Global, limit: u32) -> Result<Objects, Fail> {
 }
 
 /// A bench of the demo configuration, whose counter has this limit.
-fn bench(alloc: Global, limit: u32) -> Result<Bench, Fail> {
+pub(super) fn bench(alloc: Global, limit: u32) -> Result<Bench, Fail> {
     let adapter = Adapter::new(alloc, demo(alloc, limit)?, LISTEN, LIMITS)?;
     let Ok(client) = Client::new(alloc, &WANTS) else {
         return Err(Fail::from("the client is made"));
@@ -113,7 +93,7 @@ fn bench(alloc: Global, limit: u32) -> Result<Bench, Fail> {
 }
 
 /// An attribute of the counter: 1 its value, 3 its additions.
-fn counter(bench: &Bench, attribute: u16) -> Result<u32, Fail> {
+pub(super) fn counter(bench: &Bench, attribute: u16) -> Result<u32, Fail> {
     let bytes = bench
         .seen()
         .objects
@@ -123,12 +103,9 @@ fn counter(bench: &Bench, attribute: u16) -> Result<u32, Fail> {
     Ok(u32::from_le_bytes(bytes))
 }
 
-/// More bytes than any request has.
-static ZEROS: [u8; 505] = [0; 505];
-
 /// An event, whose request is lent.
 #[derive(Clone, Copy)]
-enum Row {
+pub(super) enum Row {
     Submit(&'static [u8]),
     Resend,
     Reach(usize),
@@ -139,7 +116,7 @@ enum Row {
 }
 
 impl Row {
-    fn event(self, alloc: Global) -> Result<Event, Fail> {
+    pub(super) fn event(self, alloc: Global) -> Result<Event, Fail> {
         Ok(match self {
             Row::Submit(request) => Event::Submit(Vec::from_slice(alloc, request)?),
             Row::Resend => Event::Resend,
@@ -153,7 +130,11 @@ impl Row {
 }
 
 /// Does the events of these rows, and compares what is told of each.
-fn compare(alloc: Global, bench: &mut Bench, rows: &[(Row, Step<'_>)]) -> Result<(), Fail> {
+pub(super) fn compare(
+    alloc: Global,
+    bench: &mut Bench,
+    rows: &[(Row, Step<'_>)],
+) -> Result<(), Fail> {
     for (row, step) in rows {
         let event = row.event(alloc)?;
         if bench.step(&event)? != *step {
@@ -162,3 +143,16 @@ fn compare(alloc: Global, bench: &mut Bench, rows: &[(Row, Step<'_>)]) -> Result
     }
     Ok(())
 }
+
+/// A reply that is lost, a request that is sent again, and one more.
+pub(super) const EXACTLY_ONCE: [(Row, Step); 9] = [
+    (Row::Submit(ADD_5), Step::Sent(0, 0)),
+    (Row::Reach(0), Step::Reached(Some(0))),
+    (Row::Reach(0), Step::Reached(Some(1))),
+    (Row::Submit(ADD_7), Step::Refused(Refused::Busy)),
+    (Row::Back(0), Step::Accepted(IS_5)),
+    (Row::Submit(ADD_7), Step::Sent(1, 1)),
+    (Row::Back(1), Step::Ignored),
+    (Row::Reach(1), Step::Reached(Some(2))),
+    (Row::Back(2), Step::Accepted(IS_12)),
+];

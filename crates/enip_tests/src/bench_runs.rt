@@ -1,0 +1,124 @@
+//! The laws at the objects, and runs of many events. (Volume 1, transport class 3.)
+
+use crate::bench_demo::{ADD_1, EXACTLY_ONCE, IS_12, Row, bench, counter};
+use cip_objects::Objects;
+use enip_bench::{Bench, Event, Step, laws};
+use std::alloc::Global;
+use std::process::Abort;
+use std::test::Fail;
+
+#[test]
+fn the_laws_hold_at_the_objects() {
+    laws::worlds_agree::<Objects>();
+    laws::executed_once();
+    laws::executed_on_arrival();
+    laws::accepted_once::<Objects>();
+    laws::answered_alike::<Objects>();
+    laws::fewer_than_counts();
+    laws::refused_at_the_bound::<Objects>();
+    laws::bound_cannot_be_raised::<Objects>();
+    laws::log_is_a_run();
+    laws::frames_agree();
+}
+
+/// Does the events of these rows in one call.
+fn run_rows(alloc: Global, bench: &mut Bench, rows: &[(Row, Step<'_>)]) -> Result<(), Fail> {
+    let mut events = Vec::new(alloc);
+    for (row, _) in rows {
+        events.push(row.event(alloc)?)?;
+    }
+    run(bench, events.as_slice())
+}
+
+/// Does these events in one call.
+fn run(bench: &mut Bench, events: &[Event]) -> Result<(), Fail> {
+    match bench.run(events) {
+        Ok(()) => Ok(()),
+        Err(_) => Err(Fail::from("there is memory")),
+    }
+}
+
+/// What has to be seen after a run.
+struct Wanted<'a> {
+    value: u32,
+    additions: u32,
+    back: usize,
+    accepted: usize,
+    last_number: u64,
+    last_reply: &'a [u8],
+}
+
+fn check_seen<A: Abort>(rt: &A, bench: &Bench, wanted: &Wanted<'_>) -> Result<(), Fail> {
+    assert_eq!(rt; counter(bench, 1)?, wanted.value);
+    assert_eq!(rt; counter(bench, 3)?, wanted.additions);
+    let seen = bench.seen();
+    assert_eq!(rt; seen.back.len(), wanted.back);
+    assert_eq!(rt; seen.accepted.len(), wanted.accepted);
+    let last = seen.accepted.last().ok_or("replies were accepted")?;
+    assert_eq!(rt; last.number, wanted.last_number);
+    assert_eq!(rt; last.reply.as_slice(), wanted.last_reply);
+    Ok(())
+}
+
+/// After the rows of exactly once: 5 and 7 were added once each.
+const ONCE: Wanted<'static> = Wanted {
+    value: 12,
+    additions: 2,
+    back: 3,
+    accepted: 2,
+    last_number: 1,
+    last_reply: IS_12,
+};
+
+/// All events in one call.
+#[test]
+fn exactly_once_in_one_run(rt: HostRuntime) -> Result<(), Fail> {
+    let mut bench = bench(rt.alloc(), 100)?;
+    run_rows(rt.alloc(), &mut bench, &EXACTLY_ONCE)?;
+    check_seen(&rt, &bench, &ONCE)
+}
+
+/// A request that is sent twice: both reach the adapter, and both replies the client.
+fn add_twice(alloc: Global, bench: &mut Bench, number: usize) -> Result<(), Fail> {
+    let submit = Row::Submit(ADD_1).event(alloc)?;
+    let first = number.saturating_mul(2);
+    let second = first.saturating_add(1);
+    let events = [
+        submit,
+        Event::Resend,
+        Event::Reach(first),
+        Event::Reach(second),
+        Event::Back(first),
+        Event::Back(second),
+    ];
+    run(bench, &events)
+}
+
+/// So many requests; the reply of each is accepted once.
+fn add_many(alloc: Global, bench: &mut Bench, count: usize) -> Result<(), Fail> {
+    for number in 0..count {
+        add_twice(alloc, bench, number)?;
+        if bench.seen().accepted.len() != number + 1 {
+            return Err(Fail::from("the reply is accepted once"));
+        }
+    }
+    Ok(())
+}
+
+/// After 70,000 requests that add 1.
+const MANY: Wanted<'static> = Wanted {
+    value: 70_000,
+    additions: 70_000,
+    back: 140_000,
+    accepted: 70_000,
+    last_number: 69_999,
+    last_reply: b"\xb2\0\0\0\x70\x11\x01\0",
+};
+
+/// Past a wrap of the count: each request is sent twice, executed once, and its reply accepted once.
+#[test]
+fn seventy_thousand_requests(rt: HostRuntime) -> Result<(), Fail> {
+    let mut bench = bench(rt.alloc(), 1_000_000)?;
+    add_many(rt.alloc(), &mut bench, 70_000)?;
+    check_seen(&rt, &bench, &MANY)
+}
