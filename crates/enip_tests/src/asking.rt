@@ -1,14 +1,11 @@
 //! `enip get`, `set` and `call` over memory, and a client and an adapter back to back.
 
-use super::super::answer::adapter_from;
-use super::super::asking::{Question, WANTS, ask_over, end};
-use super::super::commands::program;
-use super::DEMO;
-use super::devices::BrokenWriter;
+use crate::demo::demo_adapter;
+use crate::streams::BrokenWriter;
 use cip_message::Path;
-use clap::error::ErrorKind;
 use enip_adapter::{Adapter, Peer};
 use enip_client::{Client, ClientFault, Heard, SubmitFault};
+use enip_text::{Question, WANTS, ask_over, end_asking};
 use enip_wire::{MemorySink, MemorySource};
 use std::alloc::Global;
 use std::test::Fail;
@@ -110,7 +107,7 @@ fn run(
         Err(stop) => Err(stop),
     };
     let sent = Vec::from_slice(alloc, sink.written())?;
-    let status = end(told, &mut errors);
+    let status = end_asking(told, &mut errors);
     Ok(Ran {
         status,
         output,
@@ -298,7 +295,7 @@ fn a_reader_that_fails(rt: HostRuntime) -> Result<(), Fail> {
         false,
         &mut output,
     );
-    assert_eq!(rt; end(told, &mut errors), 5);
+    assert_eq!(rt; end_asking(told, &mut errors), 5);
     assert_eq!(rt; output.len(), 0);
     assert_eq!(rt; errors.as_slice(), b"device\n".as_slice());
     Ok(())
@@ -319,7 +316,7 @@ fn a_reply_that_can_not_be_printed(rt: HostRuntime) -> Result<(), Fail> {
         room: 2,
     };
     let told = ask_over(rt.alloc(), &mut source, &mut sink, request, false, output);
-    assert_eq!(rt; end(told, &mut errors), 5);
+    assert_eq!(rt; end_asking(told, &mut errors), 5);
     assert_eq!(rt; written.as_slice(), b"34".as_slice());
     assert_eq!(rt; errors.as_slice(), b"device\n".as_slice());
     Ok(())
@@ -394,45 +391,6 @@ fn requests_of_words(rt: HostRuntime) -> Result<(), Fail> {
     Ok(())
 }
 
-#[test]
-fn numbers_out_of_range(rt: HostRuntime) -> Result<(), Fail> {
-    let rows: [(&[&str], bool); 16] = [
-        (
-            &["enip", "get", "h:1", "65535", "4294967295", "65535"],
-            true,
-        ),
-        (&["enip", "get", "h:1", "65536", "1", "1"], false),
-        (&["enip", "get", "h:1", "1", "4294967296", "1"], false),
-        (&["enip", "get", "h:1", "1", "1", "65536"], false),
-        (&["enip", "get", "h:1", "0x01", "1", "1"], false),
-        (&["enip", "set", "h:1", "4", "100", "3", "00"], true),
-        (&["enip", "set", "h:1", "65536", "100", "3", "00"], false),
-        (&["enip", "call", "h:1", "127", "100", "1"], true),
-        (&["enip", "call", "h:1", "128", "100", "1"], false),
-        (&["enip", "call", "h:1", "50", "100", "1", "05000000"], true),
-        (
-            &["enip", "call", "--connected", "h:1", "50", "100", "1"],
-            true,
-        ),
-        (&["enip", "serve", "c", "h:1", "--count", "1"], true),
-        (&["enip", "serve", "c", "h:1", "--count", "65535"], true),
-        (&["enip", "serve", "c", "h:1", "--count", "0"], false),
-        (&["enip", "serve", "c", "h:1", "--count", "65536"], false),
-        (&["enip", "serve", "c", "h:1", "--count", "x"], false),
-    ];
-    for (place, (words, taken)) in rows.into_iter().enumerate() {
-        let command = program(rt.alloc()).ok().ok_or("the program")?;
-        match command.try_get_matches_from(words) {
-            Ok(_) => assert!(rt; taken, "{place}"),
-            Err(error) => {
-                assert!(rt; !taken, "{place}");
-                assert!(rt; error.kind() == ErrorKind::ValueValidation, "{place}");
-            }
-        }
-    }
-    Ok(())
-}
-
 /// Each service of the objects, and its reply.
 const SERVICES: [(&[u8], &[u8]); 8] = [
     // Get_Attributes_All and Get_Attribute_List of Identity
@@ -489,9 +447,7 @@ fn submitted(lent: Result<&[u8], SubmitFault>) -> Result<&[u8], ClientFault> {
 #[test]
 fn a_client_and_an_adapter(rt: HostRuntime) -> Result<(), Fail> {
     let alloc = rt.alloc();
-    let mut adapter = adapter_from(alloc, DEMO.as_bytes())
-        .ok()
-        .ok_or("an adapter")?;
+    let mut adapter = demo_adapter(alloc)?;
     let peer = adapter.begin().ok().ok_or("a peer")?;
     let mut client = Client::new(alloc, &WANTS).ok().ok_or("a client")?;
     let answer = pass(alloc, &mut adapter, &peer, client.register())?;

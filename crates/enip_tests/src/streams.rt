@@ -1,4 +1,4 @@
-//! Devices that fail in mid-stream.
+//! Readers and writers that fail in mid-stream, give pieces or count.
 
 use std::cell::Cell;
 use std::io::{self, Read, Write};
