@@ -1,103 +1,111 @@
-use Rattle.std.proofs.Common.{◌≡◌, ℕ, List, None, Result, Ok, Err, IfOk, IfErr, subst, arith}
+use Rattle.std.proofs.Common.{◌≡◌, ℕ, List, inl, inr, Result, Ok, Err, IfOk, IfErr, refl, arith}
 use Rattle.std.specs.Result.{IsErr, IsErrAnd}
-use Rattle.cip_objects.specs.declared.config.ConfigFault.{ConfigFault}
-use Rattle.cip_objects.specs.declared.config.ConfigFault.TheVariants.{Memory as NoMemory}
-use Rattle.cip_objects.specs.Configuration.{fault_of}
-use Rattle.enip_cmd.specs.declared.fault.Fault.{Fault}
-use Rattle.enip_cmd.specs.declared.fault.Fault.TheVariants.{Configuration as Refused, Line, Device, Memory}
-use Rattle.enip_config.specs.declared.configuration.Configuration.{Configuration}
+use Rattle.enip_adapter.specs.Calls.{AdapterState}
 use Rattle.enip_config.specs.declared.fault.Fault.{Fault as ConfigurationFault}
-use Rattle.enip_config.specs.declared.fault.Fault.TheVariants as configuration
+use Rattle.enip_config.specs.declared.fault.Fault.TheVariants as unread
 use Rattle.enip_config.specs.declared.fault.Refusal.{Refusal}
-use Rattle.enip_config.specs.Refusals.{fault_of_objects}
-use Rattle.enip_config.specs.Told.{IsTold, IsRefused, IsFaultOf as IsUnread}
-use Rattle.enip_cmd.specs.Statuses.{exit_status, IsOfDevices, EndsAt, EndsBy, IsAccepted, IsFaultOf, fault_of_configuration}
+use Rattle.enip_config.specs.Configured.{IsAccepted, IsAdapterOf}
+use Rattle.enip_config.specs.Told.{IsRefused, IsFaultOf as IsUnread}
+use Rattle.enip_text.specs.declared.fault.Fault.{Fault as TextFault}
+use Rattle.enip_text.specs.declared.fault.Fault.TheVariants as texts
+use Rattle.enip_text.specs.declared.replaying.ReplayStop.{ReplayStop}
+use Rattle.enip_text.specs.declared.replaying.ReplayStop.TheVariants as stops
+use Rattle.enip_text.specs.Replay.{IsStopOf}
+use Rattle.enip_cmd.specs.declared.fault.Fault.{Fault}
+use Rattle.enip_cmd.specs.declared.fault.Fault.TheVariants.{Configuration as Refused, Setup, Run}
+use Rattle.enip_cmd.specs.Statuses.{exit_status, fault_of_configuration, fault_of_replay, IsStatus, IsReplayStatus}
+use Rattle.enip_cmd.specs.Statuses.{IsFaultOf, IsReplayFaultOf, IsOpeningRefused}
 
--- What a line's fault is to the whole input.
-from_line : (refuses : ℕ → List ℕ → Type 0) (number : ℕ) (text : List ℕ) (fault : Fault) → EndsAt (refuses number text) number fault → EndsBy refuses fault
-from_line refuses number text (Refused check) so = absurd so
-from_line refuses number text (Line n) (same, so) = (text, rw same so)
-from_line refuses number text Device so = tt
-from_line refuses number text Memory so = tt
+-- What is not read is refused.
+of_unread : (text : List ℕ) (refused : ConfigurationFault) → IsUnread text refused → IsFaultOf text (fault_of_configuration refused)
+of_unread text (unread.Refused refusal) so = so
+of_unread text unread.Memory so = tt
 
-from_devices : (refuses : ℕ → List ℕ → Type 0) (fault : Fault) → IsOfDevices fault → EndsBy refuses fault
-from_devices refuses (Refused check) so = absurd so
-from_devices refuses (Line n) so = absurd so
-from_devices refuses Device so = tt
-from_devices refuses Memory so = tt
+pub unread_ends : {T : Type 0} (text : List ℕ) (refused : ConfigurationFault) (r : Result T Fault) → IsErr r × IsErrAnd r (λ f. f ≡ fault_of_configuration refused)
+    → IsUnread text refused → IfErr r (IsFaultOf text)
+unread_ends text refused (Ok x) gives so = tt
+unread_ends text refused (Err f) gives so = rw gives.1 (of_unread text refused so)
 
--- Where no line may be refused, a device or memory failed.
-of_none : (fault : Fault) → EndsBy (λ _ _. ⊥) fault → IsOfDevices fault
-of_none (Refused check) so = absurd so
-of_none (Line n) (text, never) = absurd never
-of_none Device so = tt
-of_none Memory so = tt
+-- What a run meets once the configuration is taken.
+of_run : (text : List ℕ) (ended : TextFault) → IsAccepted text → IsFaultOf text (Run ended)
+of_run text (texts.Line number) taken = taken
+of_run text texts.Device taken = tt
+of_run text texts.Memory taken = tt
 
-pub to_devices : {T : Type 0} (r : Result T Fault) → IfErr r (EndsBy (λ _ _. ⊥)) → IfErr r IsOfDevices
-to_devices (Ok x) so = tt
-to_devices (Err fault) so = of_none fault so
+pub run_ends : {T : Type 0} (text : List ℕ) (ended : TextFault) (r : Result T Fault) → IsErr r × IsErrAnd r (λ f. f ≡ Run ended)
+    → IsAccepted text → IfErr r (IsFaultOf text)
+run_ends text ended (Ok x) gives taken = tt
+run_ends text ended (Err f) gives taken = rw gives.1 (of_run text ended taken)
 
-pub devices_end : {T : Type 0} (refuses : ℕ → List ℕ → Type 0) (r : Result T Fault) → IfErr r IsOfDevices → IfErr r (EndsBy refuses)
-devices_end refuses (Ok x) so = tt
-devices_end refuses (Err fault) so = from_devices refuses fault so
-
--- A device that fails at a line.
-pub devices_at : {T : Type 0} (refused : Type 0) (number : ℕ) (r : Result T Fault) → IfErr r IsOfDevices → IfErr r (EndsAt refused number)
-devices_at refused number (Ok x) so = tt
-devices_at refused number (Err (Refused check)) so = absurd so
-devices_at refused number (Err (Line n)) so = absurd so
-devices_at refused number (Err Device) so = tt
-devices_at refused number (Err Memory) so = tt
-
-pub line_ends : {T : Type 0} (refuses : ℕ → List ℕ → Type 0) (number : ℕ) (text : List ℕ) (r : Result T Fault) → IfErr r (EndsAt (refuses number text) number) → IfErr r (EndsBy refuses)
-line_ends refuses number text (Ok x) so = tt
-line_ends refuses number text (Err fault) so = from_line refuses number text fault so
-
--- What fails once the configuration is taken.
-later : (text : List ℕ) (refuses : ℕ → List ℕ → Type 0) (fault : Fault) → IsAccepted text → EndsBy refuses fault → IsFaultOf text fault
-later text refuses (Refused check) taken so = absurd so
-later text refuses (Line number) taken so = taken
-later text refuses Device taken so = tt
-later text refuses Memory taken so = tt
-
-pub fails_later : {T : Type 0} (text : List ℕ) (refuses : ℕ → List ℕ → Type 0) (r : Result T Fault) → IsAccepted text → IfErr r (EndsBy refuses) → IfErr r (IsFaultOf text)
-fails_later text refuses (Ok x) taken so = tt
-fails_later text refuses (Err fault) taken so = later text refuses fault taken so
-
-pub devices_later : {T : Type 0} (text : List ℕ) (r : Result T Fault) → IsAccepted text → IfErr r IsOfDevices → IfErr r (IsFaultOf text)
-devices_later text (Ok x) taken so = tt
-devices_later text (Err fault) taken so = later text (λ _ _. ⊥) fault taken (from_devices (λ _ _. ⊥) fault so)
-
-pub done_later : {T : Type 0} (text : List ℕ) (r : Result T Fault) → IsAccepted text → IfOk r (λ _. IsAccepted text)
-done_later text (Ok x) taken = taken
-done_later text (Err fault) taken = tt
+-- The statuses of a run that ends early.
+pub status_told : (text : List ℕ) (fault : Fault) → IsFaultOf text fault → IsStatus (exit_status fault)
+status_told text (Refused check) so = inr (inl refl)
+status_told text Setup so = absurd so
+status_told text (Run (texts.Line number)) so = inr (inr (inl refl))
+status_told text (Run texts.Device) so = inr (inr (inr refl))
+status_told text (Run texts.Memory) so = inr (inr (inr refl))
 
 -- A line is refused only once the configuration is taken.
 pub line_refused : (text : List ℕ) (fault : Fault) → IsFaultOf text fault → exit_status fault ≡ 4 → IsAccepted text
 line_refused text (Refused check) so four = absurd (omega (arith, four))
-line_refused text (Line number) so four = so
-line_refused text Device so four = absurd (omega (arith, four))
-line_refused text Memory so four = absurd (omega (arith, four))
+line_refused text Setup so four = absurd so
+line_refused text (Run (texts.Line number)) so four = so
+line_refused text (Run texts.Device) so four = absurd (omega (arith, four))
+line_refused text (Run texts.Memory) so four = absurd (omega (arith, four))
 
 -- The status 3 is that of a configuration.
 pub configuration_refused : (text : List ℕ) (fault : Fault) → IsFaultOf text fault → exit_status fault ≡ 3 → (refusal : Refusal) × IsRefused text refusal
 configuration_refused text (Refused refusal) so three = (refusal, so)
-configuration_refused text (Line number) so three = absurd (omega (arith, three))
-configuration_refused text Device so three = absurd (omega (arith, three))
-configuration_refused text Memory so three = absurd (omega (arith, three))
+configuration_refused text Setup so three = absurd so
+configuration_refused text (Run (texts.Line number)) so three = absurd (omega (arith, three))
+configuration_refused text (Run texts.Device) so three = absurd (omega (arith, three))
+configuration_refused text (Run texts.Memory) so three = absurd (omega (arith, three))
 
--- What is not read is refused.
-pub unread : {T : Type 0} (text : List ℕ) (refused : ConfigurationFault) (r : Result T Fault) → IsErr r × IsErrAnd r (λ f. f ≡ fault_of_configuration refused)
-    → IsUnread text refused → IfErr r (IsFaultOf text)
-unread text refused (Ok x) gives so = tt
-unread text (configuration.Refused refusal) (Err f) gives so = rw gives.1 so
-unread text configuration.Memory (Err f) gives so = rw gives.1 tt
+-- The same of a replay, which the opening may end too.
+of_fault : (text : List ℕ) (fault : Fault) → IsFaultOf text fault → IsReplayFaultOf text fault
+of_fault text (Refused check) so = so
+of_fault text Setup so = absurd so
+of_fault text (Run ended) so = so
 
--- The objects take what is read: only memory may fail.
-pub objects_fail : {T U : Type 0} (text : List ℕ) (told : Configuration) (r : Result T ConfigFault) (check : ConfigFault) (returned : Result U Fault)
-    → IsTold text told → (fault_of told.objects ≡ None → IfErr r (λ f. f ≡ NoMemory))
-    → r ≡ Err check → IsErr returned × IsErrAnd returned (λ f. f ≡ fault_of_configuration (fault_of_objects check)) → IfErr returned (IsFaultOf text)
-objects_fail text told r check (Ok x) read allowed is gives = tt
-objects_fail text told r check (Err fault) read allowed is gives =
-    let none : check ≡ NoMemory = subst (λ s. IfErr s (λ f. f ≡ NoMemory)) is (allowed read.taken) in
-    rw (gives.1, none) tt
+pub replay_unread : {T : Type 0} (text : List ℕ) (refused : ConfigurationFault) (r : Result T Fault)
+    → IsErr r × IsErrAnd r (λ f. f ≡ fault_of_configuration refused) → IsUnread text refused → IfErr r (IsReplayFaultOf text)
+replay_unread text refused (Ok x) gives so = tt
+replay_unread text refused (Err f) gives so = rw gives.1 (of_fault text (fault_of_configuration refused) (of_unread text refused so))
+
+of_replay : (text : List ℕ) (adapter : AdapterState) (stop : ReplayStop) → IsAdapterOf text adapter → IsAccepted text → IsStopOf adapter stop
+    → IsReplayFaultOf text (fault_of_replay stop)
+of_replay text adapter stops.Setup told taken so = (adapter, (told, so))
+of_replay text adapter (stops.Program ended) told taken so = of_run text ended taken
+
+pub replay_ends : {T : Type 0} (text : List ℕ) (adapter : AdapterState) (stop : ReplayStop) (r : Result T Fault)
+    → IsErr r × IsErrAnd r (λ f. f ≡ fault_of_replay stop) → IsAdapterOf text adapter → IsAccepted text → IsStopOf adapter stop
+    → IfErr r (IsReplayFaultOf text)
+replay_ends text adapter stop (Ok x) gives told taken so = tt
+replay_ends text adapter stop (Err f) gives told taken so = rw gives.1 (of_replay text adapter stop told taken so)
+
+pub replay_status_told : (text : List ℕ) (fault : Fault) → IsReplayFaultOf text fault → IsReplayStatus (exit_status fault)
+replay_status_told text (Refused check) so = inl (status_told text (Refused check) so)
+replay_status_told text Setup so = inr refl
+replay_status_told text (Run ended) so = inl (status_told text (Run ended) so)
+
+pub replay_line_refused : (text : List ℕ) (fault : Fault) → IsReplayFaultOf text fault → exit_status fault ≡ 4 → IsAccepted text
+replay_line_refused text (Refused check) so four = line_refused text (Refused check) so four
+replay_line_refused text Setup so four = absurd (omega (arith, four))
+replay_line_refused text (Run ended) so four = line_refused text (Run ended) so four
+
+pub replay_configuration_refused : (text : List ℕ) (fault : Fault) → IsReplayFaultOf text fault → exit_status fault ≡ 3
+    → (refusal : Refusal) × IsRefused text refusal
+replay_configuration_refused text (Refused check) so three = configuration_refused text (Refused check) so three
+replay_configuration_refused text Setup so three = absurd (omega (arith, three))
+replay_configuration_refused text (Run ended) so three = configuration_refused text (Run ended) so three
+
+not_six : (ended : TextFault) → exit_status (Run ended) ≡ 6 → ⊥
+not_six (texts.Line number) six = omega (arith, six)
+not_six texts.Device six = omega (arith, six)
+not_six texts.Memory six = omega (arith, six)
+
+-- The status 6 is that of an opening.
+pub replay_setup : (text : List ℕ) (fault : Fault) → IsReplayFaultOf text fault → exit_status fault ≡ 6 → IsOpeningRefused text
+replay_setup text (Refused check) so six = absurd (omega (arith, six))
+replay_setup text Setup so six = so
+replay_setup text (Run ended) so six = absurd (not_six ended six)

@@ -1,8 +1,1 @@
 pub mod Statuses
-pub mod Digits
-pub mod Lines
-pub mod Configured
-pub mod Asking
-pub mod Script
-pub mod Outcome
-pub mod Replay

@@ -1,7 +1,7 @@
 //! The words that the program takes, and what it says of them.
 
-use crate::fault::Fault;
 use clap::{Arg, ArgAction, Command, value_parser};
+use enip_text::Fault;
 use std::alloc::Global;
 
 /// The name of the program.

@@ -3,9 +3,8 @@
 ghost use Rattle.std.specs.Prelude.{◌≡◌};
 ghost use Rattle.enip_cmd.specs.Statuses.{exit_status};
 
-use cip_objects::ConfigFault;
 use enip_config::Refusal;
-use std::alloc::{AllocError, AllocFailed};
+use enip_text::ReplayStop;
 use std::io;
 use thiserror::Error;
 
@@ -15,15 +14,12 @@ pub enum Fault {
     /// The configuration is refused.
     #[error("configuration {}", .0.number())]
     Configuration(Refusal),
-    /// A line of the input is refused, by its number from 1. The lines before it were run.
-    #[error("line {0}")]
-    Line(u64),
-    /// A file or a stream could not be read or written.
-    #[error("device")]
-    Device,
-    /// There was no memory.
-    #[error("memory")]
-    Memory,
+    /// The client of a replay could not open its connection, or the second session could not begin.
+    #[error("setup")]
+    Setup,
+    /// A line of the input is refused, or a device or memory failed.
+    #[error("{0}")]
+    Run(enip_text::Fault),
 }
 
 impl Fault {
@@ -33,43 +29,31 @@ impl Fault {
     {
         match self {
             Fault::Configuration(_) => 3,
-            Fault::Line(_) => 4,
-            Fault::Device | Fault::Memory => 5,
+            Fault::Setup => ReplayStop::Setup.exit_status(),
+            Fault::Run(fault) => fault.exit_status(),
         }
     }
 }
 
-impl From<AllocError> for Fault {
-    ghost use Rattle.enip_cmd.specs.declared.fault.Fault.TheVariants.{Memory};
+impl From<enip_text::Fault> for Fault {
+    ghost use Rattle.enip_cmd.specs.declared.fault.Fault.TheVariants.{Run};
 
-    ghost from_gives = { λ _ fault. fault ≡ Memory };
+    ghost from_gives = { λ ended fault. fault ≡ Run ended };
 
-    fn from(_error: AllocError) -> Fault {
-        Fault::Memory
-    }
-}
-
-impl<T: Drop> From<AllocFailed<T>> for Fault {
-    ghost use Rattle.enip_cmd.specs.declared.fault.Fault.TheVariants.{Memory};
-
-    ghost from_gives = { λ _ fault. fault ≡ Memory };
-
-    fn from(_error: AllocFailed<T>) -> Fault {
-        Fault::Memory
+    fn from(ended: enip_text::Fault) -> Fault {
+        Fault::Run(ended)
     }
 }
 
 impl From<io::Error> for Fault {
     ghost use Rattle.std.specs.IoError.{error_kind};
-    ghost use Rattle.enip_cmd.specs.Statuses.{IsOfDevices, fault_of_kind};
+    ghost use Rattle.enip_text.specs.Statuses.{fault_of_kind};
+    ghost use Rattle.enip_cmd.specs.declared.fault.Fault.TheVariants.{Run};
 
-    ghost from_gives = { λ error fault. IsOfDevices fault × (fault ≡ fault_of_kind (error_kind error)) };
+    ghost from_gives = { λ error fault. fault ≡ Run (fault_of_kind (error_kind error)) };
 
     fn from(error: io::Error) -> Fault {
-        match error.kind() {
-            io::ErrorKind::OutOfMemory => Fault::Memory,
-            _ => Fault::Device,
-        }
+        Fault::Run(enip_text::Fault::from(error))
     }
 }
 
@@ -81,19 +65,20 @@ impl From<enip_config::Fault> for Fault {
     fn from(refused: enip_config::Fault) -> Fault {
         match refused {
             enip_config::Fault::Refused(refusal) => Fault::Configuration(refusal),
-            enip_config::Fault::Memory => Fault::Memory,
+            enip_config::Fault::Memory => Fault::Run(enip_text::Fault::Memory),
         }
     }
 }
 
-/// What the objects refuse.
-impl From<ConfigFault> for Fault {
-    ghost use Rattle.enip_config.specs.Refusals.{fault_of_objects};
-    ghost use Rattle.enip_cmd.specs.Statuses.{fault_of_configuration};
+impl From<ReplayStop> for Fault {
+    ghost use Rattle.enip_cmd.specs.Statuses.{fault_of_replay};
 
-    ghost from_gives = { λ refused fault. fault ≡ fault_of_configuration (fault_of_objects refused) };
+    ghost from_gives = { λ stop fault. fault ≡ fault_of_replay stop };
 
-    fn from(refused: ConfigFault) -> Fault {
-        Fault::from(enip_config::Fault::from(refused))
+    fn from(stop: ReplayStop) -> Fault {
+        match stop {
+            ReplayStop::Setup => Fault::Setup,
+            ReplayStop::Program(fault) => Fault::Run(fault),
+        }
     }
 }

@@ -2,29 +2,21 @@
 #![tactic(auto)]
 
 pub mod answer;
-pub mod asking;
 pub mod commands;
-pub mod digits;
 pub mod fault;
 pub mod file;
-pub mod input_lines;
-pub mod lines;
-pub mod number;
-pub mod outcome;
 pub mod replay;
-pub mod script;
 pub mod serve;
-pub mod show;
 pub mod socket;
 #[cfg(test)]
 mod tests;
 pub mod words;
 
-use asking::{Question, Replied, Stop};
 use cip_message::Path;
 use clap::ArgMatches;
 use clap::error::ErrorKind;
 use commands::{PROGRAM, program};
+use enip_text::{AskingStop, Question, Replied};
 use fault::Fault;
 use file::File;
 use socket::{SocketSink, SocketSource};
@@ -74,7 +66,7 @@ fn run(rt: &HostRuntime, words: &[Word], matches: &ArgMatches<'_>) -> Result<u8,
             let address = matches.get_str("ADDRESS").unwrap_or("");
             run_serve(rt, config.as_slice(), address, count)
         }
-        Some(("show", _)) => Ok(show::show(rt.alloc(), rt.stdin(), rt.stdout(), rt.stderr())),
+        Some(("show", _)) => Ok(enip_text::show(rt.alloc(), rt.stdin(), rt.stdout(), rt.stderr())),
         Some(("get", matches)) => Ok(run_asking(rt, Some(GET_ATTRIBUTE_SINGLE), matches)),
         Some(("set", matches)) => Ok(run_asking(rt, Some(SET_ATTRIBUTE_SINGLE), matches)),
         Some(("call", matches)) => Ok(run_asking(rt, matches.get_one("SERVICE"), matches)),
@@ -93,7 +85,7 @@ fn read_file(rt: &HostRuntime, words: &[Word], text: &str) -> Result<Vec<u8>, Fa
 
 /// `enip serve`, for so many connections.
 fn run_serve(rt: &HostRuntime, config: &[u8], address: &str, count: u64) -> Result<u8, Fault> {
-    let mut adapter = answer::adapter_from(rt.alloc(), config)?;
+    let mut adapter = enip_config::adapter_from(rt.alloc(), config)?;
     let listener = TcpListener::bind(rt, address)?;
     let bound = listener.local_addr()?;
     eprintln!(rt; "listening on {bound}")?;
@@ -108,7 +100,7 @@ fn run_asking(rt: &HostRuntime, service: Option<u8>, matches: &ArgMatches<'_>) -
     };
     let address = matches.get_str("ADDRESS").unwrap_or("");
     let told = ask_address(rt, address, &question, matches.get_flag("connected"));
-    asking::end(told, rt.stderr())
+    enip_text::end_asking(told, rt.stderr())
 }
 
 /// What the words ask. None where a word is missing.
@@ -131,13 +123,13 @@ fn ask_address(
     address: &str,
     question: &Question<'_>,
     connected: bool,
-) -> Result<Replied, Stop> {
+) -> Result<Replied, AskingStop> {
     let request = question.request(rt.alloc())?;
     let start = Instant::now(rt)?;
     let stream = TcpStream::connect(rt, address)?;
     // The requests are small.
     let _ = stream.set_nodelay(true);
-    asking::ask_over(
+    enip_text::ask_over(
         rt.alloc(),
         &mut SocketSource::new(&stream, rt, start),
         &mut SocketSink::new(&stream),
@@ -153,7 +145,9 @@ fn run_words(rt: &HostRuntime) -> Result<u8, Fault> {
     let words = words(rt, alloc, PROGRAM)?;
     match program(alloc)?.try_get_matches_from(words.as_slice()) {
         Ok(matches) => run(rt, words.as_slice(), &matches),
-        Err(error) if error.kind() == ErrorKind::OutOfMemory => Err(Fault::Memory),
+        Err(error) if error.kind() == ErrorKind::OutOfMemory => Err(Fault::Run(
+            enip_text::Fault::Memory,
+        )),
         Err(error) if error.use_stderr() => {
             let _ = error.print(rt);
             Ok(WORDS_REFUSED)

@@ -1,36 +1,15 @@
 //! `enip replay`: a client and an adapter side by side, moved by the lines of a script.
 
-ghost use Rattle.std.specs.Prelude.{◌≡◌, true, false, IfOk, IfErr, OnOk, OnErr};
-ghost use Rattle.std.specs.Io.Buffered.{writer_contents};
-ghost use Rattle.std.specs.Io.KnownBytes.{Appends, Keeps};
-ghost use Rattle.enip_bench.specs.Stored.{event_in};
+ghost use Rattle.std.specs.Prelude.{◌≡◌, IfOk, IfErr};
 ghost use Rattle.enip_config.specs.declared.fault.Refusal.{Refusal};
+ghost use Rattle.enip_config.specs.Configured.{IsAccepted};
 ghost use Rattle.enip_config.specs.Told.{IsRefused};
-ghost use Rattle.enip_cmd.specs.Replay.{IsOpeningOf, IsOpeningRefused, IsStopOf, IsDone, IsRun, ending};
-ghost use Rattle.enip_cmd.specs.Replay.{objects_printed, assembly_printed, assemblies_printed};
-ghost use Rattle.enip_cmd.specs.Script.{IsRefusedLine};
-ghost use Rattle.enip_cmd.specs.Statuses.{IsNoRefusal, IsAccepted, IsOfDevices, IsReplayStatus, replay_stop_status};
+ghost use Rattle.enip_cmd.specs.Statuses.{IsOpeningRefused, IsReplayFaultOf, IsReplayStatus};
 
-use crate::answer::adapter_from;
-use crate::asking::WANTS;
 use crate::fault::Fault;
-use crate::input_lines::{TakeLines, read_lines};
-use crate::outcome::{AssemblyData, Counter, Outcome, Standing};
-use crate::script::{event_of, is_skipped};
-use cip_objects::Objects;
-use enip_bench::{Bench, BenchFault, Event};
-use enip_client::Client;
+use enip_config::adapter_from;
 use std::alloc::Global;
-use std::io::{self, BufWriter, Write};
-use thiserror::Error;
-
-/// The class of the assemblies, and the attribute that is their data. (Volume 1, Assembly.)
-const ASSEMBLY: u16 = 0x04;
-
-const DATA: u16 = 3;
-
-/// The greatest instance that an assembly can have. (Volume 1, Assembly.)
-const LAST_INSTANCE: u32 = 65_535;
+use std::io::Write;
 
 /// Moves a client and an adapter by the lines of a script, and answers the exit status of the program: 0, or 3 where
 /// the configuration is refused, 4 where a line is, 5 where a device or memory failed, 6 where the client could not
@@ -70,208 +49,18 @@ pub fn replay_bytes<W: Write + Drop, E: Write + Drop>(
     let mut errors = errors;
     match run(alloc, config, script, output) {
         Ok(()) => 0,
-        Err(stop) => {
-            let _ = writeln!(errors, "{stop}");
-            stop.exit_status()
+        Err(fault) => {
+            let _ = writeln!(errors, "{fault}");
+            fault.exit_status()
         }
     }
 }
 
-fn run<W: Write + Drop>(alloc: Global, config: &[u8], script: &[u8], output: W) -> Result<(), Stop>
+fn run<W: Write + Drop>(alloc: Global, config: &[u8], script: &[u8], output: W) -> Result<(), Fault>
     ensures accepted { IfOk result (λ _. IsAccepted config.now) }
-    ensures refused { IfErr result (IsStopOf config.now) }
-{
-    let bench = bench_of(alloc, config)?;
-    let mut player = Player {
-        alloc,
-        bench,
-        output: BufWriter::new(alloc, output)?,
-        digits: Vec::new(alloc),
-    };
-    play(alloc, script, &mut player)?;
-    Ok(())
-}
-
-/// Runs the lines of a script, and prints where both ends stand.
-fn play<W: Write + Drop>(alloc: Global, script: &[u8], player: &mut Player<W>) -> Result<(), Fault>
-    ensures { IfErr result IsNoRefusal }
-{
-    let ran = read_lines(alloc, script, player);
-    player.end(ran)
-}
-
-/// Why a replay ends early. Its text goes to standard error.
-#[derive(Clone, Copy, Debug, PartialEq, Eq, Error)]
-pub enum Stop {
-    /// The client could not open its connection, or the second session could not begin.
-    #[error("setup")]
-    Setup,
-    /// The program itself failed.
-    #[error("{0}")]
-    Program(Fault),
-}
-
-impl Stop {
-    /// The exit status of the program.
-    pub fn exit_status(self) -> u8
-        ensures { result ≡ replay_stop_status self }
-    {
-        match self {
-            Stop::Setup => 6,
-            Stop::Program(fault) => fault.exit_status(),
-        }
-    }
-}
-
-impl From<Fault> for Stop {
-    ghost use Rattle.enip_cmd.specs.declared.replay.Stop.TheVariants.{Program};
-
-    ghost from_gives = { λ fault stop. stop ≡ Program fault };
-
-    fn from(fault: Fault) -> Stop {
-        Stop::Program(fault)
-    }
-}
-
-impl From<io::Error> for Stop {
-    ghost use Rattle.enip_cmd.specs.Replay.{IsStopOfDevices};
-
-    ghost from_gives = { λ _ stop. IsStopOfDevices stop };
-
-    fn from(error: io::Error) -> Stop {
-        Stop::Program(Fault::from(error))
-    }
-}
-
-impl From<BenchFault> for Stop {
-    ghost use Rattle.enip_cmd.specs.Replay.{stop_of};
-
-    ghost from_gives = { λ fault stop. stop ≡ stop_of fault };
-
-    fn from(fault: BenchFault) -> Stop {
-        match fault {
-            BenchFault::Memory => Stop::Program(Fault::Memory),
-            BenchFault::Setup => Stop::Setup,
-        }
-    }
-}
-
-/// The adapter of a configuration and a client with its connection open.
-fn bench_of(alloc: Global, config: &[u8]) -> Result<Bench, Stop>
-    ensures made { IfOk result (IsOpeningOf config.now) }
-    ensures accepted { IfOk result (λ _. IsAccepted config.now) }
-    ensures refused { IfErr result (IsStopOf config.now) }
+    ensures refused { IfErr result (IsReplayFaultOf config.now) }
 {
     let adapter = adapter_from(alloc, config)?;
-    let Ok(client) = Client::new(alloc, &WANTS) else {
-        return Err(Stop::Program(Fault::Memory));
-    };
-    Ok(Bench::new(alloc, adapter, client)?)
-}
-
-/// Both ends, and where what became of each event goes.
-#[derive(Drop)]
-struct Player<W: Write + Drop> {
-    alloc: Global,
-    bench: Bench,
-    output: BufWriter<W>,
-    digits: Vec<u8>,
-}
-
-impl<W: Write + Drop> Player<W> {
-    /// Runs a line, and says whether it is one that can be run.
-    fn run_line(&mut self, text: &[u8]) -> Result<bool, Fault>
-        ensures run { IfOk result (λ runs. runs ≡ true → IsRun text.now self.old.bench self.new.bench
-            (writer_contents W.contents self.old.output) (writer_contents W.contents self.new.output)) }
-        ensures line { IfOk result (λ runs. runs ≡ false → IsRefusedLine text.now) }
-        ensures refused { IfErr result IsOfDevices }
-    {
-        if is_skipped(text) {
-            return Ok(true);
-        }
-        let Some(event) = event_of(self.alloc, text, &mut self.digits)? else {
-            return Ok(false);
-        };
-        self.run_event(&event)?;
-        Ok(true)
-    }
-
-    /// Does an event, and tells what became of it.
-    fn run_event(&mut self, event: &Event) -> Result<(), Fault>
-        ensures done { OnOk result (IsDone (event_in event.now) self.old.bench self.new.bench
-            (writer_contents W.contents self.old.output) (writer_contents W.contents self.new.output)) }
-        ensures refused { IfErr result IsOfDevices }
-    {
-        let step = self.bench.step(event)?;
-        writeln!(self.output, "{}", Outcome { event, step })?;
-        Ok(())
-    }
-
-    /// Prints where both ends stand, where all lines were run.
-    fn end(&mut self, ran: Result<(), Fault>) -> Result<(), Fault>
-        ensures printed { OnOk ran (OnOk result (Appends (writer_contents W.contents self.old.output)
-            (writer_contents W.contents self.new.output) (ending self.old.bench))) }
-        ensures refused { OnOk ran (IfErr result IsOfDevices) }
-        ensures silent { IfErr ran (λ fault. (result ≡ Err fault) × (self.new ≡ self.old)) }
-    {
-        ran?;
-        let seen = self.bench.seen();
-        print_objects(&mut self.output, seen.objects)?;
-        writeln!(self.output, "{}", Standing(seen.stage))?;
-        self.output.flush()?;
-        Ok(())
-    }
-}
-
-impl<W: Write + Drop> TakeLines for Player<W> {
-    ghost refuses = { λ _ text. IsRefusedLine text };
-
-    fn take_line(&mut self, text: &[u8], number: u64) -> Result<(), Fault> {
-        if self.run_line(text)? {
-            Ok(())
-        } else {
-            Err(Fault::Line(number))
-        }
-    }
-
-    fn send(&mut self) -> Result<(), Fault> {
-        self.output.flush()?;
-        Ok(())
-    }
-}
-
-/// Prints the counter, and the data of each assembly, by rising instance.
-fn print_objects<W: Write>(output: &mut W, objects: &Objects) -> Result<(), Fault>
-    ensures printed { OnOk result (Appends (W.contents output.old) (W.contents output.new)
-        (objects_printed objects.now)) }
-    ensures refused { IfErr result IsOfDevices }
-{
-    writeln!(output, "{}", Counter::of(objects))?;
-    print_assemblies(output, objects)
-}
-
-/// Prints the data of each assembly, by rising instance.
-fn print_assemblies<W: Write>(output: &mut W, objects: &Objects) -> Result<(), Fault>
-    ensures printed { OnOk result (Appends (W.contents output.old) (W.contents output.new)
-        (assemblies_printed objects.now LAST_INSTANCE)) }
-    ensures refused { IfErr result IsOfDevices }
-{
-    for instance in 1..LAST_INSTANCE + 1 {
-        print_assembly(output, objects, instance)?;
-    }
-    Ok(())
-}
-
-/// Prints the data of the assembly of an instance, if there is one.
-fn print_assembly<W: Write>(output: &mut W, objects: &Objects, instance: u32) -> Result<(), Fault>
-    ensures printed { OnOk result (Appends (W.contents output.old) (W.contents output.new)
-        (assembly_printed objects.now instance)) }
-    ensures refused { IfErr result IsOfDevices }
-{
-    let Some(data) = objects.attribute(ASSEMBLY, instance, DATA) else {
-        return Ok(());
-    };
-    let data = data.as_slice();
-    writeln!(output, "{}", AssemblyData { instance, data })?;
+    enip_text::replay(alloc, adapter, script, output)?;
     Ok(())
 }

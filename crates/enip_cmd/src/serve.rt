@@ -1,11 +1,11 @@
 //! `enip serve`: the adapter on a socket, one connection after another.
 
 ghost use Rattle.std.specs.Prelude.{IfErr};
-ghost use Rattle.enip_cmd.specs.Statuses.{IsOfDevices};
+ghost use Rattle.enip_text.specs.Statuses.{IsOfDevices};
 
-use crate::fault::Fault;
 use crate::socket::{SocketSink, SocketSource};
 use enip_adapter::{Adapter, Peer, Served, serve};
+use enip_text::Fault;
 use enip_wire::{Sink, Source};
 use std::net::{TcpListener, TcpStream};
 use std::rt::Clock;

@@ -1,6 +1,6 @@
 //! The words of the command line, as the system gave them and as text.
 
-use crate::fault::Fault;
+use enip_text::Fault;
 use std::alloc::Global;
 use std::convert::AsStr;
 use std::env::{Env, FillError};

@@ -1,5 +1,6 @@
-use Rattle.std.proofs.Common.{◌≡◌, ◌≤◌, ℕ, List, Bool, if◌then◌else◌, ◌&&◌, nat_le, true, false, Option, IfSome, Some, None, inl, Result, Ok, Err, IfErr, IsTrue, option_and_then, refl, sym, ap, ◌∙◌, arith, rules}
+use Rattle.std.proofs.Common.{◌≡◌, ◌≤◌, ℕ, List, subst, Bool, if◌then◌else◌, ◌&&◌, nat_le, true, false, Option, IfSome, Some, None, inl, Result, Ok, Err, IfErr, IsTrue, option_and_then, refl, sym, ap, ◌∙◌, arith, rules}
 use Rattle.std.specs.Option.{IsSomeAnd}
+use Rattle.std.specs.Result.{IsErr, IsErrAnd}
 use Rattle.toml.specs.Data.{Data, Members, integer, get_member}
 use Rattle.cip_objects.specs.declared.config.ConfigFault.{ConfigFault}
 use Rattle.cip_objects.specs.declared.config.ConfigFault.TheVariants.{Name, Size, Members as WrongMembers, DoubleInstance, Limit, Memory}
@@ -8,7 +9,7 @@ use Rattle.enip_config.specs.declared.configuration.Configuration.{Configuration
 use Rattle.enip_config.specs.Keys.{KeyRow, row, number_in, number_by, number_of, table_with, read_or}
 use Rattle.enip_config.specs.declared.fault.Fault.{Fault}
 use Rattle.enip_config.specs.Refusals.{fault_of_objects}
-use Rattle.enip_config.specs.Told.{number_in as held, IsKnown, HasValues, IsFaultOf, IsInRange, IsBad, IsUnread}
+use Rattle.enip_config.specs.Told.{number_in as held, IsKnown, IsTold, HasValues, IsFaultOf, IsInRange, IsBad, IsUnread}
 use Rattle.enip_config.specs.declared.key.NumberKey.{NumberKey}
 use Rattle.enip_config.specs.declared.key.NumberKey.TheVariants.{Vendor, DeviceType, ProductCode, Major, Minor, Serial, Status, State, Port, Peers, Connections, FirstHandle, FirstId, CounterValue, CounterLimit}
 
@@ -72,3 +73,12 @@ default_within CounterLimit = search arith
 
 pub all_in_range : (told : Members) (c : Configuration) → HasValues told c → IsInRange c
 all_in_range told c values key = in_found (row key) (table_with key told) (held c key) (default_within key) (values.numbers key)
+
+-- The objects take what is read: only memory may fail.
+pub objects_fail : {T U : Type 0} (text : List ℕ) (told : Configuration) (r : Result T ConfigFault) (check : ConfigFault) (returned : Result U Fault)
+    → IsTold text told → (fault_of told.objects ≡ None → IfErr r (λ f. f ≡ Memory))
+    → r ≡ Err check → IsErr returned × IsErrAnd returned (λ f. f ≡ fault_of_objects check) → IfErr returned (IsFaultOf text)
+objects_fail text told r check (Ok x) read allowed is gives = tt
+objects_fail text told r check (Err fault) read allowed is gives =
+    let none : check ≡ Memory = subst (λ s. IfErr s (λ f. f ≡ Memory)) is (allowed read.taken) in
+    rw (gives.1, none) tt

@@ -2,3 +2,4 @@ pub mod Keys
 pub mod Known
 pub mod Refusals
 pub mod Told
+pub mod Configured

@@ -3,9 +3,11 @@
 //!
 //! `Configuration::from_bytes` reads it by a table of keys, each with its name, its range and what it is where it is
 //! left out (`specs/Keys.antt`), and refuses it by the first check that fails, whose number is printed
-//! (`specs/Told.antt`). A configuration that is read is one that the objects take.
+//! (`specs/Told.antt`). A configuration that is read is one that the objects take. `adapter_from` makes its adapter
+//! (`specs/Configured.antt`).
 #![tactic(auto)]
 
+mod adapter;
 mod assemblies;
 mod configuration;
 mod fault;
@@ -14,6 +16,7 @@ mod known;
 mod values;
 mod width;
 
+pub use adapter::adapter_from;
 pub use configuration::Configuration;
 pub use fault::{Fault, Refusal};
 pub use key::NumberKey;

@@ -14,6 +14,10 @@ mod adapter_memory;
 #[cfg(test)]
 mod adapter_serving;
 #[cfg(test)]
+mod answering;
+#[cfg(test)]
+mod asking;
+#[cfg(test)]
 mod bench_demo;
 #[cfg(test)]
 mod bench_growths;
@@ -33,6 +37,14 @@ mod client_openings;
 mod client_stands;
 #[cfg(test)]
 mod configuration;
+#[cfg(test)]
+mod demo;
+#[cfg(test)]
+mod replaying;
+#[cfg(test)]
+mod showing;
+#[cfg(test)]
+mod streams;
 #[cfg(test)]
 mod wire_devices;
 #[cfg(test)]

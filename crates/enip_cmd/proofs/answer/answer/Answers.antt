@@ -1,7 +1,7 @@
 use Rattle.std.proofs.Common.{ℕ, List, subst}
 use Rattle.enip_config.specs.declared.fault.Refusal.{Refusal}
 use Rattle.enip_config.specs.Told.{IsRefused}
-use Rattle.enip_cmd.specs.Statuses.{IsAccepted}
+use Rattle.enip_config.specs.Configured.{IsAccepted}
 use Rattle.enip_cmd.proofs.answer.answer.Goals as goal
 
 pub returns-clause-accepted : goal.returns-clause-accepted

@@ -1,8 +1,8 @@
 use Rattle.std.proofs.Common.{ℕ, List, subst}
 use Rattle.enip_config.specs.declared.fault.Refusal.{Refusal}
 use Rattle.enip_config.specs.Told.{IsRefused}
-use Rattle.enip_cmd.specs.Replay.{IsOpeningRefused}
-use Rattle.enip_cmd.specs.Statuses.{IsAccepted}
+use Rattle.enip_cmd.specs.Statuses.{IsOpeningRefused}
+use Rattle.enip_config.specs.Configured.{IsAccepted}
 use Rattle.enip_cmd.proofs.replay.replay.Goals as goal
 
 pub returns-clause-accepted : goal.returns-clause-accepted

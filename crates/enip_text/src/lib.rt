@@ -1,0 +1,29 @@
+//! The program's work over lines of text: the digits of bytes, the lines that it reads, what it prints, and the exit
+//! status with which it ends.
+//!
+//! [`answer`] runs an adapter over lines of pieces, [`replay`] an adapter and a client over the lines of a script;
+//! [`show`] prints the fields of frames; [`ask_over`] asks a device once, with a request that a [`Question`] makes. Each
+//! is over any reader and writer. Why one ends early is a [`Fault`], a [`ReplayStop`] or an [`AskingStop`], with its text
+//! and its exit status (`specs/Statuses.antt`). Which lines there are, and what each means, stands in `specs/Lines.antt`
+//! and `specs/Script.antt`; what a replay prints in `specs/Outcome.antt` and `specs/Replay.antt`.
+//!
+//! It knows neither the words of a command line nor a configuration's text: who calls it makes the adapter.
+#![tactic(auto)]
+
+mod answering;
+mod asking;
+mod digits;
+mod fault;
+mod input_lines;
+mod lines;
+mod number;
+mod outcome;
+mod replaying;
+mod script;
+mod showing;
+
+pub use answering::answer;
+pub use asking::{AskingStop, Question, Replied, WANTS, ask_over, end_asking};
+pub use fault::Fault;
+pub use replaying::{ReplayStop, replay};
+pub use showing::show;
