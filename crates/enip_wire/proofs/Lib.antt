@@ -8,6 +8,7 @@ pub mod PieceLemmas
 pub mod ItemLemmas
 pub mod BodyLemmas
 pub mod WriteLemmas
+pub mod DeviceRows
 pub mod Rows
 pub mod RunningLemmas
 pub mod SightLemmas
