@@ -1,4 +1,4 @@
-use Rattle.std.proofs.Common.{◌≡◌, ℕ, List, inl, inr, Result, Ok, Err, IfOk, IfErr, refl, arith}
+use Rattle.std.proofs.Common.{◌≡◌, ℕ, List, inl, inr, Result, Ok, Err, IfErr, refl, arith}
 use Rattle.std.specs.Result.{IsErr, IsErrAnd}
 use Rattle.enip_adapter.specs.Calls.{AdapterState}
 use Rattle.enip_config.specs.declared.fault.Fault.{Fault as ConfigurationFault}
