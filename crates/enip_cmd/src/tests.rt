@@ -10,23 +10,53 @@ use super::serve::serve_connections;
 use clap::error::ErrorKind;
 use enip_config::adapter_from;
 use enip_text::show;
+use std::alloc::Global;
 use std::io::{Read, Write};
 use std::net::{Shutdown, TcpListener, TcpStream};
+use std::process::Abort;
 use std::test::Fail;
-use table::{ANSWERS, DEMO, REPLAYS, SHOWS};
+use table::{
+    CONFIGURATIONS, CONNECTIONS, DEMO, FRAME_FAULTS, LINES, MESSAGE_FAULTS, OBJECTS, PLACES,
+    REPLAYS, Row, SHOWN,
+};
 
-#[test]
-fn rows_of_answer(rt: HostRuntime) {
-    for row in &ANSWERS {
-        let mut output = Vec::new(rt.alloc());
-        let mut errors = Vec::new(rt.alloc());
+/// Asserts what `answer` does with each row.
+fn check_answers<A: Abort>(rt: &A, alloc: Global, rows: &[Row]) {
+    for row in rows {
+        let mut output = Vec::new(alloc);
+        let mut errors = Vec::new(alloc);
         let config = row.config.unwrap_or(DEMO);
         let input = row.input.as_bytes();
-        let status = answer(rt.alloc(), config, input, &mut output, &mut errors);
+        let status = answer(alloc, config, input, &mut output, &mut errors);
         assert_eq!(rt; status, row.status, "{}", row.name);
         assert_eq!(rt; output.as_slice(), row.output.as_bytes(), "{}", row.name);
         assert_eq!(rt; errors.as_slice(), row.errors.as_bytes(), "{}", row.name);
     }
+}
+
+#[test]
+fn lines_of_answer(rt: HostRuntime) {
+    check_answers(&rt, rt.alloc(), &LINES);
+}
+
+#[test]
+fn requests_to_the_objects(rt: HostRuntime) {
+    check_answers(&rt, rt.alloc(), &OBJECTS);
+}
+
+#[test]
+fn refused_configurations(rt: HostRuntime) {
+    check_answers(&rt, rt.alloc(), &CONFIGURATIONS);
+}
+
+#[test]
+fn connections(rt: HostRuntime) {
+    check_answers(&rt, rt.alloc(), &CONNECTIONS);
+}
+
+#[test]
+fn places_and_moments(rt: HostRuntime) {
+    check_answers(&rt, rt.alloc(), &PLACES);
 }
 
 #[test]
@@ -42,16 +72,31 @@ fn rows_of_replay(rt: HostRuntime) {
     }
 }
 
-#[test]
-fn rows_of_show(rt: HostRuntime) {
-    for row in &SHOWS {
-        let mut output = Vec::new(rt.alloc());
-        let mut errors = Vec::new(rt.alloc());
-        let status = show(rt.alloc(), row.input.as_bytes(), &mut output, &mut errors);
+/// Asserts what `show` prints for each row.
+fn check_shows<A: Abort>(rt: &A, alloc: Global, rows: &[Row]) {
+    for row in rows {
+        let mut output = Vec::new(alloc);
+        let mut errors = Vec::new(alloc);
+        let status = show(alloc, row.input.as_bytes(), &mut output, &mut errors);
         assert_eq!(rt; status, row.status, "{}", row.name);
         assert_eq!(rt; output.as_slice(), row.output.as_bytes(), "{}", row.name);
         assert_eq!(rt; errors.as_slice(), row.errors.as_bytes(), "{}", row.name);
     }
+}
+
+#[test]
+fn shown_frames(rt: HostRuntime) {
+    check_shows(&rt, rt.alloc(), &SHOWN);
+}
+
+#[test]
+fn frames_with_a_fault(rt: HostRuntime) {
+    check_shows(&rt, rt.alloc(), &FRAME_FAULTS);
+}
+
+#[test]
+fn messages_with_a_fault(rt: HostRuntime) {
+    check_shows(&rt, rt.alloc(), &MESSAGE_FAULTS);
 }
 
 #[test]

@@ -1,5 +1,7 @@
 //! Worked rows of `enip answer`, `replay` and `show`: what is read, and what is printed, as the standard's layouts and
 //! this program's texts have it.
+//!
+//! They are cut into lists of some dozen rows, since the proof of a longer one takes too many steps.
 
 /// A run of the program.
 pub(crate) struct Row {
@@ -48,8 +50,8 @@ const DEVICE: &str = "vendor = 4660\n\
     settable = true\n\
     members = [1, 2, 1]\n";
 
-/// Rows of `answer`.
-pub(crate) static ANSWERS: [Row; 54] = [
+/// Rows of `answer`: lines of its input.
+pub(crate) static LINES: [Row; 15] = [
     Row {
         name: "register",
         config: None,
@@ -182,6 +184,10 @@ pub(crate) static ANSWERS: [Row; 54] = [
         status: 0,
         errors: "",
     },
+];
+
+/// Rows of `answer`: requests to the objects.
+pub(crate) static OBJECTS: [Row; 8] = [
     Row {
         name: "services that no other row has: all attributes, setting data, a member, setting the limit, a list",
         config: None,
@@ -296,6 +302,10 @@ pub(crate) static ANSWERS: [Row; 54] = [
         status: 0,
         errors: "",
     },
+];
+
+/// Rows of `answer`: configurations that are refused.
+pub(crate) static CONFIGURATIONS: [Row; 13] = [
     Row {
         name: "configuration-name",
         config: Some(
@@ -498,6 +508,50 @@ pub(crate) static ANSWERS: [Row; 54] = [
         errors: "configuration 7\n",
     },
     Row {
+        name: "a configuration that is no TOML",
+        config: Some("vendor ="),
+        input: "1 6500 0400 00000000 00000000 0102030405060708 00000000 01000000\n",
+        output: "",
+        status: 3,
+        errors: "configuration 7\n",
+    },
+    Row {
+        name: "a configuration with a name alone",
+        config: Some("name = \"Demo\"\n"),
+        input: "1 6500 0400 00000000 00000000 0102030405060708 00000000 01000000\n",
+        output: "",
+        status: 3,
+        errors: "configuration 8\n",
+    },
+    Row {
+        name: "a vendor that is a text",
+        config: Some("vendor = \"4660\"\n"),
+        input: "1 6500 0400 00000000 00000000 0102030405060708 00000000 01000000\n",
+        output: "",
+        status: 3,
+        errors: "configuration 8\n",
+    },
+    Row {
+        name: "a vendor that is too large",
+        config: Some("vendor = 65536\n"),
+        input: "1 6500 0400 00000000 00000000 0102030405060708 00000000 01000000\n",
+        output: "",
+        status: 3,
+        errors: "configuration 8\n",
+    },
+    Row {
+        name: "a vendor below 0",
+        config: Some("vendor = -1\n"),
+        input: "1 6500 0400 00000000 00000000 0102030405060708 00000000 01000000\n",
+        output: "",
+        status: 3,
+        errors: "configuration 8\n",
+    },
+];
+
+/// Rows of `answer`: connections that are opened and used.
+pub(crate) static CONNECTIONS: [Row; 12] = [
+    Row {
         name: "Forward_Open, and the same again",
         config: Some(DEVICE),
         input: "1 6500 0400 00000000 00000000 0102030405060708 00000000 01000000\n\
@@ -696,6 +750,10 @@ pub(crate) static ANSWERS: [Row; 54] = [
         status: 0,
         errors: "",
     },
+];
+
+/// Rows of `answer`: places, handles, IDs and moments.
+pub(crate) static PLACES: [Row; 6] = [
     Row {
         name: "two places, the last two handles",
         config: Some(
@@ -831,46 +889,6 @@ pub(crate) static ANSWERS: [Row; 54] = [
             1 70001e0001000000000000000102030405060708000000000000000000000200a100040044332211b1000a000100b200000005000000\n",
         status: 0,
         errors: "",
-    },
-    Row {
-        name: "a configuration that is no TOML",
-        config: Some("vendor ="),
-        input: "1 6500 0400 00000000 00000000 0102030405060708 00000000 01000000\n",
-        output: "",
-        status: 3,
-        errors: "configuration 7\n",
-    },
-    Row {
-        name: "a configuration with a name alone",
-        config: Some("name = \"Demo\"\n"),
-        input: "1 6500 0400 00000000 00000000 0102030405060708 00000000 01000000\n",
-        output: "",
-        status: 3,
-        errors: "configuration 8\n",
-    },
-    Row {
-        name: "a vendor that is a text",
-        config: Some("vendor = \"4660\"\n"),
-        input: "1 6500 0400 00000000 00000000 0102030405060708 00000000 01000000\n",
-        output: "",
-        status: 3,
-        errors: "configuration 8\n",
-    },
-    Row {
-        name: "a vendor that is too large",
-        config: Some("vendor = 65536\n"),
-        input: "1 6500 0400 00000000 00000000 0102030405060708 00000000 01000000\n",
-        output: "",
-        status: 3,
-        errors: "configuration 8\n",
-    },
-    Row {
-        name: "a vendor below 0",
-        config: Some("vendor = -1\n"),
-        input: "1 6500 0400 00000000 00000000 0102030405060708 00000000 01000000\n",
-        output: "",
-        status: 3,
-        errors: "configuration 8\n",
     },
     Row {
         name: "peers have handles of their own",
@@ -1377,8 +1395,8 @@ pub(crate) static REPLAYS: [Row; 34] = [
     },
 ];
 
-/// Rows of `show`.
-pub(crate) static SHOWS: [Row; 41] = [
+/// Rows of `show`: frames.
+pub(crate) static SHOWN: [Row; 15] = [
     Row {
         name: "a request",
         config: None,
@@ -1546,6 +1564,10 @@ pub(crate) static SHOWS: [Row; 41] = [
         status: 0,
         errors: "",
     },
+];
+
+/// Rows of `show`: frames and packets with a fault.
+pub(crate) static FRAME_FAULTS: [Row; 17] = [
     Row {
         name: "an odd number of digits",
         config: None,
@@ -1698,6 +1720,10 @@ pub(crate) static SHOWS: [Row; 41] = [
         status: 0,
         errors: "",
     },
+];
+
+/// Rows of `show`: messages with a fault.
+pub(crate) static MESSAGE_FAULTS: [Row; 9] = [
     Row {
         name: "no message",
         config: None,
