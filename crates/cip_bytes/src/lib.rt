@@ -6,6 +6,7 @@
 //! the room answers [`Full`] where there is none.
 #![tactic(auto)]
 
+pub mod protocol;
 mod writing;
 
 pub use writing::{Full, append, append_u8, append_u16, append_u32};
