@@ -8,10 +8,6 @@ ghost use Rattle.cip_bytes.specs.Protocol.{encapsulation_status_number, general_
 
 use thiserror::Error;
 
-/// The most data of a frame, in bytes: with its header of 24 bytes it has 65,535.
-/// (Volume 2, encapsulation header, length.)
-pub const LONGEST_BODY: u16 = 65_511;
-
 /// The room of an unconnected request, and of the reply to one, in bytes. (Volume 2, UCMM requests.)
 pub const UNCONNECTED_ROOM: usize = 504;
 
