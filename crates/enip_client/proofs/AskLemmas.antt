@@ -31,6 +31,8 @@ use Rattle.cip_bytes.specs.Numbers.{number_at}
 use Rattle.enip_client.specs.declared.state.Link.TheVariants.{Open}
 use Rattle.enip_client.specs.declared.state.Registration.TheVariants as registrations
 use Rattle.enip_client.specs.Frames.{open_service}
+use Rattle.cip_bytes.specs.Protocol.{manager_service_number}
+use Rattle.cip_bytes.specs.declared.protocol.ManagerService.TheVariants.{ForwardClose}
 use Rattle.enip_client.specs.Hears.{answered, refuses, accepted, is_answer, is_for_connection, Turned, News, Answer, tells, faulted, session_turn, opening_turn, reply_turn, closing_turn, shaped, answer_to, answer_turn, item_turn, other_turn, hears_awaiting, hears_sight}
 use Rattle.enip_client.specs.Hears.News.{Nothing, Registered, Opened, Replied, Accepted, Closed}
 use Rattle.enip_client.specs.Asking.{Stand, Exchange, LONGEST_REPLY, is_awaiting, failed, lends, lends_plainly, requests, submit_failure, says, opening, requesting, closing, leaving, goes_on, hears_unless, after_sight}
@@ -79,9 +81,9 @@ mild_closing s (Some a) healthy =
 
 mild_shaped : (s : State) (w : Awaited) (f : Frame) → s.fault ≡ None → Mild (shaped s w f)
 mild_shaped s awaited.Session f healthy = mild_session s f healthy
-mild_shaped s awaited.Connection f healthy = mild_opening s (answer_to (open_service s.wants) f.body) healthy
+mild_shaped s awaited.Connection f healthy = mild_opening s (answer_to (manager_service_number (open_service s.wants)) f.body) healthy
 mild_shaped s (awaited.Reply service) f healthy = mild_reply s (answer_to service f.body) healthy
-mild_shaped s awaited.End f healthy = mild_closing s (answer_to 0x4e f.body) healthy
+mild_shaped s awaited.End f healthy = mild_closing s (answer_to (manager_service_number ForwardClose) f.body) healthy
 
 mild_item : (s : State) (r : Result (ℕ × List ℕ) CpfFault) → s.fault ≡ None → Mild (item_turn s r)
 mild_item s (Err fault) healthy = record { either = inl healthy }

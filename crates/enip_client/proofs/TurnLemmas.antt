@@ -24,8 +24,11 @@ use Rattle.enip_client.specs.declared.state.Registration.TheVariants as registra
 use Rattle.enip_client.specs.declared.state.State.{State}
 use Rattle.enip_client.specs.State.{is_registered, session_in, is_open}
 use Rattle.enip_client.specs.Frames.{open_service}
+use Rattle.cip_bytes.specs.Protocol.{command_number, manager_service_number}
+use Rattle.cip_bytes.specs.declared.protocol.Command.TheVariants.{SendUnitData}
+use Rattle.cip_bytes.specs.declared.protocol.ManagerService.TheVariants.{ForwardClose}
 use Rattle.enip_client.specs.Hears.{News, Turned, Answer, tells, faulted, answered, hears, hears_awaiting, is_answer}
-use Rattle.enip_client.specs.Hears.{command_of, answer_turn, shaped, opening_turn, reply_turn, closing_turn}
+use Rattle.enip_client.specs.Hears.{command_awaited, answer_turn, shaped, opening_turn, reply_turn, closing_turn}
 use Rattle.enip_client.specs.Hears.{other_turn, item_turn, accepted, is_for_connection, answer_to, refuses}
 use Rattle.enip_client.specs.Hears.{answer_in, answer_read}
 use Rattle.enip_client.specs.Hears.News.{Nothing}
@@ -63,20 +66,20 @@ other-turn s f = go (is_for_connection s f.header)
     go false = Ignores
 
 -- An awaited reply has another command than an item.
-not-connected : (s : State) (h : Header) → (h.command == 0x0070) ≡ false → is_for_connection s h ≡ false
+not-connected : (s : State) (h : Header) → (h.command == command_number SendUnitData) ≡ false → is_for_connection s h ≡ false
 not-connected s h other =
     ap (λ b. b && (h.status == 0) && is_open s.link && is_registered s.registration &&
     (h.session == session_in s.registration))
     other
 
-not-item : (s : State) (f : Frame) (what : Awaited) → f.header.command ≡ command_of what → item_in s f ≡ None
+not-item : (s : State) (f : Frame) (what : Awaited) → f.header.command ≡ command_number (command_awaited what) → item_in s f ≡ None
 not-item s f what is = ap (λ b. cond b (item_of s (unit_body_of f.body)) None) (not-connected s f.header (by what is))
   where
-    by : (what : Awaited) → f.header.command ≡ command_of what → (f.header.command == 0x0070) ≡ false
-    by awaited.Session is = ap (λ n. n == 0x0070) is
-    by awaited.Connection is = ap (λ n. n == 0x0070) is
-    by (awaited.Reply service) is = ap (λ n. n == 0x0070) is
-    by awaited.End is = ap (λ n. n == 0x0070) is
+    by : (what : Awaited) → f.header.command ≡ command_number (command_awaited what) → (f.header.command == command_number SendUnitData) ≡ false
+    by awaited.Session is = ap (λ n. n == command_number SendUnitData) is
+    by awaited.Connection is = ap (λ n. n == command_number SendUnitData) is
+    by (awaited.Reply service) is = ap (λ n. n == command_number SendUnitData) is
+    by awaited.End is = ap (λ n. n == command_number SendUnitData) is
 
 -- A reply begins with its service.
 first-service : (bytes : List ℕ) (reply : Reply) → reply_of bytes ≡ Ok reply → slice_index bytes 0 ≡ reply.service
@@ -176,9 +179,9 @@ module _ (s : State) (f : Frame) (number : ℕ) where
 
   shape : (what : Awaited) → s.awaiting ≡ Some (waits what) → IsTurn s None (shaped s what f)
   shape awaited.Session is = session (length f.body == 4) is
-  shape awaited.Connection is = opening (answer_to (open_service s.wants) f.body) is
+  shape awaited.Connection is = opening (answer_to (manager_service_number (open_service s.wants)) f.body) is
   shape (awaited.Reply service) is = reply service (answer_to service f.body) refl is
-  shape awaited.End is = closing (answer_to 0x4e f.body) is
+  shape awaited.End is = closing (answer_to (manager_service_number ForwardClose) f.body) is
 
   answer-turn : (what : Awaited) → s.awaiting ≡ Some (waits what) → IsTurn s None (answer_turn s what f)
   answer-turn what is = go (f.header.status == 0)

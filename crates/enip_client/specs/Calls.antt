@@ -8,6 +8,7 @@ use Rattle.cip_class3.specs.declared.originator.Refused.{Refused}
 use Rattle.cip_class3.specs.declared.originator.Stage.{Stage}
 use Rattle.std.specs.Borrow.{Bor}
 use Rattle.cip_bytes.specs.Reading.{seen_by}
+use Rattle.cip_bytes.specs.declared.protocol.TheConstants.{SMALLEST_REQUEST, UNCONNECTED_ROOM}
 use Rattle.enip_wire.specs.Frames.{Frame, frame}
 use Rattle.enip_client.specs.declared.fault.ClientFault.{ClientFault}
 use Rattle.enip_client.specs.declared.fault.ClientFault.TheVariants as faults
@@ -86,7 +87,9 @@ opens s = unless (refusal s (can_open s)) (Ok (asking s Connection (open_request
 
 -- An unconnected request has 2 to 504 bytes, and a service without bit 7.
 abbrev pub is_unconnected : List ℕ → Bool
-is_unconnected request = nat_le 2 (length request) && nat_le (length request) 504 && nat_lt (slice_index request 0) 128
+is_unconnected request =
+    nat_le SMALLEST_REQUEST (length request) && nat_le (length request) UNCONNECTED_ROOM
+    && nat_lt (slice_index request 0) 128
 
 abbrev pub asks : State → List ℕ → Result Lent ClientFault
 asks s request =

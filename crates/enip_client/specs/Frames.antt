@@ -1,21 +1,25 @@
 -- The frames that a client sends (Volume 2, encapsulation commands; Volume 1, Connection Manager).
 use Rattle.std.specs.Prelude.{ℕ, ◌+◌, ◌%◌, ◌^◌, nat_lt, Bool, ◌||◌, if◌then◌else◌, List, [], ◌∷◌, ◌++◌, length}
 use Rattle.cip_bytes.specs.Numbers.{le}
+use Rattle.cip_bytes.specs.Protocol.{command_number, manager_service_number}
+use Rattle.cip_bytes.specs.declared.protocol.Command.{Command}
+use Rattle.cip_bytes.specs.declared.protocol.Command.TheVariants.{RegisterSession, UnRegisterSession, SendRRData}
+use Rattle.cip_bytes.specs.declared.protocol.Command.TheVariants.{SendUnitData}
+use Rattle.cip_bytes.specs.declared.protocol.ManagerService.{ManagerService}
+use Rattle.cip_bytes.specs.declared.protocol.ManagerService.TheVariants.{ForwardOpen, LargeForwardOpen, ForwardClose}
+use Rattle.cip_bytes.specs.declared.protocol.TheConstants.{LARGEST_SMALL_SIZE}
 use Rattle.cip_message.specs.Open.{Layout, small, large, Open, «open», large_open}
 use Rattle.cip_message.specs.Close.{Close, close}
 use Rattle.cip_message.specs.Request.{request}
 use Rattle.enip_wire.specs.Bodies.{rr_text, unit_text}
 use Rattle.enip_wire.specs.Frames.{Frame}
 use Rattle.enip_wire.specs.declared.header.Header.{Header}
-use Rattle.enip_client.specs.declared.sending.Command.{Command}
-use Rattle.enip_client.specs.declared.sending.Command.TheVariants.{RegisterSession, UnRegisterSession, SendRRData}
-use Rattle.enip_client.specs.declared.sending.Command.TheVariants.{SendUnitData}
 use Rattle.enip_client.specs.declared.wants.Wants.{Wants}
 
 -- The header of a frame with so many bytes of data: no status, no options, and a number as its context.
-abbrev pub sent_header : ℕ → ℕ → ℕ → ℕ → Header
+abbrev pub sent_header : Command → ℕ → ℕ → ℕ → Header
 sent_header command session number count = record {
-  command = command;
+  command = command_number command;
   length = count;
   session = session;
   status = 0;
@@ -24,32 +28,25 @@ sent_header command session number count = record {
 }
 
 -- A frame with these data.
-abbrev pub sent : ℕ → ℕ → ℕ → List ℕ → Frame
+abbrev pub sent : Command → ℕ → ℕ → List ℕ → Frame
 sent command session number body =
     record { header = sent_header command session number (length body); body = body }
 
--- The number of a command that is sent.
-abbrev pub command_number : Command → ℕ
-command_number RegisterSession = 0x0065
-command_number UnRegisterSession = 0x0066
-command_number SendRRData = 0x006f
-command_number SendUnitData = 0x0070
-
 -- RegisterSession: protocol version 1, no flags.
 abbrev pub register_frame : ℕ → Frame
-register_frame number = sent 0x0065 0 number (le 2 1 ++ le 2 0)
+register_frame number = sent RegisterSession 0 number (le 2 1 ++ le 2 0)
 
 -- UnRegisterSession has no data, and no reply.
 abbrev pub unregister_frame : ℕ → Frame
-unregister_frame session = sent 0x0066 session 0 []
+unregister_frame session = sent UnRegisterSession session 0 []
 
 -- SendRRData: an unconnected request.
 abbrev pub request_frame : ℕ → ℕ → List ℕ → Frame
-request_frame session number bytes = sent 0x006f session number (rr_text bytes)
+request_frame session number bytes = sent SendRRData session number (rr_text bytes)
 
 -- SendUnitData: an item of the connection with this O->T ID. Its count tells it, and not its context.
 abbrev pub item_frame : ℕ → ℕ → List ℕ → Frame
-item_frame session o_to_t_id item = sent 0x0070 session 0 (unit_text o_to_t_id item)
+item_frame session o_to_t_id item = sent SendUnitData session 0 (unit_text o_to_t_id item)
 
 -- The Connection Manager, class 0x06, instance 1; and the message router, class 0x02, instance 1, to which a
 -- connection is opened.
@@ -60,8 +57,9 @@ abbrev pub message_router : List ℕ
 message_router = 0x20 ∷ 0x02 ∷ 0x24 ∷ 1 ∷ []
 
 -- A request to the Connection Manager.
-abbrev pub manager_request : ℕ → List ℕ → List ℕ
-manager_request service bytes = request (record { service = service; path = connection_manager; «data» = bytes })
+abbrev pub manager_request : ManagerService → List ℕ → List ℕ
+manager_request service bytes =
+    request (record { service = manager_service_number service; path = connection_manager; «data» = bytes })
 
 -- The parameters of one direction: point to point, of variable size up to this one, which bits 8 to 0 say.
 abbrev pub parameters_of : ℕ → ℕ
@@ -71,9 +69,9 @@ parameters_of size = 0x4200 + size % 2 ^ 9
 abbrev pub large_parameters_of : ℕ → ℕ
 large_parameters_of size = 0x42000000 + size
 
--- A size over 511, in either direction, asks for a large connection.
+-- A size that a Forward_Open can't say, in either direction, asks for a large connection.
 abbrev pub is_large : Wants → Bool
-is_large wants = nat_lt 511 wants.o_to_t_size || nat_lt 511 wants.t_to_o_size
+is_large wants = nat_lt LARGEST_SMALL_SIZE wants.o_to_t_size || nat_lt LARGEST_SMALL_SIZE wants.t_to_o_size
 
 abbrev pub layout_of : Wants → Layout
 layout_of wants = if is_large wants then large else small
@@ -106,9 +104,9 @@ large_asked wants =
     asked_by (large_parameters_of wants.o_to_t_size) (large_parameters_of wants.t_to_o_size) wants
 
 -- Forward_Open, or Large_Forward_Open, in its layout.
-abbrev pub open_service_in : Layout → ℕ
-open_service_in small = 0x54
-open_service_in large = 0x5b
+abbrev pub open_service_in : Layout → ManagerService
+open_service_in small = ForwardOpen
+open_service_in large = LargeForwardOpen
 
 abbrev pub open_data_in : Layout → Wants → List ℕ
 open_data_in small wants = «open» (open_asked wants)
@@ -118,7 +116,7 @@ abbrev pub open_request_in : Layout → Wants → List ℕ
 open_request_in layout wants = manager_request (open_service_in layout) (open_data_in layout wants)
 
 -- A large connection is opened by Large_Forward_Open, any other by Forward_Open.
-abbrev pub open_service : Wants → ℕ
+abbrev pub open_service : Wants → ManagerService
 open_service wants = open_service_in (layout_of wants)
 
 abbrev pub open_request : Wants → List ℕ
@@ -137,4 +135,4 @@ close_asked wants = record {
 
 -- Forward_Close.
 abbrev pub close_request : Wants → List ℕ
-close_request wants = manager_request 0x4e (close (close_asked wants))
+close_request wants = manager_request ForwardClose (close (close_asked wants))

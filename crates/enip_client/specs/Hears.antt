@@ -3,6 +3,10 @@
 use Rattle.std.specs.Prelude.{ℕ, ◌==◌, ◌&&◌, nat_le, if◌then◌else◌, Bool, List, [], ◌∷◌, length, Option, Some, None}
 use Rattle.std.specs.Prelude.{Result, Ok, Err}
 use Rattle.cip_bytes.specs.Numbers.{number_at}
+use Rattle.cip_bytes.specs.Protocol.{command_number, manager_service_number}
+use Rattle.cip_bytes.specs.declared.protocol.Command.{Command}
+use Rattle.cip_bytes.specs.declared.protocol.Command.TheVariants.{RegisterSession, SendRRData, SendUnitData}
+use Rattle.cip_bytes.specs.declared.protocol.ManagerService.TheVariants.{ForwardClose}
 use Rattle.cip_message.specs.Reply.{Reply, reply_of, reply_service}
 use Rattle.cip_message.specs.declared.reply.ReplyFault.{ReplyFault}
 use Rattle.cip_class3.specs.OriginatorRule.{after_item, accepted_reply}
@@ -51,15 +55,15 @@ abbrev pub answered : State → State
 answered s = record s { awaiting = None }
 
 -- The command of what is awaited.
-abbrev pub command_of : Awaited → ℕ
-command_of awaited.Session = 0x0065
-command_of awaited.Connection = 0x006f
-command_of (awaited.Reply service) = 0x006f
-command_of awaited.End = 0x006f
+abbrev pub command_awaited : Awaited → Command
+command_awaited awaited.Session = RegisterSession
+command_awaited awaited.Connection = SendRRData
+command_awaited (awaited.Reply service) = SendRRData
+command_awaited awaited.End = SendRRData
 
 -- The frame has the command and the context of what is awaited.
 abbrev pub is_answer : Awaiting → Header → Bool
-is_answer w h = (h.command == command_of w.awaited) && (number_at 0 8 h.context == w.number)
+is_answer w h = (h.command == command_number (command_awaited w.awaited)) && (number_at 0 8 h.context == w.number)
 
 -- A router's reply, and its bytes.
 pub record Answer : Type 0 where
@@ -118,9 +122,9 @@ closing_turn s (Some a) = if a.reply.status == 0 then tells (answered s) Closed 
 -- The shape of each reply that is awaited: 4 bytes of data, or a router's reply to the service that asked.
 abbrev pub shaped : State → Awaited → Frame → Turned
 shaped s awaited.Session f = session_turn s f
-shaped s awaited.Connection f = opening_turn s (answer_to (open_service s.wants) f.body)
+shaped s awaited.Connection f = opening_turn s (answer_to (manager_service_number (open_service s.wants)) f.body)
 shaped s (awaited.Reply service) f = reply_turn s (answer_to service f.body)
-shaped s awaited.End f = closing_turn s (answer_to 0x4e f.body)
+shaped s awaited.End f = closing_turn s (answer_to (manager_service_number ForwardClose) f.body)
 
 -- An awaited reply: a status that is not 0 lasts as a fault.
 abbrev pub answer_turn : State → Awaited → Frame → Turned
@@ -143,7 +147,7 @@ item_turn s (Ok (id, item)) =
 -- A SendUnitData without a status, to the session of an open connection.
 abbrev pub is_for_connection : State → Header → Bool
 is_for_connection s h =
-    (h.command == 0x0070) && (h.status == 0) && is_open s.link
+    (h.command == command_number SendUnitData) && (h.status == 0) && is_open s.link
     && is_registered s.registration && (h.session == session_in s.registration)
 
 -- What is not awaited is ignored.

@@ -4,7 +4,7 @@ ghost use Rattle.std.specs.Prelude.{◌≡◌, ◌<◌, ◌≤◌, length, IfOk,
 ghost use Rattle.std.specs.Option.{option_map};
 ghost use Rattle.std.specs.Borrow.{sem};
 ghost use Rattle.std.specs.Io.BufRead.{Rests};
-ghost use Rattle.cip_class3.specs.Item.{LARGEST_SIZE};
+ghost use Rattle.cip_bytes.specs.declared.protocol.TheConstants.{LARGEST_SIZE};
 ghost use Rattle.enip_wire.specs.Frames.{frame, IsTooLong, Stops};
 ghost use Rattle.enip_wire.specs.Stream.{sight_of, joined_of, taken_of, left_of, cleared};
 ghost use Rattle.enip_client.specs.Client.{client_in, fed, news_at, IsWithin, frame_bytes, IsListening, IsTold};

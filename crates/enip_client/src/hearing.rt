@@ -5,15 +5,17 @@ ghost use Rattle.std.specs.Option.{option_map};
 ghost use Rattle.cip_message.specs.Reply.{view};
 ghost use Rattle.enip_wire.specs.Stream.{frame_of};
 ghost use Rattle.enip_client.specs.Client.{news_in, news_at, IsWithin, IsHeard, StandsAt, answer_of};
-ghost use Rattle.enip_client.specs.Frames.{command_number, open_service};
-ghost use Rattle.enip_client.specs.Hears.{hears, is_for_connection, is_answer, command_of, answer_turn, session_turn};
+ghost use Rattle.cip_bytes.specs.Protocol.{manager_service_number};
+ghost use Rattle.enip_client.specs.Frames.{open_service};
+ghost use Rattle.enip_client.specs.Hears.{hears, is_for_connection, is_answer, command_awaited, answer_turn, session_turn};
 ghost use Rattle.enip_client.specs.Hears.{opening_turn, reply_turn, closing_turn, other_turn, refuses, faulted};
 ghost use Rattle.enip_client.specs.Hears.{answer_to, first_word};
 
 use crate::fault::ClientFault;
-use crate::sending::{Command, FORWARD_CLOSE, open_service};
+use crate::sending::open_service;
 use crate::state::{Awaited, Awaiting, Link, Registration, State};
 use byteorder::{ByteOrder, LittleEndian};
+use cip_bytes::protocol::{Command, ManagerService};
 use cip_class3::Came;
 use cip_message::{ReplyView, reply_service};
 use enip_wire::{FrameView, Header, rr_body, unit_body};
@@ -99,7 +101,7 @@ struct Answer<'a> {
 impl Awaited {
     /// The command of the reply.
     fn command(self) -> Command
-        ensures { command_number result ≡ command_of self }
+        ensures { result ≡ command_awaited self }
     {
         match self {
             Awaited::Session => Command::RegisterSession,
@@ -114,7 +116,7 @@ impl Awaiting {
         ensures { result ≡ is_answer self header.now }
     {
         // a reply repeats command and context of what asked (encapsulation header)
-        header.command == self.awaited.command() as u16
+        header.command == self.awaited.command().number()
             && LittleEndian::read_u64(&header.context) == self.number
     }
 }
@@ -164,9 +166,11 @@ impl State {
     /// Hears the reply to Forward_Open or Large_Forward_Open.
     fn hear_opening(&mut self, frame: FrameView<'_>) -> Found
         ensures { IsHeard (frame_of frame.entry) self.new result
-            (opening_turn self.old (answer_to (open_service self.old.wants) (frame_of frame.entry).body)) }
+            (opening_turn self.old
+            (answer_to (manager_service_number (open_service self.old.wants)) (frame_of frame.entry).body)) }
     {
-        let Some(Answer { reply, .. }) = answer_to(open_service(&self.wants), frame.body) else {
+        let Some(Answer { reply, .. }) = answer_to(open_service(&self.wants).number(), frame.body)
+        else {
             return self.fail(ClientFault::Malformed);
         };
         if reply.status != 0 {
@@ -200,9 +204,13 @@ impl State {
     /// Hears the reply to Forward_Close.
     fn hear_closing(&mut self, frame: FrameView<'_>) -> Found
         ensures { IsHeard (frame_of frame.entry) self.new result
-            (closing_turn self.old (answer_to 0x4e (frame_of frame.entry).body)) }
+            (closing_turn self.old
+            (answer_to (manager_service_number ManagerService.ForwardClose) (frame_of frame.entry).body)) }
     {
-        let Some(Answer { reply, .. }) = answer_to(FORWARD_CLOSE, frame.body) else {
+        let Some(Answer { reply, .. }) = answer_to(
+            ManagerService::ForwardClose.number(),
+            frame.body,
+        ) else {
             return self.fail(ClientFault::Malformed);
         };
         if reply.status != 0 {
@@ -243,7 +251,7 @@ impl State {
         else {
             return false;
         };
-        header.command == Command::SendUnitData as u16
+        header.command == Command::SendUnitData.number()
             && header.status == 0
             && header.session == session
     }

@@ -9,10 +9,10 @@ ghost use Rattle.enip_client.specs.Client.{bytes_written, bytes_rewritten};
 
 use crate::fault::{ClientFault, SubmitFault};
 use crate::sending::{
-    LONGEST_REQUEST, Sent, close_request, open_request, write_item, write_register, write_request,
-    write_unregister,
+    Sent, close_request, open_request, write_item, write_register, write_request, write_unregister,
 };
 use crate::state::{Awaited, Link, Registration, State};
+use cip_bytes::protocol::{SMALLEST_REQUEST, UNCONNECTED_ROOM};
 
 impl State {
     /// Writes the RegisterSession to send.
@@ -48,7 +48,10 @@ impl State {
     {
         self.allow(self.is_ready())?;
         // a service and a path size at least, the room of a target, and bit 7 marks a reply (message router)
-        if request.len() < 2 || request.len() > LONGEST_REQUEST || request[0] >= 0x80 {
+        if request.len() < SMALLEST_REQUEST
+            || request.len() > UNCONNECTED_ROOM
+            || request[0] >= 0x80
+        {
             return Err(ClientFault::Request);
         }
         self.send_request(Awaited::Reply(request[0]), request, sent);
@@ -121,7 +124,7 @@ impl State {
 
     /// Writes a request to the message router, whose reply is awaited.
     fn send_request(&mut self, awaited: Awaited, request: &[u8], sent: &mut Sent)
-        requires { length request.now ≤ LONGEST_REQUEST }
+        requires { length request.now ≤ UNCONNECTED_ROOM }
         ensures state { self.new ≡ (asking self.old awaited request.now).state }
         ensures bytes { sent.new.items ≡ frame (asking self.old awaited request.now).frame }
     {

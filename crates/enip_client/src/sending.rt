@@ -4,7 +4,7 @@ ghost use Rattle.std.specs.Prelude.{◌≡◌, ℕ, ◌≤◌, length, []};
 ghost use Rattle.arrayvec.specs.ArrayVec.{array_vec_len};
 ghost use Rattle.enip_wire.specs.Headers.{header_spelling};
 ghost use Rattle.enip_wire.specs.Frames.{frame};
-ghost use Rattle.enip_client.specs.Frames.{command_number, sent_header, register_frame, unregister_frame};
+ghost use Rattle.enip_client.specs.Frames.{sent_header, register_frame, unregister_frame};
 ghost use Rattle.enip_client.specs.Frames.{request_frame, item_frame, manager_request, parameters_of, open_request};
 ghost use Rattle.cip_message.specs.Open.{small, large, view_by};
 ghost use Rattle.enip_client.specs.Frames.{close_request, open_service, open_request_in, is_large, large_parameters_of};
@@ -12,12 +12,11 @@ ghost use Rattle.enip_client.specs.Frames.{asked_by, message_router};
 
 use crate::wants::Wants;
 use arrayvec::ArrayVec;
-use cip_class3::LARGEST_SIZE;
+use cip_bytes::protocol::{
+    Command, LARGEST_SIZE, LARGEST_SMALL_SIZE, ManagerService, UNCONNECTED_ROOM,
+};
 use cip_message::{CloseRequest, LargeParameters, OpenRequest, Parameters, Transport};
 use enip_wire::{Header, write_rr_body, write_unit_body};
-
-/// The most bytes of an unconnected request.
-pub(crate) const LONGEST_REQUEST: usize = 504;
 
 /// The bytes of a packet in front of an unconnected request: interface 4, timeout 2, count 2, null address 4, type and
 /// length of the data item 4. (Volume 2, common packet format.)
@@ -35,26 +34,11 @@ pub const LONGEST_SENT: usize = Header::SIZE + LONGEST_DATA;
 /// The bytes of one frame to send, its header first.
 pub type Sent = ArrayVec<u8, LONGEST_SENT>;
 
-/// The commands that a client sends. (Volume 2, encapsulation commands.)
-#[derive(Clone, Copy, Debug, PartialEq, Eq)]
-pub(crate) enum Command {
-    RegisterSession = 0x0065,
-    UnRegisterSession = 0x0066,
-    SendRRData = 0x006f,
-    SendUnitData = 0x0070,
-}
-
 /// Protocol version 1 and no option flags, the data of RegisterSession.
 const PROTOCOL: [u8; 4] = [1, 0, 0, 0];
 
-/// The path of the Connection Manager, class 0x06, instance 1, and its two services.
+/// The path of the Connection Manager, class 0x06, instance 1.
 const CONNECTION_MANAGER: [u8; 4] = [0x20, 0x06, 0x24, 1];
-
-const FORWARD_OPEN: u8 = 0x54;
-
-const LARGE_FORWARD_OPEN: u8 = 0x5b;
-
-pub(crate) const FORWARD_CLOSE: u8 = 0x4e;
 
 /// The path of the message router, class 0x02, instance 1, to which a connection is opened.
 const MESSAGE_ROUTER: [u8; 4] = [0x20, 0x02, 0x24, 1];
@@ -72,9 +56,6 @@ const POINT_TO_POINT_VARIABLE: u16 = 0x4200;
 /// The same in the parameters of a large connection.
 const LARGE_POINT_TO_POINT_VARIABLE: u32 = 0x4200_0000;
 
-/// The largest size that the parameters of a Forward_Open can say, in 9 bits.
-const LARGEST_SMALL_SIZE: u16 = 511;
-
 /// The most bytes of a request to the Connection Manager: service, path size and path 6, a large open 40 and its path 4.
 const LONGEST_MANAGER_REQUEST: usize = 50;
 
@@ -84,11 +65,11 @@ pub(crate) type ManagerRequest = ArrayVec<u8, LONGEST_MANAGER_REQUEST>;
 /// Writes the header of a frame with so many bytes of data.
 fn begin_frame(command: Command, session: u32, number: u64, count: usize, sent: &mut Sent)
     requires { count ≤ LONGEST_DATA }
-    ensures header { sent.new.items ≡ header_spelling (sent_header (command_number command) session number count) }
+    ensures header { sent.new.items ≡ header_spelling (sent_header command session number count) }
     ensures size { array_vec_len sent.new ≡ 24 }
 {
     let header = Header {
-        command: command as u16,
+        command: command.number(),
         length: count as u16,
         session,
         status: 0,
@@ -121,7 +102,7 @@ pub(crate) fn write_unregister(session: u32, sent: &mut Sent)
 /// `session` is the handle that the answer to a RegisterSession gave. `number` is the context, its least byte first:
 /// the answer repeats it, and is known by it. `request` is one to the message router, of at most 504 bytes.
 pub fn write_request(session: u32, number: u64, request: &[u8], sent: &mut Sent)
-    requires { length request.now ≤ LONGEST_REQUEST }
+    requires { length request.now ≤ UNCONNECTED_ROOM }
     ensures { sent.new.items ≡ frame (request_frame session number request.now) }
 {
     let count = UNCONNECTED_HEAD + request.len();
@@ -145,13 +126,13 @@ pub(crate) fn write_item(session: u32, o_to_t_id: u32, item: &[u8], sent: &mut S
 }
 
 /// The service that opens the connection that a client wants. One of up to 511 bytes each way is small.
-pub(crate) fn open_service(wants: &Wants) -> u8
+pub(crate) fn open_service(wants: &Wants) -> ManagerService
     ensures { result ≡ open_service wants.now }
 {
     if is_large(wants) {
-        LARGE_FORWARD_OPEN
+        ManagerService::LargeForwardOpen
     } else {
-        FORWARD_OPEN
+        ManagerService::ForwardOpen
     }
 }
 
@@ -170,7 +151,7 @@ pub(crate) fn open_request(wants: &Wants) -> ManagerRequest
 fn small_open_request(wants: &Wants) -> ManagerRequest
     ensures { result.items ≡ open_request_in small wants.now }
 {
-    let mut request = begin_manager_request(FORWARD_OPEN);
+    let mut request = begin_manager_request(ManagerService::ForwardOpen);
     let asked = asked(
         wants,
         parameters(wants.o_to_t_size),
@@ -184,7 +165,7 @@ fn small_open_request(wants: &Wants) -> ManagerRequest
 fn large_open_request(wants: &Wants) -> ManagerRequest
     ensures { result.items ≡ open_request_in large wants.now }
 {
-    let mut request = begin_manager_request(LARGE_FORWARD_OPEN);
+    let mut request = begin_manager_request(ManagerService::LargeForwardOpen);
     let asked = asked(
         wants,
         large_parameters(wants.o_to_t_size),
@@ -231,7 +212,7 @@ fn is_large(wants: &Wants) -> bool
 pub(crate) fn close_request(wants: &Wants) -> ManagerRequest
     ensures { result.items ≡ close_request wants.now }
 {
-    let mut request = begin_manager_request(FORWARD_CLOSE);
+    let mut request = begin_manager_request(ManagerService::ForwardClose);
     let asked = CloseRequest {
         priority_and_tick_time: PRIORITY_AND_TICK_TIME,
         timeout_ticks: TIMEOUT_TICKS,
@@ -245,12 +226,12 @@ pub(crate) fn close_request(wants: &Wants) -> ManagerRequest
 }
 
 /// Service, path size in words and path of a request to the Connection Manager.
-fn begin_manager_request(service: u8) -> ManagerRequest
+fn begin_manager_request(service: ManagerService) -> ManagerRequest
     ensures text { result.items ≡ manager_request service [] }
     ensures size { array_vec_len result ≡ 6 }
 {
     let mut request = ManagerRequest::new();
-    let _ = request.try_extend_from_slice(&[service, 2]);
+    let _ = request.try_extend_from_slice(&[service.number(), 2]);
     let _ = request.try_extend_from_slice(&CONNECTION_MANAGER);
     request
 }
