@@ -2,7 +2,7 @@
 use Rattle.std.proofs.Common.{◌≡◌, ◌≢◌, ℕ, ◌<◌, ◌≤◌, ◌^◌, max, Bool, true, false, not, ◌&&◌, cond, eqb, ltb, Option, Some, None, option_map, List, [], ◌∷◌, length, refl, ap, sym, ◌∙◌, subst, arith}
 use Rattle.std.specs.Prelude.{filter}
 use Rattle.std.proofs.lemmas.Bool.{eq-eqb, lt-ltb, le-ltb}
-use Rattle.cip_class3.specs.Item.{LARGEST_SIZE}
+use Rattle.cip_bytes.specs.declared.protocol.TheConstants.{LARGEST_SIZE}
 use Rattle.cip_class3.specs.Deliveries.{answer_to}
 use Rattle.cip_class3.specs.TargetRule.{TargetState, TargetStep, target_step, kept_bytes}
 use Rattle.cip_class3.specs.declared.target.Received.{Received}
@@ -30,7 +30,7 @@ use Rattle.enip_adapter.proofs.PeerLemmas.{session-call, held-call, connections-
 use Rattle.enip_client.specs.declared.wants.Wants.{Wants}
 use Rattle.enip_client.specs.Frames.{item_frame, request_frame}
 use Rattle.enip_bench.specs.CountingWorld.{bytes_said, LAST_MOMENT}
-use Rattle.enip_bench.specs.Events.{UNCONNECTED_ROOM}
+use Rattle.cip_bytes.specs.declared.protocol.TheConstants.{UNCONNECTED_ROOM}
 use Rattle.enip_bench.specs.ObjectsRun.{after_exec, exec_answer}
 use Rattle.enip_bench.proofs.FeedLemmas.{IsReady, IsServed, served_at, adapter-fed, ready-again, is_unit, is_rr}
 use Rattle.enip_bench.proofs.NamedLemmas.{named-none, IsNamedAlone, named-alone}

@@ -1,7 +1,7 @@
 -- What the client is while its connection is open, and how each of its calls moves it.
 use Rattle.std.proofs.Common.{◌≡◌, ℕ, ◌≤◌, Bool, true, false, ◌&&◌, cond, eqb, Option, Some, None, option_map, List, [], length, refl, ap, sym, ◌∙◌, arith}
 use Rattle.std.proofs.lemmas.Bool.{eq-eqb}
-use Rattle.cip_class3.specs.Item.{LARGEST_SIZE}
+use Rattle.cip_bytes.specs.declared.protocol.TheConstants.{LARGEST_SIZE}
 use Rattle.cip_class3.specs.OriginatorRule.{OriginatorState, submit_refusal, waiting_item, after_item, accepted_reply, after_give_up}
 use Rattle.enip_wire.specs.Frames.{Frame, frame}
 use Rattle.enip_wire.proofs.WriteLemmas.{unit_again}

@@ -2,7 +2,10 @@
 use Rattle.std.proofs.Common.{◌≡◌, ℕ, ◌+◌, ◌<◌, ◌≤◌, ◌^◌, Bool, true, false, cond, eqb, Some, None, List, [], ◌∷◌, length, refl, ap, sym, ◌∙◌, append-nil, arith}
 use Rattle.std.proofs.lemmas.Bool.{eq-eqb}
 use Rattle.std.proofs.lemmas.List.{take_all}
-use Rattle.cip_class3.specs.Item.{LARGEST_SIZE}
+use Rattle.cip_bytes.specs.declared.protocol.TheConstants.{LARGEST_SIZE}
+use Rattle.cip_bytes.specs.Protocol.{command_number}
+use Rattle.cip_bytes.specs.declared.protocol.Command.{Command}
+use Rattle.cip_bytes.specs.declared.protocol.Command.TheVariants as commands
 use Rattle.enip_wire.specs.Bodies.{rr_text, unit_text}
 use Rattle.enip_wire.specs.Frames.{Frame, frame, IsFrame}
 use Rattle.enip_wire.specs.Stream.{sight_of, joined_of, taken_of, cleared}
@@ -29,12 +32,23 @@ length-unit_text id bytes = omega (arith, ap length (append-nil bytes))
 length-rr_text : (bytes : List ℕ) → length (rr_text bytes) ≡ 16 + length bytes
 length-rr_text bytes = omega (arith, ap length (append-nil bytes))
 
+-- the number of a command has 16 bits
+command-fits : (command : Command) → command_number command < 2 ^ 16
+command-fits commands.Nop = omega arith
+command-fits commands.ListServices = omega arith
+command-fits commands.ListIdentity = omega arith
+command-fits commands.ListInterfaces = omega arith
+command-fits commands.RegisterSession = omega arith
+command-fits commands.UnRegisterSession = omega arith
+command-fits commands.SendRRData = omega arith
+command-fits commands.SendUnitData = omega arith
+
 -- a frame of which the client's calls lend is one
-pub is_framed : (command session number : ℕ) (body : List ℕ) → command < 2 ^ 16 → session < 2 ^ 32 →
+pub is_framed : (command : Command) (session number : ℕ) (body : List ℕ) → session < 2 ^ 32 →
     length body ≤ 65511 → IsFrame (framed command session number body)
-is_framed command session number body c s l = record {
+is_framed command session number body s l = record {
   fields = record {
-    command = c;
+    command = command-fits command;
     data_length = omega arith;
     session = s;
     status = omega arith;
@@ -46,14 +60,14 @@ is_framed command session number body c s l = record {
 }
 
 pub is_unit : (session id : ℕ) (bytes : List ℕ) → session < 2 ^ 32 → length bytes ≤ LARGEST_SIZE →
-    IsFrame (framed 0x0070 session 0 (unit_text id bytes))
+    IsFrame (framed commands.SendUnitData session 0 (unit_text id bytes))
 is_unit session id bytes s l =
-    is_framed 0x0070 session 0 (unit_text id bytes) (omega arith) s (omega (arith, length-unit_text id bytes))
+    is_framed commands.SendUnitData session 0 (unit_text id bytes) s (omega (arith, length-unit_text id bytes))
 
 pub is_rr : (session number : ℕ) (bytes : List ℕ) → session < 2 ^ 32 → length bytes ≤ LARGEST_SIZE →
-    IsFrame (framed 0x006f session number (rr_text bytes))
+    IsFrame (framed commands.SendRRData session number (rr_text bytes))
 is_rr session number bytes s l =
-    is_framed 0x006f session number (rr_text bytes) (omega arith) s (omega (arith, length-rr_text bytes))
+    is_framed commands.SendRRData session number (rr_text bytes) s (omega (arith, length-rr_text bytes))
 
 pub joined-frame : (f : Frame) → IsFrame f → joined_of [] (frame f) ≡ frame f
 joined-frame f ok =

@@ -17,7 +17,8 @@ use Rattle.enip_client.specs.Frames.{request_frame}
 use Rattle.enip_client.specs.Hears.{accepted}
 use Rattle.enip_bench.specs.CountingWorld as counting
 use Rattle.enip_bench.specs.CountingWorld.{CountingWorld, counting_step, counting_run, counting_seen, with_fed, LAST_MOMENT}
-use Rattle.enip_bench.specs.Events.{Event, Submit, Resend, Reach, Back, Other, Shut, GiveUp, delivery, is_unconnected_request, UNCONNECTED_ROOM, with_any}
+use Rattle.cip_bytes.specs.declared.protocol.TheConstants.{UNCONNECTED_ROOM}
+use Rattle.enip_bench.specs.Events.{Event, Submit, Resend, Reach, Back, Other, Shut, GiveUp, delivery, is_unconnected_request, with_any}
 use Rattle.enip_bench.specs.ItemWorld as items
 use Rattle.enip_bench.specs.ItemWorld.{ItemWorld, item_step, item_run, with_step, with_waiting_item_sent}
 use Rattle.enip_bench.specs.ObjectsRun.{after_exec, exec_answer}

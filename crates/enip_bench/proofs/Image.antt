@@ -3,7 +3,7 @@ use Rattle.std.proofs.Common.{ℕ, ◌-◌, ◌==◌, if◌then◌else◌, Optio
 use Rattle.cip_class3.specs.Item.{item}
 use Rattle.cip_class3.specs.TargetRule.{Kept}
 use Rattle.cip_class3.specs.OriginatorRule.{Phase, Idle, Waiting, GivenUp}
-use Rattle.enip_bench.specs.Events.{UNCONNECTED_ROOM}
+use Rattle.cip_bytes.specs.declared.protocol.TheConstants.{UNCONNECTED_ROOM}
 use Rattle.enip_bench.specs.ItemWorld.{ItemWorld}
 use Rattle.enip_bench.proofs.CountLemmas.{count_of}
 use Rattle.enip_bench.proofs.TrackedWorld.{Own, Logged, OwnLogged, OtherLogged, Course, Resting, Awaiting, Abandoned, TrackedWorld}

@@ -31,6 +31,7 @@ use Rattle.enip_bench.specs.CountingWorld.{CountingWorld}
 use Rattle.enip_bench.specs.ItemWorld.{items_at_opening}
 use Rattle.enip_bench.proofs.AdapterShows.{Wire, IsWire, registered_as, Serves, AdapterShows, IsOwnFed, own-fed, other-ready, at-zero}
 use Rattle.enip_bench.proofs.ClientShows.{ClientShows}
+use Rattle.cip_bytes.specs.declared.protocol.Command.TheVariants.{RegisterSession}
 use Rattle.enip_bench.proofs.FeedLemmas.{IsReady, is_framed, no_bytes}
 use Rattle.enip_bench.proofs.FrameSteps.{Agrees, Shows}
 use Rattle.enip_bench.proofs.OpeningLemmas.{asked, decided, opened}
@@ -166,7 +167,7 @@ module _ (objects : Contents) (listen : Listen) (limits : Limits) (wants : Wants
       let served : Served = leaving (at_moment shared 0) (register_session (new_session next) f) in
       let fed : IsOwnFed both_begun next (new_session next) f served
       = own-fed both_begun next (new_session next) f served second_ready
-      (is_framed 0x0065 0 0 version_one (omega arith) (omega arith) (omega arith))
+      (is_framed RegisterSession 0 0 version_one (omega arith) (omega arith))
       (register-served (at_moment shared 0) (new_session next) 0) refl in
       record {
         peer = other-ready both_begun peer next (registered_as peer) (frame f) (λ e. absurd (omega (arith, e))) first_ready;

@@ -2,7 +2,7 @@
 use Rattle.std.proofs.Common.{◌≡◌, ℕ, ◌+◌, ◌%◌, ◌<◌, ◌≤◌, ◌^◌, Bool, true, false, not, ◌||◌, cond, ltb, Some, None, List, [], ◌∷◌, ◌++◌, length, Result, Ok, Err, refl, ap, ap₂, sym, ◌∙◌, subst, arith, ltb-false}
 use Rattle.std.proofs.lemmas.Bool.{eq-eqb}
 use Rattle.cip_bytes.proofs.Bytes.{le2_again, le4_again}
-use Rattle.cip_class3.specs.Item.{LARGEST_SIZE}
+use Rattle.cip_bytes.specs.declared.protocol.TheConstants.{LARGEST_SIZE}
 use Rattle.cip_message.specs.Open.{Layout, small, large, Open, open_of, open_fields, large_open_of, large_open_fields}
 use Rattle.cip_message.specs.Open.{connection_type, size_of, large_connection_type, large_size_of}
 use Rattle.cip_message.specs.PathReading.{path_of, class_of, instance_of, attribute_of, member_of, whole_of, segment_of}

@@ -15,10 +15,11 @@ use Rattle.cip_class3.specs.declared.originator.Refused.{Refused}
 use Rattle.enip_client.specs.Hears.{accepted}
 use Rattle.enip_bench.specs.CountingWorld.{CountingWorld, reply_heard, counting_step, counting_run, counting_seen}
 use Rattle.enip_bench.specs.Events.{Event, delivery}
-use Rattle.enip_bench.specs.FrameLaw.{headline}
+use Rattle.enip_bench.specs.FrameLaw.{headline, ShowsNumbers}
 use Rattle.enip_bench.specs.ItemWorld.{ItemWorld, items_at_opening, item_run}
 use Rattle.enip_bench.specs.ObjectsRun.{after_exec, exec_answer}
 use Rattle.enip_bench.specs.Reached.{IsReached}
+use Rattle.enip_bench.specs.Seen.{Seen}
 use Rattle.enip_bench.specs.Stored.{IsRoomFor}
 use Rattle.enip_bench.proofs.AdapterShows.{Wire, IsWire, frame_back}
 use Rattle.enip_bench.proofs.ClientShows.{ClientShows, submits-allowed, IsHeardItem, heard-item}
@@ -158,3 +159,12 @@ pub headline_holds : (old : CountingWorld) (events : List Event) (new : Counting
 headline_holds old events new went objects listen limits wants opened before is e come =
     ap counting_seen (went ∙ (ap (λ w. counting_run w events) come ∙ sym (run_joined opened before events)))
     ∙ frames_agree objects listen limits wants opened (before ++ events) is e
+
+-- the headline, of what a world shows now
+pub shows_numbers : (world : CountingWorld) (seen : Seen Contents) → IsReached world → seen ≡ counting_seen world →
+    ShowsNumbers world seen
+shows_numbers world seen reached is = record {
+  came = reached;
+  shown = λ by. is ∙ (ap counting_seen by.come
+      ∙ frames_agree by.objects by.listen by.limits by.wants by.begun by.events by.wanted by.opened);
+}

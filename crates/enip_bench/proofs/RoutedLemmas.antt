@@ -15,7 +15,7 @@ use Rattle.cip_objects.proofs.Refuses.{exec_left}
 use Rattle.enip_adapter.specs.declared.peer.Session.{Session}
 use Rattle.enip_adapter.specs.declared.shared.Shared.{Shared}
 use Rattle.enip_adapter.specs.SendRRData.{Destination, Opens, Closes, Executes, Routed, routed, routed_to, destination_by_request, destination_by_path, manager_service, is_manager}
-use Rattle.enip_bench.specs.Events.{UNCONNECTED_ROOM}
+use Rattle.cip_bytes.specs.declared.protocol.TheConstants.{UNCONNECTED_ROOM}
 use Rattle.enip_bench.specs.ObjectsRun.{after_exec}
 
 abbrev fails : {A E : Type 0} → Result A E → Bool

@@ -4,7 +4,7 @@ use Rattle.std.proofs.lemmas.Bool.{or_parts, cond-true, cond-false}
 use Rattle.std.proofs.lemmas.Option.{get_or_from_slice_get}
 use Rattle.cip_class3.specs.Item.{item}
 use Rattle.cip_class3.specs.OriginatorRule as originator_rule
-use Rattle.enip_bench.specs.Events.{UNCONNECTED_ROOM}
+use Rattle.cip_bytes.specs.declared.protocol.TheConstants.{UNCONNECTED_ROOM}
 use Rattle.enip_bench.specs.ItemWorld.{items_seen}
 use Rattle.enip_bench.specs.NumberedWorld.{Entry, OwnRequest, OtherRequest, stands, stage_of, request_of, execution_of, router_after, reply_to, numbers_seen}
 use Rattle.enip_bench.specs.Seen.{Seen}

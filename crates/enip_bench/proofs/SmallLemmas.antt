@@ -3,7 +3,8 @@ use Rattle.std.proofs.Common.{◌≡◌, ℕ, ◌-◌, ◌≤◌, Bool, true, fa
 use Rattle.std.proofs.lemmas.Option.{same_Some}
 use Rattle.cip_class3.proofs.Counts.{IsAllowed, first_refusal-none}
 use Rattle.cip_class3.specs.Deliveries.{answer_to}
-use Rattle.cip_class3.specs.Item.{LARGEST_SIZE, item, sequence_count_of, message_of}
+use Rattle.cip_bytes.specs.declared.protocol.TheConstants.{LARGEST_SIZE}
+use Rattle.cip_class3.specs.Item.{item, sequence_count_of, message_of}
 use Rattle.cip_class3.specs.OriginatorRule.{OriginatorState, Phase, Idle, Waiting, GivenUp, is_waiting, form_refusal, submit_refusal, with_next_request, waiting_item, is_reply, idle_again, after_item, after_give_up}
 use Rattle.cip_class3.specs.TargetRule.{TargetState, TargetStep, step_of, target_step, after_execution, kept_bytes, is_of_size, is_held}
 use Rattle.cip_class3.specs.declared.target.Received.{Received}

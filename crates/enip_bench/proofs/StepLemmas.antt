@@ -12,7 +12,8 @@ use Rattle.cip_class3.specs.declared.originator.Refused.{Refused}
 use Rattle.cip_class3.specs.declared.target.Received.TheVariants.{Repeated, Executed}
 use Rattle.cip_message.specs.Reply.{reply_service}
 use Rattle.cip_objects.specs.Router.{IsReplyTo}
-use Rattle.enip_bench.specs.Events.{Event, Submit, Resend, Reach, Back, Other, Shut, GiveUp, delivery, is_unconnected_request, with_any, UNCONNECTED_ROOM}
+use Rattle.cip_bytes.specs.declared.protocol.TheConstants.{UNCONNECTED_ROOM}
+use Rattle.enip_bench.specs.Events.{Event, Submit, Resend, Reach, Back, Other, Shut, GiveUp, delivery, is_unconnected_request, with_any}
 use Rattle.enip_bench.specs.ItemWorld as items
 use Rattle.enip_bench.specs.ItemWorld.{ItemWorld, item_step, item_run, with_waiting_item_sent, with_step}
 use Rattle.enip_bench.proofs.CountLemmas.{count_of, count_of-below, count_of-next, count_of-differs}

@@ -1,7 +1,7 @@
 -- The opening of the counting world: the client registers and opens its connection without loss, at moment 0.
 use Rattle.std.specs.Prelude.{ℕ, ◌<◌, ◌≤◌, ◌^◌, if◌then◌else◌, Bool, true, false, Option, Some, None, List, [], Result, Ok, Err}
 use Rattle.cip_bytes.specs.Reading.{◌>>=◌}
-use Rattle.cip_class3.specs.Item.{LARGEST_SIZE}
+use Rattle.cip_bytes.specs.declared.protocol.TheConstants.{LARGEST_SIZE}
 use Rattle.cip_objects.specs.Contents.{Contents}
 use Rattle.enip_adapter.specs.Adapter.{new_adapter}
 use Rattle.enip_adapter.specs.Calls.{AdapterState, Call, after_call, call_answer}

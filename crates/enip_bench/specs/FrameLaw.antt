@@ -11,6 +11,7 @@ use Rattle.enip_bench.specs.CountingWorld.{CountingWorld, counting_run, counting
 use Rattle.enip_bench.specs.Events.{Event}
 use Rattle.enip_bench.specs.NumberedWorld.{numbers_seen}
 use Rattle.enip_bench.specs.ObjectsRun.{after_exec, exec_answer}
+use Rattle.enip_bench.specs.Reached.{IsReached}
 use Rattle.enip_bench.specs.Seen.{Seen}
 use Rattle.enip_bench.specs.WorldLaws.{numbers_after}
 
@@ -40,3 +41,9 @@ headline old events new =
     (before : List Event) → IsWanted wants → opening objects listen limits wants ≡ Ok opened →
     old ≡ counting_run opened before →
     counting_seen new ≡ numbers_in_frames objects wants opened.peer (before ++ events)
+
+-- The same of what a world shows now: it came of an opening by some events, and, whichever they are, it shows what the
+-- numbered world shows after all of them.
+pub record ShowsNumbers (world : CountingWorld) (seen : Seen Contents) : Type 0 where
+  pub came : IsReached world
+  pub shown : (by : IsReached world) → seen ≡ numbers_in_frames by.objects by.wants by.begun.peer by.events

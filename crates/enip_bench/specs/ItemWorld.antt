@@ -4,7 +4,8 @@ use Rattle.cip_class3.specs.TargetRule.{TargetState, TargetStep, target_at_openi
 use Rattle.cip_class3.specs.OriginatorRule.{OriginatorState, originator_at_opening, submit_refusal, with_next_request, waiting_item, after_item, accepted_reply, after_give_up, stage_of}
 use Rattle.cip_class3.specs.Deliveries.{answer_to}
 use Rattle.cip_class3.specs.declared.originator.Refused.{Refused}
-use Rattle.enip_bench.specs.Events.{Event, Submit, Resend, Reach, Back, Other, Shut, GiveUp, delivery, is_unconnected_request, UNCONNECTED_ROOM, with_any}
+use Rattle.cip_bytes.specs.declared.protocol.TheConstants.{UNCONNECTED_ROOM}
+use Rattle.enip_bench.specs.Events.{Event, Submit, Resend, Reach, Back, Other, Shut, GiveUp, delivery, is_unconnected_request, with_any}
 use Rattle.enip_bench.specs.Seen.{Seen}
 
 -- Both ends, the router behind the target, and what lies between: the items sent and sent back, the position

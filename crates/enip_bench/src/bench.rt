@@ -81,7 +81,7 @@ impl Bench {
     ghost use Rattle.enip_bench.specs.CountingWorld.{counting_seen};
     ghost use Rattle.enip_bench.specs.Reached.{IsNewAdapter, IsNewClient};
     ghost use Rattle.enip_bench.specs.CountingWorld.{counting_run};
-    ghost use Rattle.enip_bench.specs.FrameLaw.{headline};
+    ghost use Rattle.enip_bench.specs.FrameLaw.{headline, ShowsNumbers};
     ghost use Rattle.enip_bench.specs.Stored.{event_in, events_in, events_done, IsOpening, NamesAnEvent, after_step, seen_in};
     ghost use Rattle.enip_bench.specs.Stored.{telling_in};
     ghost use Rattle.enip_bench.specs.Telling.{telling};
@@ -159,9 +159,10 @@ impl Bench {
         Ok(())
     }
 
-    /// What the two ends show.
+    /// What the two ends show: what the numbered world shows after all events since the opening.
     pub fn seen(&self) -> Seen<'_>
-        ensures { seen_in result ≡ counting_seen self.now }
+        ensures seen { seen_in result ≡ counting_seen self.now }
+        ensures headline { ShowsNumbers self.now (seen_in result) }
     {
         Seen {
             objects: self.world.adapter.objects(),

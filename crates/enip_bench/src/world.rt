@@ -13,6 +13,7 @@ ghost use Rattle.enip_client.specs.Client.{fed};
 
 use crate::event::{Event, Told};
 use bytes::BytesMut;
+use cip_bytes::protocol::{SMALLEST_REQUEST, UNCONNECTED_ROOM};
 use enip_adapter::{Adapter, LONGEST_ANSWER, Peer};
 use enip_client::{Client, Heard, LONGEST_SENT, Sent, SubmitFault, write_request};
 use std::alloc::{AllocError, Global};
@@ -250,5 +251,5 @@ fn delivered(last: Option<usize>, frames: &[BytesMut], position: usize) -> Optio
 fn is_unconnected(request: &[u8]) -> bool
     ensures { result ≡ is_unconnected_request request.now }
 {
-    (2..=504).contains(&request.len())
+    (SMALLEST_REQUEST..=UNCONNECTED_ROOM).contains(&request.len())
 }
