@@ -23,6 +23,8 @@ use Rattle.enip_adapter.specs.SendRRData.{Routed, routed, routed_to, managed}
 use Rattle.enip_adapter.specs.Turn.{new_session}
 use Rattle.enip_client.specs.Calls.{registers, opens, after_lending}
 use Rattle.enip_client.specs.Client.{ClientState, new_client, fed, with_state}
+use Rattle.cip_bytes.specs.Protocol.{manager_service_number}
+use Rattle.cip_bytes.specs.declared.protocol.Command.TheVariants.{RegisterSession}
 use Rattle.enip_client.specs.Frames.{register_frame, request_frame, layout_of, open_service_in, open_service, open_request, sent as framed}
 use Rattle.enip_client.specs.Hears.{hears, opening_turn as hears_opening, answer_in, answer_read, Answer, Turned}
 use Rattle.enip_client.specs.Hears.News.{Registered, Opened}
@@ -38,7 +40,7 @@ registering wants = with_state (new_client wants) (after_lending (new_client wan
 
 abbrev pub registered : Wants → ℕ → ClientState
 registered wants peer =
-    record { state = (hears (registering wants).state (framed 0x0065 peer 1 version_one)).state; held = [] }
+    record { state = (hears (registering wants).state (framed RegisterSession peer 1 version_one)).state; held = [] }
 
 module _ (objects : Contents) (listen : Listen) (limits : Limits) (wants : Wants) (next peer : ℕ) where
   abbrev shared : Shared
@@ -52,16 +54,16 @@ module _ (objects : Contents) (listen : Listen) (limits : Limits) (wants : Wants
       (registers (new_client wants).state)
       ≡ Ok (record { adapter = begun_single (registered_as peer); client = registered wants peer })
   first-exchange below =
-      let answer : Frame = framed 0x0065 peer 1 version_one in
+      let answer : Frame = framed RegisterSession peer 1 version_one in
       let done : IsSingleFed limits.peers next shared (new_session peer) (register_frame 1)
       (leaving shared (register_session (new_session peer) (register_frame 1)))
       = single-fed limits.peers next shared (new_session peer) (register_frame 1)
       (leaving shared (register_session (new_session peer) (register_frame 1))) refl
-      (is_framed 0x0065 0 1 version_one (omega arith) (omega arith) (omega arith))
+      (is_framed RegisterSession 0 1 version_one (omega arith) (omega arith))
       (register-served shared (new_session peer) 1) refl in
       let whole : IsHeardWhole (registering wants) answer (fed (registering wants) (frame answer))
       = client-fed (registering wants) answer refl refl
-      (is_framed 0x0065 peer 1 version_one (omega arith) below (omega arith)) in
+      (is_framed RegisterSession peer 1 version_one below (omega arith)) in
       heard-done is_registered_news (begun_single (new_session peer)) (begun_single (registered_as peer)) (registering wants)
       (registered wants peer) (Feeds 0 peer (frame (register_frame 1))) (frame answer) Registered done.adapter done.said
       whole.client whole.news refl
@@ -120,7 +122,7 @@ module _ (objects : Contents) (listen : Listen) (limits : Limits) (wants : Wants
   }
 
   success-read : (l : Layout) →
-      answer_read (open_service_in l) (success_bytes_in l) (reply_of (success_bytes_in l)) ≡ Some (success_in l)
+      answer_read (manager_service_number (open_service_in l)) (success_bytes_in l) (reply_of (success_bytes_in l)) ≡ Some (success_in l)
   unfolding reply_of
   success-read small = refl
   success-read large = refl
@@ -134,7 +136,7 @@ module _ (objects : Contents) (listen : Listen) (limits : Limits) (wants : Wants
 
   refusal-heard : (l : Layout) (extended : ℕ) →
       is_opened_news (hears_opening connecting.state
-      (answer_read (open_service_in l) (failure_in l extended) (reply_of (failure_in l extended)))).news
+      (answer_read (manager_service_number (open_service_in l)) (failure_in l extended) (reply_of (failure_in l extended)))).news
       ≡ false
   unfolding reply_of
   refusal-heard small extended = refl
@@ -166,7 +168,7 @@ module _ (objects : Contents) (listen : Listen) (limits : Limits) (wants : Wants
       = client-fed connecting answer refl refl (is_rr peer 2 reply below (omega (arith, short))) in
       heard-refused is_opened_news (begun_single (registered_as peer)) connecting (Feeds 0 peer (frame f)) (frame answer)
       (hears connecting.state answer).news done.said whole.news
-      (ap (λ b. is_opened_news (hears_opening connecting.state (answer_in (open_service wants) b)).news)
+      (ap (λ b. is_opened_news (hears_opening connecting.state (answer_in (manager_service_number (open_service wants)) b)).news)
       (rr_again reply (omega (arith, short)))
       ∙ refusal-heard layout extended)
   second-exchange is below (Ok done) check =
@@ -179,7 +181,7 @@ module _ (objects : Contents) (listen : Listen) (limits : Limits) (wants : Wants
       let whole : IsHeardWhole connecting answer (fed connecting (frame answer))
       = client-fed connecting answer refl refl (is_rr peer 2 reply below (omega (arith, short))) in
       let turn : hears connecting.state answer ≡ hears_opening connecting.state (Some (success_in layout))
-      = ap (λ b. hears_opening connecting.state (answer_in (open_service wants) b)) (rr_again reply (omega (arith, short)))
+      = ap (λ b. hears_opening connecting.state (answer_in (manager_service_number (open_service wants)) b)) (rr_again reply (omega (arith, short)))
       ∙ ap (λ a. hears_opening connecting.state a) (success-read layout) in
       heard-done is_opened_news (begun_single (registered_as peer))
       (single limits.peers next (managed shared (decided (Ok tt))).shared (registered_as peer)) connecting opened

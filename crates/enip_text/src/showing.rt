@@ -8,17 +8,12 @@ ghost use Rattle.enip_text.specs.Statuses.{IsOfDevices, IsStopOfDevices};
 use crate::digits::{decode, print_digits};
 use crate::fault::Fault;
 use crate::input_lines::{TakeLines, read_lines};
+use cip_bytes::protocol::Command;
 use cip_message::{PathFault, ReplyFault, ReplyView, RequestFault, RequestView, read_path};
 use enip_wire::{CpfFault, FrameReader, FrameView, Header, Held, cpf_items, rr_body, unit_body};
 use std::alloc::Global;
 use std::io::{self, BufWriter, Read, Write};
 use thiserror::Error;
-
-/// A message of the router without a connection. (Volume 2, SendRRData.)
-const SEND_RR_DATA: u16 = 0x006f;
-
-/// A message of the router on a connection. (Volume 2, SendUnitData.)
-const SEND_UNIT_DATA: u16 = 0x0070;
 
 /// How many bytes of interface and timeout come before the packet's items. (Volume 2, SendRRData.)
 const BEFORE_ITEMS: usize = 6;
@@ -191,13 +186,13 @@ fn show_frame<W: Write>(output: &mut W, frame: FrameView<'_>) -> Result<(), Stop
     ensures { IfErr result IsStopOfDevices }
 {
     print_header(output, &frame.header)?;
-    match frame.header.command {
-        SEND_RR_DATA => {
+    match Command::of(frame.header.command) {
+        Some(Command::SendRRData) => {
             let message = rr_body(frame.body)?;
             print_items(output, frame.body)?;
             show_message(output, message)
         }
-        SEND_UNIT_DATA => {
+        Some(Command::SendUnitData) => {
             let (_connection, item) = unit_body(frame.body)?;
             print_items(output, frame.body)?;
             show_counted(output, item)
