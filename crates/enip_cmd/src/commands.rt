@@ -164,121 +164,149 @@ What `fault N` means
   6    the reply has another shape
   7    the request is too long: over 504 bytes, or 498 with --connected";
 
+/// What a command asks for.
+#[derive(Clone, Copy)]
+enum Argument {
+    Config,
+    Script,
+    Listen,
+    Count,
+    Device,
+    Service,
+    Class,
+    Instance,
+    Attribute,
+    Digits,
+    OptionalDigits,
+    Connected,
+}
+
+impl Argument {
+    fn arg<'a>(self, alloc: Global) -> Arg<'a> {
+        match self {
+            Argument::Config => config(alloc),
+            Argument::Script => script(alloc),
+            Argument::Listen => listen(alloc),
+            Argument::Count => count(alloc),
+            Argument::Device => device(alloc),
+            Argument::Service => service(alloc),
+            Argument::Class => class(alloc),
+            Argument::Instance => instance(alloc),
+            Argument::Attribute => attribute(alloc),
+            Argument::Digits => digits(alloc).required(true),
+            Argument::OptionalDigits => digits(alloc),
+            Argument::Connected => connected(alloc),
+        }
+    }
+}
+
+/// A command of the program.
+struct Row {
+    name: &'static str,
+    /// What is said of it in a line, and in its own help.
+    about: &'static str,
+    long_about: &'static str,
+    /// What its own help ends with.
+    after: Option<&'static str>,
+    arguments: &'static [Argument],
+}
+
+static COMMANDS: [Row; 7] = [
+    Row {
+        name: "answer",
+        about: "Answers frames that are given as lines of hexadecimal digits",
+        long_about: ABOUT_ANSWER,
+        after: None,
+        arguments: &[Argument::Config],
+    },
+    Row {
+        name: "replay",
+        about: "Moves a client and an adapter side by side by the lines of a script",
+        long_about: ABOUT_REPLAY,
+        after: None,
+        arguments: &[Argument::Config, Argument::Script],
+    },
+    Row {
+        name: "serve",
+        about: "Serves the device on a socket, one connection after another",
+        long_about: ABOUT_SERVE,
+        after: None,
+        arguments: &[Argument::Config, Argument::Listen, Argument::Count],
+    },
+    Row {
+        name: "show",
+        about: "Prints the fields of frames that are given as lines of hexadecimal digits",
+        long_about: ABOUT_SHOW,
+        after: None,
+        arguments: &[],
+    },
+    Row {
+        name: "get",
+        about: "Reads an attribute of an object of a device",
+        long_about: ABOUT_GET,
+        after: Some(AFTER_ASKING),
+        arguments: &[
+            Argument::Device,
+            Argument::Class,
+            Argument::Instance,
+            Argument::Attribute,
+            Argument::Connected,
+        ],
+    },
+    Row {
+        name: "set",
+        about: "Sets an attribute of an object of a device",
+        long_about: ABOUT_SET,
+        after: Some(AFTER_ASKING),
+        arguments: &[
+            Argument::Device,
+            Argument::Class,
+            Argument::Instance,
+            Argument::Attribute,
+            Argument::Digits,
+            Argument::Connected,
+        ],
+    },
+    Row {
+        name: "call",
+        about: "Calls a service of an object of a device",
+        long_about: ABOUT_CALL,
+        after: Some(AFTER_ASKING),
+        arguments: &[
+            Argument::Device,
+            Argument::Service,
+            Argument::Class,
+            Argument::Instance,
+            Argument::OptionalDigits,
+            Argument::Connected,
+        ],
+    },
+];
+
 /// The whole program.
 pub(crate) fn program<'a>(alloc: Global) -> Result<Command<'a>, Fault> {
-    Ok(
-        Command::new(alloc, PROGRAM)
-            .version(VERSION)
-            .about(
-                "An EtherNet/IP adapter that is proved to answer as the standard says, and a client",
-            )
-            .subcommand_required(true)
-            .arg_required_else_help(true)
-            .subcommand(answer(alloc)?)?
-            .subcommand(replay(alloc)?)?
-            .subcommand(serve(alloc)?)?
-            .subcommand(show(alloc))?
-            .subcommand(get(alloc)?)?
-            .subcommand(set(alloc)?)?
-            .subcommand(call(alloc)?)?,
-    )
+    let mut program = Command::new(alloc, PROGRAM)
+        .version(VERSION)
+        .about("An EtherNet/IP adapter that is proved to answer as the standard says, and a client")
+        .subcommand_required(true)
+        .arg_required_else_help(true);
+    for row in &COMMANDS {
+        program = program.subcommand(command(alloc, row)?)?;
+    }
+    Ok(program)
 }
 
-fn answer<'a>(alloc: Global) -> Result<Command<'a>, Fault> {
-    Ok(
-        Command::new(alloc, "answer")
-            .about("Answers frames that are given as lines of hexadecimal digits")
-            .long_about(ABOUT_ANSWER)
-            .arg(config(alloc))?,
-    )
-}
-
-fn replay<'a>(alloc: Global) -> Result<Command<'a>, Fault> {
-    let script = Arg::new(alloc, "SCRIPT")
-        .required(true)
-        .help("The lines of what happens, a file");
-    Ok(
-        Command::new(alloc, "replay")
-            .about("Moves a client and an adapter side by side by the lines of a script")
-            .long_about(ABOUT_REPLAY)
-            .arg(config(alloc))?
-            .arg(script)?,
-    )
-}
-
-fn serve<'a>(alloc: Global) -> Result<Command<'a>, Fault> {
-    let address = Arg::new(alloc, "ADDRESS").required(true).help(
-        "Where to listen, as 127.0.0.1:44818; port 0 takes a free one",
-    );
-    // 1 to 65,535 (ours)
-    let count = Arg::new(alloc, "count")
-        .long("count")
-        .value_name("N")
-        .value_parser(value_parser!(u16).range(1..))
-        .help("How many connections to serve; all that come, where it is left out");
-    Ok(
-        Command::new(alloc, "serve")
-            .about("Serves the device on a socket, one connection after another")
-            .long_about(ABOUT_SERVE)
-            .arg(config(alloc))?
-            .arg(address)?
-            .arg(count)?,
-    )
-}
-
-fn show<'a>(alloc: Global) -> Command<'a> {
-    Command::new(alloc, "show")
-        .about("Prints the fields of frames that are given as lines of hexadecimal digits")
-        .long_about(ABOUT_SHOW)
-}
-
-fn get<'a>(alloc: Global) -> Result<Command<'a>, Fault> {
-    Ok(
-        Command::new(alloc, "get")
-            .about("Reads an attribute of an object of a device")
-            .long_about(ABOUT_GET)
-            .after_long_help(AFTER_ASKING)
-            .arg(device(alloc))?
-            .arg(class(alloc))?
-            .arg(instance(alloc))?
-            .arg(attribute(alloc))?
-            .arg(connected(alloc))?,
-    )
-}
-
-fn set<'a>(alloc: Global) -> Result<Command<'a>, Fault> {
-    Ok(
-        Command::new(alloc, "set")
-            .about("Sets an attribute of an object of a device")
-            .long_about(ABOUT_SET)
-            .after_long_help(AFTER_ASKING)
-            .arg(device(alloc))?
-            .arg(class(alloc))?
-            .arg(instance(alloc))?
-            .arg(attribute(alloc))?
-            .arg(digits(alloc).required(true))?
-            .arg(connected(alloc))?,
-    )
-}
-
-fn call<'a>(alloc: Global) -> Result<Command<'a>, Fault> {
-    // bit 7 marks a reply (message router)
-    let service = Arg::new(alloc, "SERVICE")
-        .required(true)
-        .value_parser(value_parser!(u8).range(..0x80))
-        .help("The service, 0 to 127");
-    Ok(
-        Command::new(alloc, "call")
-            .about("Calls a service of an object of a device")
-            .long_about(ABOUT_CALL)
-            .after_long_help(AFTER_ASKING)
-            .arg(device(alloc))?
-            .arg(service)?
-            .arg(class(alloc))?
-            .arg(instance(alloc))?
-            .arg(digits(alloc))?
-            .arg(connected(alloc))?,
-    )
+fn command<'a>(alloc: Global, row: &Row) -> Result<Command<'a>, Fault> {
+    let mut command = Command::new(alloc, row.name)
+        .about(row.about)
+        .long_about(row.long_about);
+    if let Some(text) = row.after {
+        command = command.after_long_help(text);
+    }
+    for argument in row.arguments {
+        command = command.arg(argument.arg(alloc))?;
+    }
+    Ok(command)
 }
 
 fn config<'a>(alloc: Global) -> Arg<'a> {
@@ -287,10 +315,39 @@ fn config<'a>(alloc: Global) -> Arg<'a> {
         .help("The configuration of the device, a TOML file")
 }
 
+fn script<'a>(alloc: Global) -> Arg<'a> {
+    Arg::new(alloc, "SCRIPT")
+        .required(true)
+        .help("The lines of what happens, a file")
+}
+
+fn listen<'a>(alloc: Global) -> Arg<'a> {
+    Arg::new(alloc, "ADDRESS").required(true).help(
+        "Where to listen, as 127.0.0.1:44818; port 0 takes a free one",
+    )
+}
+
+fn count<'a>(alloc: Global) -> Arg<'a> {
+    // 1 to 65,535 (ours)
+    Arg::new(alloc, "count")
+        .long("count")
+        .value_name("N")
+        .value_parser(value_parser!(u16).range(1..))
+        .help("How many connections to serve; all that come, where it is left out")
+}
+
 fn device<'a>(alloc: Global) -> Arg<'a> {
     Arg::new(alloc, "ADDRESS")
         .required(true)
         .help("Where the device listens, as 127.0.0.1:44818")
+}
+
+fn service<'a>(alloc: Global) -> Arg<'a> {
+    // bit 7 marks a reply (message router)
+    Arg::new(alloc, "SERVICE")
+        .required(true)
+        .value_parser(value_parser!(u8).range(..0x80))
+        .help("The service, 0 to 127")
 }
 
 fn class<'a>(alloc: Global) -> Arg<'a> {

@@ -38,40 +38,49 @@ const SET_ATTRIBUTE_SINGLE: u8 = 0x10;
 /// Runs the command that was asked for.
 fn run(rt: &HostRuntime, words: &[Word], matches: &ArgMatches<'_>) -> Result<u8, Fault> {
     match matches.subcommand() {
-        Some(("answer", matches)) => {
-            let config = read_file(rt, words, matches.get_str("CONFIG").unwrap_or(""))?;
-            Ok(answer::answer_bytes(
-                rt.alloc(),
-                config.as_slice(),
-                rt.stdin(),
-                rt.stdout(),
-                rt.stderr(),
-            ))
-        }
-        Some(("replay", matches)) => {
-            let config = read_file(rt, words, matches.get_str("CONFIG").unwrap_or(""))?;
-            let script = read_file(rt, words, matches.get_str("SCRIPT").unwrap_or(""))?;
-            Ok(replay::replay_bytes(
-                rt.alloc(),
-                config.as_slice(),
-                script.as_slice(),
-                rt.stdout(),
-                rt.stderr(),
-            ))
-        }
-        Some(("serve", matches)) => {
-            // all that come, where it is not said: more than can come
-            let count = matches.get_one::<u16>("count").map_or(u64::MAX, u64::from);
-            let config = read_file(rt, words, matches.get_str("CONFIG").unwrap_or(""))?;
-            let address = matches.get_str("ADDRESS").unwrap_or("");
-            run_serve(rt, config.as_slice(), address, count)
-        }
+        Some(("answer", matches)) => run_answer(rt, words, matches),
+        Some(("replay", matches)) => run_replay(rt, words, matches),
+        Some(("serve", matches)) => run_serve(rt, words, matches),
         Some(("show", _)) => Ok(enip_text::show(rt.alloc(), rt.stdin(), rt.stdout(), rt.stderr())),
         Some(("get", matches)) => Ok(run_asking(rt, Some(GET_ATTRIBUTE_SINGLE), matches)),
         Some(("set", matches)) => Ok(run_asking(rt, Some(SET_ATTRIBUTE_SINGLE), matches)),
         Some(("call", matches)) => Ok(run_asking(rt, matches.get_one("SERVICE"), matches)),
         _ => Ok(WORDS_REFUSED),
     }
+}
+
+/// `enip answer`.
+fn run_answer(rt: &HostRuntime, words: &[Word], matches: &ArgMatches<'_>) -> Result<u8, Fault> {
+    let config = read_file(rt, words, matches.get_str("CONFIG").unwrap_or(""))?;
+    Ok(answer::answer_bytes(
+        rt.alloc(),
+        config.as_slice(),
+        rt.stdin(),
+        rt.stdout(),
+        rt.stderr(),
+    ))
+}
+
+/// `enip replay`.
+fn run_replay(rt: &HostRuntime, words: &[Word], matches: &ArgMatches<'_>) -> Result<u8, Fault> {
+    let config = read_file(rt, words, matches.get_str("CONFIG").unwrap_or(""))?;
+    let script = read_file(rt, words, matches.get_str("SCRIPT").unwrap_or(""))?;
+    Ok(replay::replay_bytes(
+        rt.alloc(),
+        config.as_slice(),
+        script.as_slice(),
+        rt.stdout(),
+        rt.stderr(),
+    ))
+}
+
+/// `enip serve`.
+fn run_serve(rt: &HostRuntime, words: &[Word], matches: &ArgMatches<'_>) -> Result<u8, Fault> {
+    // all that come, where it is not said: more than can come
+    let count = matches.get_one::<u16>("count").map_or(u64::MAX, u64::from);
+    let config = read_file(rt, words, matches.get_str("CONFIG").unwrap_or(""))?;
+    let address = matches.get_str("ADDRESS").unwrap_or("");
+    serve_at(rt, config.as_slice(), address, count)
 }
 
 /// The bytes of the file that a word names. The file's name need not be text.
@@ -83,8 +92,8 @@ fn read_file(rt: &HostRuntime, words: &[Word], text: &str) -> Result<Vec<u8>, Fa
     Ok(bytes)
 }
 
-/// `enip serve`, for so many connections.
-fn run_serve(rt: &HostRuntime, config: &[u8], address: &str, count: u64) -> Result<u8, Fault> {
+/// Serves the device of a configuration at an address, for so many connections.
+fn serve_at(rt: &HostRuntime, config: &[u8], address: &str, count: u64) -> Result<u8, Fault> {
     let mut adapter = enip_config::adapter_from(rt.alloc(), config)?;
     let listener = TcpListener::bind(rt, address)?;
     let bound = listener.local_addr()?;
