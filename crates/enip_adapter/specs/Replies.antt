@@ -1,35 +1,26 @@
 -- What a frame leaves and what answers it (Volume 2, encapsulation header).
 use Rattle.std.specs.Prelude.{ℕ, List, [], Option, Some, None, Bool, true, false, ◌==◌, ◌&&◌, length}
+use Rattle.cip_bytes.specs.Protocol.{encapsulation_status_number}
+use Rattle.cip_bytes.specs.declared.protocol.EncapsulationStatus.{EncapsulationStatus}
+use Rattle.cip_bytes.specs.declared.protocol.EncapsulationStatus.TheVariants.{Success}
 use Rattle.enip_wire.specs.declared.header.Header.{Header}
 use Rattle.enip_wire.specs.Frames.{frame}
 use Rattle.enip_adapter.specs.declared.peer.Session.{Session}
 use Rattle.enip_adapter.specs.declared.shared.Shared.{Shared}
-use Rattle.enip_adapter.specs.declared.reply.Status.{Status}
-use Rattle.enip_adapter.specs.declared.reply.Status.TheVariants.{Success, UnsupportedCommand, PoorlyFormedData}
-use Rattle.enip_adapter.specs.declared.reply.Status.TheVariants.{InvalidSession, InvalidLength, UnsupportedRevision}
-
--- The number of a status in a header.
-abbrev pub status_code : Status → ℕ
-status_code Success = 0x0000
-status_code UnsupportedCommand = 0x0001
-status_code PoorlyFormedData = 0x0003
-status_code InvalidSession = 0x0064
-status_code InvalidLength = 0x0065
-status_code UnsupportedRevision = 0x0069
 
 -- The header of a reply with so many bytes of data: command and context of what asked, no options.
-abbrev pub reply_header : Header → ℕ → Status → ℕ → Header
+abbrev pub reply_header : Header → ℕ → EncapsulationStatus → ℕ → Header
 reply_header asked session status count = record {
   command = asked.command;
   length = count;
   session = session;
-  status = status_code status;
+  status = encapsulation_status_number status;
   context = asked.context;
   options = 0;
 }
 
 -- A reply with these data.
-abbrev pub reply : Header → ℕ → Status → List ℕ → List ℕ
+abbrev pub reply : Header → ℕ → EncapsulationStatus → List ℕ → List ℕ
 reply asked session status bytes =
     frame (record { header = reply_header asked session status (length bytes); body = bytes })
 
@@ -52,7 +43,7 @@ abbrev pub replied : Session → Header → List ℕ → Reaction
 replied session asked bytes = answered session (reply asked asked.session Success bytes)
 
 -- A refusal has no data, and the session field of the frame that asked.
-abbrev pub refused : Session → Header → Status → Reaction
+abbrev pub refused : Session → Header → EncapsulationStatus → Reaction
 refused session asked status = answered session (reply asked asked.session status [])
 
 -- The same, and what all peers share is then.

@@ -1,5 +1,6 @@
 -- SendUnitData, 0x0070 (Volume 2, encapsulation commands; Volume 1, transport class 3).
 use Rattle.std.specs.Prelude.{ℕ, List, if◌then◌else◌, not, Result, Ok, Err, option_map}
+use Rattle.cip_bytes.specs.declared.protocol.EncapsulationStatus.TheVariants.{Success}
 use Rattle.cip_manager.specs.Items.{Reply, ItemTurn, item_turn}
 use Rattle.cip_objects.specs.Contents.{Contents}
 use Rattle.cip_objects.specs.Execution.{exec}
@@ -9,7 +10,6 @@ use Rattle.enip_wire.specs.declared.header.Header.{Header}
 use Rattle.enip_wire.specs.declared.packet.CpfFault.{CpfFault}
 use Rattle.enip_adapter.specs.declared.peer.Session.{Session}
 use Rattle.enip_adapter.specs.declared.shared.Shared.{Shared}
-use Rattle.enip_adapter.specs.declared.reply.Status.TheVariants.{Success}
 use Rattle.enip_adapter.specs.Replies.{Served, leaving, silent, reply, is_registered_as}
 
 -- What an item leaves, the objects being the router behind the connections.

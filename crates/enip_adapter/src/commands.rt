@@ -6,36 +6,21 @@ mod requests;
 mod sessions;
 
 ghost use Rattle.std.specs.Prelude.{◌≡◌, [], true};
+ghost use Rattle.cip_bytes.specs.declared.protocol.EncapsulationStatus.TheVariants.{InvalidLength};
 ghost use Rattle.enip_wire.specs.Stream.{frame_of};
 ghost use Rattle.enip_adapter.specs.Commands.{command_served};
 ghost use Rattle.enip_adapter.specs.Replies.{reply, written};
-ghost use Rattle.enip_adapter.specs.declared.reply.Status.TheVariants.{InvalidLength};
 
 use crate::peer::Session;
-use crate::reply::{Answer, Reaction, Status, refuse};
+use crate::reply::{Answer, Reaction, refuse};
 use crate::shared::Shared;
+use cip_bytes::protocol::{Command, EncapsulationStatus};
 use cip_objects::ReplyBuf;
 use enip_wire::{FrameView, Header};
 use items::send_unit_data;
 use lists::{list_identity, list_interfaces, list_services};
 use requests::send_rr_data;
 use sessions::{register_session, unregister_session};
-
-const NOP: u16 = 0x0000;
-
-const LIST_SERVICES: u16 = 0x0004;
-
-const LIST_IDENTITY: u16 = 0x0063;
-
-const LIST_INTERFACES: u16 = 0x0064;
-
-const REGISTER_SESSION: u16 = 0x0065;
-
-const UNREGISTER_SESSION: u16 = 0x0066;
-
-const SEND_RR_DATA: u16 = 0x006f;
-
-const SEND_UNIT_DATA: u16 = 0x0070;
 
 /// Serves a whole frame. A router writes into `reply`, whose old content is dropped.
 #[tactic(auto, unfolding(crate::specs::Commands::command_served))]
@@ -58,17 +43,21 @@ pub(crate) fn serve(
     if frame.header.options != 0 || frame.header.status != 0 {
         return Reaction::SILENT;
     }
-    match frame.header.command {
-        NOP => return Reaction::SILENT,
-        LIST_SERVICES => list_services(&frame.header, answer),
-        LIST_IDENTITY => list_identity(shared, &frame.header, reply, answer),
-        LIST_INTERFACES => list_interfaces(&frame.header, answer),
-        REGISTER_SESSION => register_session(session, frame, answer),
-        UNREGISTER_SESSION => return unregister_session(*session, &frame.header),
-        SEND_RR_DATA => send_rr_data(shared, *session, frame, reply, answer),
-        SEND_UNIT_DATA => return send_unit_data(shared, *session, frame, answer),
+    match Command::of(frame.header.command) {
+        Some(Command::Nop) => return Reaction::SILENT,
+        Some(Command::ListServices) => list_services(&frame.header, answer),
+        Some(Command::ListIdentity) => list_identity(shared, &frame.header, reply, answer),
+        Some(Command::ListInterfaces) => list_interfaces(&frame.header, answer),
+        Some(Command::RegisterSession) => register_session(session, frame, answer),
+        Some(Command::UnRegisterSession) => return unregister_session(*session, &frame.header),
+        Some(Command::SendRRData) => send_rr_data(shared, *session, frame, reply, answer),
+        Some(Command::SendUnitData) => return send_unit_data(shared, *session, frame, answer),
         // every other command is unsupported (ours)
-        _ => refuse(&frame.header, Status::UnsupportedCommand, answer),
+        None => refuse(
+            &frame.header,
+            EncapsulationStatus::UnsupportedCommand,
+            answer,
+        ),
     }
     Reaction::ANSWERED
 }
@@ -78,7 +67,7 @@ pub(crate) fn refuse_long(header: &Header, answer: &mut Answer) -> Reaction
     ensures reaction { result ≡ record { answered = true; close = true } }
     ensures answer { answer.new.items ≡ reply header.now header.now.session InvalidLength [] }
 {
-    refuse(header, Status::InvalidLength, answer);
+    refuse(header, EncapsulationStatus::InvalidLength, answer);
     Reaction {
         answered: true,
         close: true,

@@ -4,12 +4,9 @@ ghost use Rattle.std.specs.Prelude.{◌≡◌, ◌≤◌, ◌+◌, ◌++◌, len
 ghost use Rattle.enip_wire.specs.Headers.{header_spelling};
 ghost use Rattle.enip_adapter.specs.Replies.{reply, reply_header};
 
-use cip_class3::LARGEST_SIZE;
+use cip_bytes::protocol::{EncapsulationStatus, LARGEST_SIZE};
 use enip_wire::Header;
 use std::marker::Model;
-
-/// The room of the reply to an unconnected request, in bytes.
-pub(crate) const UNCONNECTED_ROOM: usize = 504;
 
 /// The most bytes of a packet in front of its data: interface 4, timeout 2, count 2, address item 4 or 8, type and
 /// length of the data item 4. (Volume 2, common packet format.)
@@ -88,17 +85,6 @@ fn place(block: &mut [u8], size: usize, text: &[u8]) -> usize
     end
 }
 
-/// The status in the header of an answer. (Volume 2, encapsulation status.)
-#[derive(Clone, Copy, Debug, PartialEq, Eq)]
-pub(crate) enum Status {
-    Success = 0x0000,
-    UnsupportedCommand = 0x0001,
-    PoorlyFormedData = 0x0003,
-    InvalidSession = 0x0064,
-    InvalidLength = 0x0065,
-    UnsupportedRevision = 0x0069,
-}
-
 /// What a frame is to its peer, beside its registration.
 #[derive(Clone, Copy, Debug)]
 pub(crate) struct Reaction {
@@ -124,7 +110,7 @@ impl Reaction {
 
 /// The header of a reply with so many bytes of data: command and context of what asked, no options.
 #[inline(always)]
-fn header_of(asked: &Header, session: u32, status: Status, count: usize) -> Header
+fn header_of(asked: &Header, session: u32, status: EncapsulationStatus, count: usize) -> Header
     requires { count ≤ LONGEST_DATA }
     ensures { result ≡ reply_header asked.now session status count }
 {
@@ -132,7 +118,7 @@ fn header_of(asked: &Header, session: u32, status: Status, count: usize) -> Head
         command: asked.command,
         length: count as u16,
         session,
-        status: status as u32,
+        status: status.number(),
         context: asked.context,
         options: 0,
     }
@@ -143,7 +129,7 @@ fn header_of(asked: &Header, session: u32, status: Status, count: usize) -> Head
 pub(crate) fn write_reply(
     asked: &Header,
     session: u32,
-    status: Status,
+    status: EncapsulationStatus,
     front: &[u8],
     rest: &[u8],
     answer: &mut Answer,
@@ -156,7 +142,7 @@ pub(crate) fn write_reply(
 }
 
 /// Refuses a frame: no data, and the session field of what asked.
-pub(crate) fn refuse(asked: &Header, status: Status, answer: &mut Answer)
+pub(crate) fn refuse(asked: &Header, status: EncapsulationStatus, answer: &mut Answer)
     ensures { answer.new.items ≡ reply asked.now asked.now.session status [] }
 {
     write_reply(asked, asked.session, status, &[], &[], answer);

@@ -1,15 +1,16 @@
 //! SendUnitData: items on connections.
 
 ghost use Rattle.std.specs.Prelude.{◌≡◌, ◌≤◌, length};
+ghost use Rattle.cip_bytes.specs.declared.protocol.EncapsulationStatus.TheVariants.{Success};
 ghost use Rattle.enip_wire.specs.Bodies.{unit_text};
 ghost use Rattle.enip_wire.specs.Stream.{frame_of};
 ghost use Rattle.enip_adapter.specs.Replies.{reply, written};
 ghost use Rattle.enip_adapter.specs.SendUnitData.{send_unit_data};
-ghost use Rattle.enip_adapter.specs.declared.reply.Status.TheVariants.{Success};
 
 use crate::peer::Session;
-use crate::reply::{Answer, LONGEST_ITEM, Reaction, Status, write_reply};
+use crate::reply::{Answer, LONGEST_ITEM, Reaction, write_reply};
 use crate::shared::Shared;
+use cip_bytes::protocol::EncapsulationStatus;
 use enip_wire::{FrameView, Header, unit_body, unit_front};
 
 /// SendUnitData: no answer to another session, to a packet that is none, and where no connection answers (ours).
@@ -50,5 +51,5 @@ fn write_unit_reply(asked: &Header, id: u32, kept: &[u8], answer: &mut Answer)
     ensures { answer.new.items ≡ reply asked.now asked.now.session Success (unit_text id kept.now) }
 {
     let front = unit_front(id, kept.len() as u16);
-    write_reply(asked, asked.session, Status::Success, &front, kept, answer);
+    write_reply(asked, asked.session, EncapsulationStatus::Success, &front, kept, answer);
 }

@@ -6,8 +6,9 @@ ghost use Rattle.enip_adapter.specs.RegisterSession.{register_session, version_o
 ghost use Rattle.enip_adapter.specs.Replies.{reply, is_registered_as};
 
 use crate::peer::Session;
-use crate::reply::{Answer, Reaction, Status, refuse, write_reply};
+use crate::reply::{Answer, Reaction, refuse, write_reply};
 use byteorder::{ByteOrder, LittleEndian};
+use cip_bytes::protocol::EncapsulationStatus;
 use enip_wire::{FrameView, Header};
 
 /// The bytes of version and flags.
@@ -25,31 +26,31 @@ pub(super) fn register_session(session: &mut Session, frame: FrameView<'_>, answ
 {
     // four bytes of data: 0x0065 (RegisterSession)
     if frame.body.len() != REGISTER_DATA {
-        return refuse(&frame.header, Status::InvalidLength, answer);
+        return refuse(&frame.header, EncapsulationStatus::InvalidLength, answer);
     }
     // one session a peer: 0x0001 (RegisterSession, ours)
     if session.registered {
-        return refuse(&frame.header, Status::UnsupportedCommand, answer);
+        return refuse(&frame.header, EncapsulationStatus::UnsupportedCommand, answer);
     }
     // version 1: 0x0069, with the version that is served (RegisterSession)
     if LittleEndian::read_u16(&frame.body[0..2]) != PROTOCOL_VERSION {
         return answer_version(
             &frame.header,
             frame.header.session,
-            Status::UnsupportedRevision,
+            EncapsulationStatus::UnsupportedRevision,
             answer,
         );
     }
     // no flags: 0x0003 (RegisterSession, ours)
     if LittleEndian::read_u16(&frame.body[2..4]) != 0 {
-        return refuse(&frame.header, Status::PoorlyFormedData, answer);
+        return refuse(&frame.header, EncapsulationStatus::PoorlyFormedData, answer);
     }
     session.registered = true;
-    answer_version(&frame.header, session.handle, Status::Success, answer)
+    answer_version(&frame.header, session.handle, EncapsulationStatus::Success, answer)
 }
 
 /// Answers with the version and flags that are served.
-fn answer_version(asked: &Header, session: u32, status: Status, answer: &mut Answer)
+fn answer_version(asked: &Header, session: u32, status: EncapsulationStatus, answer: &mut Answer)
     ensures { answer.new.items ≡ reply asked.now session status version_one }
 {
     let mut version = [0; REGISTER_DATA];
