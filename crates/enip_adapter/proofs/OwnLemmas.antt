@@ -13,6 +13,7 @@ use Rattle.enip_wire.specs.Stream.Sight.{Nothing_yet, A_frame, A_long_header}
 use Rattle.enip_wire.specs.declared.packet.CpfFault.{CpfFault}
 use Rattle.enip_adapter.specs.declared.peer.Session.{Session}
 use Rattle.enip_adapter.specs.declared.shared.Shared.{Shared}
+use Rattle.enip_adapter.specs.declared.silence.Silence.TheVariants.{NotServed}
 use Rattle.enip_adapter.specs.Adapter.{new_adapter}
 use Rattle.enip_adapter.specs.Commands.{by_command, command_served, long_refused}
 use Rattle.enip_adapter.specs.Lookup.{first_with, with_first}
@@ -129,7 +130,7 @@ served-open s peer serve session e alive =
         (first_with-number (λ (p : Session). p.handle) peer session s.peers e)
 
     go : (b : Bool) → b ≡ false
-        → session_of (cond b (turned s Silent true) (served_turn s peer serve session)).state peer
+        → session_of (cond b (turned s (Silent NotServed) true) (served_turn s peer serve session)).state peer
         ≡ Some (session_after session (serve session))
     go true bad = cc
     go false same = set

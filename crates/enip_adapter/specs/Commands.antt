@@ -12,6 +12,7 @@ use Rattle.enip_wire.specs.Stream.Sight.{Nothing_yet, A_frame, A_long_header}
 use Rattle.enip_wire.specs.declared.header.Header.{Header}
 use Rattle.enip_adapter.specs.declared.peer.Session.{Session}
 use Rattle.enip_adapter.specs.declared.shared.Shared.{Shared}
+use Rattle.enip_adapter.specs.declared.silence.Silence.TheVariants as silence
 use Rattle.enip_adapter.specs.Replies.{Reaction, Served, leaving, silent, refused}
 use Rattle.enip_adapter.specs.ListServices.{list_services}
 use Rattle.enip_adapter.specs.ListIdentity.{list_identity}
@@ -23,7 +24,7 @@ use Rattle.enip_adapter.specs.SendUnitData.{send_unit_data}
 
 -- By its command: NOP has no answer; what is no command is unsupported (ours).
 abbrev pub by_command : Shared → Session → Frame → Option Command → Served
-by_command shared session f (Some Nop) = leaving shared (silent session)
+by_command shared session f (Some Nop) = leaving shared (silent session silence.Nop)
 by_command shared session f (Some ListServices) = leaving shared (list_services session f)
 by_command shared session f (Some ListIdentity) = leaving shared (list_identity shared session f)
 by_command shared session f (Some ListInterfaces) = leaving shared (list_interfaces session f)
@@ -36,8 +37,8 @@ by_command shared session f None = leaving shared (refused session f.header Unsu
 -- What a frame leaves: one with options or with a status (ours) is discarded.
 unfoldable pub command_served : Shared → Session → Frame → Served
 command_served shared session f =
-    if not (f.header.options == 0) then leaving shared (silent session)
-    else if not (f.header.status == 0) then leaving shared (silent session)
+    if not (f.header.options == 0) then leaving shared (silent session silence.Options)
+    else if not (f.header.status == 0) then leaving shared (silent session silence.Status)
     else by_command shared session f (command_of f.header.command)
 
 -- A header whose length is too long: invalid length, and the connection is closed.
@@ -46,6 +47,6 @@ long_refused session asked = record (refused session asked InvalidLength) { clos
 
 -- What a sight of a peer's bytes leaves.
 abbrev pub sight_served : Shared → Session → Sight → Served
-sight_served shared session Nothing_yet = leaving shared (silent session)
+sight_served shared session Nothing_yet = leaving shared (silent session silence.NoFrame)
 sight_served shared session (A_frame f) = command_served shared session f
 sight_served shared session (A_long_header h) = leaving shared (long_refused session h)

@@ -12,8 +12,9 @@ ghost use Rattle.enip_adapter.specs.Commands.{command_served};
 ghost use Rattle.enip_adapter.specs.Replies.{reply, written};
 
 use crate::peer::Session;
-use crate::reply::{Answer, Reaction, refuse};
+use crate::reply::{AnswerFrame, Reaction, Reply, refuse};
 use crate::shared::Shared;
+use crate::silence::Silence;
 use cip_bytes::protocol::{Command, EncapsulationStatus};
 use cip_objects::ReplyBuf;
 use enip_wire::{FrameView, Header};
@@ -29,22 +30,26 @@ pub(crate) fn serve(
     session: &mut Session,
     frame: FrameView<'_>,
     reply: &mut ReplyBuf,
-    answer: &mut Answer,
+    answer: &mut AnswerFrame,
 ) -> Reaction
     ensures session { session.new ≡ record session.old {
       registered = (command_served shared.old session.old (frame_of frame.entry)).reaction.registered;
     } }
     ensures shared { shared.new ≡ (command_served shared.old session.old (frame_of frame.entry)).shared }
-    ensures answer { written result.answered answer.new.items
+    ensures answer { written result.reply answer.new.items
         ≡ (command_served shared.old session.old (frame_of frame.entry)).reaction.answer }
     ensures close { result.close ≡ (command_served shared.old session.old (frame_of frame.entry)).reaction.close }
 {
-    // options that are not 0: discarded; a status that is not 0: discarded (a frame; ours)
-    if frame.header.options != 0 || frame.header.status != 0 {
-        return Reaction::SILENT;
+    // options that are not 0: discarded (a frame)
+    if frame.header.options != 0 {
+        return Reaction::silent(Silence::Options);
+    }
+    // a status that is not 0: discarded (ours)
+    if frame.header.status != 0 {
+        return Reaction::silent(Silence::Status);
     }
     match Command::of(frame.header.command) {
-        Some(Command::Nop) => return Reaction::SILENT,
+        Some(Command::Nop) => return Reaction::silent(Silence::Nop),
         Some(Command::ListServices) => list_services(&frame.header, answer),
         Some(Command::ListIdentity) => list_identity(shared, &frame.header, reply, answer),
         Some(Command::ListInterfaces) => list_interfaces(&frame.header, answer),
@@ -63,13 +68,13 @@ pub(crate) fn serve(
 }
 
 /// Refuses a header whose length is too long, and closes the connection.
-pub(crate) fn refuse_long(header: &Header, answer: &mut Answer) -> Reaction
-    ensures reaction { result ≡ record { answered = true; close = true } }
+pub(crate) fn refuse_long(header: &Header, answer: &mut AnswerFrame) -> Reaction
+    ensures reaction { result ≡ record { reply = Reply.Written; close = true } }
     ensures answer { answer.new.items ≡ reply header.now header.now.session InvalidLength [] }
 {
     refuse(header, EncapsulationStatus::InvalidLength, answer);
     Reaction {
-        answered: true,
+        reply: Reply::Written,
         close: true,
     }
 }

@@ -1,9 +1,10 @@
 //! Frames that answer. (Volume 2, encapsulation header.)
 
-ghost use Rattle.std.specs.Prelude.{◌≡◌, ◌≤◌, ◌+◌, ◌++◌, length, take, []};
+ghost use Rattle.std.specs.Prelude.{◌≡◌, ◌≤◌, ◌+◌, ◌++◌, length, take, [], false};
 ghost use Rattle.enip_wire.specs.Headers.{header_spelling};
 ghost use Rattle.enip_adapter.specs.Replies.{reply, reply_header};
 
+use crate::silence::Silence;
 use cip_bytes::protocol::{EncapsulationStatus, LARGEST_SIZE};
 use enip_wire::Header;
 use std::marker::Model;
@@ -23,13 +24,13 @@ pub const LONGEST_ANSWER: usize = Header::SIZE + LONGEST_DATA;
 
 /// One answer, a whole frame, written over the one before it.
 #[derive(Drop)]
-pub(crate) struct Answer {
+pub(crate) struct AnswerFrame {
     /// How many bytes of the block it has.
     size: usize,
     block: [u8; LONGEST_ANSWER],
 }
 
-impl Model for Answer {
+impl Model for AnswerFrame {
     ghost use Rattle.std.specs.Prelude.{take};
     ghost use Rattle.enip_adapter.specs.Buffers.{Buffer, IsWithin};
     ghost use Rattle.enip_adapter.specs.declared.reply.TheConstants.{LONGEST_ANSWER};
@@ -41,12 +42,12 @@ impl Model for Answer {
     ghost invariant = { λ answer. IsWithin LONGEST_ANSWER answer.size answer.block };
 }
 
-impl Answer {
+impl AnswerFrame {
     /// A blank one.
-    pub(crate) fn new() -> Answer
+    pub(crate) fn new() -> AnswerFrame
         ensures { result.items ≡ [] }
     {
-        Answer {
+        AnswerFrame {
             size: 0,
             block: [0; LONGEST_ANSWER],
         }
@@ -66,15 +67,15 @@ impl Answer {
         requires { length front.now + length rest.now ≤ LONGEST_DATA }
         ensures { self.new.items ≡ header_spelling header.now ++ (front.now ++ rest.now) }
     {
-        let size = place(&mut self.block, 0, &header.write());
-        let size = place(&mut self.block, size, front);
-        self.size = place(&mut self.block, size, rest);
+        let size = append_text(&mut self.block, 0, &header.write());
+        let size = append_text(&mut self.block, size, front);
+        self.size = append_text(&mut self.block, size, rest);
     }
 }
 
 /// Copies a text into a block behind its first bytes, and answers where it ends.
 #[inline(always)]
-fn place(block: &mut [u8], size: usize, text: &[u8]) -> usize
+fn append_text(block: &mut [u8], size: usize, text: &[u8]) -> usize
     requires { size + length text.now ≤ length block.old }
     ensures end { result ≡ size + length text.now }
     ensures text { take result block.new ≡ take size block.old ++ text.now }
@@ -85,27 +86,47 @@ fn place(block: &mut [u8], size: usize, text: &[u8]) -> usize
     end
 }
 
+/// What answers a frame.
+#[derive(Clone, Copy, Debug)]
+pub(crate) enum Reply {
+    /// Nothing, for this reason.
+    Silent(Silence),
+    /// The frame that was written last.
+    Written,
+}
+
 /// What a frame is to its peer, beside its registration.
 #[derive(Clone, Copy, Debug)]
 pub(crate) struct Reaction {
-    /// Whether an answer was written.
-    pub(crate) answered: bool,
+    /// What answers it.
+    pub(crate) reply: Reply,
     /// Whether the connection is closed.
     pub(crate) close: bool,
 }
 
 impl Reaction {
-    /// Nothing is sent.
-    pub(crate) const SILENT: Reaction = Reaction {
-        answered: false,
+    /// An answer was written.
+    pub(crate) const ANSWERED: Reaction = Reaction {
+        reply: Reply::Written,
         close: false,
     };
 
-    /// An answer was written.
-    pub(crate) const ANSWERED: Reaction = Reaction {
-        answered: true,
-        close: false,
+    /// Of a peer that is closed or not held.
+    pub(crate) const NOT_SERVED: Reaction = Reaction {
+        reply: Reply::Silent(Silence::NotServed),
+        close: true,
     };
+
+    /// Nothing is sent, for this reason.
+    #[inline(always)]
+    pub(crate) fn silent(why: Silence) -> Reaction
+        ensures { result ≡ record { reply = Reply.Silent why; close = false } }
+    {
+        Reaction {
+            reply: Reply::Silent(why),
+            close: false,
+        }
+    }
 }
 
 /// The header of a reply with so many bytes of data: command and context of what asked, no options.
@@ -132,7 +153,7 @@ pub(crate) fn write_reply(
     status: EncapsulationStatus,
     front: &[u8],
     rest: &[u8],
-    answer: &mut Answer,
+    answer: &mut AnswerFrame,
 )
     requires { length front.now + length rest.now ≤ LONGEST_DATA }
     ensures { answer.new.items ≡ reply asked.now session status (front.now ++ rest.now) }
@@ -142,7 +163,7 @@ pub(crate) fn write_reply(
 }
 
 /// Refuses a frame: no data, and the session field of what asked.
-pub(crate) fn refuse(asked: &Header, status: EncapsulationStatus, answer: &mut Answer)
+pub(crate) fn refuse(asked: &Header, status: EncapsulationStatus, answer: &mut AnswerFrame)
     ensures { answer.new.items ≡ reply asked.now asked.now.session status [] }
 {
     write_reply(asked, asked.session, status, &[], &[], answer);

@@ -10,7 +10,7 @@ ghost use Rattle.enip_adapter.specs.ListInterfaces.{interfaces_text};
 ghost use Rattle.enip_adapter.specs.ListServices.{services_text};
 ghost use Rattle.enip_adapter.specs.Replies.{reply};
 
-use crate::reply::{Answer, write_reply};
+use crate::reply::{AnswerFrame, write_reply};
 use crate::shared::{Listen, Shared};
 use arrayvec::ArrayVec;
 use byteorder::{BigEndian, ByteOrder, LittleEndian};
@@ -53,7 +53,7 @@ const SERVICES: [u8; 26] = *b"\x01\x00\x00\x01\x14\x00\x01\x00\x20\x00Communicat
 const INTERFACES: [u8; 2] = [0, 0];
 
 /// ListServices.
-pub(super) fn list_services(asked: &Header, answer: &mut Answer)
+pub(super) fn list_services(asked: &Header, answer: &mut AnswerFrame)
     ensures { answer.new.items ≡ reply asked.now asked.now.session Success services_text }
 {
     write_reply(
@@ -67,7 +67,7 @@ pub(super) fn list_services(asked: &Header, answer: &mut Answer)
 }
 
 /// ListInterfaces.
-pub(super) fn list_interfaces(asked: &Header, answer: &mut Answer)
+pub(super) fn list_interfaces(asked: &Header, answer: &mut AnswerFrame)
     ensures { answer.new.items ≡ reply asked.now asked.now.session Success interfaces_text }
 {
     write_reply(
@@ -87,7 +87,7 @@ pub(super) fn list_identity(
     shared: &Shared,
     asked: &Header,
     value: &mut ReplyBuf,
-    answer: &mut Answer,
+    answer: &mut AnswerFrame,
 )
     ensures { answer.new.items
         ≡ reply asked.now asked.now.session Success (identity_text shared.now.listen shared.now.objects) }
@@ -99,7 +99,7 @@ pub(super) fn list_identity(
 }
 
 /// Writes a whole reply to a ListIdentity, with one item.
-fn write_identity(asked: &Header, item: &[u8], answer: &mut Answer)
+fn write_identity(asked: &Header, item: &[u8], answer: &mut AnswerFrame)
     requires { length item.now ≤ ITEM_SIZE }
     ensures { answer.new.items ≡ reply asked.now asked.now.session Success (text_of_item item.now) }
 {

@@ -1,16 +1,17 @@
 //! SendRRData: unconnected requests.
 
-ghost use Rattle.std.specs.Prelude.{◌≡◌, ◌≤◌, length, Some};
+ghost use Rattle.std.specs.Prelude.{◌≡◌, ◌≤◌, length};
 ghost use Rattle.cip_bytes.specs.declared.protocol.EncapsulationStatus.TheVariants.{Success};
 ghost use Rattle.cip_message.specs.PathReading.{path_of};
 ghost use Rattle.enip_wire.specs.Bodies.{rr_text};
 ghost use Rattle.enip_wire.specs.Stream.{frame_of};
 ghost use Rattle.enip_adapter.specs.Replies.{reply};
+ghost use Rattle.enip_adapter.specs.Replies.Reply.{Sends};
 ghost use Rattle.enip_adapter.specs.SendRRData.{send_rr_data, routed, destination_of, is_manager};
 ghost use Rattle.enip_adapter.specs.Destinations.{destination, is_path_of_manager};
 
 use crate::peer::Session;
-use crate::reply::{Answer, refuse, write_reply};
+use crate::reply::{AnswerFrame, refuse, write_reply};
 use crate::shared::Shared;
 use cip_bytes::protocol::{EncapsulationStatus, ManagerService, UNCONNECTED_ROOM};
 use cip_message::{Path, RequestView, read_path};
@@ -70,10 +71,10 @@ pub(super) fn send_rr_data(
     session: Session,
     frame: FrameView<'_>,
     reply: &mut ReplyBuf,
-    answer: &mut Answer,
+    answer: &mut AnswerFrame,
 )
     ensures shared { shared.new ≡ (send_rr_data shared.old session (frame_of frame.entry)).shared }
-    ensures answer { Some answer.new.items ≡ (send_rr_data shared.old session (frame_of frame.entry)).reaction.answer }
+    ensures answer { Sends answer.new.items ≡ (send_rr_data shared.old session (frame_of frame.entry)).reaction.answer }
 {
     // this peer's registered session: 0x0064 (SendRRData)
     if !session.is_registered_as(frame.header.session) {
@@ -116,7 +117,7 @@ fn route(shared: &mut Shared, session: Session, request: &[u8], reply: &mut Repl
 
 /// Writes a whole reply to a SendRRData, with the reply of the router as its data item.
 #[inline(always)]
-fn write_rr_reply(asked: &Header, router_reply: &[u8], answer: &mut Answer)
+fn write_rr_reply(asked: &Header, router_reply: &[u8], answer: &mut AnswerFrame)
     requires { length router_reply.now ≤ UNCONNECTED_ROOM }
     ensures { answer.new.items ≡ reply asked.now asked.now.session Success (rr_text router_reply.now) }
 {
