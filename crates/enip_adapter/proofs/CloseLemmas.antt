@@ -13,6 +13,7 @@ use Rattle.enip_wire.proofs.FrameLemmas.{number_at-append, number_at-take}
 use Rattle.enip_wire.proofs.StreamLemmas.{one_cut_lem}
 use Rattle.enip_adapter.specs.declared.peer.Session.{Session}
 use Rattle.enip_adapter.specs.declared.shared.Shared.{Shared}
+use Rattle.enip_adapter.specs.declared.silence.Silence.TheVariants.{NotServed}
 use Rattle.enip_adapter.specs.Adapter.{new_adapter}
 use Rattle.enip_adapter.specs.Commands.{command_served, long_refused}
 use Rattle.enip_adapter.specs.Replies.{Served, leaving}
@@ -269,7 +270,7 @@ told-served : (s : State) (peer : ℕ) (serve : Session → Served) (session : S
     ≡ not (is_open (session_of (serve_found s peer serve (session_of s peer)).state peer))
 told-served s peer serve session e alive =
     ap (λ o. (serve_found s peer serve o).answer.close) e
-    ∙ (ap (λ b. (cond b (turned s Silent true) (served_turn s peer serve session)).answer.close) alive
+    ∙ (ap (λ b. (cond b (turned s (Silent NotServed) true) (served_turn s peer serve session)).answer.close) alive
     ∙ (twice-not (serve session).reaction.close
     ∙ ap (λ o. not (is_open o)) (sym (served-open s peer serve session e alive))))
 

@@ -1,5 +1,8 @@
 -- What a frame leaves of what all peers share, one of a few kinds of change.
-use Rattle.std.proofs.Common.{not, ltb, eqb, length, ℕ, List, Result, Ok, Err}
+use Rattle.std.proofs.Common.{not, ltb, eqb, length, ℕ, List, Option, Some, Result, Ok, Err}
+use Rattle.cip_bytes.specs.Protocol.{command_of}
+use Rattle.cip_bytes.specs.declared.protocol.Command.{Command}
+use Rattle.cip_bytes.specs.declared.protocol.Command.TheVariants.{SendRRData, SendUnitData}
 use Rattle.cip_message.specs.Open.{Layout}
 use Rattle.cip_manager.specs.Closing.{close_turn}
 use Rattle.cip_manager.specs.Opening.{open_turn_in}
@@ -9,7 +12,7 @@ use Rattle.enip_wire.specs.Frames.{Frame}
 use Rattle.enip_wire.specs.declared.packet.CpfFault.{CpfFault}
 use Rattle.enip_adapter.specs.declared.peer.Session.{Session}
 use Rattle.enip_adapter.specs.declared.shared.Shared.{Shared}
-use Rattle.enip_adapter.specs.Commands.{command_served}
+use Rattle.enip_adapter.specs.Commands.{by_command, command_served}
 use Rattle.enip_adapter.specs.Replies.{Served, is_registered_as}
 use Rattle.enip_adapter.specs.SendRRData.{Destination, destination_of, managed, routed_to, reply_to_body}
 use Rattle.enip_adapter.specs.SendRRData.Destination.{Opens, Closes, Executes}
@@ -44,21 +47,18 @@ module _ (P : Shared → Type 0) (shared : Shared) (session : Session) (changes 
   after_item f (Err fault) = changes.same
   after_item f (Ok (id, item)) = changes.receives id item
 
+  after_by_command : (f : Frame) (command : Option Command) → P (by_command shared session f command).shared
+  after_by_command f (Some SendRRData) =
+      both (λ (s : Served). P s.shared) (not (is_registered_as session f.header.session)) _ _ changes.same
+      (after_body f (rr_body_of f.body))
+  after_by_command f (Some SendUnitData) =
+      both (λ (s : Served). P s.shared) (not (is_registered_as session f.header.session)) _ _ changes.same
+      (after_item f (unit_body_of f.body))
+  after_by_command f other = changes.same
+
   pub after_command : (f : Frame) → P (command_served shared session f).shared
   unfolding command_served
   after_command f =
-      let same : P shared = changes.same in
-      let Q : Served → Type 0 = λ s. P s.shared in
-      both Q (not (eqb f.header.options 0)) _ _ same
-      (both Q (not (eqb f.header.status 0)) _ _ same
-      (both Q (eqb f.header.command 0x0000) _ _ same
-      (both Q (eqb f.header.command 0x0004) _ _ same
-      (both Q (eqb f.header.command 0x0063) _ _ same
-      (both Q (eqb f.header.command 0x0064) _ _ same
-      (both Q (eqb f.header.command 0x0065) _ _ same
-      (both Q (eqb f.header.command 0x0066) _ _ same
-      (both Q (eqb f.header.command 0x006f) _ _
-      (both Q (not (is_registered_as session f.header.session)) _ _ same (after_body f (rr_body_of f.body)))
-      (both Q (eqb f.header.command 0x0070) _ _
-      (both Q (not (is_registered_as session f.header.session)) _ _ same (after_item f (unit_body_of f.body)))
-      same)))))))))
+      both (λ (s : Served). P s.shared) (not (eqb f.header.options 0)) _ _ changes.same
+      (both (λ (s : Served). P s.shared) (not (eqb f.header.status 0)) _ _ changes.same
+      (after_by_command f (command_of f.header.command)))

@@ -23,6 +23,7 @@ use Rattle.enip_adapter.specs.Lookup.{first_with, with_first}
 use Rattle.enip_adapter.specs.Turn.{State, Event, Answer, answers, after, session_of}
 use Rattle.enip_adapter.specs.Turn.Event.{At}
 use Rattle.enip_adapter.specs.Turn.Said.{Silent}
+use Rattle.enip_adapter.specs.declared.silence.Silence.TheVariants.{NoFrame}
 use Rattle.enip_adapter.specs.Calls.{AdapterState, Held, Call, Meaning, call_meaning, after_call, after_meaning}
 use Rattle.enip_adapter.specs.Calls.{call_answer, answer_of, bytes_found, bytes_held, piece_to, piece_meaning}
 use Rattle.enip_adapter.specs.Calls.{dropped_piece, at_a_moment, events_of_sight, last_from}
@@ -289,7 +290,7 @@ front a now peer piece more sound = go (session_of a.state peer) refl
 
 -- A piece that completes nothing, and the next one.
 abbrev quiet : Answer
-quiet = record { said = Silent; close = false }
+quiet = record { said = Silent NoFrame; close = false }
 
 abbrev waiting : AdapterState → ℕ → ℕ → List ℕ → AdapterState
 waiting a now peer bytes = record {

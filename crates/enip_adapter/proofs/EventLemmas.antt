@@ -79,7 +79,7 @@ pub close-call : (a : AdapterState) (c : Call)
 close-call a c = (told-call a c).close
 
 before-append : (said : Said) (xs ys : List Said) → said_before said (xs ++ ys) ≡ said_before said xs ++ ys
-before-append Silent xs ys = refl
+before-append (Silent why) xs ys = refl
 before-append (Sends bytes) xs ys = refl
 before-append (Begins handle) xs ys = refl
 before-append (Refuses full) xs ys = refl

@@ -5,10 +5,14 @@ use Rattle.std.specs.List.{position}
 use Rattle.std.specs.Option.{option_map}
 use Rattle.enip_wire.specs.Stream.{Sight, sight_of, joined_of, taken_of, cleared}
 use Rattle.enip_wire.specs.Stream.Sight.{Nothing_yet, A_frame, A_long_header}
-use Rattle.enip_adapter.specs.declared.peer.Outcome.{Outcome}
 use Rattle.enip_adapter.specs.declared.peer.Place.{Place}
 use Rattle.enip_adapter.specs.declared.peer.Session.{Session}
+use Rattle.enip_adapter.specs.declared.reply.Reaction.{Reaction}
+use Rattle.enip_adapter.specs.declared.reply.Reply.{Reply}
+use Rattle.enip_adapter.specs.declared.reply.Reply.TheVariants as replies
 use Rattle.enip_adapter.specs.declared.shared.Shared.{Shared}
+use Rattle.enip_adapter.specs.declared.silence.Silence.{Silence}
+use Rattle.enip_adapter.specs.declared.silence.Silence.TheVariants.{NoFrame, NotServed}
 use Rattle.std.specs.Borrow.{Bor}
 use Rattle.enip_adapter.specs.Adapter.{adapter_in, state_in, session_in, held_in, feed_said}
 use Rattle.enip_adapter.specs.Calls.{AdapterState, Held, Meaning, piece_to, piece_meaning, dropped_piece, events_of_sight, bytes_held, bytes_found, last_from, after_call, call_meaning, call_answer}
@@ -29,8 +33,8 @@ handle_of p = p.session.handle
 abbrev pub finds : ℕ → List Place → Option ℕ
 finds handle places = position (λ p. eqb p.session.handle handle) places
 
-abbrev pub dropped : Outcome
-dropped = record { taken = 0; answered = false; close = true }
+abbrev pub dropped : ℕ × Reaction
+dropped = (0, record { reply = replies.Silent NotServed; close = true })
 
 -- what is found among the places is found among the sessions and the bytes
 pub session_found : (limit next_handle : ℕ) (shared : Shared) (places : List Place) (handle : ℕ) (o : Option Place) → first_with handle_of handle places ≡ o
@@ -91,7 +95,7 @@ served_turn : (s : State) (peer : ℕ) (serve : Session → Served) (session : S
 served_turn s peer serve session found alive =
     ap (serve_found s peer serve) found
     ∙ ap (
-    λ b. cond b (turned s Silent true) (turned (record s {
+    λ b. cond b (turned s (Silent NotServed) true) (turned (record s {
       shared = shared_after session (serve session);
       peers = with_first (λ p. p.handle) peer (session_after session (serve session)) s.peers;
     }) (sent (serve session).reaction.answer) (serve session).reaction.close)
@@ -111,13 +115,13 @@ answer_by served = record { said = sent served.reaction.answer; close = served.r
 
 record IsTurned (limit next_handle : ℕ) (shared : Shared) (places : List Place) (handle : ℕ) (p : Place) (x : Sight) : Type 0 where
   state : after (state_in limit next_handle shared places) (events_of_sight handle x) ≡ left_by limit next_handle shared places handle p (sight_served shared p.session x)
-  answer : last_from (record { said = Silent; close = false }) (answers (state_in limit next_handle shared places) (events_of_sight handle x))
+  answer : last_from (record { said = Silent NoFrame; close = false }) (answers (state_in limit next_handle shared places) (events_of_sight handle x))
       ≡ answer_by (sight_served shared p.session x)
 
 sight_turned : (limit next_handle : ℕ) (shared : Shared) (places : List Place) (handle : ℕ) (p : Place) (x : Sight)
     → first_with handle_of handle places ≡ Some p → p.session.closed ≡ false → IsTurned limit next_handle shared places handle p x
 sight_turned limit next_handle shared places handle p Nothing_yet e alive =
-    let same : session_after p.session (leaving shared (silent p.session)) ≡ p.session
+    let same : session_after p.session (leaving shared (silent p.session NoFrame)) ≡ p.session
     = ap (λ b. let t : Session = record p.session { closed = b } in t) (sym alive) in
     record {
       state = ap (λ ps. let t : State = record { places = limit; next_handle = next_handle; shared = shared; peers = ps } in t)
@@ -140,19 +144,19 @@ sight_turned limit next_handle shared places handle p (A_long_header h) e alive 
     (session_found limit next_handle shared places handle (Some p) e) alive in
     record { state = ap (λ r. r.state) t; answer = ap (λ r. r.answer) t }
 
-abbrev IsFedOpen : ℕ → ℕ → Shared → List Place → ℕ → List ℕ → Shared → Place → Outcome → List ℕ → Meaning → Type 0
+abbrev IsFedOpen : ℕ → ℕ → Shared → List Place → ℕ → List ℕ → Shared → Place → ℕ × Reaction → List ℕ → Meaning → Type 0
 IsFedOpen limit next_handle shared places handle piece left new outcome bytes m =
     IsFed limit next_handle shared places m left (with_first handle_of handle new places) outcome bytes
 
 -- at an open place, for the bytes that are held there
-fed_here : (limit next_handle : ℕ) (shared left : Shared) (places : List Place) (handle : ℕ) (piece bytes : List ℕ) (outcome : Outcome) (p new : Place)
+fed_here : (limit next_handle : ℕ) (shared left : Shared) (places : List Place) (handle : ℕ) (piece bytes : List ℕ) (outcome : ℕ × Reaction) (p new : Place)
     → first_with handle_of handle places ≡ Some p → p.session.closed ≡ false
     → new.session ≡ session_after p.session (sight_served shared p.session (sight_of (joined_of p.reader piece)))
     → new.reader ≡ cleared (sight_of (joined_of p.reader piece)) (joined_of p.reader piece)
     → left ≡ shared_after p.session (sight_served shared p.session (sight_of (joined_of p.reader piece)))
-    → outcome.taken ≡ taken_of p.reader piece
-    → written outcome.answered bytes ≡ (sight_served shared p.session (sight_of (joined_of p.reader piece))).reaction.answer
-    → outcome.close ≡ (sight_served shared p.session (sight_of (joined_of p.reader piece))).reaction.close
+    → outcome.0 ≡ taken_of p.reader piece
+    → written outcome.1.reply bytes ≡ (sight_served shared p.session (sight_of (joined_of p.reader piece))).reaction.answer
+    → outcome.1.close ≡ (sight_served shared p.session (sight_of (joined_of p.reader piece))).reaction.close
     → IsFedOpen limit next_handle shared places handle piece left new outcome bytes (piece_meaning (map held_in places) handle p.reader piece)
 fed_here limit next_handle shared left places handle piece bytes outcome p new e alive session reader same taken answer close =
     let t : IsTurned limit next_handle shared places handle p (sight_of (joined_of p.reader piece))
@@ -178,12 +182,12 @@ fed_here limit next_handle shared left places handle piece bytes outcome p new e
       adapter = ap (λ s. let r : AdapterState = record { state = s; held = map held_in (with_first handle_of handle new places) } in r) state
           ∙ ap (λ h. let r : AdapterState = record { state = after (state_in limit next_handle shared places) (events_of_sight handle (sight_of (joined_of p.reader piece))); held = h } in r) held;
       taken = taken;
-      answer = ap (λ o. let r : Answer = record { said = sent o; close = outcome.close } in r) answer
+      answer = ap (λ o. let r : Answer = record { said = sent o; close = outcome.1.close } in r) answer
           ∙ ap (λ b. let r : Answer = record { said = sent (sight_served shared p.session (sight_of (joined_of p.reader piece))).reaction.answer; close = b } in r) close
           ∙ sym t.answer;
     }
 
-open_meaning : (limit next_handle : ℕ) (shared left : Shared) (places : List Place) (handle : ℕ) (piece bytes held : List ℕ) (outcome : Outcome) (new : Place) (b : Bool) → b ≡ false
+open_meaning : (limit next_handle : ℕ) (shared left : Shared) (places : List Place) (handle : ℕ) (piece bytes held : List ℕ) (outcome : ℕ × Reaction) (new : Place) (b : Bool) → b ≡ false
     → IsFedOpen limit next_handle shared places handle piece left new outcome bytes (piece_meaning (map held_in places) handle held piece)
     → bytes_held (map held_in places) handle ≡ held
     → IsFedOpen limit next_handle shared places handle piece left new outcome bytes
@@ -192,14 +196,14 @@ open_meaning limit next_handle shared left places handle piece bytes held outcom
 open_meaning limit next_handle shared left places handle piece bytes held outcome new false e fed same =
     subst (λ h. IsFedOpen limit next_handle shared places handle piece left new outcome bytes (piece_meaning (map held_in places) handle h piece)) (sym same) fed
 
-pub open_found : (limit next_handle : ℕ) (shared left : Shared) (places : List Place) (handle i : ℕ) (piece bytes : List ℕ) (outcome : Outcome) (p new : Place)
+pub open_found : (limit next_handle : ℕ) (shared left : Shared) (places : List Place) (handle i : ℕ) (piece bytes : List ℕ) (outcome : ℕ × Reaction) (p new : Place)
     → finds handle places ≡ Some i → first_with handle_of handle places ≡ Some p → p.session.closed ≡ false
     → new.session ≡ session_after p.session (sight_served shared p.session (sight_of (joined_of p.reader piece)))
     → new.reader ≡ cleared (sight_of (joined_of p.reader piece)) (joined_of p.reader piece)
     → left ≡ shared_after p.session (sight_served shared p.session (sight_of (joined_of p.reader piece)))
-    → outcome.taken ≡ taken_of p.reader piece
-    → written outcome.answered bytes ≡ (sight_served shared p.session (sight_of (joined_of p.reader piece))).reaction.answer
-    → outcome.close ≡ (sight_served shared p.session (sight_of (joined_of p.reader piece))).reaction.close
+    → outcome.0 ≡ taken_of p.reader piece
+    → written outcome.1.reply bytes ≡ (sight_served shared p.session (sight_of (joined_of p.reader piece))).reaction.answer
+    → outcome.1.close ≡ (sight_served shared p.session (sight_of (joined_of p.reader piece))).reaction.close
     → IsFed limit next_handle shared places (piece_at limit next_handle shared places handle piece) left (slice_set places i new) outcome bytes
 open_found limit next_handle shared left places handle i piece bytes outcome p new at e alive session reader same taken answer close =
     let both : (i < length places) × IsFirstWith handle_of handle places i = first-Some handle_of handle places i at in
@@ -220,35 +224,35 @@ alive_there places handle i d e at alive =
     ap (λ q. q.session.closed) (sym one) ∙ alive
 
 -- What a call of feed does, once the moment has come.
-pub record IsFeed (old : AdapterState) (now peer : ℕ) (piece : List ℕ) (last : AdapterState) (outcome : Outcome) (bytes : List ℕ) : Type 0 where
+pub record IsFeed (old : AdapterState) (now peer : ℕ) (piece : List ℕ) (last : AdapterState) (outcome : ℕ × Reaction) (bytes : List ℕ) : Type 0 where
   pub state : last ≡ after_call old (Feeds now peer piece)
-  pub taken : outcome.taken ≡ (call_meaning old (Feeds now peer piece)).taken
-  pub answer : ◌≡◌ {A = Answer} (record { said = sent (written outcome.answered bytes); close = outcome.close })
+  pub taken : outcome.0 ≡ (call_meaning old (Feeds now peer piece)).taken
+  pub answer : ◌≡◌ {A = Answer} (record { said = sent (written outcome.1.reply bytes); close = outcome.1.close })
       (call_answer old (Feeds now peer piece))
 
-feeds_now : (limit next_handle : ℕ) (shared left : Shared) (places kept : List Place) (now peer : ℕ) (piece bytes : List ℕ) (outcome : Outcome)
+feeds_now : (limit next_handle : ℕ) (shared left : Shared) (places kept : List Place) (now peer : ℕ) (piece bytes : List ℕ) (outcome : ℕ × Reaction)
     → IsFed limit next_handle (at_moment shared now) places (piece_at limit next_handle (at_moment shared now) places peer piece) left kept outcome bytes
     → IsFeed (adapter_in limit next_handle shared places) now peer piece (adapter_in limit next_handle left kept) outcome bytes
 feeds_now limit next_handle shared left places kept now peer piece bytes outcome fed =
     record { state = fed.adapter; taken = fed.taken; answer = fed.answer }
 
-pub feeds : (limit next_handle : ℕ) (shared first left : Shared) (places seen kept : List Place) (now handle peer : ℕ) (piece bytes : List ℕ) (outcome : Outcome) (old : AdapterState)
-    → adapter_in limit next_handle shared places ≡ old → first ≡ at_moment shared now → seen ≡ places → handle ≡ peer
+pub feeds : (limit next_handle : ℕ) (shared first left : Shared) (places seen kept stored : List Place) (now handle peer : ℕ) (piece bytes : List ℕ) (outcome : ℕ × Reaction) (old : AdapterState)
+    → adapter_in limit next_handle shared places ≡ old → first ≡ at_moment shared now → seen ≡ places → handle ≡ peer → stored ≡ kept
     → IsFed limit next_handle first seen (piece_at limit next_handle first seen handle piece) left kept outcome bytes
-    → IsFeed old now peer piece (adapter_in limit next_handle left kept) outcome bytes
-feeds limit next_handle shared first left places seen kept now handle peer piece bytes outcome old is moment same who fed =
-    subst (λ o. IsFeed o now peer piece (adapter_in limit next_handle left kept) outcome bytes) is
+    → IsFeed old now peer piece (adapter_in limit next_handle left stored) outcome bytes
+feeds limit next_handle shared first left places seen kept stored now handle peer piece bytes outcome old is moment same who stores fed =
+    subst (λ l. IsFeed old now peer piece (adapter_in limit next_handle left l) outcome bytes) (sym stores)
+    (subst (λ o. IsFeed o now peer piece (adapter_in limit next_handle left kept) outcome bytes) is
     (feeds_now limit next_handle shared left places kept now peer piece bytes outcome
     (subst (λ h. IsFed limit next_handle (at_moment shared now) places (piece_at limit next_handle (at_moment shared now) places h piece) left kept outcome bytes) who
     (subst (λ s. IsFed limit next_handle (at_moment shared now) s (piece_at limit next_handle (at_moment shared now) s handle piece) left kept outcome bytes) same
-    (subst (λ s. IsFed limit next_handle s seen (piece_at limit next_handle s seen handle piece) left kept outcome bytes) moment fed))))
+    (subst (λ s. IsFed limit next_handle s seen (piece_at limit next_handle s seen handle piece) left kept outcome bytes) moment fed)))))
 
-pub said_then : (answered : Bool) (bytes : List ℕ) (lent : Option (Bor (List ℕ))) (slice : Bor (List ℕ)) → answered ≡ true → lent ≡ Some slice
-    → slice.now ≡ bytes → feed_said lent ≡ sent (written answered bytes)
-said_then true bytes lent slice e is same = rw (is, same) refl
-said_then false bytes lent slice e is same = cc
+-- What was lent is what was written, or there is a reason.
+pub said_written : (reply : Reply) (bytes : List ℕ) (slice : Bor (List ℕ)) → reply ≡ replies.Written → slice.now ≡ bytes
+    → feed_said (Some slice) None ≡ sent (written reply bytes)
+said_written reply bytes slice is same = rw (is, same) refl
 
-pub said_else : (answered : Bool) (bytes : List ℕ) (lent : Option (Bor (List ℕ))) → answered ≡ false → lent ≡ None
-    → feed_said lent ≡ sent (written answered bytes)
-said_else false bytes lent e is = rw is refl
-said_else true bytes lent e is = cc
+pub said_silent : (reply : Reply) (bytes : List ℕ) (why : Silence) → reply ≡ replies.Silent why
+    → feed_said None (Some why) ≡ sent (written reply bytes)
+said_silent reply bytes why is = rw is refl

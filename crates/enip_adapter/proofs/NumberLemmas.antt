@@ -23,7 +23,8 @@ use Rattle.enip_adapter.specs.declared.shared.Listen.{Listen}
 use Rattle.enip_adapter.specs.declared.shared.Shared.{Shared}
 use Rattle.enip_adapter.specs.Adapter.{new_adapter}
 use Rattle.enip_adapter.specs.Commands.{command_served, long_refused}
-use Rattle.enip_adapter.specs.Replies.{Served, leaving}
+use Rattle.enip_adapter.specs.declared.silence.Silence.TheVariants.{NoFrame}
+use Rattle.enip_adapter.specs.Replies.{Reply, Reply as replies, Served, leaving}
 use Rattle.enip_adapter.specs.Turn.{State, Event, Said, Turned, turn, begun, after, session_of, serve_found}
 use Rattle.enip_adapter.specs.Turn.{end_found, sent}
 use Rattle.enip_adapter.specs.Turn.Event.{Begin, End, At, Framed, Long}
@@ -57,9 +58,9 @@ next-sight s peer (A_long_header h) =
 abbrev IsQuiet : Said → Type 0
 IsQuiet said = (more : List ℕ) → handle_before said more ≡ more
 
-quiet-sent : (o : Option (List ℕ)) → IsQuiet (sent o)
-quiet-sent None more = refl
-quiet-sent (Some bytes) more = refl
+quiet-sent : (reply : Reply) → IsQuiet (sent reply)
+quiet-sent (replies.Silent why) more = refl
+quiet-sent (replies.Sends bytes) more = refl
 
 quiet-served : (s : State) (peer : ℕ) (serve : Session → Served) (o : Option Session)
     → IsQuiet (serve_found s peer serve o).answer.said
@@ -123,7 +124,7 @@ handles-rise a (Feeds now peer piece ∷ cs) =
     rises-plain a.state.next_handle _ _ _ p.said p.next_handle
     (handles-rise (after_call a (Feeds now peer piece)) cs)
 handles-rise a (Ends_peer peer ∷ cs) =
-    rises-plain a.state.next_handle _ Silent _ (λ more. refl) (next-ended a.state peer (session_of a.state peer))
+    rises-plain a.state.next_handle _ (Silent NoFrame) _ (λ more. refl) (next-ended a.state peer (session_of a.state peer))
     (handles-rise (after_call a (Ends_peer peer)) cs)
 handles-rise a (Ticks now ∷ cs) = handles-rise (after_call a (Ticks now)) cs
 

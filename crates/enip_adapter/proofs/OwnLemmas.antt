@@ -3,6 +3,9 @@ use Rattle.std.proofs.Common.{◌≡◌, ℕ, List, [], ◌∷◌, ◌++◌, Boo
 use Rattle.std.proofs.Common.{Option, Some, None, Result, Ok, Err, refl, sym, ap, subst, ◌∙◌}
 use Rattle.std.specs.List.{AllByRecursion}
 use Rattle.std.proofs.lemmas.Bool.{eqb-true, eqb-false, eq-eqb}
+use Rattle.cip_bytes.specs.Protocol.{command_of}
+use Rattle.cip_bytes.specs.declared.protocol.Command.{Command}
+use Rattle.cip_bytes.specs.declared.protocol.Command.TheVariants.{SendRRData, SendUnitData}
 use Rattle.enip_wire.specs.Bodies.{rr_body_of, unit_body_of}
 use Rattle.enip_wire.specs.Frames.{Frame}
 use Rattle.enip_wire.specs.Stream.{Sight, joined_of, sight_of, cleared}
@@ -10,8 +13,9 @@ use Rattle.enip_wire.specs.Stream.Sight.{Nothing_yet, A_frame, A_long_header}
 use Rattle.enip_wire.specs.declared.packet.CpfFault.{CpfFault}
 use Rattle.enip_adapter.specs.declared.peer.Session.{Session}
 use Rattle.enip_adapter.specs.declared.shared.Shared.{Shared}
+use Rattle.enip_adapter.specs.declared.silence.Silence.TheVariants.{NotServed}
 use Rattle.enip_adapter.specs.Adapter.{new_adapter}
-use Rattle.enip_adapter.specs.Commands.{command_served, long_refused}
+use Rattle.enip_adapter.specs.Commands.{by_command, command_served, long_refused}
 use Rattle.enip_adapter.specs.Lookup.{first_with, with_first}
 use Rattle.enip_adapter.specs.Replies.{Served, leaving, is_registered_as}
 use Rattle.enip_adapter.specs.SendRRData.{reply_to_body}
@@ -55,25 +59,23 @@ alike-item : (s t : Shared) (session : Session) (f : Frame) (body : Result (ℕ 
 alike-item s t session f (Err fault) = record { registered = refl; close = refl }
 alike-item s t session f (Ok (id, item)) = record { registered = refl; close = refl }
 
+alike-by_command : (s t : Shared) (session : Session) (f : Frame) (command : Option Command)
+    → IsAlike (by_command s session f command) (by_command t session f command)
+alike-by_command s t session f (Some SendRRData) =
+    two (not (is_registered_as session f.header.session)) _ _ _ _ (record { registered = refl; close = refl })
+    (alike-body s t session f (rr_body_of f.body))
+alike-by_command s t session f (Some SendUnitData) =
+    two (not (is_registered_as session f.header.session)) _ _ _ _ (record { registered = refl; close = refl })
+    (alike-item s t session f (unit_body_of f.body))
+alike-by_command s t session f other = record { registered = refl; close = refl }
+
 alike-command : (s t : Shared) (session : Session) (f : Frame)
     → IsAlike (command_served s session f) (command_served t session f)
 unfolding command_served
 alike-command s t session f =
     two (not (eqb f.header.options 0)) _ _ _ _ (record { registered = refl; close = refl })
     (two (not (eqb f.header.status 0)) _ _ _ _ (record { registered = refl; close = refl })
-    (two (eqb f.header.command 0x0000) _ _ _ _ (record { registered = refl; close = refl })
-    (two (eqb f.header.command 0x0004) _ _ _ _ (record { registered = refl; close = refl })
-    (two (eqb f.header.command 0x0063) _ _ _ _ (record { registered = refl; close = refl })
-    (two (eqb f.header.command 0x0064) _ _ _ _ (record { registered = refl; close = refl })
-    (two (eqb f.header.command 0x0065) _ _ _ _ (record { registered = refl; close = refl })
-    (two (eqb f.header.command 0x0066) _ _ _ _ (record { registered = refl; close = refl })
-    (two (eqb f.header.command 0x006f) _ _ _ _
-    (two (not (is_registered_as session f.header.session)) _ _ _ _ (record { registered = refl; close = refl })
-    (alike-body s t session f (rr_body_of f.body)))
-    (two (eqb f.header.command 0x0070) _ _ _ _
-    (two (not (is_registered_as session f.header.session)) _ _ _ _ (record { registered = refl; close = refl })
-    (alike-item s t session f (unit_body_of f.body)))
-    (record { registered = refl; close = refl }))))))))))
+    (alike-by_command s t session f (command_of f.header.command)))
 
 -- The session after a frame, and after frames, whatever is shared.
 abbrev pub step : Shared → Session → Frame → Session
@@ -128,7 +130,7 @@ served-open s peer serve session e alive =
         (first_with-number (λ (p : Session). p.handle) peer session s.peers e)
 
     go : (b : Bool) → b ≡ false
-        → session_of (cond b (turned s Silent true) (served_turn s peer serve session)).state peer
+        → session_of (cond b (turned s (Silent NotServed) true) (served_turn s peer serve session)).state peer
         ≡ Some (session_after session (serve session))
     go true bad = cc
     go false same = set

@@ -9,6 +9,7 @@ use Rattle.enip_wire.specs.Stream.Sight.{Nothing_yet, A_frame, A_long_header}
 use Rattle.enip_adapter.specs.declared.adapter.Limits.{Limits}
 use Rattle.enip_adapter.specs.declared.peer.Session.{Session}
 use Rattle.enip_adapter.specs.declared.shared.Listen.{Listen}
+use Rattle.enip_adapter.specs.declared.silence.Silence.TheVariants.{NotServed}
 use Rattle.enip_adapter.specs.Adapter.{new_adapter}
 use Rattle.enip_adapter.specs.Commands.{command_served, long_refused}
 use Rattle.enip_adapter.specs.Lookup.{first_with, with_first, without_first}
@@ -186,7 +187,7 @@ ready-sight s peer piece bytes held old before x seen entry found alive running 
         (serve_found s peer (λ p. leaving s.shared (long_refused p h)) (Some before)).state peer)
         ≡ Some (session_after before (leaving s.shared (long_refused before h)))
         = ap (λ b. session_of
-        (cond b (let t : Turned = record { state = s; answer = record { said = Silent; close = true } } in t)
+        (cond b (let t : Turned = record { state = s; answer = record { said = Silent NotServed; close = true } } in t)
         (serve_found s peer (λ p. leaving s.shared (long_refused p h))
         (Some (record before { closed = false })))).state peer) alive
         ∙ first_with-set (λ (p : Session). p.handle) peer before

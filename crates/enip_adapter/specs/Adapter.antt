@@ -1,6 +1,6 @@
 -- The adapter as it is made and stored.
 use Rattle.std.specs.Prelude.{ℕ, List, [], ◌≡◌, ◌≤◌, ◌+◌, ◌^◌, map, vec_len, All, false, Option, Some, None, Result, Ok}
-use Rattle.std.specs.Prelude.{Err}
+use Rattle.std.specs.Prelude.{Err, unwrap_or}
 use Rattle.std.specs.Borrow.{Bor}
 use Rattle.std.specs.Global.{Vec}
 use Rattle.std.specs.Vec.{vec_capacity}
@@ -14,6 +14,8 @@ use Rattle.enip_adapter.specs.declared.peer.Place.{Place}
 use Rattle.enip_adapter.specs.declared.peer.Session.{Session}
 use Rattle.enip_adapter.specs.declared.shared.Listen.{Listen}
 use Rattle.enip_adapter.specs.declared.shared.Shared.{Shared}
+use Rattle.enip_adapter.specs.declared.silence.Silence.{Silence}
+use Rattle.enip_adapter.specs.declared.silence.Silence.TheVariants.{NoFrame}
 use Rattle.enip_adapter.specs.Calls.{AdapterState, Held}
 use Rattle.enip_adapter.specs.Turn.{State, Said}
 use Rattle.enip_adapter.specs.Turn.Said.{Silent, Sends, Begins, Refuses}
@@ -65,11 +67,11 @@ pub record IsRoomy (places next_handle : ℕ) (peers : Vec Place) (free : Vec (L
   pub blank : All (λ held. held ≡ []) free.items
   pub waiting : All IsWaiting peers.items
 
--- What a call of begin says, and one of feed.
+-- What a call of begin says, and one of feed, which has a frame to send or a reason for none.
 abbrev pub begin_said : Result ℕ Full → Said
 begin_said (Ok handle) = Begins handle
 begin_said (Err full) = Refuses full
 
-abbrev pub feed_said : Option (Bor (List ℕ)) → Said
-feed_said None = Silent
-feed_said (Some bytes) = Sends bytes.now
+abbrev pub feed_said : Option (Bor (List ℕ)) → Option Silence → Said
+feed_said None silent = Silent (unwrap_or silent NoFrame)
+feed_said (Some bytes) silent = Sends bytes.now

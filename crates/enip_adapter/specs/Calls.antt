@@ -3,6 +3,7 @@ use Rattle.std.specs.Prelude.{ℕ, List, [], ◌∷◌, ◌++◌, if◌then◌el
 use Rattle.enip_wire.specs.Stream.{Sight, taken_of, joined_of, sight_of, cleared}
 use Rattle.enip_wire.specs.Stream.Sight.{Nothing_yet, A_frame, A_long_header}
 use Rattle.enip_adapter.specs.declared.peer.Session.{Session}
+use Rattle.enip_adapter.specs.declared.silence.Silence.TheVariants.{NoFrame, NotServed}
 use Rattle.enip_adapter.specs.Lookup.{first_with, with_first, without_first}
 use Rattle.enip_adapter.specs.Turn.{State, Event, Said, Answer, turn, answers, after, session_of}
 use Rattle.enip_adapter.specs.Turn.Event.{Begin, End, At, Framed, Long}
@@ -96,8 +97,8 @@ last_from a (b ∷ more) = last_from b more
 
 abbrev pub answer_of : State → Meaning → Answer
 answer_of s m =
-    if m.dropped then record { said = Silent; close = true }
-    else last_from (record { said = Silent; close = false }) (answers s m.events)
+    if m.dropped then record { said = Silent NotServed; close = true }
+    else last_from (record { said = Silent NoFrame; close = false }) (answers s m.events)
 
 abbrev pub call_answer : AdapterState → Call → Answer
 call_answer a call = answer_of a.state (call_meaning a call)

@@ -1,12 +1,18 @@
 -- A whole frame, by its options, its status and its command (Volume 2, encapsulation commands).
-use Rattle.std.specs.Prelude.{◌==◌, not, if◌then◌else◌, true}
+use Rattle.std.specs.Prelude.{◌==◌, not, if◌then◌else◌, true, Option, Some, None}
+use Rattle.cip_bytes.specs.Protocol.{command_of}
+use Rattle.cip_bytes.specs.declared.protocol.Command.{Command}
+use Rattle.cip_bytes.specs.declared.protocol.Command.TheVariants.{Nop, ListServices, ListIdentity, ListInterfaces}
+use Rattle.cip_bytes.specs.declared.protocol.Command.TheVariants.{RegisterSession, UnRegisterSession, SendRRData}
+use Rattle.cip_bytes.specs.declared.protocol.Command.TheVariants.{SendUnitData}
+use Rattle.cip_bytes.specs.declared.protocol.EncapsulationStatus.TheVariants.{UnsupportedCommand, InvalidLength}
 use Rattle.enip_wire.specs.Frames.{Frame}
 use Rattle.enip_wire.specs.Stream.{Sight}
 use Rattle.enip_wire.specs.Stream.Sight.{Nothing_yet, A_frame, A_long_header}
 use Rattle.enip_wire.specs.declared.header.Header.{Header}
 use Rattle.enip_adapter.specs.declared.peer.Session.{Session}
 use Rattle.enip_adapter.specs.declared.shared.Shared.{Shared}
-use Rattle.enip_adapter.specs.declared.reply.Status.TheVariants.{UnsupportedCommand, InvalidLength}
+use Rattle.enip_adapter.specs.declared.silence.Silence.TheVariants as silence
 use Rattle.enip_adapter.specs.Replies.{Reaction, Served, leaving, silent, refused}
 use Rattle.enip_adapter.specs.ListServices.{list_services}
 use Rattle.enip_adapter.specs.ListIdentity.{list_identity}
@@ -16,21 +22,24 @@ use Rattle.enip_adapter.specs.UnRegisterSession.{unregister_session}
 use Rattle.enip_adapter.specs.SendRRData.{send_rr_data}
 use Rattle.enip_adapter.specs.SendUnitData.{send_unit_data}
 
--- What a frame leaves: one with options or with a status (ours) is discarded; NOP has no answer; a command that is
--- none of these is unsupported (ours).
+-- By its command: NOP has no answer; what is no command is unsupported (ours).
+abbrev pub by_command : Shared → Session → Frame → Option Command → Served
+by_command shared session f (Some Nop) = leaving shared (silent session silence.Nop)
+by_command shared session f (Some ListServices) = leaving shared (list_services session f)
+by_command shared session f (Some ListIdentity) = leaving shared (list_identity shared session f)
+by_command shared session f (Some ListInterfaces) = leaving shared (list_interfaces session f)
+by_command shared session f (Some RegisterSession) = leaving shared (register_session session f)
+by_command shared session f (Some UnRegisterSession) = leaving shared (unregister_session session f)
+by_command shared session f (Some SendRRData) = send_rr_data shared session f
+by_command shared session f (Some SendUnitData) = send_unit_data shared session f
+by_command shared session f None = leaving shared (refused session f.header UnsupportedCommand)
+
+-- What a frame leaves: one with options or with a status (ours) is discarded.
 unfoldable pub command_served : Shared → Session → Frame → Served
 command_served shared session f =
-    if not (f.header.options == 0) then leaving shared (silent session)
-    else if not (f.header.status == 0) then leaving shared (silent session)
-    else if f.header.command == 0x0000 then leaving shared (silent session)
-    else if f.header.command == 0x0004 then leaving shared (list_services session f)
-    else if f.header.command == 0x0063 then leaving shared (list_identity shared session f)
-    else if f.header.command == 0x0064 then leaving shared (list_interfaces session f)
-    else if f.header.command == 0x0065 then leaving shared (register_session session f)
-    else if f.header.command == 0x0066 then leaving shared (unregister_session session f)
-    else if f.header.command == 0x006f then send_rr_data shared session f
-    else if f.header.command == 0x0070 then send_unit_data shared session f
-    else leaving shared (refused session f.header UnsupportedCommand)
+    if not (f.header.options == 0) then leaving shared (silent session silence.Options)
+    else if not (f.header.status == 0) then leaving shared (silent session silence.Status)
+    else by_command shared session f (command_of f.header.command)
 
 -- A header whose length is too long: invalid length, and the connection is closed.
 abbrev pub long_refused : Session → Header → Reaction
@@ -38,6 +47,6 @@ long_refused session asked = record (refused session asked InvalidLength) { clos
 
 -- What a sight of a peer's bytes leaves.
 abbrev pub sight_served : Shared → Session → Sight → Served
-sight_served shared session Nothing_yet = leaving shared (silent session)
+sight_served shared session Nothing_yet = leaving shared (silent session silence.NoFrame)
 sight_served shared session (A_frame f) = command_served shared session f
 sight_served shared session (A_long_header h) = leaving shared (long_refused session h)

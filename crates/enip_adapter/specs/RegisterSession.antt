@@ -1,10 +1,10 @@
 -- RegisterSession, 0x0065 (Volume 2, encapsulation commands).
 use Rattle.std.specs.Prelude.{ℕ, List, ◌++◌, length, ◌==◌, not, if◌then◌else◌, true}
 use Rattle.cip_bytes.specs.Numbers.{le, number_at}
+use Rattle.cip_bytes.specs.declared.protocol.EncapsulationStatus.TheVariants.{Success, UnsupportedCommand, PoorlyFormedData}
+use Rattle.cip_bytes.specs.declared.protocol.EncapsulationStatus.TheVariants.{InvalidLength, UnsupportedRevision}
 use Rattle.enip_wire.specs.Frames.{Frame}
 use Rattle.enip_adapter.specs.declared.peer.Session.{Session}
-use Rattle.enip_adapter.specs.declared.reply.Status.TheVariants.{Success, UnsupportedCommand, PoorlyFormedData}
-use Rattle.enip_adapter.specs.declared.reply.Status.TheVariants.{InvalidLength, UnsupportedRevision}
 use Rattle.enip_adapter.specs.Replies.{Reaction, reply, answered, refused}
 
 -- Protocol version 1, no option flags.

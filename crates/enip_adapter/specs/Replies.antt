@@ -1,58 +1,59 @@
 -- What a frame leaves and what answers it (Volume 2, encapsulation header).
-use Rattle.std.specs.Prelude.{ℕ, List, [], Option, Some, None, Bool, true, false, ◌==◌, ◌&&◌, length}
+use Rattle.std.specs.Prelude.{ℕ, List, [], Bool, false, ◌==◌, ◌&&◌, length}
+use Rattle.cip_bytes.specs.Protocol.{encapsulation_status_number}
+use Rattle.cip_bytes.specs.declared.protocol.EncapsulationStatus.{EncapsulationStatus}
+use Rattle.cip_bytes.specs.declared.protocol.EncapsulationStatus.TheVariants.{Success}
 use Rattle.enip_wire.specs.declared.header.Header.{Header}
 use Rattle.enip_wire.specs.Frames.{frame}
 use Rattle.enip_adapter.specs.declared.peer.Session.{Session}
+use Rattle.enip_adapter.specs.declared.reply.Reply.{Reply as WrittenReply}
+use Rattle.enip_adapter.specs.declared.reply.Reply.TheVariants as code
 use Rattle.enip_adapter.specs.declared.shared.Shared.{Shared}
-use Rattle.enip_adapter.specs.declared.reply.Status.{Status}
-use Rattle.enip_adapter.specs.declared.reply.Status.TheVariants.{Success, UnsupportedCommand, PoorlyFormedData}
-use Rattle.enip_adapter.specs.declared.reply.Status.TheVariants.{InvalidSession, InvalidLength, UnsupportedRevision}
-
--- The number of a status in a header.
-abbrev pub status_code : Status → ℕ
-status_code Success = 0x0000
-status_code UnsupportedCommand = 0x0001
-status_code PoorlyFormedData = 0x0003
-status_code InvalidSession = 0x0064
-status_code InvalidLength = 0x0065
-status_code UnsupportedRevision = 0x0069
+use Rattle.enip_adapter.specs.declared.silence.Silence.{Silence}
 
 -- The header of a reply with so many bytes of data: command and context of what asked, no options.
-abbrev pub reply_header : Header → ℕ → Status → ℕ → Header
+abbrev pub reply_header : Header → ℕ → EncapsulationStatus → ℕ → Header
 reply_header asked session status count = record {
   command = asked.command;
   length = count;
   session = session;
-  status = status_code status;
+  status = encapsulation_status_number status;
   context = asked.context;
   options = 0;
 }
 
 -- A reply with these data.
-abbrev pub reply : Header → ℕ → Status → List ℕ → List ℕ
+abbrev pub reply : Header → ℕ → EncapsulationStatus → List ℕ → List ℕ
 reply asked session status bytes =
     frame (record { header = reply_header asked session status (length bytes); body = bytes })
+
+-- What is sent back: nothing, for a reason, or these bytes.
+pub data Reply : Type 0 where
+  Silent : (why : Silence) → Reply
+  Sends : (bytes : List ℕ) → Reply
 
 -- What a frame is to its peer: whether it is registered then, what is sent back, and whether the connection is closed.
 pub record Reaction : Type 0 where
   pub registered : Bool
-  pub answer : Option (List ℕ)
+  pub answer : Reply
   pub close : Bool
 
--- Nothing is sent.
-abbrev pub silent : Session → Reaction
-silent session = record { registered = session.registered; answer = None; close = false }
+-- This is sent back.
+abbrev pub replying : Session → Reply → Reaction
+replying session reply = record { registered = session.registered; answer = reply; close = false }
 
--- These bytes are sent.
+abbrev pub silent : Session → Silence → Reaction
+silent session why = replying session (Silent why)
+
 abbrev pub answered : Session → List ℕ → Reaction
-answered session bytes = record { registered = session.registered; answer = Some bytes; close = false }
+answered session bytes = replying session (Sends bytes)
 
 -- A reply with these data; its session field is that of the frame that asked.
 abbrev pub replied : Session → Header → List ℕ → Reaction
 replied session asked bytes = answered session (reply asked asked.session Success bytes)
 
 -- A refusal has no data, and the session field of the frame that asked.
-abbrev pub refused : Session → Header → Status → Reaction
+abbrev pub refused : Session → Header → EncapsulationStatus → Reaction
 refused session asked status = answered session (reply asked asked.session status [])
 
 -- The same, and what all peers share is then.
@@ -67,7 +68,7 @@ leaving shared reaction = record { shared = shared; reaction = reaction }
 abbrev pub is_registered_as : Session → ℕ → Bool
 is_registered_as session handle = session.registered && (handle == session.handle)
 
--- What a buffer, and the word whether it was written, say.
-abbrev pub written : Bool → List ℕ → Option (List ℕ)
-written true bytes = Some bytes
-written false bytes = None
+-- What the code's word of a reply says, with the buffer that is written to.
+abbrev pub written : WrittenReply → List ℕ → Reply
+written (code.Silent why) bytes = Silent why
+written code.Written bytes = Sends bytes

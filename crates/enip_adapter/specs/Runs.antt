@@ -43,7 +43,7 @@ answers_by_call a (call ∷ calls) =
 
 -- What is said before more: a silence is left out.
 abbrev pub said_before : Said → List Said → List Said
-said_before Silent more = more
+said_before (Silent why) more = more
 said_before (Sends bytes) more = Sends bytes ∷ more
 said_before (Begins handle) more = Begins handle ∷ more
 said_before (Refuses full) more = Refuses full ∷ more
@@ -74,7 +74,7 @@ is_open_at_all moments connection = list_all (λ moment. is_open_at moment conne
 
 -- The handle that an answer gives out, if it does, before more.
 abbrev pub handle_before : Said → List ℕ → List ℕ
-handle_before Silent more = more
+handle_before (Silent why) more = more
 handle_before (Sends bytes) more = more
 handle_before (Begins handle) more = handle ∷ more
 handle_before (Refuses full) more = more
@@ -153,7 +153,7 @@ pub data Pours (now peer : ℕ) : AdapterState → List (List ℕ) → List Answ
 
 -- Nothing is said.
 abbrev pub is_silent : Said → Bool
-is_silent Silent = true
+is_silent (Silent why) = true
 is_silent (Sends bytes) = false
 is_silent (Begins handle) = false
 is_silent (Refuses full) = false

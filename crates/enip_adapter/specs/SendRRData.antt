@@ -1,5 +1,11 @@
 -- SendRRData, 0x006f (Volume 2, encapsulation commands; Volume 1, Unconnected Message Manager).
 use Rattle.std.specs.Prelude.{ℕ, Bool, List, length, ◌==◌, ◌&&◌, nat_lt, if◌then◌else◌, not, Result, Ok, Err}
+use Rattle.std.specs.Prelude.{Option, Some, None}
+use Rattle.cip_bytes.specs.Protocol.{manager_service_of}
+use Rattle.cip_bytes.specs.declared.protocol.ManagerService.{ManagerService}
+use Rattle.cip_bytes.specs.declared.protocol.ManagerService.TheVariants.{ForwardOpen, LargeForwardOpen, ForwardClose}
+use Rattle.cip_bytes.specs.declared.protocol.TheConstants.{UNCONNECTED_ROOM}
+use Rattle.cip_bytes.specs.declared.protocol.EncapsulationStatus.TheVariants.{PoorlyFormedData, InvalidSession}
 use Rattle.cip_message.specs.declared.path.Path.{Path}
 use Rattle.cip_message.specs.declared.path.PathFault.{PathFault}
 use Rattle.cip_message.specs.declared.request.RequestFault.{RequestFault}
@@ -15,12 +21,7 @@ use Rattle.enip_wire.specs.Frames.{Frame}
 use Rattle.enip_wire.specs.declared.packet.CpfFault.{CpfFault}
 use Rattle.enip_adapter.specs.declared.peer.Session.{Session}
 use Rattle.enip_adapter.specs.declared.shared.Shared.{Shared}
-use Rattle.enip_adapter.specs.declared.reply.Status.TheVariants.{PoorlyFormedData, InvalidSession}
 use Rattle.enip_adapter.specs.Replies.{Served, leaving, replied, refused, is_registered_as}
-
--- The room of the reply to an unconnected request, in bytes.
-abbrev pub UNCONNECTED_ROOM : ℕ
-UNCONNECTED_ROOM = 504
 
 -- Where a request goes: to the Connection Manager as a Forward_Open or a Large_Forward_Open, by its layout, or as a
 -- Forward_Close, with its data, or to the objects.
@@ -33,11 +34,14 @@ abbrev pub is_manager : Path → Bool
 is_manager path = (path.class == 0x06) && (path.instance == 1)
 
 -- The three services of the Connection Manager, class 0x06, instance 1.
+abbrev pub by_service : List ℕ → Option ManagerService → Destination
+by_service bytes (Some ForwardOpen) = Opens small bytes
+by_service bytes (Some LargeForwardOpen) = Opens large bytes
+by_service bytes (Some ForwardClose) = Closes bytes
+by_service bytes None = Executes
+
 abbrev pub manager_service : ℕ → List ℕ → Destination
-manager_service service bytes =
-    if service == 0x54 then Opens small bytes
-    else if service == 0x5b then Opens large bytes
-    else if service == 0x4e then Closes bytes else Executes
+manager_service service bytes = by_service bytes (manager_service_of service)
 
 abbrev pub destination_by_path : Request → Result Path PathFault → Destination
 destination_by_path request (Err fault) = Executes

@@ -1,4 +1,4 @@
--- How the adapter's value is stored.
+-- How the adapter's value is stored: each record as its fields in pairs, and made again of them.
 use Rattle.std.specs.Prelude.{ℕ, List, Bool, Option, refl}
 use Rattle.std.specs.Coded.{Coded, code_by, coded×, coded_ℕ, coded_bool, coded_list, coded_option}
 use Rattle.cip_message.specs.declared.key.Device.{Device}
@@ -13,70 +13,98 @@ use Rattle.enip_adapter.specs.declared.shared.Shared.{Shared}
 use Rattle.enip_adapter.specs.Calls.{AdapterState, Held}
 use Rattle.enip_adapter.specs.Turn.{State}
 
+abbrev pub session_from : ℕ × (Bool × Bool) → Session
+session_from (handle, (registered, closed)) = record { handle = handle; registered = registered; closed = closed }
+
 abbrev pub session_code : Coded Session
 session_code =
     code_by (ℕ × (Bool × Bool)) (coded× coded_ℕ (coded× coded_bool coded_bool))
     (λ s. (s.handle, (s.registered, s.closed)))
-    (λ p. record { handle = p.0; registered = p.1.0; closed = p.1.1 }) (λ _. refl)
+    session_from (λ _. refl)
 
 abbrev pub kept_code : Coded Kept
 kept_code =
     code_by (ℕ × List ℕ) (coded× coded_ℕ (coded_list coded_ℕ)) (λ k. (k.sequence_count, k.reply))
     (λ p. record { sequence_count = p.0; reply = p.1 }) (λ _. refl)
 
+abbrev pub target_from : ℕ × (ℕ × Option Kept) → TargetState
+target_from (o_to_t_size, (t_to_o_size, held)) =
+    record { o_to_t_size = o_to_t_size; t_to_o_size = t_to_o_size; held = held }
+
 abbrev pub target_code : Coded TargetState
 target_code =
     code_by (ℕ × (ℕ × Option Kept)) (coded× coded_ℕ (coded× coded_ℕ (coded_option kept_code)))
     (λ t. (t.o_to_t_size, (t.t_to_o_size, t.held)))
-    (λ p. record { o_to_t_size = p.0; t_to_o_size = p.1.0; held = p.1.1 })
-    (λ _. refl)
+    target_from (λ _. refl)
+
+abbrev pub triad_from : ℕ × (ℕ × ℕ) → Triad
+triad_from (connection_serial, (originator_vendor, originator_serial)) = record {
+  connection_serial = connection_serial;
+  originator_vendor = originator_vendor;
+  originator_serial = originator_serial;
+}
 
 abbrev pub triad_code : Coded Triad
 triad_code =
     code_by (ℕ × (ℕ × ℕ)) (coded× coded_ℕ (coded× coded_ℕ coded_ℕ))
     (λ t. (t.connection_serial, (t.originator_vendor, t.originator_serial)))
-    (λ p. record { connection_serial = p.0; originator_vendor = p.1.0; originator_serial = p.1.1 }) (λ _. refl)
+    triad_from (λ _. refl)
+
+abbrev pub connection_from : ℕ × (ℕ × (ℕ × (Triad × (ℕ × (ℕ × TargetState))))) → Connection
+connection_from (session, (o_to_t_id, (t_to_o_id, (triad, (timeout, (deadline, target)))))) = record {
+  session = session;
+  o_to_t_id = o_to_t_id;
+  t_to_o_id = t_to_o_id;
+  triad = triad;
+  timeout = timeout;
+  deadline = deadline;
+  target = target;
+}
 
 abbrev pub connection_code : Coded Connection
 connection_code =
     code_by (ℕ × (ℕ × (ℕ × (Triad × (ℕ × (ℕ × TargetState))))))
     (coded× coded_ℕ (coded× coded_ℕ (coded× coded_ℕ (coded× triad_code (coded× coded_ℕ (coded× coded_ℕ target_code))))))
     (λ c. (c.session, (c.o_to_t_id, (c.t_to_o_id, (c.triad, (c.timeout, (c.deadline, c.target)))))))
-    (λ p. record {
-      session = p.0;
-      o_to_t_id = p.1.0;
-      t_to_o_id = p.1.1.0;
-      triad = p.1.1.1.0;
-      timeout = p.1.1.1.1.0;
-      deadline = p.1.1.1.1.1.0;
-      target = p.1.1.1.1.1.1;
-    }) (λ _. refl)
+    connection_from (λ _. refl)
+
+abbrev pub manager_from : ℕ × (ℕ × (Device × List Connection)) → ManagerState
+manager_from (places, (next_id, (device, connections))) =
+    record { places = places; next_id = next_id; device = device; connections = connections }
 
 abbrev pub manager_code : Coded ManagerState
 manager_code =
     code_by (ℕ × (ℕ × (Device × List Connection)))
     (coded× coded_ℕ (coded× coded_ℕ (coded× device_code (coded_list connection_code))))
     (λ m. (m.places, (m.next_id, (m.device, m.connections))))
-    (λ p. record { places = p.0; next_id = p.1.0; device = p.1.1.0; connections = p.1.1.1 }) (λ _. refl)
+    manager_from (λ _. refl)
 
 abbrev pub listen_code : Coded Listen
 listen_code =
     code_by (List ℕ × ℕ) (coded× (coded_list coded_ℕ) coded_ℕ) (λ l. (l.address, l.port))
     (λ p. record { address = p.0; port = p.1 }) (λ _. refl)
 
+abbrev pub shared_from : Listen × (ℕ × (ManagerState × Contents)) → Shared
+shared_from (listen, (moment, (manager, objects))) =
+    record { listen = listen; moment = moment; manager = manager; objects = objects }
+
 abbrev pub shared_code : Coded Shared
 shared_code =
     code_by (Listen × (ℕ × (ManagerState × Contents)))
     (coded× listen_code (coded× coded_ℕ (coded× manager_code contents_code)))
     (λ s. (s.listen, (s.moment, (s.manager, s.objects))))
-    (λ p. record { listen = p.0; moment = p.1.0; manager = p.1.1.0; objects = p.1.1.1 }) (λ _. refl)
+    shared_from (λ _. refl)
+
+abbrev pub state_from : ℕ × (ℕ × (Shared × List Session)) → State
+state_from (places, (next_handle, (shared, peers))) =
+    record { places = places; next_handle = next_handle; shared = shared; peers = peers }
 
 abbrev pub state_code : Coded State
 state_code =
     code_by (ℕ × (ℕ × (Shared × List Session)))
     (coded× coded_ℕ (coded× coded_ℕ (coded× shared_code (coded_list session_code))))
     (λ s. (s.places, (s.next_handle, (s.shared, s.peers))))
-    (λ p. record { places = p.0; next_handle = p.1.0; shared = p.1.1.0; peers = p.1.1.1 }) (λ _. refl)
+    state_from (λ _. refl)
 
 abbrev pub held_code : Coded Held
 held_code =

@@ -8,9 +8,11 @@ use Rattle.enip_adapter.specs.declared.adapter.Full.{Full}
 use Rattle.enip_adapter.specs.declared.adapter.Full.TheVariants.{Places, Handles}
 use Rattle.enip_adapter.specs.declared.peer.Session.{Session}
 use Rattle.enip_adapter.specs.declared.shared.Shared.{Shared}
+use Rattle.enip_adapter.specs.declared.silence.Silence.{Silence}
+use Rattle.enip_adapter.specs.declared.silence.Silence.TheVariants.{NoFrame, NotServed}
 use Rattle.enip_adapter.specs.Commands.{command_served, long_refused}
 use Rattle.enip_adapter.specs.Lookup.{first_with, with_first, without_first}
-use Rattle.enip_adapter.specs.Replies.{Served, leaving}
+use Rattle.enip_adapter.specs.Replies.{Reply, Reply as replies, Served, leaving}
 
 -- How many peers there are places for, the next session handle, what all peers share, and the peers in the order in
 -- which they began.
@@ -29,9 +31,9 @@ pub data Event : Type 0 where
   Framed : (peer : ℕ) → (frame : Frame) → Event
   Long : (peer : ℕ) → (header : Header) → Event
 
--- What an event says: nothing, a frame to the peer, or the handle or the refusal of one that begins.
+-- What an event says: nothing, for a reason, a frame to the peer, or the handle or the refusal of one that begins.
 pub data Said : Type 0 where
-  Silent : Said
+  Silent : (why : Silence) → Said
   Sends : (bytes : List ℕ) → Said
   Begins : (handle : ℕ) → Said
   Refuses : (full : Full) → Said
@@ -48,9 +50,9 @@ pub record Turned : Type 0 where
 abbrev pub turned : State → Said → Bool → Turned
 turned state said close = record { state = state; answer = record { said = said; close = close } }
 
-abbrev pub sent : Option (List ℕ) → Said
-sent None = Silent
-sent (Some bytes) = Sends bytes
+abbrev pub sent : Reply → Said
+sent (replies.Silent why) = Silent why
+sent (replies.Sends bytes) = Sends bytes
 
 -- A peer that just began.
 abbrev pub new_session : ℕ → Session
@@ -85,9 +87,9 @@ shared_after session served =
 
 -- To a peer that is held and not closed, what it sent is served; to any other nothing is done.
 abbrev pub serve_found : State → ℕ → (Session → Served) → Option Session → Turned
-serve_found s peer serve None = turned s Silent true
+serve_found s peer serve None = turned s (Silent NotServed) true
 serve_found s peer serve (Some session) =
-    if session.closed then turned s Silent true
+    if session.closed then turned s (Silent NotServed) true
     else turned (record s {
       shared = shared_after session (serve session);
       peers = with_first (λ p. p.handle) peer (session_after session (serve session)) s.peers;
@@ -113,8 +115,8 @@ at_moment shared now = record shared {
 
 abbrev pub turn : State → Event → Turned
 turn s Begin = begun s
-turn s (End peer) = turned (end_found s peer (session_of s peer)) Silent false
-turn s (At now) = turned (record s { shared = at_moment s.shared now }) Silent false
+turn s (End peer) = turned (end_found s peer (session_of s peer)) (Silent NoFrame) false
+turn s (At now) = turned (record s { shared = at_moment s.shared now }) (Silent NoFrame) false
 turn s (Framed peer f) = serve_found s peer (λ session. command_served s.shared session f) (session_of s peer)
 turn s (Long peer h) = serve_found s peer (λ session. leaving s.shared (long_refused session h)) (session_of s peer)
 

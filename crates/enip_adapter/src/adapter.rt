@@ -1,16 +1,17 @@
 //! The adapter: its peers, and the calls that change it.
 
 ghost use Rattle.std.specs.Prelude.{ℕ, ◌≡◌, ◌==◌, ◌<◌, ◌≤◌, ◌-◌, length, false};
-ghost use Rattle.std.specs.Prelude.{All, IfOk, IfSome};
+ghost use Rattle.std.specs.Prelude.{All, IfOk, IfSome, is_some, is_none};
 ghost use Rattle.std.specs.Borrow.{sem};
 ghost use Rattle.std.specs.Io.BufRead.{Rests};
 ghost use Rattle.std.specs.List.{position};
 ghost use Rattle.enip_adapter.specs.Adapter.{full_number, IsWaiting};
 ghost use Rattle.enip_adapter.specs.Places.{IsFed, piece_at};
 
-use crate::peer::{Outcome, Peer, Place, Session};
-use crate::reply::{Answer, LONGEST_ANSWER};
+use crate::peer::{Peer, Place, Session};
+use crate::reply::{AnswerFrame, LONGEST_ANSWER, Reaction, Reply};
 use crate::shared::{Listen, Shared};
+use crate::silence::Silence;
 use cip_manager::Manager;
 use cip_objects::{Objects, ReplyBuf};
 use enip_wire::FrameReader;
@@ -58,6 +59,8 @@ pub struct Fed<'a> {
     pub taken: usize,
     /// The frame to send, if any.
     pub answer: Option<&'a [u8]>,
+    /// Why there is no frame to send, where there is none.
+    pub silent: Option<Silence>,
     /// Whether the peer is closed, or not held.
     pub close: bool,
 }
@@ -73,7 +76,7 @@ pub struct Adapter {
     free: Vec<FrameReader>,
     // Where a router writes; what it held before counts for nothing.
     reply: ReplyBuf,
-    answer: Answer,
+    answer: AnswerFrame,
 }
 
 impl Model for Adapter {
@@ -134,7 +137,7 @@ impl Adapter {
             places,
             free,
             reply: ReplyBuf::new(),
-            answer: Answer::new(),
+            answer: AnswerFrame::new(),
         })
     }
 
@@ -175,14 +178,16 @@ impl Adapter {
         ensures* state { sem 𝓛 (Rests the_row self.entry (λ last. last
             ≡ after_call self.old (Call.Feeds now peer.now piece.now))) }
         ensures taken { result.taken ≡ (call_meaning self.old (Call.Feeds now peer.now piece.now)).taken }
-        ensures answer { feed_said result.answer ≡ (call_answer self.old (Call.Feeds now peer.now piece.now)).said }
+        ensures answer { feed_said result.answer result.silent
+            ≡ (call_answer self.old (Call.Feeds now peer.now piece.now)).said }
+        ensures silent { is_some result.silent ≡ is_none result.answer }
         ensures close { result.close ≡ (call_answer self.old (Call.Feeds now peer.now piece.now)).close }
         ensures within { result.taken ≤ length piece.now }
         ensures progress { 0 < length piece.now → result.close ≡ false → 0 < result.taken }
         ensures fits { IfSome result.answer (λ frame. length frame.now ≤ LONGEST_ANSWER) }
     {
         self.shared.advance(now);
-        let outcome = feed_places(
+        let (taken, reaction) = feed_places(
             &mut self.shared,
             &mut self.places,
             peer.handle,
@@ -190,14 +195,19 @@ impl Adapter {
             &mut self.reply,
             &mut self.answer,
         );
-        Fed {
-            taken: outcome.taken,
-            answer: if outcome.answered {
-                Some(self.answer.as_slice())
-            } else {
-                None
+        match reaction.reply {
+            Reply::Written => Fed {
+                taken,
+                answer: Some(self.answer.as_slice()),
+                silent: None,
+                close: reaction.close,
             },
-            close: outcome.close,
+            Reply::Silent(why) => Fed {
+                taken,
+                answer: None,
+                silent: Some(why),
+                close: reaction.close,
+            },
         }
     }
 
@@ -258,28 +268,28 @@ fn index_of(places: &[Place], handle: u32) -> Option<usize>
         .position(|place| place.session.handle == handle)
 }
 
-/// Feeds a piece to the peer with this handle.
+/// Feeds a piece to the peer with this handle. Answers how many bytes were taken, and what came of them.
 fn feed_places(
     shared: &mut Shared,
     places: &mut [Place],
     handle: u32,
     piece: &[u8],
     reply: &mut ReplyBuf,
-    answer: &mut Answer,
-) -> Outcome
+    answer: &mut AnswerFrame,
+) -> (usize, Reaction)
     requires { All IsWaiting places.old }
     ensures fed { (limit next_handle : ℕ) → IsFed limit next_handle shared.old places.old
         (piece_at limit next_handle shared.old places.old handle piece.now)
         shared.new places.new result answer.new.items }
     ensures size { length places.new ≡ length places.old }
-    ensures within { result.taken ≤ length piece.now }
-    ensures progress { 0 < length piece.now → result.close ≡ false → 0 < result.taken }
+    ensures within { result.0 ≤ length piece.now }
+    ensures progress { 0 < length piece.now → result.1.close ≡ false → 0 < result.0 }
     ensures waiting { All IsWaiting places.new }
 {
     match index_of(places, handle) {
         Some(index) if !places[index].session.closed => places[index].feed(
             shared, piece, reply, answer,
         ),
-        _ => Outcome::DROPPED,
+        _ => (0, Reaction::NOT_SERVED),
     }
 }

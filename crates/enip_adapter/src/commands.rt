@@ -6,36 +6,22 @@ mod requests;
 mod sessions;
 
 ghost use Rattle.std.specs.Prelude.{◌≡◌, [], true};
+ghost use Rattle.cip_bytes.specs.declared.protocol.EncapsulationStatus.TheVariants.{InvalidLength};
 ghost use Rattle.enip_wire.specs.Stream.{frame_of};
 ghost use Rattle.enip_adapter.specs.Commands.{command_served};
 ghost use Rattle.enip_adapter.specs.Replies.{reply, written};
-ghost use Rattle.enip_adapter.specs.declared.reply.Status.TheVariants.{InvalidLength};
 
 use crate::peer::Session;
-use crate::reply::{Answer, Reaction, Status, refuse};
+use crate::reply::{AnswerFrame, Reaction, Reply, refuse};
 use crate::shared::Shared;
+use crate::silence::Silence;
+use cip_bytes::protocol::{Command, EncapsulationStatus};
 use cip_objects::ReplyBuf;
 use enip_wire::{FrameView, Header};
 use items::send_unit_data;
 use lists::{list_identity, list_interfaces, list_services};
 use requests::send_rr_data;
 use sessions::{register_session, unregister_session};
-
-const NOP: u16 = 0x0000;
-
-const LIST_SERVICES: u16 = 0x0004;
-
-const LIST_IDENTITY: u16 = 0x0063;
-
-const LIST_INTERFACES: u16 = 0x0064;
-
-const REGISTER_SESSION: u16 = 0x0065;
-
-const UNREGISTER_SESSION: u16 = 0x0066;
-
-const SEND_RR_DATA: u16 = 0x006f;
-
-const SEND_UNIT_DATA: u16 = 0x0070;
 
 /// Serves a whole frame. A router writes into `reply`, whose old content is dropped.
 #[tactic(auto, unfolding(crate::specs::Commands::command_served))]
@@ -44,43 +30,51 @@ pub(crate) fn serve(
     session: &mut Session,
     frame: FrameView<'_>,
     reply: &mut ReplyBuf,
-    answer: &mut Answer,
+    answer: &mut AnswerFrame,
 ) -> Reaction
     ensures session { session.new ≡ record session.old {
       registered = (command_served shared.old session.old (frame_of frame.entry)).reaction.registered;
     } }
     ensures shared { shared.new ≡ (command_served shared.old session.old (frame_of frame.entry)).shared }
-    ensures answer { written result.answered answer.new.items
+    ensures answer { written result.reply answer.new.items
         ≡ (command_served shared.old session.old (frame_of frame.entry)).reaction.answer }
     ensures close { result.close ≡ (command_served shared.old session.old (frame_of frame.entry)).reaction.close }
 {
-    // options that are not 0: discarded; a status that is not 0: discarded (a frame; ours)
-    if frame.header.options != 0 || frame.header.status != 0 {
-        return Reaction::SILENT;
+    // options that are not 0: discarded (a frame)
+    if frame.header.options != 0 {
+        return Reaction::silent(Silence::Options);
     }
-    match frame.header.command {
-        NOP => return Reaction::SILENT,
-        LIST_SERVICES => list_services(&frame.header, answer),
-        LIST_IDENTITY => list_identity(shared, &frame.header, reply, answer),
-        LIST_INTERFACES => list_interfaces(&frame.header, answer),
-        REGISTER_SESSION => register_session(session, frame, answer),
-        UNREGISTER_SESSION => return unregister_session(*session, &frame.header),
-        SEND_RR_DATA => send_rr_data(shared, *session, frame, reply, answer),
-        SEND_UNIT_DATA => return send_unit_data(shared, *session, frame, answer),
+    // a status that is not 0: discarded (ours)
+    if frame.header.status != 0 {
+        return Reaction::silent(Silence::Status);
+    }
+    match Command::of(frame.header.command) {
+        Some(Command::Nop) => return Reaction::silent(Silence::Nop),
+        Some(Command::ListServices) => list_services(&frame.header, answer),
+        Some(Command::ListIdentity) => list_identity(shared, &frame.header, reply, answer),
+        Some(Command::ListInterfaces) => list_interfaces(&frame.header, answer),
+        Some(Command::RegisterSession) => register_session(session, frame, answer),
+        Some(Command::UnRegisterSession) => return unregister_session(*session, &frame.header),
+        Some(Command::SendRRData) => send_rr_data(shared, *session, frame, reply, answer),
+        Some(Command::SendUnitData) => return send_unit_data(shared, *session, frame, answer),
         // every other command is unsupported (ours)
-        _ => refuse(&frame.header, Status::UnsupportedCommand, answer),
+        None => refuse(
+            &frame.header,
+            EncapsulationStatus::UnsupportedCommand,
+            answer,
+        ),
     }
     Reaction::ANSWERED
 }
 
 /// Refuses a header whose length is too long, and closes the connection.
-pub(crate) fn refuse_long(header: &Header, answer: &mut Answer) -> Reaction
-    ensures reaction { result ≡ record { answered = true; close = true } }
+pub(crate) fn refuse_long(header: &Header, answer: &mut AnswerFrame) -> Reaction
+    ensures reaction { result ≡ record { reply = Reply.Written; close = true } }
     ensures answer { answer.new.items ≡ reply header.now header.now.session InvalidLength [] }
 {
-    refuse(header, Status::InvalidLength, answer);
+    refuse(header, EncapsulationStatus::InvalidLength, answer);
     Reaction {
-        answered: true,
+        reply: Reply::Written,
         close: true,
     }
 }

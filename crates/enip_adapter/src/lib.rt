@@ -15,9 +15,11 @@ mod peer;
 mod reply;
 mod serving;
 mod shared;
+mod silence;
 
 pub use adapter::{Adapter, Fed, Full, Limits};
 pub use peer::Peer;
 pub use reply::LONGEST_ANSWER;
 pub use serving::{ServeFault, Served, serve};
 pub use shared::Listen;
+pub use silence::Silence;

@@ -9,8 +9,9 @@ ghost use Rattle.enip_adapter.specs.Commands.{sight_served};
 ghost use Rattle.enip_adapter.specs.Replies.{written};
 
 use crate::commands::{refuse_long, serve};
-use crate::reply::{Answer, Reaction};
+use crate::reply::{AnswerFrame, Reaction};
 use crate::shared::Shared;
+use crate::silence::Silence;
 use cip_objects::ReplyBuf;
 use enip_wire::{FrameReader, Held};
 use std::marker::Model;
@@ -58,35 +59,16 @@ pub(crate) struct Place {
     pub(crate) reader: FrameReader,
 }
 
-/// What became of a piece.
-#[derive(Clone, Copy, Debug)]
-pub(crate) struct Outcome {
-    /// How many of its bytes were taken.
-    pub(crate) taken: usize,
-    /// Whether an answer was written.
-    pub(crate) answered: bool,
-    /// Whether the connection is closed.
-    pub(crate) close: bool,
-}
-
-impl Outcome {
-    /// Of a peer that is closed or not held: no byte is taken.
-    pub(crate) const DROPPED: Outcome = Outcome {
-        taken: 0,
-        answered: false,
-        close: true,
-    };
-}
-
 impl Place {
-    /// Takes bytes of a piece up to the end of one frame, and serves the frame. A router writes into `reply`.
+    /// Takes bytes of a piece up to the end of one frame, and serves the frame. A router writes into `reply`. Answers how
+    /// many bytes were taken, and what came of them.
     pub(crate) fn feed(
         &mut self,
         shared: &mut Shared,
         piece: &[u8],
         reply: &mut ReplyBuf,
-        answer: &mut Answer,
-    ) -> Outcome
+        answer: &mut AnswerFrame,
+    ) -> (usize, Reaction)
         requires { Stops self.old.reader → ⊥ }
         ensures session { self.new.session ≡ session_after self.old.session
             (sight_served shared.old self.old.session (sight_of (joined_of self.old.reader piece.now))) }
@@ -94,18 +76,18 @@ impl Place {
             ≡ cleared (sight_of (joined_of self.old.reader piece.now)) (joined_of self.old.reader piece.now) }
         ensures shared { shared.new ≡ shared_after self.old.session
             (sight_served shared.old self.old.session (sight_of (joined_of self.old.reader piece.now))) }
-        ensures taken { result.taken ≡ taken_of self.old.reader piece.now }
-        ensures answer { written result.answered answer.new.items ≡ (sight_served shared.old self.old.session
+        ensures taken { result.0 ≡ taken_of self.old.reader piece.now }
+        ensures answer { written result.1.reply answer.new.items ≡ (sight_served shared.old self.old.session
             (sight_of (joined_of self.old.reader piece.now))).reaction.answer }
-        ensures close { result.close ≡ (sight_served shared.old self.old.session
+        ensures close { result.1.close ≡ (sight_served shared.old self.old.session
             (sight_of (joined_of self.old.reader piece.now))).reaction.close }
-        ensures within { result.taken ≤ length piece.now }
-        ensures progress { 0 < length piece.now → 0 < result.taken }
+        ensures within { result.0 ≤ length piece.now }
+        ensures progress { 0 < length piece.now → 0 < result.0 }
         ensures waiting { IsWaiting self.new }
     {
         let (taken, held) = self.reader.next(piece);
         let reaction = match held {
-            Held::More => Reaction::SILENT,
+            Held::More => Reaction::silent(Silence::NoFrame),
             Held::Frame(frame) => {
                 let reaction = serve(shared, &mut self.session, frame, reply, answer);
                 self.reader.clear();
@@ -117,10 +99,6 @@ impl Place {
         if reaction.close {
             shared.end_session(self.session.handle);
         }
-        Outcome {
-            taken,
-            answered: reaction.answered,
-            close: reaction.close,
-        }
+        (taken, reaction)
     }
 }

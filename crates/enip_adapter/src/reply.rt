@@ -1,15 +1,13 @@
 //! Frames that answer. (Volume 2, encapsulation header.)
 
-ghost use Rattle.std.specs.Prelude.{◌≡◌, ◌≤◌, ◌+◌, ◌++◌, length, take, []};
+ghost use Rattle.std.specs.Prelude.{◌≡◌, ◌≤◌, ◌+◌, ◌++◌, length, take, [], false};
 ghost use Rattle.enip_wire.specs.Headers.{header_spelling};
 ghost use Rattle.enip_adapter.specs.Replies.{reply, reply_header};
 
-use cip_class3::LARGEST_SIZE;
+use crate::silence::Silence;
+use cip_bytes::protocol::{EncapsulationStatus, LARGEST_SIZE};
 use enip_wire::Header;
 use std::marker::Model;
-
-/// The room of the reply to an unconnected request, in bytes.
-pub(crate) const UNCONNECTED_ROOM: usize = 504;
 
 /// The most bytes of a packet in front of its data: interface 4, timeout 2, count 2, address item 4 or 8, type and
 /// length of the data item 4. (Volume 2, common packet format.)
@@ -26,13 +24,13 @@ pub const LONGEST_ANSWER: usize = Header::SIZE + LONGEST_DATA;
 
 /// One answer, a whole frame, written over the one before it.
 #[derive(Drop)]
-pub(crate) struct Answer {
+pub(crate) struct AnswerFrame {
     /// How many bytes of the block it has.
     size: usize,
     block: [u8; LONGEST_ANSWER],
 }
 
-impl Model for Answer {
+impl Model for AnswerFrame {
     ghost use Rattle.std.specs.Prelude.{take};
     ghost use Rattle.enip_adapter.specs.Buffers.{Buffer, IsWithin};
     ghost use Rattle.enip_adapter.specs.declared.reply.TheConstants.{LONGEST_ANSWER};
@@ -44,12 +42,12 @@ impl Model for Answer {
     ghost invariant = { λ answer. IsWithin LONGEST_ANSWER answer.size answer.block };
 }
 
-impl Answer {
+impl AnswerFrame {
     /// A blank one.
-    pub(crate) fn new() -> Answer
+    pub(crate) fn new() -> AnswerFrame
         ensures { result.items ≡ [] }
     {
-        Answer {
+        AnswerFrame {
             size: 0,
             block: [0; LONGEST_ANSWER],
         }
@@ -69,15 +67,15 @@ impl Answer {
         requires { length front.now + length rest.now ≤ LONGEST_DATA }
         ensures { self.new.items ≡ header_spelling header.now ++ (front.now ++ rest.now) }
     {
-        let size = place(&mut self.block, 0, &header.write());
-        let size = place(&mut self.block, size, front);
-        self.size = place(&mut self.block, size, rest);
+        let size = append_text(&mut self.block, 0, &header.write());
+        let size = append_text(&mut self.block, size, front);
+        self.size = append_text(&mut self.block, size, rest);
     }
 }
 
 /// Copies a text into a block behind its first bytes, and answers where it ends.
 #[inline(always)]
-fn place(block: &mut [u8], size: usize, text: &[u8]) -> usize
+fn append_text(block: &mut [u8], size: usize, text: &[u8]) -> usize
     requires { size + length text.now ≤ length block.old }
     ensures end { result ≡ size + length text.now }
     ensures text { take result block.new ≡ take size block.old ++ text.now }
@@ -88,43 +86,52 @@ fn place(block: &mut [u8], size: usize, text: &[u8]) -> usize
     end
 }
 
-/// The status in the header of an answer. (Volume 2, encapsulation status.)
-#[derive(Clone, Copy, Debug, PartialEq, Eq)]
-pub(crate) enum Status {
-    Success = 0x0000,
-    UnsupportedCommand = 0x0001,
-    PoorlyFormedData = 0x0003,
-    InvalidSession = 0x0064,
-    InvalidLength = 0x0065,
-    UnsupportedRevision = 0x0069,
+/// What answers a frame.
+#[derive(Clone, Copy, Debug)]
+pub(crate) enum Reply {
+    /// Nothing, for this reason.
+    Silent(Silence),
+    /// The frame that was written last.
+    Written,
 }
 
 /// What a frame is to its peer, beside its registration.
 #[derive(Clone, Copy, Debug)]
 pub(crate) struct Reaction {
-    /// Whether an answer was written.
-    pub(crate) answered: bool,
+    /// What answers it.
+    pub(crate) reply: Reply,
     /// Whether the connection is closed.
     pub(crate) close: bool,
 }
 
 impl Reaction {
-    /// Nothing is sent.
-    pub(crate) const SILENT: Reaction = Reaction {
-        answered: false,
+    /// An answer was written.
+    pub(crate) const ANSWERED: Reaction = Reaction {
+        reply: Reply::Written,
         close: false,
     };
 
-    /// An answer was written.
-    pub(crate) const ANSWERED: Reaction = Reaction {
-        answered: true,
-        close: false,
+    /// Of a peer that is closed or not held.
+    pub(crate) const NOT_SERVED: Reaction = Reaction {
+        reply: Reply::Silent(Silence::NotServed),
+        close: true,
     };
+
+    /// Nothing is sent, for this reason.
+    #[inline(always)]
+    pub(crate) fn silent(why: Silence) -> Reaction
+        ensures { result ≡ record { reply = Reply.Silent why; close = false } }
+    {
+        Reaction {
+            reply: Reply::Silent(why),
+            close: false,
+        }
+    }
 }
 
 /// The header of a reply with so many bytes of data: command and context of what asked, no options.
 #[inline(always)]
-fn header_of(asked: &Header, session: u32, status: Status, count: usize) -> Header
+fn header_of(asked: &Header, session: u32, status: EncapsulationStatus, count: usize) -> Header
     requires { count ≤ LONGEST_DATA }
     ensures { result ≡ reply_header asked.now session status count }
 {
@@ -132,7 +139,7 @@ fn header_of(asked: &Header, session: u32, status: Status, count: usize) -> Head
         command: asked.command,
         length: count as u16,
         session,
-        status: status as u32,
+        status: status.number(),
         context: asked.context,
         options: 0,
     }
@@ -143,10 +150,10 @@ fn header_of(asked: &Header, session: u32, status: Status, count: usize) -> Head
 pub(crate) fn write_reply(
     asked: &Header,
     session: u32,
-    status: Status,
+    status: EncapsulationStatus,
     front: &[u8],
     rest: &[u8],
-    answer: &mut Answer,
+    answer: &mut AnswerFrame,
 )
     requires { length front.now + length rest.now ≤ LONGEST_DATA }
     ensures { answer.new.items ≡ reply asked.now session status (front.now ++ rest.now) }
@@ -156,7 +163,7 @@ pub(crate) fn write_reply(
 }
 
 /// Refuses a frame: no data, and the session field of what asked.
-pub(crate) fn refuse(asked: &Header, status: Status, answer: &mut Answer)
+pub(crate) fn refuse(asked: &Header, status: EncapsulationStatus, answer: &mut AnswerFrame)
     ensures { answer.new.items ≡ reply asked.now asked.now.session status [] }
 {
     write_reply(asked, asked.session, status, &[], &[], answer);

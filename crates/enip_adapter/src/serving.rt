@@ -113,25 +113,16 @@ fn feed_all<W: Sink>(
 {
     let mut fed = 0;
     while fed < piece.len() {
-        let step = feed_once(adapter, now, peer, &piece[fed..], writer)?;
-        if step.close {
+        let (taken, close) = feed_once(adapter, now, peer, &piece[fed..], writer)?;
+        if close {
             return Ok(true);
         }
-        fed += step.taken;
+        fed += taken;
     }
     Ok(false)
 }
 
-/// What became of a piece that was fed once.
-#[derive(Clone, Copy, Debug)]
-struct Step {
-    /// How many bytes were taken.
-    taken: usize,
-    /// Whether the peer is closed.
-    close: bool,
-}
-
-/// Feeds a piece once, and writes the answer.
+/// Feeds a piece once, and writes the answer. Answers how many bytes were taken, and whether the peer is closed.
 ///
 /// # Errors
 ///
@@ -142,15 +133,15 @@ fn feed_once<W: Sink>(
     peer: &Peer,
     piece: &[u8],
     writer: &mut W,
-) -> Result<Step, Failed>
+) -> Result<(usize, bool), Failed>
     requires { W.failures writer.old < u64.MAX }
     ensures state { adapter.new ≡ after_call adapter.old (Call.Feeds now peer.now piece.now) }
-    ensures taken { IfOk result (λ step. step.taken
+    ensures taken { IfOk result (λ step. step.0
         ≡ (call_meaning adapter.old (Call.Feeds now peer.now piece.now)).taken) }
-    ensures close { IfOk result (λ step. step.close
+    ensures close { IfOk result (λ step. step.1
         ≡ (call_answer adapter.old (Call.Feeds now peer.now piece.now)).close) }
-    ensures within { IfOk result (λ step. step.taken ≤ length piece.now) }
-    ensures progress { IfOk result (λ step. 0 < length piece.now → step.close ≡ false → 0 < step.taken) }
+    ensures within { IfOk result (λ step. step.0 ≤ length piece.now) }
+    ensures progress { IfOk result (λ step. 0 < length piece.now → step.1 ≡ false → 0 < step.0) }
     ensures bytes { MatchResult result
         (λ _. Appends (W.written writer.old) (W.written writer.new)
         (bytes_said (call_answer adapter.old (Call.Feeds now peer.now piece.now)).said))
@@ -162,8 +153,5 @@ fn feed_once<W: Sink>(
     if let Some(frame) = fed.answer {
         write_all(writer, frame)?;
     }
-    Ok(Step {
-        taken: fed.taken,
-        close: fed.close,
-    })
+    Ok((fed.taken, fed.close))
 }

@@ -18,13 +18,14 @@ use Rattle.enip_wire.specs.Frames.{Frame, frame, IsFrame}
 use Rattle.enip_wire.proofs.WriteLemmas.{rr_again, unit_again}
 use Rattle.enip_adapter.specs.declared.peer.Session.{Session}
 use Rattle.enip_adapter.specs.declared.shared.Shared.{Shared}
+use Rattle.enip_adapter.specs.declared.silence.Silence.TheVariants.{AnotherSession}
 use Rattle.enip_adapter.specs.Calls.{AdapterState, after_call, call_answer}
 use Rattle.enip_adapter.specs.Calls.Call.{Feeds, Ticks}
 use Rattle.enip_adapter.specs.Commands.{command_served}
 use Rattle.enip_adapter.specs.Replies.{Served, leaving, silent, replied}
 use Rattle.enip_adapter.specs.Runs.{is_open_at_all}
 use Rattle.enip_adapter.specs.SendRRData.{routed, reply_to_body}
-use Rattle.enip_adapter.specs.SendUnitData.{turn_of_item, served_item, item_of_body, unit_reply}
+use Rattle.enip_adapter.specs.SendUnitData.{turn_of_item, served_item, item_of_body, item_reply}
 use Rattle.enip_adapter.specs.Turn.{session_after, without_connections, sent, at_moment}
 use Rattle.enip_adapter.proofs.PeerLemmas.{session-call, held-call, connections-calls}
 use Rattle.enip_client.specs.declared.wants.Wants.{Wants}
@@ -142,7 +143,7 @@ item-served : (shared : Shared) (peer id : ℕ) (item : List ℕ) → id < 2 ^ 3
     (turn_of_item shared (registered_as peer) id item)
 unfolding command_served
 item-served shared peer id item below small =
-    ap (λ b. cond (not b) (leaving shared (silent (registered_as peer)))
+    ap (λ b. cond (not b) (leaving shared (silent (registered_as peer) AnotherSession))
     (item_of_body shared (registered_as peer) (item_frame peer id item) (unit_body_of (unit_text id item))))
     (eq-eqb peer peer refl)
     ∙ ap (item_of_body shared (registered_as peer) (item_frame peer id item))
@@ -164,7 +165,7 @@ pub record IsReached (wire : Wire) (a : AdapterState) (item : List ℕ) (target 
 
 answer-same : (wire : Wire) (item : List ℕ) (c new : Connection) (step : TargetStep Contents) →
     new.t_to_o_id ≡ wire.wants.t_to_o_id → new.target ≡ step.target →
-    bytes_said (sent (option_map (unit_reply (item_frame wire.peer wire.id item).header)
+    bytes_said (sent (item_reply (item_frame wire.peer wire.id item).header
     (cond (is_answered step.received) (Some (reply_of new)) None)))
     ≡ option_map (frame_back wire) (answer_to step)
 answer-same wire item c new step id same = go step.received
@@ -175,7 +176,7 @@ answer-same wire item c new step id same = go step.received
         ∙ ap (λ t. Some (frame_back wire (kept_bytes t.held))) same
 
     go : (r : Received) →
-        bytes_said (sent (option_map (unit_reply (item_frame wire.peer wire.id item).header)
+        bytes_said (sent (item_reply (item_frame wire.peer wire.id item).header
         (cond (is_answered r) (Some (reply_of new)) None)))
         ≡ option_map (frame_back wire) (answer_to (record step { received = r }))
     go Dropped = refl

@@ -12,6 +12,7 @@ use Rattle.enip_wire.specs.Stream.{sight_of, joined_of, taken_of, cleared}
 use Rattle.enip_wire.specs.Stream.{Sight}
 use Rattle.enip_wire.proofs.PieceLemmas.{taken_of-frame, sight_of-written}
 use Rattle.enip_adapter.specs.declared.peer.Session.{Session}
+use Rattle.enip_adapter.specs.declared.silence.Silence.TheVariants.{NotServed}
 use Rattle.enip_adapter.specs.Calls.{AdapterState, Held, Meaning, call_meaning, after_call, call_answer, after_meaning, answer_of, bytes_held, bytes_found, piece_to, piece_meaning, dropped_piece, at_a_moment, events_of_sight}
 use Rattle.enip_adapter.specs.Calls.Call.{Feeds}
 use Rattle.enip_adapter.specs.Commands.{command_served}
@@ -158,7 +159,7 @@ adapter-fed a peer session f ready ok =
     let turn : serve_found s peer (λ p. command_served s.shared p f) (session_of s peer)
     ≡ served_turn s peer (λ p. command_served s.shared p f) session
     = ap (serve_found s peer (λ p. command_served s.shared p f)) ready.found
-    ∙ ap (λ b. cond b (turned s Silent true) (served_turn s peer (λ p. command_served s.shared p f) session)) ready.alive in
+    ∙ ap (λ b. cond b (turned s (Silent NotServed) true) (served_turn s peer (λ p. command_served s.shared p f) session)) ready.alive in
     record {
       adapter = ap (after_meaning a.state) meant
           ∙ ap (λ (t : Turned). (let x : AdapterState = record {

@@ -40,7 +40,7 @@ pub record IsWanted (wants : Wants) : Type 0 where
 
 -- the handle that a begin gives out
 abbrev pub handle_said : Said → Result ℕ Setup
-handle_said Silent = Err ARefusal
+handle_said (Silent why) = Err ARefusal
 handle_said (Sends bytes) = Err ARefusal
 handle_said (Begins handle) = Ok handle
 handle_said (Refuses full) = Err ARefusal

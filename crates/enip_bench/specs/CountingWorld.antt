@@ -46,7 +46,7 @@ after_resend lent world = record world { sent = with_any (option_map frame lent)
 
 -- the bytes that the adapter sends
 abbrev pub bytes_said : Said → Option (List ℕ)
-bytes_said Silent = None
+bytes_said (Silent why) = None
 bytes_said (Sends bytes) = Some bytes
 bytes_said (Begins handle) = None
 bytes_said (Refuses full) = None

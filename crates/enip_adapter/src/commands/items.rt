@@ -1,15 +1,17 @@
 //! SendUnitData: items on connections.
 
-ghost use Rattle.std.specs.Prelude.{◌≡◌, ◌≤◌, length};
+ghost use Rattle.std.specs.Prelude.{◌≡◌, ◌≤◌, length, false};
+ghost use Rattle.cip_bytes.specs.declared.protocol.EncapsulationStatus.TheVariants.{Success};
 ghost use Rattle.enip_wire.specs.Bodies.{unit_text};
 ghost use Rattle.enip_wire.specs.Stream.{frame_of};
 ghost use Rattle.enip_adapter.specs.Replies.{reply, written};
-ghost use Rattle.enip_adapter.specs.SendUnitData.{send_unit_data};
-ghost use Rattle.enip_adapter.specs.declared.reply.Status.TheVariants.{Success};
+ghost use Rattle.enip_adapter.specs.SendUnitData.{send_unit_data, turn_of_item, left_by_item, item_reply};
 
 use crate::peer::Session;
-use crate::reply::{Answer, LONGEST_ITEM, Reaction, Status, write_reply};
+use crate::reply::{AnswerFrame, LONGEST_ITEM, Reaction, write_reply};
 use crate::shared::Shared;
+use crate::silence::Silence;
+use cip_bytes::protocol::EncapsulationStatus;
 use enip_wire::{FrameView, Header, unit_body, unit_front};
 
 /// SendUnitData: no answer to another session, to a packet that is none, and where no connection answers (ours).
@@ -17,38 +19,55 @@ pub(super) fn send_unit_data(
     shared: &mut Shared,
     session: Session,
     frame: FrameView<'_>,
-    answer: &mut Answer,
+    answer: &mut AnswerFrame,
 ) -> Reaction
     ensures shared { shared.new ≡ (send_unit_data shared.old session (frame_of frame.entry)).shared }
-    ensures answer { written result.answered answer.new.items
+    ensures answer { written result.reply answer.new.items
         ≡ (send_unit_data shared.old session (frame_of frame.entry)).reaction.answer }
     ensures close { result.close ≡ (send_unit_data shared.old session (frame_of frame.entry)).reaction.close }
 {
     if !session.is_registered_as(frame.header.session) {
-        return Reaction::SILENT;
+        return Reaction::silent(Silence::AnotherSession);
     }
-    let Ok((id, item)) = unit_body(frame.body) else {
-        return Reaction::SILENT;
-    };
+    match unit_body(frame.body) {
+        Ok((id, item)) => send_item(shared, session, &frame.header, id, item, answer),
+        Err(fault) => Reaction::silent(Silence::NotAPacket(fault)),
+    }
+}
+
+/// Hands an item to the connection of a session with this O->T ID, and writes what answers it.
+fn send_item(
+    shared: &mut Shared,
+    session: Session,
+    asked: &Header,
+    id: u32,
+    item: &[u8],
+    answer: &mut AnswerFrame,
+) -> Reaction
+    ensures shared { shared.new ≡ left_by_item shared.old (turn_of_item shared.old session id item.now) }
+    ensures answer { written result.reply answer.new.items
+        ≡ item_reply asked.now (turn_of_item shared.old session id item.now).reply }
+    ensures close { result.close ≡ false }
+{
     let moment = shared.moment;
     match shared
         .manager
         .connected(moment, session.handle, id, item, &mut shared.objects)
     {
         Some(kept) => {
-            write_unit_reply(&frame.header, kept.id, kept.bytes, answer);
+            write_unit_reply(asked, kept.id, kept.bytes, answer);
             Reaction::ANSWERED
         }
-        None => Reaction::SILENT,
+        None => Reaction::silent(Silence::NotTaken),
     }
 }
 
 /// Writes a whole SendUnitData that answers, with the T->O connection ID, and the count and reply that are held.
 #[inline(always)]
-fn write_unit_reply(asked: &Header, id: u32, kept: &[u8], answer: &mut Answer)
+fn write_unit_reply(asked: &Header, id: u32, kept: &[u8], answer: &mut AnswerFrame)
     requires { length kept.now ≤ LONGEST_ITEM }
     ensures { answer.new.items ≡ reply asked.now asked.now.session Success (unit_text id kept.now) }
 {
     let front = unit_front(id, kept.len() as u16);
-    write_reply(asked, asked.session, Status::Success, &front, kept, answer);
+    write_reply(asked, asked.session, EncapsulationStatus::Success, &front, kept, answer);
 }

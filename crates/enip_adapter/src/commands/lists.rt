@@ -3,17 +3,18 @@
 ghost use Rattle.std.specs.Prelude.{◌≡◌, ◌≤◌, ◌+◌, ◌++◌, length};
 ghost use Rattle.arrayvec.specs.ArrayVec.{array_vec_len};
 ghost use Rattle.cip_bytes.specs.Numbers.{le};
+ghost use Rattle.cip_bytes.specs.declared.protocol.EncapsulationStatus.TheVariants.{Success};
 ghost use Rattle.cip_objects.specs.Contents.{bytes_at};
 ghost use Rattle.enip_adapter.specs.ListIdentity.{identity_text, text_of_item, identity_bytes, socket_address};
 ghost use Rattle.enip_adapter.specs.ListInterfaces.{interfaces_text};
 ghost use Rattle.enip_adapter.specs.ListServices.{services_text};
 ghost use Rattle.enip_adapter.specs.Replies.{reply};
-ghost use Rattle.enip_adapter.specs.declared.reply.Status.TheVariants.{Success};
 
-use crate::reply::{Answer, Status, write_reply};
+use crate::reply::{AnswerFrame, write_reply};
 use crate::shared::{Listen, Shared};
 use arrayvec::ArrayVec;
 use byteorder::{BigEndian, ByteOrder, LittleEndian};
+use cip_bytes::protocol::EncapsulationStatus;
 use cip_objects::{Objects, ReplyBuf};
 use enip_wire::Header;
 
@@ -52,13 +53,13 @@ const SERVICES: [u8; 26] = *b"\x01\x00\x00\x01\x14\x00\x01\x00\x20\x00Communicat
 const INTERFACES: [u8; 2] = [0, 0];
 
 /// ListServices.
-pub(super) fn list_services(asked: &Header, answer: &mut Answer)
+pub(super) fn list_services(asked: &Header, answer: &mut AnswerFrame)
     ensures { answer.new.items ≡ reply asked.now asked.now.session Success services_text }
 {
     write_reply(
         asked,
         asked.session,
-        Status::Success,
+        EncapsulationStatus::Success,
         &[],
         &SERVICES,
         answer,
@@ -66,13 +67,13 @@ pub(super) fn list_services(asked: &Header, answer: &mut Answer)
 }
 
 /// ListInterfaces.
-pub(super) fn list_interfaces(asked: &Header, answer: &mut Answer)
+pub(super) fn list_interfaces(asked: &Header, answer: &mut AnswerFrame)
     ensures { answer.new.items ≡ reply asked.now asked.now.session Success interfaces_text }
 {
     write_reply(
         asked,
         asked.session,
-        Status::Success,
+        EncapsulationStatus::Success,
         &[],
         &INTERFACES,
         answer,
@@ -86,7 +87,7 @@ pub(super) fn list_identity(
     shared: &Shared,
     asked: &Header,
     value: &mut ReplyBuf,
-    answer: &mut Answer,
+    answer: &mut AnswerFrame,
 )
     ensures { answer.new.items
         ≡ reply asked.now asked.now.session Success (identity_text shared.now.listen shared.now.objects) }
@@ -98,12 +99,12 @@ pub(super) fn list_identity(
 }
 
 /// Writes a whole reply to a ListIdentity, with one item.
-fn write_identity(asked: &Header, item: &[u8], answer: &mut Answer)
+fn write_identity(asked: &Header, item: &[u8], answer: &mut AnswerFrame)
     requires { length item.now ≤ ITEM_SIZE }
     ensures { answer.new.items ≡ reply asked.now asked.now.session Success (text_of_item item.now) }
 {
     let front = item_head(item.len() as u16);
-    write_reply(asked, asked.session, Status::Success, &front, item, answer);
+    write_reply(asked, asked.session, EncapsulationStatus::Success, &front, item, answer);
 }
 
 /// The count of items, 1, and the type and the length of an identity item.

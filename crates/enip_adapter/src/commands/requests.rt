@@ -1,17 +1,19 @@
 //! SendRRData: unconnected requests.
 
-ghost use Rattle.std.specs.Prelude.{◌≡◌, ◌≤◌, length, Some};
+ghost use Rattle.std.specs.Prelude.{◌≡◌, ◌≤◌, length};
+ghost use Rattle.cip_bytes.specs.declared.protocol.EncapsulationStatus.TheVariants.{Success};
 ghost use Rattle.cip_message.specs.PathReading.{path_of};
 ghost use Rattle.enip_wire.specs.Bodies.{rr_text};
 ghost use Rattle.enip_wire.specs.Stream.{frame_of};
 ghost use Rattle.enip_adapter.specs.Replies.{reply};
+ghost use Rattle.enip_adapter.specs.Replies.Reply.{Sends};
 ghost use Rattle.enip_adapter.specs.SendRRData.{send_rr_data, routed, destination_of, is_manager};
 ghost use Rattle.enip_adapter.specs.Destinations.{destination, is_path_of_manager};
-ghost use Rattle.enip_adapter.specs.declared.reply.Status.TheVariants.{Success};
 
 use crate::peer::Session;
-use crate::reply::{Answer, Status, UNCONNECTED_ROOM, refuse, write_reply};
+use crate::reply::{AnswerFrame, refuse, write_reply};
 use crate::shared::Shared;
+use cip_bytes::protocol::{EncapsulationStatus, ManagerService, UNCONNECTED_ROOM};
 use cip_message::{Path, RequestView, read_path};
 use cip_objects::{ReplyBuf, Router};
 use enip_wire::{FrameView, Header, rr_body, rr_front};
@@ -19,21 +21,11 @@ use enip_wire::{FrameView, Header, rr_body, rr_front};
 /// The class of the Connection Manager. (Volume 1, class codes.)
 const CONNECTION_MANAGER: u16 = 0x06;
 
-const FORWARD_OPEN: u8 = 0x54;
-
-const LARGE_FORWARD_OPEN: u8 = 0x5b;
-
-const FORWARD_CLOSE: u8 = 0x4e;
-
 /// Where a request goes.
 #[derive(Clone, Copy, Debug)]
 enum Destination<'a> {
-    /// To the Connection Manager, as the data of a Forward_Open.
-    Open(&'a [u8]),
-    /// To the Connection Manager, as the data of a Large_Forward_Open.
-    OpenLarge(&'a [u8]),
-    /// To the Connection Manager, as the data of a Forward_Close.
-    Close(&'a [u8]),
+    /// To the Connection Manager: a service, and its data.
+    Manager(ManagerService, &'a [u8]),
     /// To the objects.
     Objects,
 }
@@ -46,13 +38,11 @@ impl<'a> Destination<'a> {
         let Ok(request) = RequestView::read(request) else {
             return Destination::Objects;
         };
-        match request.service {
+        match ManagerService::of(request.service) {
             // class 0x06, instance 1 (objects)
-            FORWARD_OPEN if is_to_manager(request.path) => Destination::Open(request.data),
-            LARGE_FORWARD_OPEN if is_to_manager(request.path) => {
-                Destination::OpenLarge(request.data)
+            Some(service) if is_to_manager(request.path) => {
+                Destination::Manager(service, request.data)
             }
-            FORWARD_CLOSE if is_to_manager(request.path) => Destination::Close(request.data),
             _ => Destination::Objects,
         }
     }
@@ -81,14 +71,14 @@ pub(super) fn send_rr_data(
     session: Session,
     frame: FrameView<'_>,
     reply: &mut ReplyBuf,
-    answer: &mut Answer,
+    answer: &mut AnswerFrame,
 )
     ensures shared { shared.new ≡ (send_rr_data shared.old session (frame_of frame.entry)).shared }
-    ensures answer { Some answer.new.items ≡ (send_rr_data shared.old session (frame_of frame.entry)).reaction.answer }
+    ensures answer { Sends answer.new.items ≡ (send_rr_data shared.old session (frame_of frame.entry)).reaction.answer }
 {
     // this peer's registered session: 0x0064 (SendRRData)
     if !session.is_registered_as(frame.header.session) {
-        return refuse(&frame.header, Status::InvalidSession, answer);
+        return refuse(&frame.header, EncapsulationStatus::InvalidSession, answer);
     }
     // a packet with a request of two bytes at least: 0x0003 (SendRRData)
     match rr_body(frame.body) {
@@ -96,7 +86,7 @@ pub(super) fn send_rr_data(
             route(shared, session, request, reply);
             write_rr_reply(&frame.header, reply.as_slice(), answer);
         }
-        _ => refuse(&frame.header, Status::PoorlyFormedData, answer),
+        _ => refuse(&frame.header, EncapsulationStatus::PoorlyFormedData, answer),
     }
 }
 
@@ -108,24 +98,26 @@ fn route(shared: &mut Shared, session: Session, request: &[u8], reply: &mut Repl
     ensures fits { length reply.new.items ≤ UNCONNECTED_ROOM }
 {
     match Destination::of(request) {
-        Destination::Open(data) => {
+        Destination::Manager(ManagerService::ForwardOpen, data) => {
             shared
                 .manager
                 .open(shared.moment, session.handle, data, reply);
         }
-        Destination::OpenLarge(data) => {
+        Destination::Manager(ManagerService::LargeForwardOpen, data) => {
             shared
                 .manager
                 .open_large(shared.moment, session.handle, data, reply);
         }
-        Destination::Close(data) => shared.manager.close(session.handle, data, reply),
+        Destination::Manager(ManagerService::ForwardClose, data) => {
+            shared.manager.close(session.handle, data, reply);
+        }
         Destination::Objects => shared.objects.execute(request, UNCONNECTED_ROOM, reply),
     }
 }
 
 /// Writes a whole reply to a SendRRData, with the reply of the router as its data item.
 #[inline(always)]
-fn write_rr_reply(asked: &Header, router_reply: &[u8], answer: &mut Answer)
+fn write_rr_reply(asked: &Header, router_reply: &[u8], answer: &mut AnswerFrame)
     requires { length router_reply.now ≤ UNCONNECTED_ROOM }
     ensures { answer.new.items ≡ reply asked.now asked.now.session Success (rr_text router_reply.now) }
 {
@@ -133,7 +125,7 @@ fn write_rr_reply(asked: &Header, router_reply: &[u8], answer: &mut Answer)
     write_reply(
         asked,
         asked.session,
-        Status::Success,
+        EncapsulationStatus::Success,
         &front,
         router_reply,
         answer,

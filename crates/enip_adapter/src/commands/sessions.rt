@@ -1,13 +1,16 @@
 //! RegisterSession and UnRegisterSession.
 
-ghost use Rattle.std.specs.Prelude.{◌≡◌, Some, false};
+ghost use Rattle.std.specs.Prelude.{◌≡◌, if◌then◌else◌, true};
 ghost use Rattle.enip_wire.specs.Stream.{frame_of};
 ghost use Rattle.enip_adapter.specs.RegisterSession.{register_session, version_one};
 ghost use Rattle.enip_adapter.specs.Replies.{reply, is_registered_as};
+ghost use Rattle.enip_adapter.specs.Replies.Reply.{Sends};
 
 use crate::peer::Session;
-use crate::reply::{Answer, Reaction, Status, refuse, write_reply};
+use crate::reply::{AnswerFrame, Reaction, Reply, refuse, write_reply};
+use crate::silence::Silence;
 use byteorder::{ByteOrder, LittleEndian};
+use cip_bytes::protocol::EncapsulationStatus;
 use enip_wire::{FrameView, Header};
 
 /// The bytes of version and flags.
@@ -17,39 +20,39 @@ const REGISTER_DATA: usize = 4;
 const PROTOCOL_VERSION: u16 = 1;
 
 /// RegisterSession: its data are the version 2 and the flags 2.
-pub(super) fn register_session(session: &mut Session, frame: FrameView<'_>, answer: &mut Answer)
+pub(super) fn register_session(session: &mut Session, frame: FrameView<'_>, answer: &mut AnswerFrame)
     ensures session { session.new ≡ record session.old {
       registered = (register_session session.old (frame_of frame.entry)).registered;
     } }
-    ensures answer { Some answer.new.items ≡ (register_session session.old (frame_of frame.entry)).answer }
+    ensures answer { Sends answer.new.items ≡ (register_session session.old (frame_of frame.entry)).answer }
 {
     // four bytes of data: 0x0065 (RegisterSession)
     if frame.body.len() != REGISTER_DATA {
-        return refuse(&frame.header, Status::InvalidLength, answer);
+        return refuse(&frame.header, EncapsulationStatus::InvalidLength, answer);
     }
     // one session a peer: 0x0001 (RegisterSession, ours)
     if session.registered {
-        return refuse(&frame.header, Status::UnsupportedCommand, answer);
+        return refuse(&frame.header, EncapsulationStatus::UnsupportedCommand, answer);
     }
     // version 1: 0x0069, with the version that is served (RegisterSession)
     if LittleEndian::read_u16(&frame.body[0..2]) != PROTOCOL_VERSION {
         return answer_version(
             &frame.header,
             frame.header.session,
-            Status::UnsupportedRevision,
+            EncapsulationStatus::UnsupportedRevision,
             answer,
         );
     }
     // no flags: 0x0003 (RegisterSession, ours)
     if LittleEndian::read_u16(&frame.body[2..4]) != 0 {
-        return refuse(&frame.header, Status::PoorlyFormedData, answer);
+        return refuse(&frame.header, EncapsulationStatus::PoorlyFormedData, answer);
     }
     session.registered = true;
-    answer_version(&frame.header, session.handle, Status::Success, answer)
+    answer_version(&frame.header, session.handle, EncapsulationStatus::Success, answer)
 }
 
 /// Answers with the version and flags that are served.
-fn answer_version(asked: &Header, session: u32, status: Status, answer: &mut Answer)
+fn answer_version(asked: &Header, session: u32, status: EncapsulationStatus, answer: &mut AnswerFrame)
     ensures { answer.new.items ≡ reply asked.now session status version_one }
 {
     let mut version = [0; REGISTER_DATA];
@@ -71,11 +74,18 @@ impl Session {
 
 /// UnRegisterSession: no answer.
 pub(super) fn unregister_session(session: Session, header: &Header) -> Reaction
-    ensures { result ≡ record { answered = false; close = is_registered_as session header.now.session } }
+    ensures { result ≡ record {
+      reply = Reply.Silent (if is_registered_as session header.now.session then Silence.Unregistered
+          else Silence.AnotherSession);
+      close = is_registered_as session header.now.session;
+    } }
 {
-    // this peer's registered session closes; another is dropped (UnRegisterSession; ours)
+    // another session than this peer's registered one is dropped (UnRegisterSession; ours)
+    if !session.is_registered_as(header.session) {
+        return Reaction::silent(Silence::AnotherSession);
+    }
     Reaction {
-        answered: false,
-        close: session.is_registered_as(header.session),
+        reply: Reply::Silent(Silence::Unregistered),
+        close: true,
     }
 }

@@ -8,11 +8,11 @@ loop-fed-preserved g c =
     let same : take (length c.args.piece.now - c.loop-fed.fed) (drop c.loop-fed.fed c.args.piece.now) ≡ drop c.loop-fed.fed c.args.piece.now
     = rest_slice c.loop-fed.fed c.args.piece.now in
     record {
-      within = omega (arith, c.in_ok-step.ensures.within, ap length same, length-drop c.loop-fed.fed c.args.piece.now, c.loop-fed.invariant.within);
-      failures = omega (arith, c.in_ok-step.ensures.failures, c.loop-fed.invariant.failures);
+      within = omega (arith, c.in_ok-taken.ensures.within, ap length same, length-drop c.loop-fed.fed c.args.piece.now, c.loop-fed.invariant.within);
+      failures = omega (arith, c.in_ok-taken.ensures.failures, c.loop-fed.invariant.failures);
       so_far = more_fed c.args.now c.args.peer.now c.args.adapter.now c.loop-fed.adapter c.feed_once.new.adapter c.args.piece.now
-          (take (length c.args.piece.now - c.loop-fed.fed) (drop c.loop-fed.fed c.args.piece.now)) c.loop-fed.fed c.in_ok-step.step.taken c.in_ok-step.step.close
+          (take (length c.args.piece.now - c.loop-fed.fed) (drop c.loop-fed.fed c.args.piece.now)) c.loop-fed.fed c.in_ok-taken.taken c.in_ok-taken.close
           (g.W.Sink.written c.args.writer.now) (g.W.Sink.written c.loop-fed.writer) (g.W.Sink.written c.feed_once.new.writer)
-          c.loop-fed.invariant.so_far c.loop-fed-test.true same c.feed_once.ensures.state c.in_ok-step.ensures.taken
-          c.in_ok-step.ensures.close c.if-step.false c.in_ok-step.ensures.bytes;
+          c.loop-fed.invariant.so_far c.loop-fed-test.true same c.feed_once.ensures.state c.in_ok-taken.ensures.taken
+          c.in_ok-taken.ensures.close c.if-close.false c.in_ok-taken.ensures.bytes;
     }
