@@ -2,10 +2,6 @@
 use Rattle.std.specs.Prelude.{◌≢◌, ℕ, List, [], ◌∷◌, ◌++◌, drop}
 use Rattle.cip_bytes.specs.Numbers.{le, number_at}
 
--- the largest size of a connection in one direction, in bytes, the sequence count included
-abbrev pub LARGEST_SIZE : ℕ
-LARGEST_SIZE = 4002
-
 -- two bytes of sequence count, least first, and a request or a reply
 abbrev pub item : ℕ → List ℕ → List ℕ
 item count message = le 2 count ++ message

@@ -1,6 +1,7 @@
 -- What a contract sees of an `Originator`.
 use Rattle.std.specs.Prelude.{◌≡◌, ℕ, ◌≤◌, List, length, take, drop}
-use Rattle.cip_class3.specs.Item.{LARGEST_SIZE, item}
+use Rattle.cip_bytes.specs.declared.protocol.TheConstants.{LARGEST_SIZE, SMALLEST_O_TO_T_SIZE, SMALLEST_T_TO_O_SIZE}
+use Rattle.cip_class3.specs.Item.{item}
 use Rattle.cip_class3.specs.OriginatorRule.{OriginatorState, Phase, Idle, Waiting, GivenUp}
 use Rattle.cip_class3.specs.declared.originator.Progress.{Progress}
 use Rattle.cip_class3.specs.declared.originator.Progress.TheVariants as progress
@@ -34,9 +35,9 @@ HoldsItem (progress.Waiting count length) block = StandsInFront count length blo
 HoldsItem progress.GivenUp block = Unit {0}
 
 pub record IsOriginator (originator : Inside) : Type 0 where
-  pub o_to_t_from : 4 ≤ originator.o_to_t_size
+  pub o_to_t_from : SMALLEST_O_TO_T_SIZE ≤ originator.o_to_t_size
   pub o_to_t_to : originator.o_to_t_size ≤ LARGEST_SIZE
-  pub t_to_o_from : 10 ≤ originator.t_to_o_size
+  pub t_to_o_from : SMALLEST_T_TO_O_SIZE ≤ originator.t_to_o_size
   pub t_to_o_to : originator.t_to_o_size ≤ LARGEST_SIZE
   pub block : length originator.block.items ≡ originator.o_to_t_size
   pub item : HoldsItem originator.progress originator.block.items

@@ -1,6 +1,6 @@
 -- What a contract sees of a `Target`.
 use Rattle.std.specs.Prelude.{◌≡◌, ℕ, ◌≤◌, Option, Some, None, List, length, take, drop}
-use Rattle.cip_class3.specs.Item.{LARGEST_SIZE}
+use Rattle.cip_bytes.specs.declared.protocol.TheConstants.{LARGEST_SIZE, SMALLEST_O_TO_T_SIZE, SMALLEST_T_TO_O_SIZE}
 use Rattle.cip_class3.specs.TargetRule.{TargetState, Kept, kept_bytes}
 use Rattle.cip_class3.specs.declared.target.Target.TheInside.{Inside}
 
@@ -18,9 +18,9 @@ target_state target = record {
 }
 
 pub record IsTarget (target : Inside) : Type 0 where
-  pub o_to_t_from : 4 ≤ target.o_to_t_size
+  pub o_to_t_from : SMALLEST_O_TO_T_SIZE ≤ target.o_to_t_size
   pub o_to_t_to : target.o_to_t_size ≤ LARGEST_SIZE
-  pub t_to_o_from : 10 ≤ target.t_to_o_size
+  pub t_to_o_from : SMALLEST_T_TO_O_SIZE ≤ target.t_to_o_size
   pub t_to_o_to : target.t_to_o_size ≤ LARGEST_SIZE
   pub block : length target.block ≡ LARGEST_SIZE
   pub fits : target.length ≤ target.t_to_o_size

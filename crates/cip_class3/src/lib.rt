@@ -13,6 +13,6 @@ pub mod laws;
 mod originator;
 mod target;
 
-pub use item::LARGEST_SIZE;
+pub use cip_bytes::protocol::LARGEST_SIZE;
 pub use originator::{Came, Originator, Refused, Stage};
 pub use target::{Received, Target};

@@ -5,11 +5,15 @@ ghost use Rattle.std.specs.Option.{option_map};
 ghost use Rattle.std.specs.Borrow.{sem};
 ghost use Rattle.std.specs.Io.BufRead.{Rests};
 ghost use Rattle.cip_message.specs.Reply.{reply_service};
-ghost use Rattle.cip_class3.specs.Item.{LARGEST_SIZE, item};
+ghost use Rattle.cip_class3.specs.Item.{item};
 ghost use Rattle.cip_class3.specs.OriginatorRule.{answers};
 
-use crate::item::{COUNT, SMALLEST_REPLY, SMALLEST_REQUEST, write_item};
+use crate::item::write_item;
 use byteorder::{ByteOrder, LittleEndian};
+use cip_bytes::protocol::{
+    LARGEST_SIZE, SEQUENCE_COUNT_SIZE, SMALLEST_O_TO_T_SIZE, SMALLEST_REPLY, SMALLEST_REQUEST,
+    SMALLEST_T_TO_O_SIZE,
+};
 use cip_message::reply_service;
 use std::alloc::{AllocError, Global};
 use std::marker::Model;
@@ -124,9 +128,9 @@ impl Originator {
         o_to_t_size: u16,
         t_to_o_size: u16,
     ) -> Result<Originator, AllocError>
-        requires o_to_t_from { 4 ≤ o_to_t_size }
+        requires o_to_t_from { SMALLEST_O_TO_T_SIZE ≤ o_to_t_size }
         requires o_to_t_to { o_to_t_size ≤ LARGEST_SIZE }
-        requires t_to_o_from { 10 ≤ t_to_o_size }
+        requires t_to_o_from { SMALLEST_T_TO_O_SIZE ≤ t_to_o_size }
         requires t_to_o_to { t_to_o_size ≤ LARGEST_SIZE }
         ensures { IfOk result (λ originator. originator ≡ originator_at_opening first o_to_t_size t_to_o_size) }
     {
@@ -158,7 +162,7 @@ impl Originator {
             return Err(why);
         }
         let sequence_count = self.next;
-        let length = COUNT + request.len();
+        let length = SEQUENCE_COUNT_SIZE + request.len();
         write_item(&mut self.block, sequence_count, request);
         self.progress = Progress::Waiting {
             sequence_count,
@@ -192,7 +196,7 @@ impl Originator {
         }
         self.progress = Progress::Idle;
         self.tries = 0;
-        Came::Accepted(&item[COUNT..])
+        Came::Accepted(&item[SEQUENCE_COUNT_SIZE..])
     }
 
     /// Gives the request that waits up: its reply is never accepted. False where none waits.
@@ -236,7 +240,7 @@ impl Originator {
             return Some(Refused::NoRequest);
         }
         // The O->T size counts the sequence count (the item).
-        if COUNT + request.len() > self.o_to_t_size as usize {
+        if SEQUENCE_COUNT_SIZE + request.len() > self.o_to_t_size as usize {
             return Some(Refused::TooLong);
         }
         None
@@ -248,7 +252,8 @@ impl Originator {
     {
         match self.progress {
             Progress::Waiting { sequence_count, .. } => {
-                answers(item, self.t_to_o_size, sequence_count, self.block[COUNT])
+                let service = self.block[SEQUENCE_COUNT_SIZE];
+                answers(item, self.t_to_o_size, sequence_count, service)
             }
             _ => false,
         }
@@ -259,8 +264,8 @@ impl Originator {
 fn answers(item: &[u8], t_to_o_size: u16, sequence_count: u16, service: u8) -> bool
     ensures { result ≡ answers t_to_o_size sequence_count service item.now }
 {
-    COUNT + SMALLEST_REPLY <= item.len()
+    SEQUENCE_COUNT_SIZE + SMALLEST_REPLY <= item.len()
         && item.len() <= t_to_o_size as usize
         && LittleEndian::read_u16(item) == sequence_count
-        && item[COUNT] == reply_service(service)
+        && item[SEQUENCE_COUNT_SIZE] == reply_service(service)
 }

@@ -2,11 +2,14 @@
 
 ghost use Rattle.std.specs.Prelude.{◌≡◌, ℕ, ◌≤◌, ◌-◌, ◌<◌, Option, Some, None, length};
 ghost use Rattle.cip_class3.specs.TargetRule.{kept_bytes};
-ghost use Rattle.cip_class3.specs.Item.{LARGEST_SIZE, message_of};
+ghost use Rattle.cip_class3.specs.Item.{message_of};
 
-use crate::item::{COUNT, LARGEST_SIZE, SMALLEST_REQUEST, write_item};
+use crate::item::write_item;
 use arrayvec::ArrayVec;
 use byteorder::{ByteOrder, LittleEndian};
+use cip_bytes::protocol::{
+    LARGEST_SIZE, SEQUENCE_COUNT_SIZE, SMALLEST_O_TO_T_SIZE, SMALLEST_REQUEST, SMALLEST_T_TO_O_SIZE,
+};
 use cip_objects::{ReplyBuf, Router};
 use std::marker::Model;
 
@@ -55,9 +58,9 @@ impl Target {
     ///
     /// The sizes are in bytes, and count the item's two bytes of sequence count.
     pub fn new(o_to_t_size: u16, t_to_o_size: u16) -> Target
-        requires o_to_t_from { 4 ≤ o_to_t_size }
+        requires o_to_t_from { SMALLEST_O_TO_T_SIZE ≤ o_to_t_size }
         requires o_to_t_to { o_to_t_size ≤ LARGEST_SIZE }
-        requires t_to_o_from { 10 ≤ t_to_o_size }
+        requires t_to_o_from { SMALLEST_T_TO_O_SIZE ≤ t_to_o_size }
         requires t_to_o_to { t_to_o_size ≤ LARGEST_SIZE }
         ensures { result ≡ target_at_opening o_to_t_size t_to_o_size }
     {
@@ -86,7 +89,9 @@ impl Target {
             × (router.new ≡ R.after router.old (self.old.t_to_o_size - 2) (message_of item.now)) }
     {
         // A count and a request, within the O->T size (the target's end).
-        if item.len() < COUNT + SMALLEST_REQUEST || item.len() > self.o_to_t_size as usize {
+        if item.len() < SEQUENCE_COUNT_SIZE + SMALLEST_REQUEST
+            || item.len() > self.o_to_t_size as usize
+        {
             return Received::Dropped;
         }
         let sequence_count = LittleEndian::read_u16(item);
@@ -94,10 +99,10 @@ impl Target {
         if self.held == Some(sequence_count) {
             return Received::Repeated;
         }
-        let room = self.t_to_o_size as usize - COUNT;
-        router.execute(&item[COUNT..], room, &mut self.reply);
+        let room = self.t_to_o_size as usize - SEQUENCE_COUNT_SIZE;
+        router.execute(&item[SEQUENCE_COUNT_SIZE..], room, &mut self.reply);
         write_item(&mut self.block, sequence_count, self.reply.as_slice());
-        self.length = COUNT + self.reply.len();
+        self.length = SEQUENCE_COUNT_SIZE + self.reply.len();
         self.held = Some(sequence_count);
         Received::Executed
     }

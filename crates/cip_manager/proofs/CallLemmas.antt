@@ -1,13 +1,14 @@
 -- What a call does to the connections, one of a few kinds of change.
 use Rattle.std.proofs.Common.{false, ◌≡◌, ℕ, List, Option, Some, None, Result, Ok, Err, refl}
 use Rattle.std.specs.Prelude.{find, ◌==◌}
+use Rattle.cip_bytes.specs.declared.protocol.ManagerService.{ManagerService}
+use Rattle.cip_bytes.specs.declared.protocol.ManagerService.TheVariants.{ForwardOpen, LargeForwardOpen, ForwardClose}
+use Rattle.cip_bytes.specs.declared.protocol.ExtendedStatus.{ExtendedStatus}
 use Rattle.cip_message.specs.declared.open.LengthFault.{LengthFault}
 use Rattle.cip_message.specs.declared.open.LengthFault.TheVariants.{Short, Long}
-use Rattle.cip_message.specs.Open.{Layout, small, large, Open}
+use Rattle.cip_message.specs.Open.{Layout, Open}
 use Rattle.cip_message.specs.Close.{Close, close_of}
 use Rattle.cip_objects.specs.Router.{general_status}
-use Rattle.cip_manager.specs.declared.reply.Service.{Service}
-use Rattle.cip_manager.specs.declared.reply.Service.TheVariants.{ForwardOpen, LargeForwardOpen, ForwardClose}
 use Rattle.cip_manager.specs.Replies.{SUCCESS, failure_reply, length_reply}
 use Rattle.cip_manager.specs.declared.connection.Connection.{Connection}
 use Rattle.cip_manager.specs.declared.connection.Triad.{Triad}
@@ -19,12 +20,12 @@ use Rattle.cip_manager.specs.Closing.{triad_of, closing_check, decided_closing, 
 use Rattle.cip_manager.specs.Items.{with_first, turn_of_found, item_turn}
 
 -- a refusal of any service does not say success
-failure-said : (service : Service) (extended : ℕ) (triad : Triad) → (general_status (failure_reply service extended triad) == SUCCESS) ≡ false
+failure-said : (service : ManagerService) (extended : ExtendedStatus) (triad : Triad) → (general_status (failure_reply service extended triad) == SUCCESS) ≡ false
 failure-said ForwardOpen extended triad = refl
 failure-said LargeForwardOpen extended triad = refl
 failure-said ForwardClose extended triad = refl
 
-length-said : (service : Service) (fault : LengthFault) → (general_status (length_reply service fault) == SUCCESS) ≡ false
+length-said : (service : ManagerService) (fault : LengthFault) → (general_status (length_reply service fault) == SUCCESS) ≡ false
 length-said ForwardOpen Short = refl
 length-said ForwardOpen Long = refl
 length-said LargeForwardOpen Short = refl
@@ -39,7 +40,7 @@ pub after_open : (P : Turn → Type 0) (layout : Layout) (manager : ManagerState
     → P (open_turn_in layout manager now session bytes)
 after_open P layout manager now session bytes stays opens = read (open_in layout bytes)
   where
-    decide : (asked : Opening) (check : Result (Unit {0}) ℕ) → opening_check manager asked ≡ check
+    decide : (asked : Opening) (check : Result (Unit {0}) ExtendedStatus) → opening_check manager asked ≡ check
         → P (decided_opening (service_in layout) manager now session asked check)
     decide asked (Err extended) e =
         stays (failure_reply (service_in layout) extended asked.triad) (failure-said (service_in layout) extended asked.triad)
@@ -56,7 +57,7 @@ pub after_close : (P : ManagerState → Type 0) (manager : ManagerState) (sessio
     → P (close_turn manager session bytes).manager
 after_close P manager session bytes stays ends = read (close_of bytes) refl
   where
-    decide : (request : Close) → close_of bytes ≡ Ok request → (check : Result (Unit {0}) ℕ)
+    decide : (request : Close) → close_of bytes ≡ Ok request → (check : Result (Unit {0}) ExtendedStatus)
         → P (decided_closing manager session (triad_of request) check).manager
     decide request e (Err extended) = stays
     decide request e (Ok passed) = ends request e

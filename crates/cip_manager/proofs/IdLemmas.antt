@@ -1,7 +1,7 @@
 -- IDs are drawn one after the other, and open connections have other IDs and other triads.
-use Rattle.std.proofs.Common.{◌≡◌, ℕ, ◌+◌, ◌<◌, ◌^◌, ltb-true, List, [], ◌∷◌, ◌++◌, Bool, true, false, cond, not, ◌&&◌, ◌||◌, ◌⊎◌, inl, inr, Result, Ok, Err, get_or, refl, ap, subst, sym, ◌∙◌, arith}
+use Rattle.std.proofs.Common.{◌≡◌, ℕ, ◌+◌, ◌<◌, List, [], ◌∷◌, ◌++◌, Bool, true, false, cond, not, ◌&&◌, ◌||◌, ◌⊎◌, inl, inr, Ok, get_or, refl, ap, subst, sym, ◌∙◌, arith}
 use Rattle.std.specs.Prelude.{filter, All, AllPairs, ◌==◌}
-use Rattle.std.specs.List.{list_any, AllByRecursion}
+use Rattle.std.specs.List.{list_any}
 use Rattle.std.proofs.lemmas.Bool.{eq-eqb}
 use Rattle.std.proofs.lemmas.List.Elements.{All-nil, All-cons, All-push, All-weaker, All-filter}
 use Rattle.std.proofs.lemmas.List.Kept.{AllPairs-filter}
@@ -13,46 +13,15 @@ use Rattle.cip_objects.specs.Router.{general_status}
 use Rattle.cip_manager.specs.declared.connection.Triad.{Triad}
 use Rattle.cip_manager.specs.declared.connection.Connection.{Connection}
 use Rattle.cip_manager.specs.declared.opening.Opening.{Opening}
-use Rattle.cip_manager.specs.Check.{demand, first_failure}
 use Rattle.cip_manager.specs.Connection.{is_same_triad, has_triad, is_of_session, is_of_session_with, is_named, is_open_at}
 use Rattle.cip_manager.specs.Manager.{ManagerState, Turn, no_connection}
-use Rattle.cip_manager.specs.Opening.{opening_check, opening_checks, new_connection, with_opening, open_success, decided_opening, service_in, open_turn_in}
+use Rattle.cip_manager.specs.Opening.{new_connection, with_opening, open_success, decided_opening, service_in, open_turn_in}
 use Rattle.cip_manager.specs.Closing.{triad_of}
 use Rattle.cip_manager.specs.Replies.{SUCCESS, o_to_t_id_in}
 use Rattle.cip_manager.specs.Runs.{Call, Opens, Closes, Receives, Expires, Ends, State, state_after_call, state_after, ids_of_call, ids_drawn, CountsFrom, AreApart}
+use Rattle.cip_manager.proofs.CheckLemmas.{HasRoom, passes_checks}
 use Rattle.cip_manager.proofs.CallLemmas.{after_open, after_close, after_item_turn}
 use Rattle.cip_manager.proofs.ListLemmas.{All-with_first, AllPairs-with_first}
-
--- where none fails, each check passed
-all-passed : (checks : List (Result (Unit {0}) ℕ)) → first_failure checks ≡ Ok tt → AllByRecursion (λ check. check ≡ Ok tt) checks
-all-passed [] e = tt
-all-passed (Ok passed ∷ checks) e = (refl, all-passed checks e)
-all-passed (Err extended ∷ checks) e = cc
-
-demand-passed : (b : Bool) (extended : ℕ) → demand b extended ≡ Ok tt → b ≡ true
-demand-passed true extended e = refl
-demand-passed false extended e = cc
-
--- what the last two checks of an opening say
-record HasRoom (manager : ManagerState) (asked : Opening) : Type 0 where
-  new_triad : list_any (has_triad asked.triad) manager.connections ≡ false
-  id_left : manager.next_id < 2 ^ 32
-
-both-second : (a b : Bool) → (a && b) ≡ true → b ≡ true
-both-second true b e = e
-both-second false b e = cc
-
-not-false : (b : Bool) → not b ≡ true → b ≡ false
-not-false true e = cc
-not-false false e = refl
-
-has_room : (manager : ManagerState) (asked : Opening) → opening_check manager asked ≡ Ok tt → HasRoom manager asked
-has_room manager asked e =
-    let passed = all-passed (opening_checks manager asked) e in
-    record {
-      new_triad = not-false _ (demand-passed _ 0x0100 passed.1.1.1.1.1.1.1.0);
-      id_left = ltb-true _ _ (both-second _ _ (demand-passed _ 0x0113 passed.1.1.1.1.1.1.1.1.0));
-    }
 
 -- a call draws no ID, or the next one
 record Draws (next after : ℕ) (ids : List ℕ) : Type 0 where
@@ -75,7 +44,7 @@ draws-open layout manager now session bytes =
     (λ asked check. record {
       drawn = inr (
         given-opened layout manager now session asked
-            (little_number-reads_back 4 manager.next_id [] (has_room manager asked check).id_left),
+            (little_number-reads_back 4 manager.next_id [] (passes_checks manager asked check).room.id_left),
         refl,
       );
     })
@@ -133,7 +102,7 @@ differ-filter p manager d = record {
   drawn = All-filter p (λ c. c.o_to_t_id < manager.next_id) manager.connections d.drawn;
 }
 
-differ-opening : (manager : ManagerState) (now session : ℕ) (asked : Opening) → HasRoom manager asked → Differ manager → Differ (with_opening manager now session asked)
+differ-opening : (manager : ManagerState) (now session : ℕ) (asked : Opening) → HasRoom manager asked.triad → Differ manager → Differ (with_opening manager now session asked)
 differ-opening manager now session asked room d =
     let cs = manager.connections in
     let new : Connection = new_connection manager.next_id now session asked in
@@ -152,7 +121,7 @@ module _ {M : Type 0} (after : M → ℕ → List ℕ → M) (answer : M → ℕ
   differ-call : (state : State M) (call : Call) → Differ state.manager → Differ (state_after_call after answer state call).manager
   differ-call state (Opens layout now session bytes) d =
       after_open (λ turn. Differ turn.manager) layout state.manager now session bytes (λ reply refused. d)
-      (λ asked check. differ-opening state.manager now session asked (has_room state.manager asked check) d)
+      (λ asked check. differ-opening state.manager now session asked (passes_checks state.manager asked check).room d)
   differ-call state (Closes session bytes) d =
       after_close Differ state.manager session bytes d (λ request e. differ-filter (λ c. not (is_of_session_with session (triad_of request) c)) state.manager d)
   differ-call state (Receives now session id bytes) d =

@@ -1,4 +1,5 @@
 pub mod CallLemmas
+pub mod CheckLemmas
 pub mod DeadlineLemmas
 pub mod FindLemmas
 pub mod IdLemmas

@@ -1,11 +1,13 @@
 -- Forward_Close (Volume 1, Connection Manager), and the other ends of connections: by time, and with their session.
 use Rattle.std.specs.Prelude.{ℕ, Bool, not, List, [], ◌∷◌, filter, Result, Ok, Err}
 use Rattle.std.specs.List.{list_any}
+use Rattle.cip_bytes.specs.declared.protocol.ExtendedStatus.{ExtendedStatus}
+use Rattle.cip_bytes.specs.declared.protocol.ExtendedStatus.TheVariants.{ConnectionNotFound}
+use Rattle.cip_bytes.specs.declared.protocol.ManagerService.TheVariants.{ForwardClose}
 use Rattle.cip_message.specs.declared.open.LengthFault.{LengthFault}
 use Rattle.cip_message.specs.Close.{Close, close_of}
 use Rattle.cip_manager.specs.declared.connection.Triad.{Triad}
 use Rattle.cip_manager.specs.declared.connection.Connection.{Connection}
-use Rattle.cip_manager.specs.declared.reply.Service.TheVariants.{ForwardClose}
 use Rattle.cip_manager.specs.Check.{demand, first_failure}
 use Rattle.cip_manager.specs.Connection.{is_of_session, is_of_session_with, is_open_at}
 use Rattle.cip_manager.specs.Manager.{ManagerState, Turn, turn}
@@ -25,14 +27,14 @@ without test manager = record manager { connections = filter (λ connection. not
 
 -- The check of a close, with the extended status that refuses it (beside the general status 0x01): the session has
 -- a connection with this triad. That its data are too short or too long was seen before, as they were read.
-abbrev pub closing_check : ManagerState → ℕ → Triad → Result (Unit {0}) ℕ
+abbrev pub closing_check : ManagerState → ℕ → Triad → Result (Unit {0}) ExtendedStatus
 closing_check manager session triad =
     first_failure (
-    demand (list_any (is_of_session_with session triad) manager.connections) 0x0107
+    demand (list_any (is_of_session_with session triad) manager.connections) ConnectionNotFound
     ∷ [])
 
 -- what follows the check
-abbrev pub decided_closing : ManagerState → ℕ → Triad → Result (Unit {0}) ℕ → Turn
+abbrev pub decided_closing : ManagerState → ℕ → Triad → Result (Unit {0}) ExtendedStatus → Turn
 decided_closing manager session triad (Err extended) = turn manager (failure_reply ForwardClose extended triad)
 decided_closing manager session triad (Ok passed) =
     turn (without (is_of_session_with session triad) manager) (close_success triad)

@@ -5,6 +5,14 @@
 use Rattle.std.specs.Prelude.{◌≡◌, ℕ, ◌+◌, ◌^◌, ◌≤◌, nat_lt, nat_le, ◌==◌, Bool, false, not, ◌&&◌, is_some, is_none}
 use Rattle.std.specs.Prelude.{List, [], ◌∷◌, ◌++◌, length, Option, Some, None, Result, Ok, Err}
 use Rattle.std.specs.List.{list_any}
+use Rattle.cip_bytes.specs.declared.protocol.TheConstants.{LARGEST_SIZE, SMALLEST_O_TO_T_SIZE, SMALLEST_T_TO_O_SIZE}
+use Rattle.cip_bytes.specs.declared.protocol.ManagerService.{ManagerService}
+use Rattle.cip_bytes.specs.declared.protocol.ManagerService.TheVariants.{ForwardOpen, LargeForwardOpen}
+use Rattle.cip_bytes.specs.declared.protocol.GeneralStatus.TheVariants.{Success}
+use Rattle.cip_bytes.specs.declared.protocol.ExtendedStatus.{ExtendedStatus}
+use Rattle.cip_bytes.specs.declared.protocol.ExtendedStatus.TheVariants.{DoubleOpen, Transport, ConnectionParameter}
+use Rattle.cip_bytes.specs.declared.protocol.ExtendedStatus.TheVariants.{ConnectionSize, Rpi, OutOfConnections}
+use Rattle.cip_bytes.specs.declared.protocol.ExtendedStatus.TheVariants.{ApplicationPath, PathSegment}
 use Rattle.cip_message.specs.declared.key.Device.{Device}
 use Rattle.cip_message.specs.declared.key.Key.{Key}
 use Rattle.cip_message.specs.declared.path.Path.{Path}
@@ -15,12 +23,9 @@ use Rattle.cip_message.specs.Open.{large_connection_type, large_size_of, is_serv
 use Rattle.cip_message.specs.OpenPath.{open_path_of}
 use Rattle.cip_message.specs.Key.{refusal}
 use Rattle.cip_manager.specs.declared.connection.Connection.{Connection}
-use Rattle.cip_manager.specs.declared.reply.Service.{Service}
-use Rattle.cip_manager.specs.declared.reply.Service.TheVariants.{ForwardOpen, LargeForwardOpen}
+use Rattle.cip_manager.specs.declared.connection.Triad.{Triad}
 use Rattle.cip_manager.specs.declared.opening.Direction.{Direction}
 use Rattle.cip_manager.specs.declared.opening.Opening.{Opening}
-use Rattle.cip_objects.specs.declared.status.Status.TheVariants.{Success}
-use Rattle.cip_class3.specs.Item.{LARGEST_SIZE}
 use Rattle.cip_class3.specs.TargetRule.{target_at_opening}
 use Rattle.cip_manager.specs.Check.{demand, refusal_by, first_failure}
 use Rattle.cip_manager.specs.Connection.{has_triad, timeout_of, deadline_at_opening}
@@ -77,7 +82,7 @@ abbrev pub is_size : ℕ → ℕ → Direction → Bool
 is_size least greatest direction = nat_le least direction.size && nat_le direction.size greatest
 
 -- the device refuses the key, where there is one
-abbrev pub key_refusal : Device → Option Key → Option ℕ
+abbrev pub key_refusal : Device → Option Key → Option ExtendedStatus
 key_refusal device None = None
 key_refusal device (Some key) = refusal device key
 
@@ -94,31 +99,49 @@ abbrev pub names_message_router : Option OpenPath → Bool
 names_message_router None = false
 names_message_router (Some o) = is_message_router o.path
 
--- The checks of an opening, in their order, each with the extended status that refuses it (beside the general
--- status 0x01). That its data are too short, 0x13, or too long, 0x15, was seen before, as they were read.
-abbrev pub opening_checks : ManagerState → Opening → List (Result (Unit {0}) ℕ)
-opening_checks manager asked =
-    demand (is_some asked.path) 0x0315
-    ∷ refusal_by (key_refusal manager.device (key_in asked.path))
-    ∷ demand (names_message_router asked.path) 0x0117
-    ∷ demand (asked.is_server && (asked.transport_class == 3)) 0x0103
-    ∷ demand (are_point_to_point asked && nat_le asked.timeout_multiplier 7) 0x0108
-    ∷ demand (is_size 4 LARGEST_SIZE asked.o_to_t && is_size 10 LARGEST_SIZE asked.t_to_o) 0x0109
-    ∷ demand (not (asked.o_to_t.rpi == 0)) 0x0111
-    ∷ demand (not (list_any (has_triad asked.triad) manager.connections)) 0x0100
-    ∷ demand (nat_lt (length manager.connections) manager.places && nat_lt manager.next_id (2 ^ 32)) 0x0113
+-- The checks of an opening, each with the extended status that refuses it (beside the general status 0x01). That its
+-- data are too short, 0x13, or too long, 0x15, was seen before, as they were read.
+
+-- those of its path: it names this device, and its Message Router
+abbrev pub path_checks : Device → Opening → List (Result (Unit {0}) ExtendedStatus)
+path_checks device asked =
+    demand (is_some asked.path) PathSegment
+    ∷ refusal_by (key_refusal device (key_in asked.path))
+    ∷ demand (names_message_router asked.path) ApplicationPath
     ∷ []
 
+-- those of its other fields, whatever is open already
+abbrev pub field_checks : Opening → List (Result (Unit {0}) ExtendedStatus)
+field_checks asked =
+    demand (asked.is_server && (asked.transport_class == 3)) Transport
+    ∷ demand (are_point_to_point asked && nat_le asked.timeout_multiplier 7) ConnectionParameter
+    ∷ demand (is_size SMALLEST_O_TO_T_SIZE LARGEST_SIZE asked.o_to_t
+    && is_size SMALLEST_T_TO_O_SIZE LARGEST_SIZE asked.t_to_o) ConnectionSize
+    ∷ demand (not (asked.o_to_t.rpi == 0)) Rpi
+    ∷ []
+
+-- those of what is open already
+abbrev pub room_checks : ManagerState → Triad → List (Result (Unit {0}) ExtendedStatus)
+room_checks manager triad =
+    demand (not (list_any (has_triad triad) manager.connections)) DoubleOpen
+    ∷ demand (nat_lt (length manager.connections) manager.places && nat_lt manager.next_id (2 ^ 32)) OutOfConnections
+    ∷ []
+
+-- all of them, in their order
+abbrev pub opening_checks : ManagerState → Opening → List (Result (Unit {0}) ExtendedStatus)
+opening_checks manager asked =
+    path_checks manager.device asked ++ field_checks asked ++ room_checks manager asked.triad
+
 -- why it is refused: the first check that fails
-abbrev pub opening_check : ManagerState → Opening → Result (Unit {0}) ℕ
+abbrev pub opening_check : ManagerState → Opening → Result (Unit {0}) ExtendedStatus
 opening_check manager asked = first_failure (opening_checks manager asked)
 
 -- what a connection can be made of
 pub record CanBeOpened (asked : Opening) : Type 0 where
   pub multiplier : asked.timeout_multiplier ≤ 7
-  pub o_to_t_from : 4 ≤ asked.o_to_t.size
+  pub o_to_t_from : SMALLEST_O_TO_T_SIZE ≤ asked.o_to_t.size
   pub o_to_t_to : asked.o_to_t.size ≤ LARGEST_SIZE
-  pub t_to_o_from : 10 ≤ asked.t_to_o.size
+  pub t_to_o_from : SMALLEST_T_TO_O_SIZE ≤ asked.t_to_o.size
   pub t_to_o_to : asked.t_to_o.size ≤ LARGEST_SIZE
 
 -- the connection that an opening asks for, with this ID
@@ -154,13 +177,13 @@ pub record OpensNext (old new : ManagerState) (reply : List ℕ) : Type 0 where
   pub behind : new.connections ≡ old.connections ++ connection ∷ []
 
 -- the reply to an opening that succeeds
-abbrev pub open_success : Service → ℕ → Opening → List ℕ
+abbrev pub open_success : ManagerService → ℕ → Opening → List ℕ
 open_success service id asked =
     reply_of_service service Success []
     (open_success_data id asked.t_to_o_id asked.triad asked.o_to_t.rpi asked.t_to_o.rpi)
 
 -- what follows the checks
-abbrev pub decided_opening : Service → ManagerState → ℕ → ℕ → Opening → Result (Unit {0}) ℕ → Turn
+abbrev pub decided_opening : ManagerService → ManagerState → ℕ → ℕ → Opening → Result (Unit {0}) ExtendedStatus → Turn
 decided_opening service manager now session asked (Err extended) =
     turn manager (failure_reply service extended asked.triad)
 decided_opening service manager now session asked (Ok passed) =
@@ -168,12 +191,12 @@ decided_opening service manager now session asked (Ok passed) =
 
 -- An opening of a session at a moment, by one service or the other: the first check that fails refuses it, and then
 -- nothing is changed.
-abbrev pub opening_turn : Service → ManagerState → ℕ → ℕ → Opening → Turn
+abbrev pub opening_turn : ManagerService → ManagerState → ℕ → ℕ → Opening → Turn
 opening_turn service manager now session asked =
     decided_opening service manager now session asked (opening_check manager asked)
 
 -- a layout's service, what its bytes spell, and what that asks for
-abbrev pub service_in : Layout → Service
+abbrev pub service_in : Layout → ManagerService
 service_in small = ForwardOpen
 service_in large = LargeForwardOpen
 

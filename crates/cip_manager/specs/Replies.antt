@@ -1,26 +1,24 @@
 -- What answers a Forward_Open, a Large_Forward_Open and a Forward_Close (Volume 1, Connection Manager): whole router replies.
 use Rattle.std.specs.Prelude.{ℕ, List, [], ◌∷◌, ◌++◌}
+use Rattle.cip_bytes.specs.declared.protocol.ManagerService.{ManagerService}
+use Rattle.cip_bytes.specs.declared.protocol.ManagerService.TheVariants.{ForwardClose}
+use Rattle.cip_bytes.specs.declared.protocol.GeneralStatus.{GeneralStatus}
+use Rattle.cip_bytes.specs.declared.protocol.GeneralStatus.TheVariants.{Success, ConnectionFailure, NotEnoughData}
+use Rattle.cip_bytes.specs.declared.protocol.GeneralStatus.TheVariants.{TooMuchData}
+use Rattle.cip_bytes.specs.declared.protocol.ExtendedStatus.{ExtendedStatus}
 use Rattle.cip_bytes.specs.Numbers.{le, number_at}
+use Rattle.cip_bytes.specs.Protocol.{manager_service_number, general_status_number, extended_status_number}
 use Rattle.cip_message.specs.Reply.{reply, reply_of_fields}
 use Rattle.cip_message.specs.declared.open.LengthFault.{LengthFault}
 use Rattle.cip_message.specs.declared.open.LengthFault.TheVariants.{Short, Long}
-use Rattle.cip_objects.specs.declared.status.Status.{Status}
-use Rattle.cip_objects.specs.declared.status.Status.TheVariants.{Success, ConnectionFailure, NotEnoughData, TooMuchData}
 use Rattle.cip_message.specs.Reply.{reply_service}
-use Rattle.cip_objects.specs.Status.{status_code}
-use Rattle.cip_manager.specs.declared.reply.Service.{Service}
-use Rattle.cip_manager.specs.declared.reply.Service.TheVariants.{ForwardOpen, LargeForwardOpen, ForwardClose}
 use Rattle.cip_manager.specs.declared.connection.Triad.{Triad}
 
-abbrev pub service_code : Service → ℕ
-service_code ForwardOpen = 0x54
-service_code LargeForwardOpen = 0x5b
-service_code ForwardClose = 0x4e
-
 -- the reply to a service, with this general status, additional words and data
-abbrev pub reply_of_service : Service → Status → List ℕ → List ℕ → List ℕ
+abbrev pub reply_of_service : ManagerService → GeneralStatus → List ℕ → List ℕ → List ℕ
 reply_of_service service status additional content =
-    reply (reply_of_fields (reply_service (service_code service)) (status_code status) additional content)
+    reply (reply_of_fields (reply_service (manager_service_number service)) (general_status_number status) additional
+    content)
 
 -- connection serial 2, originator vendor 2, originator serial 4
 abbrev pub triad_bytes : Triad → List ℕ
@@ -41,23 +39,24 @@ abbrev pub close_success_data : Triad → List ℕ
 close_success_data triad = triad_bytes triad ++ 0 ∷ 0 ∷ []
 
 -- data that are too short or too long
-abbrev pub length_status : LengthFault → Status
+abbrev pub length_status : LengthFault → GeneralStatus
 length_status Short = NotEnoughData
 length_status Long = TooMuchData
 
-abbrev pub length_reply : Service → LengthFault → List ℕ
+abbrev pub length_reply : ManagerService → LengthFault → List ℕ
 length_reply service fault = reply_of_service service (length_status fault) [] []
 
 -- general status 0x01, and an extended status
-abbrev pub failure_reply : Service → ℕ → Triad → List ℕ
-failure_reply service extended triad = reply_of_service service ConnectionFailure (extended ∷ []) (failure_data triad)
+abbrev pub failure_reply : ManagerService → ExtendedStatus → Triad → List ℕ
+failure_reply service extended triad =
+    reply_of_service service ConnectionFailure (extended_status_number extended ∷ []) (failure_data triad)
 
 abbrev pub close_success : Triad → List ℕ
 close_success triad = reply_of_service ForwardClose Success [] (close_success_data triad)
 
 -- the general status of a reply that does not refuse
 abbrev pub SUCCESS : ℕ
-SUCCESS = status_code Success
+SUCCESS = general_status_number Success
 
 -- the O->T ID in the reply to an opening that succeeds, behind its four bytes
 abbrev pub o_to_t_id_in : List ℕ → ℕ

@@ -1,8 +1,10 @@
 -- Worked rows: time-outs, deadlines and replies.
 use Rattle.std.specs.Prelude.{◌≡◌, ◌-◌, ◌^◌, [], ◌∷◌, refl}
+use Rattle.cip_bytes.specs.declared.protocol.ManagerService.TheVariants.{ForwardOpen, LargeForwardOpen, ForwardClose}
+use Rattle.cip_bytes.specs.declared.protocol.ExtendedStatus.TheVariants.{DoubleOpen, ConnectionNotFound}
+use Rattle.cip_bytes.specs.declared.protocol.ExtendedStatus.TheVariants.{ConnectionSize}
 use Rattle.cip_message.specs.declared.open.LengthFault.TheVariants.{Short, Long}
 use Rattle.cip_manager.specs.declared.connection.Triad.{Triad}
-use Rattle.cip_manager.specs.declared.reply.Service.TheVariants.{ForwardOpen, LargeForwardOpen, ForwardClose}
 use Rattle.cip_manager.specs.Connection.{timeout_of, deadline_at_opening, deadline_at_item}
 use Rattle.cip_manager.specs.Replies.{length_reply, failure_reply, close_success}
 
@@ -27,15 +29,15 @@ deadline-greatest = refl
 abbrev triad : Triad
 triad = record { connection_serial = 1; originator_vendor = 0x42; originator_serial = 0x12345678 }
 
-pub open-twice : failure_reply ForwardOpen 0x0100 triad
+pub open-twice : failure_reply ForwardOpen DoubleOpen triad
     ≡ 0xd4 ∷ 0 ∷ 1 ∷ 1 ∷ 0x00 ∷ 0x01 ∷ 0x01 ∷ 0x00 ∷ 0x42 ∷ 0x00 ∷ 0x78 ∷ 0x56 ∷ 0x34 ∷ 0x12 ∷ 0 ∷ 0 ∷ []
 open-twice = refl
 
-pub large-too-large : failure_reply LargeForwardOpen 0x0109 (record triad { connection_serial = 6 })
+pub large-too-large : failure_reply LargeForwardOpen ConnectionSize (record triad { connection_serial = 6 })
     ≡ 0xdb ∷ 0 ∷ 1 ∷ 1 ∷ 0x09 ∷ 0x01 ∷ 0x06 ∷ 0x00 ∷ 0x42 ∷ 0x00 ∷ 0x78 ∷ 0x56 ∷ 0x34 ∷ 0x12 ∷ 0 ∷ 0 ∷ []
 large-too-large = refl
 
-pub close-foreign : failure_reply ForwardClose 0x0107 triad
+pub close-foreign : failure_reply ForwardClose ConnectionNotFound triad
     ≡ 0xce ∷ 0 ∷ 1 ∷ 1 ∷ 0x07 ∷ 0x01 ∷ 0x01 ∷ 0x00 ∷ 0x42 ∷ 0x00 ∷ 0x78 ∷ 0x56 ∷ 0x34 ∷ 0x12 ∷ 0 ∷ 0 ∷ []
 close-foreign = refl
 

@@ -1,12 +1,12 @@
 //! One open connection (Volume 1, Connection Manager).
 ghost use Rattle.std.specs.Prelude.{◌≡◌, ◌≤◌, length};
 ghost use Rattle.cip_manager.specs.Opening.{CanBeOpened, new_connection};
-ghost use Rattle.cip_class3.specs.Item.{LARGEST_SIZE};
 ghost use Rattle.cip_manager.specs.Items.{view as reply_in, reply_of, connection_turn, turn_of_connection};
 ghost use Rattle.cip_manager.specs.Connection.{timeout_of, moment_after, is_of_session_with};
 
 use crate::manager::Answer;
 use crate::opening::Opening;
+use cip_bytes::protocol::LARGEST_SIZE;
 use cip_class3::{Received, Target};
 use cip_message::CloseRequest;
 use cip_objects::Router;

@@ -1,25 +1,22 @@
 //! The open connections, and the calls that change them (Volume 1, Connection Manager).
-ghost use Rattle.std.specs.Prelude.{◌≡◌, ◌≢◌, ◌≤◌, ◌+◌, ◌-◌, ◌<◌, ◌^◌, ◌&&◌, nat_lt, not, [], ◌∷◌, length, is_some, IfNone};
-ghost use Rattle.std.specs.Prelude.{IfSome, IfOk, OnOk};
+ghost use Rattle.std.specs.Prelude.{◌≡◌, ◌≢◌, ◌≤◌, ◌+◌, ◌-◌, ◌<◌, ◌^◌, length, is_some, IfNone, IfSome, IfOk, OnOk};
 ghost use Rattle.std.specs.List.{list_any};
 ghost use Rattle.std.specs.Option.{option_map};
 ghost use Rattle.std.specs.Borrow.{sem};
 ghost use Rattle.std.specs.Io.BufRead.{Rests};
-ghost use Rattle.cip_class3.specs.Item.{LARGEST_SIZE};
 ghost use Rattle.cip_manager.specs.Items.{view as reply_in, item_turn, is_taken};
-ghost use Rattle.cip_manager.specs.Check.{demand, first_failure};
-ghost use Rattle.cip_manager.specs.Connection.{has_id, has_triad};
+ghost use Rattle.cip_manager.specs.Check.{first_failure};
+ghost use Rattle.cip_manager.specs.Connection.{has_id};
 ghost use Rattle.cip_manager.specs.Index.{binary_digits};
-ghost use Rattle.cip_manager.specs.Opening.{CanBeOpened};
+ghost use Rattle.cip_manager.specs.Opening.{CanBeOpened, room_checks};
 
 use crate::connection::{Connection, Triad};
 use crate::group::Group;
 use crate::index::Steps;
-use crate::opening::{DOUBLE_OPEN, NO_MORE_CONNECTIONS, NO_SUCH_CONNECTION, Opening};
-use crate::reply::{
-    Service, write_close_success, write_failure, write_length_fault, write_open_success,
-};
+use crate::opening::Opening;
+use crate::reply::{write_close_success, write_failure, write_length_fault, write_open_success};
 use crate::table::Table;
+use cip_bytes::protocol::{ExtendedStatus, LARGEST_SIZE, ManagerService};
 use cip_message::{CloseRequest, Device, OpenRequest};
 use cip_objects::{ReplyBuf, Router};
 use std::alloc::{AllocError, Global};
@@ -111,9 +108,9 @@ impl Manager {
         match OpenRequest::read(data) {
             Ok(request) => {
                 let asked = Opening::of(&request);
-                self.open_as_asked(Service::ForwardOpen, now, session, &asked, reply);
+                self.open_as_asked(ManagerService::ForwardOpen, now, session, &asked, reply);
             }
-            Err(fault) => write_length_fault(Service::ForwardOpen, fault, reply),
+            Err(fault) => write_length_fault(ManagerService::ForwardOpen, fault, reply),
         }
     }
 
@@ -130,9 +127,15 @@ impl Manager {
         match OpenRequest::read_large(data) {
             Ok(request) => {
                 let asked = Opening::of_large(&request);
-                self.open_as_asked(Service::LargeForwardOpen, now, session, &asked, reply);
+                self.open_as_asked(
+                    ManagerService::LargeForwardOpen,
+                    now,
+                    session,
+                    &asked,
+                    reply,
+                );
             }
-            Err(fault) => write_length_fault(Service::LargeForwardOpen, fault, reply),
+            Err(fault) => write_length_fault(ManagerService::LargeForwardOpen, fault, reply),
         }
     }
 
@@ -147,7 +150,7 @@ impl Manager {
     {
         match CloseRequest::read(data) {
             Ok(request) => self.close_named(session, Triad::of(&request), reply),
-            Err(fault) => write_length_fault(Service::ForwardClose, fault, reply),
+            Err(fault) => write_length_fault(ManagerService::ForwardClose, fault, reply),
         }
     }
 
@@ -218,7 +221,12 @@ impl Manager {
     {
         let named = Group::OfSessionWith(session, triad);
         if !self.table.has_any(&named) {
-            write_failure(Service::ForwardClose, NO_SUCH_CONNECTION, triad, reply);
+            write_failure(
+                ManagerService::ForwardClose,
+                ExtendedStatus::ConnectionNotFound,
+                triad,
+                reply,
+            );
             return;
         }
         self.table.end(&named);
@@ -227,7 +235,7 @@ impl Manager {
 
     fn open_as_asked(
         &mut self,
-        service: Service,
+        service: ManagerService,
         now: u64,
         session: u32,
         asked: &Opening,
@@ -249,7 +257,7 @@ impl Manager {
     }
 
     /// Why an opening is refused: the first check that fails.
-    fn check(&self, asked: &Opening) -> Result<(), u16>
+    fn check(&self, asked: &Opening) -> Result<(), ExtendedStatus>
         ensures check { result ≡ opening_check self.now asked.now }
         ensures can_be { OnOk result (CanBeOpened asked.now) }
         ensures place { OnOk result (length self.now.connections < self.now.places) }
@@ -261,19 +269,16 @@ impl Manager {
     }
 
     /// The checks of what is open already.
-    fn check_room(&self, triad: Triad) -> Result<(), u16>
-        ensures check { result ≡ first_failure (
-            demand (not (list_any (has_triad triad) self.now.connections)) 0x0100
-            ∷ demand (nat_lt (length self.now.connections) self.now.places && nat_lt self.now.next_id (2 ^ 32)) 0x0113
-            ∷ []) }
+    fn check_room(&self, triad: Triad) -> Result<(), ExtendedStatus>
+        ensures check { result ≡ first_failure (room_checks self.now triad) }
         ensures place { OnOk result (length self.now.connections < self.now.places) }
         ensures id { OnOk result (self.now.next_id < 2 ^ 32) }
     {
         if self.table.has_any(&Group::WithTriad(triad)) {
-            return Err(DOUBLE_OPEN);
+            return Err(ExtendedStatus::DoubleOpen);
         }
         if self.table.free() == 0 || self.next_id > u64::from(u32::MAX) {
-            return Err(NO_MORE_CONNECTIONS);
+            return Err(ExtendedStatus::OutOfConnections);
         }
         Ok(())
     }

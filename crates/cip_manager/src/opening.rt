@@ -1,36 +1,18 @@
 //! What a Forward_Open or a Large_Forward_Open asks for, and the checks of it (Volume 1, Connection Manager).
-ghost use Rattle.std.specs.Prelude.{◌≡◌, ℕ, ◌==◌, ◌&&◌, nat_le, not, [], ◌∷◌, is_some, OnOk};
-ghost use Rattle.cip_class3.specs.Item.{LARGEST_SIZE};
+ghost use Rattle.std.specs.Prelude.{◌≡◌, ℕ, OnOk};
 ghost use Rattle.cip_message.specs.Open.{view, large_view, view_by};
-ghost use Rattle.cip_manager.specs.Check.{demand, refusal_by, first_failure};
+ghost use Rattle.cip_manager.specs.Check.{first_failure};
 ghost use Rattle.cip_manager.specs.Opening.{direction_of, large_direction_of, opening_of, large_opening_of};
-ghost use Rattle.cip_manager.specs.Opening.{opening_with, is_point_to_point, are_point_to_point, is_size};
-ghost use Rattle.cip_manager.specs.Opening.{key_in, key_refusal, is_message_router, names_message_router, CanBeOpened};
+ghost use Rattle.cip_manager.specs.Opening.{opening_with, is_point_to_point, is_size, key_refusal, is_message_router};
+ghost use Rattle.cip_manager.specs.Opening.{path_checks, field_checks, CanBeOpened};
 
 use crate::connection::Triad;
-use cip_class3::LARGEST_SIZE;
+use cip_bytes::protocol::{
+    ExtendedStatus, LARGEST_SIZE, SMALLEST_O_TO_T_SIZE, SMALLEST_T_TO_O_SIZE,
+};
 use cip_message::{
     Device, Key, LargeParameters, OpenPath, OpenRequest, Parameters, Path, read_open_path,
 };
-
-/// Extended status: an open connection has the same triad.
-pub const DOUBLE_OPEN: u16 = 0x0100;
-/// Extended status: the target is no server, or the class is not 3.
-pub const TRANSPORT: u16 = 0x0103;
-/// Extended status: no connection of the session has this triad.
-pub const NO_SUCH_CONNECTION: u16 = 0x0107;
-/// Extended status: the type of a direction is not point to point, or the multiplier is over 7.
-pub const CONNECTION_TYPE: u16 = 0x0108;
-/// Extended status: a size is not one that a connection can have.
-pub const SIZE: u16 = 0x0109;
-/// Extended status: the O->T RPI is 0.
-pub const RPI: u16 = 0x0111;
-/// Extended status: all places are taken, or all IDs were drawn.
-pub const NO_MORE_CONNECTIONS: u16 = 0x0113;
-/// Extended status: the path is not the Message Router's.
-pub const APPLICATION_PATH: u16 = 0x0117;
-/// Extended status: the path is none.
-pub const PATH_SEGMENT: u16 = 0x0315;
 
 /// The greatest timeout multiplier: 512 times the RPI.
 const GREATEST_MULTIPLIER: u8 = 7;
@@ -136,56 +118,49 @@ impl Opening {
     }
 
     /// The checks of the path: it names this device, and its Message Router.
-    pub fn check_path(&self, device: &Device) -> Result<(), u16>
-        ensures { result ≡ first_failure (
-            demand (is_some self.now.path) 0x0315
-            ∷ refusal_by (key_refusal device.now (key_in self.now.path))
-            ∷ demand (names_message_router self.now.path) 0x0117
-            ∷ []) }
+    pub fn check_path(&self, device: &Device) -> Result<(), ExtendedStatus>
+        ensures { result ≡ first_failure (path_checks device.now self.now) }
     {
         let Some(open_path) = &self.path else {
-            return Err(PATH_SEGMENT);
+            return Err(ExtendedStatus::PathSegment);
         };
         if let Some(extended) = key_refusal(device, open_path.key) {
             return Err(extended);
         }
         if !is_message_router(&open_path.path) {
-            return Err(APPLICATION_PATH);
+            return Err(ExtendedStatus::ApplicationPath);
         }
         Ok(())
     }
 
     /// The checks of what is asked for, whatever is open already.
-    pub fn check_fields(&self) -> Result<(), u16>
-        ensures check { result ≡ first_failure (
-            demand (self.now.is_server && (self.now.transport_class == 3)) 0x0103
-            ∷ demand (are_point_to_point self.now && nat_le self.now.timeout_multiplier 7) 0x0108
-            ∷ demand (is_size 4 LARGEST_SIZE self.now.o_to_t && is_size 10 LARGEST_SIZE self.now.t_to_o) 0x0109
-            ∷ demand (not (self.now.o_to_t.rpi == 0)) 0x0111
-            ∷ []) }
+    pub fn check_fields(&self) -> Result<(), ExtendedStatus>
+        ensures check { result ≡ first_failure (field_checks self.now) }
         ensures can_be { OnOk result (CanBeOpened self.now) }
     {
         if !self.is_server || self.transport_class != 3 {
-            return Err(TRANSPORT);
+            return Err(ExtendedStatus::Transport);
         }
         if !self.o_to_t.is_point_to_point()
             || !self.t_to_o.is_point_to_point()
             || self.timeout_multiplier > GREATEST_MULTIPLIER
         {
-            return Err(CONNECTION_TYPE);
+            return Err(ExtendedStatus::ConnectionParameter);
         }
-        if !self.o_to_t.has_size_from(4) || !self.t_to_o.has_size_from(10) {
-            return Err(SIZE);
+        if !self.o_to_t.has_size_from(SMALLEST_O_TO_T_SIZE)
+            || !self.t_to_o.has_size_from(SMALLEST_T_TO_O_SIZE)
+        {
+            return Err(ExtendedStatus::ConnectionSize);
         }
         if self.o_to_t.rpi == 0 {
-            return Err(RPI);
+            return Err(ExtendedStatus::Rpi);
         }
         Ok(())
     }
 }
 
 /// The extended status by which the device refuses the key, if there is one.
-fn key_refusal(device: &Device, key: Option<Key>) -> Option<u16>
+fn key_refusal(device: &Device, key: Option<Key>) -> Option<ExtendedStatus>
     ensures { result ≡ key_refusal device.now key }
 {
     match key {

@@ -1,54 +1,36 @@
 //! The router replies to Forward_Open, Large_Forward_Open and Forward_Close, written in place (Volume 1, Connection Manager).
 ghost use Rattle.std.specs.Prelude.{◌≡◌, ◌≤◌, ◌<◌, ◌+◌, [], ◌∷◌, ◌++◌, length};
 ghost use Rattle.arrayvec.specs.ArrayVec.{array_vec_len};
+ghost use Rattle.cip_bytes.specs.Protocol.{extended_status_number};
 ghost use Rattle.cip_manager.specs.Opening.{open_success};
-ghost use Rattle.cip_manager.specs.Replies.{service_code, close_success, reply_of_service, length_reply, failure_reply};
+ghost use Rattle.cip_manager.specs.Replies.{close_success, reply_of_service, length_reply, failure_reply};
 ghost use Rattle.cip_manager.specs.Replies.{triad_bytes};
 
 use crate::connection::Triad;
 use crate::opening::Opening;
+use cip_bytes::protocol::{ExtendedStatus, GeneralStatus, ManagerService, REPLY_LIMIT};
 use cip_bytes::{append, append_u16, append_u32};
 use cip_message::{LengthFault, write_reply};
-use cip_objects::{REPLY_LIMIT, ReplyBuf, Status};
-
-/// A service of the Connection Manager.
-#[derive(Clone, Copy, Debug, PartialEq, Eq)]
-pub enum Service {
-    ForwardOpen,
-    LargeForwardOpen,
-    ForwardClose,
-}
-
-impl Service {
-    /// The service as the byte of a request. (Volume 1, Connection Manager.)
-    fn code(self) -> u8
-        ensures { result ≡ service_code self }
-    {
-        match self {
-            Service::ForwardOpen => 0x54,
-            Service::LargeForwardOpen => 0x5b,
-            Service::ForwardClose => 0x4e,
-        }
-    }
-}
+use cip_objects::ReplyBuf;
 
 /// Leaves a reply with this status and no data.
-fn begin(service: Service, status: Status, reply: &mut ReplyBuf)
+fn begin(service: ManagerService, status: GeneralStatus, reply: &mut ReplyBuf)
     ensures text { reply.new.items ≡ reply_of_service service status [] [] }
     ensures len { array_vec_len reply.new ≡ 4 }
 {
     reply.clear();
-    let _ = write_reply(reply, service.code(), status.code(), &[], &[]);
+    let _ = write_reply(reply, service.number(), status.number(), &[], &[]);
 }
 
 /// Leaves a reply that refuses with this extended status, and has no data yet.
-fn begin_failure(service: Service, extended: u16, reply: &mut ReplyBuf)
-    ensures text { reply.new.items ≡ reply_of_service service Status.ConnectionFailure (extended ∷ []) [] }
+fn begin_failure(service: ManagerService, extended: ExtendedStatus, reply: &mut ReplyBuf)
+    ensures text { reply.new.items
+        ≡ reply_of_service service GeneralStatus.ConnectionFailure (extended_status_number extended ∷ []) [] }
     ensures len { array_vec_len reply.new ≡ 6 }
 {
-    let status = Status::ConnectionFailure.code();
+    let status = GeneralStatus::ConnectionFailure.number();
     reply.clear();
-    let _ = write_reply(reply, service.code(), status, &[extended], &[]);
+    let _ = write_reply(reply, service.number(), status, &[extended.number()], &[]);
 }
 
 /// Appends connection serial, originator vendor and originator serial.
@@ -63,18 +45,23 @@ fn append_triad(triad: Triad, reply: &mut ReplyBuf)
 }
 
 /// The data of the request are too short or too long.
-pub fn write_length_fault(service: Service, fault: LengthFault, reply: &mut ReplyBuf)
+pub fn write_length_fault(service: ManagerService, fault: LengthFault, reply: &mut ReplyBuf)
     ensures { reply.new.items ≡ length_reply service fault }
 {
     let status = match fault {
-        LengthFault::Short => Status::NotEnoughData,
-        LengthFault::Long => Status::TooMuchData,
+        LengthFault::Short => GeneralStatus::NotEnoughData,
+        LengthFault::Long => GeneralStatus::TooMuchData,
     };
     begin(service, status, reply);
 }
 
 /// The connection is refused with this extended status.
-pub fn write_failure(service: Service, extended: u16, triad: Triad, reply: &mut ReplyBuf)
+pub fn write_failure(
+    service: ManagerService,
+    extended: ExtendedStatus,
+    triad: Triad,
+    reply: &mut ReplyBuf,
+)
     ensures { reply.new.items ≡ failure_reply service extended triad }
 {
     begin_failure(service, extended, reply);
@@ -83,10 +70,10 @@ pub fn write_failure(service: Service, extended: u16, triad: Triad, reply: &mut 
 }
 
 /// The connection was opened with this O->T ID.
-pub fn write_open_success(service: Service, id: u32, asked: &Opening, reply: &mut ReplyBuf)
+pub fn write_open_success(service: ManagerService, id: u32, asked: &Opening, reply: &mut ReplyBuf)
     ensures { reply.new.items ≡ open_success service id asked.now }
 {
-    begin(service, Status::Success, reply);
+    begin(service, GeneralStatus::Success, reply);
     append_u32(reply, id);
     append_u32(reply, asked.t_to_o_id);
     append_triad(asked.triad, reply);
@@ -99,7 +86,7 @@ pub fn write_open_success(service: Service, id: u32, asked: &Opening, reply: &mu
 pub fn write_close_success(triad: Triad, reply: &mut ReplyBuf)
     ensures { reply.new.items ≡ close_success triad }
 {
-    begin(Service::ForwardClose, Status::Success, reply);
+    begin(ManagerService::ForwardClose, GeneralStatus::Success, reply);
     append_triad(triad, reply);
     append(reply, &[0, 0]);
 }

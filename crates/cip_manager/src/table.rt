@@ -2,7 +2,6 @@
 ghost use Rattle.std.specs.Prelude.{◌≡◌, ◌≤◌, ◌+◌, ◌-◌, ◌<◌, ◌^◌, ℕ, not, filter, [], ◌∷◌, ◌++◌, length, slice_index_or};
 ghost use Rattle.std.specs.Prelude.{IfOk, IfNone};
 ghost use Rattle.std.specs.List.{list_any, remove};
-ghost use Rattle.cip_class3.specs.Item.{LARGEST_SIZE};
 ghost use Rattle.cip_manager.specs.declared.connection.Connection.{Connection as OpenConnection};
 ghost use Rattle.cip_manager.specs.Connection.{has_id, is_open_at};
 ghost use Rattle.cip_manager.specs.Index.{binary_digits};
@@ -14,6 +13,7 @@ use crate::group::Group;
 use crate::index::{Index, Steps};
 use crate::manager::Answer;
 use crate::search::place_of;
+use cip_bytes::protocol::LARGEST_SIZE;
 use cip_class3::Received;
 use cip_objects::Router;
 use slab::Slab;

@@ -6,6 +6,8 @@ use Rattle.std.proofs.lemmas.Bool.Decides.{nat_tests}
 use Rattle.std.proofs.Common.{eq-eqb, leb-true, le-leb}
 use Rattle.cip_message.specs.declared.key.Key.{Key}
 use Rattle.cip_message.specs.declared.key.Device.{Device}
+use Rattle.cip_bytes.specs.declared.protocol.ExtendedStatus.{ExtendedStatus}
+use Rattle.cip_bytes.specs.declared.protocol.ExtendedStatus.TheVariants.{VendorOrProduct, DeviceType, Revision}
 use Rattle.cip_bytes.specs.Numbers.{le, AreBytes, number_at}
 use Rattle.cip_message.specs.Key.{IsKey, key, IsMet, MeetsVendor, MeetsType, MeetsRevision, is_met, refusal, key_of}
 use Rattle.cip_bytes.proofs.Bytes.{le2_back, le2_again}
@@ -126,8 +128,8 @@ revision_iff d k =
     ((λ e. let h = b.0 e in record { major = h.0; minor = h.1 }), (λ h. b.1 (h.major, h.minor)))
 
 -- the first of three tests that fails
-abbrev first_failed : Bool → Bool → Bool → Option ℕ
-first_failed v t r = cond v (cond t (cond r None (Some 0x0116)) (Some 0x0115)) (Some 0x0114)
+abbrev first_failed : Bool → Bool → Bool → Option ExtendedStatus
+first_failed v t r = cond v (cond t (cond r None (Some Revision)) (Some DeviceType)) (Some VendorOrProduct)
 
 none_failed : (v t r : Bool) {V T R : Type 0} → (v ≡ true) ↔ V → (t ≡ true) ↔ T → (r ≡ true) ↔ R → IsNone (first_failed v t r) ↔ (V × T × R)
 none_failed true true true p q s = ((λ e. (p.0 refl, q.0 refl, s.0 refl)), (λ h. refl))
@@ -135,29 +137,23 @@ none_failed true true false p q s = ((λ e. absurd cc), (λ h. absurd (let f = s
 none_failed true false r p q s = ((λ e. absurd cc), (λ h. absurd (let f = q.1 h.1 in cc)))
 none_failed false t r p q s = ((λ e. absurd cc), (λ h. absurd (let f = p.1 h.0 in cc)))
 
-same_some : (a b : ℕ) → Some a ≡ Some b → a ≡ b
-same_some a b e = cc
-
-apart : (a b : ℕ) → a < b → Some a ≡ Some b → ⊥
-apart a b lt e = let f = same_some a b e in omega arith
-
-first_is : (v t r : Bool) {V : Type 0} → (v ≡ true) ↔ V → (first_failed v t r ≡ Some 0x0114) ↔ (V → ⊥)
+first_is : (v t r : Bool) {V : Type 0} → (v ≡ true) ↔ V → (first_failed v t r ≡ Some VendorOrProduct) ↔ (V → ⊥)
 first_is true true true p = ((λ e. absurd cc), (λ n. absurd (n (p.0 refl))))
-first_is true true false p = ((λ e. absurd (apart 0x0114 0x0116 (omega arith) (sym e))), (λ n. absurd (n (p.0 refl))))
-first_is true false r p = ((λ e. absurd (apart 0x0114 0x0115 (omega arith) (sym e))), (λ n. absurd (n (p.0 refl))))
+first_is true true false p = ((λ e. absurd cc), (λ n. absurd (n (p.0 refl))))
+first_is true false r p = ((λ e. absurd cc), (λ n. absurd (n (p.0 refl))))
 first_is false t r p = ((λ e h. let f = p.1 h in absurd cc), (λ n. refl))
 
-second_is : (v t r : Bool) {V T : Type 0} → (v ≡ true) ↔ V → (t ≡ true) ↔ T → (first_failed v t r ≡ Some 0x0115) ↔ (V × (T → ⊥))
+second_is : (v t r : Bool) {V T : Type 0} → (v ≡ true) ↔ V → (t ≡ true) ↔ T → (first_failed v t r ≡ Some DeviceType) ↔ (V × (T → ⊥))
 second_is true true true p q = ((λ e. absurd cc), (λ n. absurd (n.1 (q.0 refl))))
-second_is true true false p q = ((λ e. absurd (apart 0x0115 0x0116 (omega arith) (sym e))), (λ n. absurd (n.1 (q.0 refl))))
+second_is true true false p q = ((λ e. absurd cc), (λ n. absurd (n.1 (q.0 refl))))
 second_is true false r p q = ((λ e. (p.0 refl, λ h. let f = q.1 h in absurd cc)), (λ n. refl))
-second_is false t r p q = ((λ e. absurd (apart 0x0114 0x0115 (omega arith) e)), (λ n. absurd (let f = p.1 n.0 in cc)))
+second_is false t r p q = ((λ e. absurd cc), (λ n. absurd (let f = p.1 n.0 in cc)))
 
-third_is : (v t r : Bool) {V T R : Type 0} → (v ≡ true) ↔ V → (t ≡ true) ↔ T → (r ≡ true) ↔ R → (first_failed v t r ≡ Some 0x0116) ↔ (V × T × (R → ⊥))
+third_is : (v t r : Bool) {V T R : Type 0} → (v ≡ true) ↔ V → (t ≡ true) ↔ T → (r ≡ true) ↔ R → (first_failed v t r ≡ Some Revision) ↔ (V × T × (R → ⊥))
 third_is true true true p q s = ((λ e. absurd cc), (λ n. absurd (n.2 (s.0 refl))))
 third_is true true false p q s = ((λ e. (p.0 refl, q.0 refl, λ h. let f = s.1 h in absurd cc)), (λ n. refl))
-third_is true false r p q s = ((λ e. absurd (apart 0x0115 0x0116 (omega arith) e)), (λ n. absurd (let f = q.1 n.1 in cc)))
-third_is false t r p q s = ((λ e. absurd (apart 0x0114 0x0116 (omega arith) e)), (λ n. absurd (let f = p.1 n.0 in cc)))
+third_is true false r p q s = ((λ e. absurd cc), (λ n. absurd (let f = q.1 n.1 in cc)))
+third_is false t r p q s = ((λ e. absurd cc), (λ n. absurd (let f = p.1 n.0 in cc)))
 
 abbrev vendor_test : Device → Key → Bool
 vendor_test d k = is_met k.vendor d.vendor && is_met k.product_code d.product_code
@@ -171,11 +167,11 @@ revision_test d k = is_met k.major d.major && (is_met k.minor d.minor || (k.comp
 pub accepted_iff : (d : Device) (k : Key) → IsNone (refusal d k) ↔ (MeetsVendor d k × MeetsType d k × MeetsRevision d k)
 accepted_iff d k = none_failed (vendor_test d k) (type_test d k) (revision_test d k) (vendor_iff d k) (met_iff k.device_type d.device_type) (revision_iff d k)
 
-pub vendor_refused : (d : Device) (k : Key) → (refusal d k ≡ Some 0x0114) ↔ (MeetsVendor d k → ⊥)
+pub vendor_refused : (d : Device) (k : Key) → (refusal d k ≡ Some VendorOrProduct) ↔ (MeetsVendor d k → ⊥)
 vendor_refused d k = first_is (vendor_test d k) (type_test d k) (revision_test d k) (vendor_iff d k)
 
-pub type_refused : (d : Device) (k : Key) → (refusal d k ≡ Some 0x0115) ↔ (MeetsVendor d k × (MeetsType d k → ⊥))
+pub type_refused : (d : Device) (k : Key) → (refusal d k ≡ Some DeviceType) ↔ (MeetsVendor d k × (MeetsType d k → ⊥))
 type_refused d k = second_is (vendor_test d k) (type_test d k) (revision_test d k) (vendor_iff d k) (met_iff k.device_type d.device_type)
 
-pub revision_refused : (d : Device) (k : Key) → (refusal d k ≡ Some 0x0116) ↔ (MeetsVendor d k × MeetsType d k × (MeetsRevision d k → ⊥))
+pub revision_refused : (d : Device) (k : Key) → (refusal d k ≡ Some Revision) ↔ (MeetsVendor d k × MeetsType d k × (MeetsRevision d k → ⊥))
 revision_refused d k = third_is (vendor_test d k) (type_test d k) (revision_test d k) (vendor_iff d k) (met_iff k.device_type d.device_type) (revision_iff d k)

@@ -2,6 +2,8 @@
 -- device answers it (Volume 1, Connection Manager).
 use Rattle.std.specs.Prelude.{◌≡◌, ◌⊎◌, ℕ, ◌+◌, ◌-◌, ◌<◌, ◌≤◌, ◌^◌, Bool, ◌&&◌, ◌||◌, ◌==◌, IsTrue, List, [], ◌∷◌, ◌++◌}
 use Rattle.std.specs.Prelude.{length, slice_index, Option, Some, None, nat_lt, nat_le, if◌then◌else◌}
+use Rattle.cip_bytes.specs.declared.protocol.ExtendedStatus.{ExtendedStatus}
+use Rattle.cip_bytes.specs.declared.protocol.ExtendedStatus.TheVariants.{VendorOrProduct, DeviceType, Revision}
 use Rattle.cip_bytes.specs.Numbers.{le, number_at}
 use Rattle.cip_message.specs.declared.key.Key.{Key}
 use Rattle.cip_message.specs.declared.key.Device.{Device}
@@ -46,14 +48,14 @@ abbrev pub is_met : ℕ → ℕ → Bool
 is_met asked has = (asked == 0) || (asked == has)
 
 -- the extended status that refuses the key: the first test that fails
-abbrev pub refusal : Device → Key → Option ℕ
+abbrev pub refusal : Device → Key → Option ExtendedStatus
 refusal d k =
     if is_met k.vendor d.vendor && is_met k.product_code d.product_code then
     (if is_met k.device_type d.device_type then
     (if is_met k.major d.major && (is_met k.minor d.minor || (k.compatible && nat_le k.minor d.minor)) then None
-    else Some 0x0116)
-    else Some 0x0115)
-    else Some 0x0114
+    else Some Revision)
+    else Some DeviceType)
+    else Some VendorOrProduct
 
 -- reading a key that is the whole text
 unfoldable pub key_of : List ℕ → Option Key

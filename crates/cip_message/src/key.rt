@@ -10,6 +10,7 @@ ghost use Rattle.cip_message.specs.Key.{is_met as is_met_by};
 
 use arrayvec::ArrayVec;
 use byteorder::{ByteOrder, LittleEndian};
+use cip_bytes::protocol::ExtendedStatus;
 use cip_bytes::{Full, append, append_u8, append_u16};
 
 /// What an electronic key asks of a device. A number 0 asks nothing.
@@ -93,13 +94,6 @@ pub struct Device {
     pub minor: u8,
 }
 
-/// Extended status: the vendor or the product code isn't the device's.
-pub const VENDOR_OR_PRODUCT_CODE: u16 = 0x0114;
-/// Extended status: the device type isn't the device's.
-pub const DEVICE_TYPE: u16 = 0x0115;
-/// Extended status: the revision isn't one that the device has.
-pub const REVISION: u16 = 0x0116;
-
 /// The key that is the whole text, or `None` where it isn't exactly one key.
 pub fn read_key(bytes: &[u8]) -> Option<Key>
     // What is read is spelled so, and what is spelled so is read.
@@ -143,14 +137,14 @@ fn is_met(asked: u16, has: u16) -> bool
 
 impl Device {
     /// The extended status that refuses the key, or `None` where the device meets it.
-    pub fn accepts(&self, key: &Key) -> Option<u16>
+    pub fn accepts(&self, key: &Key) -> Option<ExtendedStatus>
         ensures accepted { IsNone result
             ↔ (MeetsVendor self.now key.now × MeetsType self.now key.now × MeetsRevision self.now key.now) }
         // The first test that fails gives the status.
-        ensures vendor { (result ≡ Some VENDOR_OR_PRODUCT_CODE) ↔ ¬ MeetsVendor self.now key.now }
-        ensures device_type { (result ≡ Some DEVICE_TYPE)
+        ensures vendor { (result ≡ Some ExtendedStatus.VendorOrProduct) ↔ ¬ MeetsVendor self.now key.now }
+        ensures device_type { (result ≡ Some ExtendedStatus.DeviceType)
             ↔ (MeetsVendor self.now key.now × ¬ MeetsType self.now key.now) }
-        ensures revision { (result ≡ Some REVISION)
+        ensures revision { (result ≡ Some ExtendedStatus.Revision)
             ↔ (MeetsVendor self.now key.now × MeetsType self.now key.now × ¬ MeetsRevision self.now key.now) }
         ensures exact { result ≡ refusal self.now key.now }
     {
@@ -158,15 +152,15 @@ impl Device {
     }
 
     /// The first test that fails, as a computation.
-    fn refusal_of(&self, key: &Key) -> Option<u16>
+    fn refusal_of(&self, key: &Key) -> Option<ExtendedStatus>
         ensures { result ≡ refusal self.now key.now }
     {
         // vendor and product code first, then the device type, then the revision (ours)
         if !is_met(key.vendor, self.vendor) || !is_met(key.product_code, self.product_code) {
-            return Some(VENDOR_OR_PRODUCT_CODE);
+            return Some(ExtendedStatus::VendorOrProduct);
         }
         if !is_met(key.device_type, self.device_type) {
-            return Some(DEVICE_TYPE);
+            return Some(ExtendedStatus::DeviceType);
         }
         let same_major = is_met(u16::from(key.major), u16::from(self.major));
         // with the compatibility bit a minor revision up to the device's will do (key segment)
@@ -174,7 +168,7 @@ impl Device {
         if same_major && (same_minor || key.compatible && key.minor <= self.minor) {
             None
         } else {
-            Some(REVISION)
+            Some(ExtendedStatus::Revision)
         }
     }
 }

@@ -23,7 +23,8 @@ use Rattle.cip_objects.specs.ChangeServices.{Change, after_add, is_allowed, set_
 use Rattle.cip_objects.specs.Execution.{Outcome, perform, outcome, Executed, with_reply, or_refusal, exec, reply_to, run}
 use Rattle.cip_objects.specs.Run.{value_of, limit_of, additions_of, IsCounter, is_counter, to_counter, addition, sum_after, sum_since_cleared, number_of_additions, counter_law}
 use Rattle.cip_objects.specs.Router.{general_status}
-use Rattle.cip_objects.specs.Status.{status_code, completion_status, refusal_status}
+use Rattle.cip_bytes.specs.Protocol.{general_status_number}
+use Rattle.cip_objects.specs.Status.{completion_status, refusal_status}
 use Rattle.cip_objects.specs.ExecutionLaws.{reply_of_outcome}
 use Rattle.cip_objects.proofs.Executed.{answered_by}
 use Rattle.cip_objects.proofs.Refuses.{no_success}
@@ -264,9 +265,9 @@ cond_none : (t : Bool) → ◌≡◌ {A = Option ℕ} (cond t None None) None
 cond_none true = refl
 cond_none false = refl
 
-told : (m : Contents) (text reply : List ℕ) (o : Outcome) → Effect m text o → general_status reply ≡ status_code (completion_status o.status) → (o.status ≡ Whole) ⊎ ((added_by text ≡ None) × (clears_by text ≡ false)) → Stepped m text (record { after = o.after; answer = reply })
+told : (m : Contents) (text reply : List ℕ) (o : Outcome) → Effect m text o → general_status reply ≡ general_status_number (completion_status o.status) → (o.status ≡ Whole) ⊎ ((added_by text ≡ None) × (clears_by text ≡ false)) → Stepped m text (record { after = o.after; answer = reply })
 told m text reply o x g (inl done) =
-    let e : eqb (general_status reply) 0 ≡ true = ap (λ n. eqb n 0) (g ∙ ap (λ c. status_code (completion_status c)) done) in
+    let e : eqb (general_status reply) 0 ≡ true = ap (λ n. eqb n 0) (g ∙ ap (λ c. general_status_number (completion_status c)) done) in
     record {
       value = x.value ∙ sym (ap (λ t. cond (t && clears_by text) 0 (value_of m + unwrap_or (cond t (added_by text) None) 0)) e);
       additions = x.additions ∙ sym (ap (λ t. (additions_of m + cond (is_some (cond t (added_by text) None)) 1 0) % 2 ^ 32) e);

@@ -1,18 +1,19 @@
 -- A reply that was written in place is the reply of the execution.
-use Rattle.std.proofs.Common.{◌≡◌, ℕ, Bool, true, false, cond, nat_lt, List, [], ◌++◌, length, set, Result, Ok, Err, OnErr, refl, sym, ap, ◌∙◌}
+use Rattle.std.proofs.Common.{◌≡◌, ℕ, Bool, true, false, cond, nat_lt, List, [], ◌++◌, length, set, Result, Ok, Err, OnErr, ap}
 use Rattle.cip_bytes.specs.Reading.{◌>>=◌}
 use Rattle.cip_objects.specs.declared.status.Completion.{Completion}
 use Rattle.cip_objects.specs.declared.status.Refusal.{Refusal}
 use Rattle.cip_objects.specs.declared.status.Refusal.TheVariants.{ReplyDataTooLarge}
-use Rattle.cip_objects.specs.declared.status.Status.TheVariants.{Success}
+use Rattle.cip_bytes.specs.declared.protocol.GeneralStatus.TheVariants.{Success}
 use Rattle.cip_objects.specs.Contents.{Contents}
 use Rattle.cip_objects.specs.Execution.{Outcome, outcome, outcome_left, outcome_in_room, reply_to, Executed, with_reply, or_refusal, exec}
 use Rattle.cip_objects.specs.ExecutionLaws.{reply_of_outcome}
-use Rattle.cip_objects.specs.Status.{status_code, completion_status, refusal_status}
+use Rattle.cip_bytes.specs.Protocol.{general_status_number}
+use Rattle.cip_objects.specs.Status.{completion_status, refusal_status}
 
 -- the reply once its status was put in
 abbrev pub finished : List ℕ → Result Completion Refusal → List ℕ → List ℕ
-finished text (Ok completion) reply = set reply 2 (status_code (completion_status completion))
+finished text (Ok completion) reply = set reply 2 (general_status_number (completion_status completion))
 finished text (Err s) reply = reply_to text (refusal_status s) []
 
 pub record IsExecuted (x : Executed) (text : List ℕ) (new : Contents) (result : Result Completion Refusal) (reply : List ℕ) : Type 0 where
@@ -49,7 +50,7 @@ went false m text o new (Ok status) reply un e =
     let same = same_ok (record { after = new; status = status; content = reply }) (record { after = o.after; status = o.status; content = reply_to text Success [] ++ o.content }) e in
     record {
       state = ap (λ x. x.after) same;
-      text_is = ap (λ x. set x.content 2 (status_code (completion_status x.status))) same;
+      text_is = ap (λ x. set x.content 2 (general_status_number (completion_status x.status))) same;
     }
 
 is_executed : (m : Contents) (room : ℕ) (text : List ℕ) (r : Result Outcome Refusal) (new : Contents) (result : Result Completion Refusal) (reply : List ℕ) → OnErr result (new ≡ m)

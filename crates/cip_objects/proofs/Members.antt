@@ -9,7 +9,6 @@ use Rattle.cip_message.specs.Request.{Request}
 use Rattle.cip_objects.specs.declared.assembly.Span.{Span}
 use Rattle.cip_objects.specs.declared.service.Service.{Service}
 use Rattle.cip_objects.specs.declared.service.Service.TheVariants.{GetAttributesAll, GetAttributeList, GetAttributeSingle, SetAttributeSingle, GetMember, SetMember, Add, Clear}
-use Rattle.cip_objects.specs.declared.status.Status.TheVariants.{Success}
 use Rattle.cip_objects.specs.declared.status.Completion.TheVariants.{Whole}
 use Rattle.cip_objects.specs.declared.status.Refusal.TheVariants.{AttributeNotSupported, InvalidMemberId}
 use Rattle.cip_objects.specs.Check.{demand}

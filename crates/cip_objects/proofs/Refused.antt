@@ -1,5 +1,5 @@
 -- Replies that say neither success nor a missing attribute, the room of a reply, and what is never set.
-use Rattle.std.proofs.Common.{◌≡◌, ℕ, ◌≤◌, ◌⊎◌, inl, inr, Bool, true, false, cond, nat_lt, List, [], length, Result, Ok, Err, refl, sym, ap, ◌∙◌, arith, subst}
+use Rattle.std.proofs.Common.{◌≡◌, ℕ, ◌≤◌, ◌⊎◌, inl, inr, Bool, true, false, nat_lt, List, length, Result, Ok, Err, refl, sym, ◌∙◌, arith, subst}
 use Rattle.std.proofs.lemmas.Bool.Decides.{nat_tests}
 use Rattle.cip_bytes.specs.Reading.{◌>>=◌}
 use Rattle.cip_message.specs.declared.path.Path.{Path}
@@ -11,10 +11,11 @@ use Rattle.cip_objects.specs.declared.status.Completion.TheVariants.{Whole, Part
 use Rattle.cip_objects.specs.Contents.{Contents}
 use Rattle.cip_objects.specs.ReadServices.{get_attribute_single, get_attributes_all, get_attribute_list, get_member}
 use Rattle.cip_objects.specs.Execution.{Outcome, perform, outcome, Executed, with_reply, or_refusal, exec}
-use Rattle.cip_objects.specs.ExecutionLaws.{reply_of_outcome, IsOutcome, is_outcome}
+use Rattle.cip_objects.specs.ExecutionLaws.{reply_of_outcome, is_outcome}
 use Rattle.cip_objects.specs.Laws.{refused_law, any_room_law}
 use Rattle.cip_objects.specs.Router.{general_status}
-use Rattle.cip_objects.specs.Status.{status_code, completion_status}
+use Rattle.cip_bytes.specs.Protocol.{general_status_number}
+use Rattle.cip_objects.specs.Status.{completion_status}
 use Rattle.cip_objects.proofs.Executed.{answered_by}
 use Rattle.cip_objects.proofs.Refuses.{IsFine}
 use Rattle.cip_objects.proofs.Effects.{goes, read_effect}
@@ -25,7 +26,7 @@ record IsBare (m : Contents) (x : Executed) : Type 0 where
   few : length x.answer ≡ 4
   same : x.after ≡ m
 
-says : (c : Completion) → IsFine (status_code (completion_status c))
+says : (c : Completion) → IsFine (general_status_number (completion_status c))
 says Whole = inl refl
 says Partial = inr refl
 

@@ -8,14 +8,15 @@ use Rattle.cip_objects.specs.Contents.{Contents}
 use Rattle.cip_objects.specs.Execution.{Outcome, outcome, Executed, with_reply, or_refusal, exec}
 use Rattle.cip_objects.specs.ExecutionLaws.{IsOutcome, is_outcome}
 use Rattle.cip_objects.specs.Router.{general_status}
-use Rattle.cip_objects.specs.Status.{status_code, refusal_status}
+use Rattle.cip_bytes.specs.Protocol.{general_status_number}
+use Rattle.cip_objects.specs.Status.{refusal_status}
 
 -- success, or that an attribute of a list is missing
 abbrev pub IsFine : ℕ → Type 0
 IsFine n = (n ≡ 0x00) ⊎ (n ≡ 0x0a)
 
 abbrev is_fine : Refusal → Bool
-is_fine s = eqb (status_code (refusal_status s)) 0x00 || eqb (status_code (refusal_status s)) 0x0a
+is_fine s = eqb (general_status_number (refusal_status s)) 0x00 || eqb (general_status_number (refusal_status s)) 0x0a
 
 none_fine : (s : Refusal) → is_fine s ≡ false
 none_fine PathSegmentError = refl
@@ -35,8 +36,8 @@ neither : (a b : Bool) → a || b ≡ false → a ≡ false
 neither true b e = absurd (cc)
 neither false b e = refl
 
-pub no_success : (s : Refusal) → eqb (status_code (refusal_status s)) 0 ≡ false
-no_success s = neither (eqb (status_code (refusal_status s)) 0x00) (eqb (status_code (refusal_status s)) 0x0a) (none_fine s)
+pub no_success : (s : Refusal) → eqb (general_status_number (refusal_status s)) 0 ≡ false
+no_success s = neither (eqb (general_status_number (refusal_status s)) 0x00) (eqb (general_status_number (refusal_status s)) 0x0a) (none_fine s)
 
 not_both : (n : ℕ) → (eqb n 0x00 || eqb n 0x0a) ≡ false → IsFine n → ⊥
 not_both n h (inl e) = grind (arith, nat_tests)
@@ -46,7 +47,7 @@ by_refusal : (m : Contents) (room : ℕ) (text : List ℕ) (r : Result Outcome R
     → (r >>= with_reply room text) ≡ q → IsFine (general_status (or_refusal m text q).answer)
     → IsOutcome room text r (or_refusal m text q)
 by_refusal m room text r (Ok x) e f = is_outcome room text r x e
-by_refusal m room text r (Err s) e f = absurd (not_both (status_code (refusal_status s)) (none_fine s) f)
+by_refusal m room text r (Err s) e f = absurd (not_both (general_status_number (refusal_status s)) (none_fine s) f)
 
 -- a reply that says one of these is that of an outcome
 pub exec_outcome : (m : Contents) (room : ℕ) (text : List ℕ) → IsFine (general_status (exec m room text).answer)

@@ -10,7 +10,7 @@ use Rattle.cip_objects.specs.declared.service.Service.{Service}
 use Rattle.cip_objects.specs.declared.service.Service.TheVariants.{GetAttributesAll, GetAttributeList}
 use Rattle.cip_objects.specs.declared.service.Service.TheVariants.{GetAttributeSingle, SetAttributeSingle, GetMember}
 use Rattle.cip_objects.specs.declared.service.Service.TheVariants.{SetMember, Add, Clear}
-use Rattle.cip_objects.specs.declared.status.Status.{Status}
+use Rattle.cip_bytes.specs.declared.protocol.GeneralStatus.{GeneralStatus}
 use Rattle.cip_objects.specs.declared.status.Completion.{Completion}
 use Rattle.cip_objects.specs.declared.status.Completion.TheVariants.{Whole}
 use Rattle.cip_objects.specs.declared.status.Refusal.{Refusal}
@@ -21,7 +21,8 @@ use Rattle.cip_objects.specs.ReadServices.{Answer, service_at, get_attribute_sin
 use Rattle.cip_objects.specs.ReadServices.{get_attribute_list, get_member}
 use Rattle.cip_objects.specs.ChangeServices.{Change, set_attribute_single, set_member, add, clear}
 use Rattle.cip_message.specs.Reply.{reply_service}
-use Rattle.cip_objects.specs.Status.{status_code, completion_status, refusal_status}
+use Rattle.cip_bytes.specs.Protocol.{general_status_number}
+use Rattle.cip_objects.specs.Status.{completion_status, refusal_status}
 
 -- what an execution leaves, how much it has done, and the data of the reply
 pub record Outcome : Type 0 where
@@ -82,9 +83,9 @@ outcome m text = do
   perform m service path request.data
 
 -- a reply of this status: the service of the request with bit 7, no additional words
-abbrev pub reply_to : List ℕ → Status → List ℕ → List ℕ
+abbrev pub reply_to : List ℕ → GeneralStatus → List ℕ → List ℕ
 reply_to text status content =
-    reply (reply_of_fields (reply_service (slice_index text 0)) (status_code status) [] content)
+    reply (reply_of_fields (reply_service (slice_index text 0)) (general_status_number status) [] content)
 
 -- the map after a request and its reply
 pub record Executed : Type 0 where

@@ -1,5 +1,5 @@
 -- What holds of every execution: what the laws of the trait `Router` say of the objects.
-use Rattle.std.specs.Prelude.{◌≡◌, ℕ, ◌≤◌, Bool, true, false, cond, nat_lt, List, [], length, Result, Ok, Err, refl}
+use Rattle.std.specs.Prelude.{◌≡◌, ℕ, ◌≤◌, Bool, true, false, cond, nat_lt, List, length, Result, Ok, Err, refl}
 use Rattle.std.proofs.Common.{sym, ap, subst, arith}
 use Rattle.std.proofs.lemmas.Bool.Decides.{nat_tests}
 use Rattle.cip_bytes.specs.Reading.{◌>>=◌}
@@ -10,7 +10,8 @@ use Rattle.cip_objects.specs.declared.status.Refusal.TheVariants.{ReplyDataTooLa
 use Rattle.cip_objects.specs.Contents.{Contents}
 use Rattle.cip_objects.specs.Execution.{Outcome, outcome, reply_to, Executed, with_reply, or_refusal, exec}
 use Rattle.cip_objects.specs.Router.{general_status, IsReplyTo, REPLY_TOO_LARGE}
-use Rattle.cip_objects.specs.Status.{status_code, completion_status, refusal_status}
+use Rattle.cip_bytes.specs.Protocol.{general_status_number}
+use Rattle.cip_objects.specs.Status.{completion_status}
 
 -- the reply to an outcome
 abbrev pub reply_of_outcome : List ℕ → Outcome → List ℕ
@@ -49,7 +50,7 @@ pub is_outcome : (room : ℕ) (text : List ℕ) (r : Result Outcome Refusal) (x 
 is_outcome room text (Ok o) x e = by_test (nat_lt room (length (reply_of_outcome text o))) room text o x refl e
 is_outcome room text (Err s) x e = absurd (cc)
 
-not_too_large : (c : Completion) → status_code (completion_status c) ≡ REPLY_TOO_LARGE → ⊥
+not_too_large : (c : Completion) → general_status_number (completion_status c) ≡ REPLY_TOO_LARGE → ⊥
 not_too_large Whole e = omega arith
 not_too_large Partial e = omega arith
 

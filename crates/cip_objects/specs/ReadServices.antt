@@ -17,7 +17,8 @@ use Rattle.cip_bytes.specs.Reading.{◌>>=◌, ◌>>◌}
 use Rattle.cip_objects.specs.Check.{demand, exactly}
 use Rattle.cip_objects.specs.Contents.{Contents, value_at, bytes_at}
 use Rattle.cip_objects.specs.Service.{service_in}
-use Rattle.cip_objects.specs.Status.{status_code, completion_status, refusal_status}
+use Rattle.cip_bytes.specs.Protocol.{general_status_number}
+use Rattle.cip_objects.specs.Status.{completion_status, refusal_status}
 use Rattle.cip_objects.specs.Tables.{Shape, services_of, member_at, ASSEMBLY}
 
 -- the service of this code, where the class and instance are there and have it
@@ -59,8 +60,8 @@ get_attributes_all m path content = do
 
 -- one attribute of a list: its number, its status, and its value where it is there
 abbrev pub list_entry_of : ℕ → Option (List ℕ) → List ℕ
-list_entry_of attribute None = le 2 attribute ++ le 2 (status_code (refusal_status AttributeNotSupported))
-list_entry_of attribute (Some value) = le 2 attribute ++ (le 2 (status_code (completion_status Whole)) ++ value)
+list_entry_of attribute None = le 2 attribute ++ le 2 (general_status_number (refusal_status AttributeNotSupported))
+list_entry_of attribute (Some value) = le 2 attribute ++ (le 2 (general_status_number (completion_status Whole)) ++ value)
 
 unfoldable pub list_entry : Contents → Path → ℕ → List ℕ
 list_entry m path attribute = list_entry_of attribute (value_at m path.class path.instance attribute)

@@ -1,5 +1,7 @@
 -- What every reply of a router has (Volume 1, Message Router response format).
 use Rattle.std.specs.Prelude.{◌≡◌, ℕ, ◌≤◌, List, length, slice_index}
+use Rattle.cip_bytes.specs.declared.protocol.GeneralStatus.TheVariants.{ReplyDataTooLarge}
+use Rattle.cip_bytes.specs.Protocol.{general_status_number}
 use Rattle.cip_message.specs.Reply.{reply_service}
 
 -- the general status of a reply: service, a reserved byte, the status, the size of the additional status
@@ -8,7 +10,7 @@ general_status reply = slice_index reply 2
 
 -- the general status "reply data too large"
 abbrev pub REPLY_TOO_LARGE : ℕ
-REPLY_TOO_LARGE = 0x11
+REPLY_TOO_LARGE = general_status_number ReplyDataTooLarge
 
 -- reply has the four bytes that each reply begins with, and its service answers the request's
 pub record IsReplyTo (request reply : List ℕ) : Type 0 where

@@ -4,15 +4,15 @@ ghost use Rattle.cip_message.specs.Reply.{reply as spelled, reply_of_fields};
 ghost use Rattle.cip_objects.specs.Destination.{IsThere, Has, path_to};
 ghost use Rattle.cip_objects.specs.Execution.{outcome_left, outcome_in_room, perform, outcome, exec};
 ghost use Rattle.cip_message.specs.Reply.{reply_service};
-ghost use Rattle.cip_objects.specs.Status.{status_code};
+ghost use Rattle.cip_bytes.specs.Protocol.{general_status_number};
 
-use crate::Status;
 use crate::destination::Subject;
 use crate::objects::Objects;
-use crate::router::{REPLY_LIMIT, ReplyBuf, Router};
+use crate::router::{ReplyBuf, Router};
 use crate::service::Service;
 use crate::status::{Completion, Refusal};
 use crate::text::append;
+use cip_bytes::protocol::{GeneralStatus, REPLY_LIMIT};
 use cip_message::{RequestView, read_path, reply_service};
 
 impl Objects {
@@ -111,22 +111,22 @@ impl Objects {
 }
 
 /// Begins a reply to a request of this service: bit 7, a reserved byte, the status, no additional words.
-fn begin(service: u8, status: Status, reply: &mut ReplyBuf)
-    ensures { reply.new.items ≡ spelled (reply_of_fields (reply_service service) (status_code status) [] []) }
+fn begin(service: u8, status: GeneralStatus, reply: &mut ReplyBuf)
+    ensures { reply.new.items ≡ spelled (reply_of_fields (reply_service service) (general_status_number status) [] []) }
 {
     reply.clear();
     reply.push(reply_service(service));
     reply.push(0);
-    reply.push(status.code());
+    reply.push(status.number());
     reply.push(0);
 }
 
 /// Puts the status into a reply that was begun.
-fn set_status(status: Status, reply: &mut ReplyBuf)
+fn set_status(status: GeneralStatus, reply: &mut ReplyBuf)
     requires { 4 ≤ length reply.old.items }
-    ensures { reply.new.items ≡ slice_set reply.old.items 2 (status_code status) }
+    ensures { reply.new.items ≡ slice_set reply.old.items 2 (general_status_number status) }
 {
-    reply.as_mut_slice()[2] = status.code();
+    reply.as_mut_slice()[2] = status.number();
 }
 
 impl Router for Objects {
@@ -138,7 +138,7 @@ impl Router for Objects {
 
     /// The map and the reply of the definition `exec`. Takes no memory.
     fn execute(&mut self, request: &[u8], room: usize, reply: &mut ReplyBuf) {
-        begin(request[0], Status::Success, reply);
+        begin(request[0], GeneralStatus::Success, reply);
         match self.perform_request(request, room, reply) {
             Ok(completion) => set_status(completion.status(), reply),
             Err(refusal) => begin(request[0], refusal.status(), reply),

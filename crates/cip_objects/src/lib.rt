@@ -27,7 +27,7 @@ mod status;
 mod text;
 mod value;
 
+pub use cip_bytes::protocol::{GeneralStatus, REPLY_LIMIT};
 pub use config::{AssemblyConfig, Config, ConfigFault, CounterConfig};
 pub use objects::Objects;
-pub use router::{REPLY_LIMIT, ReplyBuf, Router};
-pub use status::Status;
+pub use router::{ReplyBuf, Router};

@@ -14,11 +14,12 @@ ghost use Rattle.cip_objects.specs.Value.{value_bytes};
 use crate::check::exactly;
 use crate::destination::{Destination, Member, Subject};
 use crate::objects::Objects;
-use crate::router::{REPLY_LIMIT, ReplyBuf};
+use crate::router::ReplyBuf;
 use crate::status::{Completion, Refusal};
 use crate::text::append;
 use crate::value::Value;
 use byteorder::{ByteOrder, LittleEndian};
+use cip_bytes::protocol::REPLY_LIMIT;
 
 impl Objects {
     /// Get_Attribute_Single: the attribute's value.

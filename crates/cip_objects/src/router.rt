@@ -3,9 +3,7 @@ ghost use Rattle.std.specs.Prelude.{◌≡◌, ℕ, List, ◌≤◌, length};
 ghost use Rattle.cip_objects.specs.Router.{general_status, IsReplyTo, REPLY_TOO_LARGE};
 
 use arrayvec::ArrayVec;
-
-/// The most bytes of a router reply (ours).
-pub const REPLY_LIMIT: usize = 4_000;
+use cip_bytes::protocol::REPLY_LIMIT;
 
 /// The bytes of one router reply: at most `REPLY_LIMIT`.
 pub type ReplyBuf = ArrayVec<u8, REPLY_LIMIT>;

@@ -2,8 +2,9 @@
 ghost use Rattle.std.specs.Prelude.{◌≡◌, ◌≤◌, ◌++◌, [], ◌∷◌};
 ghost use Rattle.cip_objects.specs.Text.{Writes};
 
-use crate::router::{REPLY_LIMIT, ReplyBuf};
+use crate::router::ReplyBuf;
 use crate::status::Refusal;
+use cip_bytes::protocol::REPLY_LIMIT;
 
 /// Appends bytes to a reply, where it then has at most `room` bytes.
 #[inline(always)]

@@ -2,9 +2,10 @@
 ghost use Rattle.std.specs.Prelude.{◌≡◌, ◌≤◌, ◌++◌};
 ghost use Rattle.cip_objects.specs.Text.{Writes};
 
-use crate::router::{REPLY_LIMIT, ReplyBuf};
+use crate::router::ReplyBuf;
 use crate::status::Refusal;
 use crate::text::append;
+use cip_bytes::protocol::REPLY_LIMIT;
 
 /// The value of one attribute, as its type has it (Volume 1, elementary data types).
 #[derive(Clone, Copy, Debug)]

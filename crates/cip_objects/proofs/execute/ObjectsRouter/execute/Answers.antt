@@ -1,6 +1,6 @@
 use Rattle.std.proofs.Common.{◌∙◌, [], ap, set, Ok, Err}
 use Rattle.cip_objects.specs.Execution.{outcome_in_room, outcome, reply_to}
-use Rattle.cip_objects.specs.Status.{status_code}
+use Rattle.cip_bytes.specs.Protocol.{general_status_number}
 use Rattle.cip_objects.proofs.Executed.{executed}
 use Rattle.cip_objects.proofs.execute.ObjectsRouter.execute.Goals as goal
 
@@ -12,7 +12,7 @@ returns-in-Ok-clause-state c =
 pub returns-in-Ok-clause-reply : goal.returns-in-Ok-clause-reply
 returns-in-Ok-clause-reply c =
     c.set_status.ensures
-    ∙ ap (λ s. set c.perform_request.new.reply.items 2 (status_code s)) c.status.ensures
+    ∙ ap (λ s. set c.perform_request.new.reply.items 2 (general_status_number s)) c.status.ensures
     ∙ (executed c.args.self.now c.args.room c.args.request.now c.perform_request.new.self (Ok c.in-Ok.completion) c.perform_request.new.reply.items tt
     (c.in-Ok.ensures.outcome ∙ ap (λ head. outcome_in_room c.args.room head (outcome c.args.self.now c.args.request.now)) c.begin.ensures)).1
 
