@@ -37,20 +37,13 @@ use Rattle.enip_bench.proofs.FrameSteps.{Agrees, Shows}
 use Rattle.enip_bench.proofs.OpeningLemmas.{asked, decided, opened}
 use Rattle.enip_bench.proofs.PositionLemmas.{Each}
 use Rattle.std.proofs.lemmas.Option.{same_Some}
-use Rattle.enip_bench.proofs.OpeningParts.{single, register-served, passed, demanded}
+use Rattle.enip_bench.proofs.OpeningParts.{single, register-served}
+use Rattle.cip_manager.proofs.CheckLemmas.{PassesChecks, passes_checks}
 
 -- the connection's RPI is not 0, and its ID is one
 pub record IsChecked (rpi next_id : ℕ) : Type 0 where
   pub some : 0 < rpi
   pub id : next_id < 2 ^ 32
-
-each-passed : (xs : List (Result (Unit {0}) ℕ)) → first_failure xs ≡ Ok tt → Each (λ x. x ≡ Ok tt) xs
-each-passed [] e i x f = absurd (cc)
-each-passed (y ∷ ys) e zero x f = sym (same_Some y x f) ∙ (passed y ys e).0
-each-passed (y ∷ ys) e (suc i) x f = each-passed ys (passed y ys e).1 i x f
-
-above : (n : ℕ) → not (eqb n 0) ≡ true → 0 < n
-above n e = grind (arith, nat_tests)
 
 timeout-above : (rpi multiplier : ℕ) → 0 < rpi → 0 < timeout_of rpi multiplier
 timeout-above rpi multiplier some = mul-lt 0 0 (rpi * 4) (2 ^ multiplier) (omega (arith, some)) (pow_pos multiplier)
@@ -58,15 +51,8 @@ timeout-above rpi multiplier some = mul-lt 0 0 (rpi * 4) (2 ^ multiplier) (omega
 pub is_checked : (manager : ManagerState) (asked : Opening) → opening_check manager asked ≡ Ok tt →
     IsChecked asked.o_to_t.rpi manager.next_id
 is_checked manager asked e =
-    let each = each-passed (opening_checks manager asked) e in
-    let room = demanded (ltb (length manager.connections) manager.places && ltb manager.next_id (2 ^ 32)) 0x0113
-    (each 8 (demand (ltb (length manager.connections) manager.places && ltb manager.next_id (2 ^ 32)) 0x0113) refl) in
-    record {
-      some = above asked.o_to_t.rpi (demanded (not (eqb asked.o_to_t.rpi 0)) 0x0111
-          (each 6 (demand (not (eqb asked.o_to_t.rpi 0)) 0x0111) refl));
-      id = ltb-true manager.next_id (2 ^ 32)
-          (and_parts (ltb (length manager.connections) manager.places) (ltb manager.next_id (2 ^ 32)) room).1;
-    }
+    let passes : PassesChecks manager asked = passes_checks manager asked e in
+    record { some = passes.fields.rpi; id = passes.room.id_left }
 
 -- an opening that nothing refused
 pub record IsOpened (objects : Contents) (wants : Wants) (world : CountingWorld) : Type 0 where

@@ -1,11 +1,12 @@
 -- An opening that nothing refuses leaves the item world's opening.
 use Rattle.std.proofs.Common.{◌≡◌, ℕ, ◌<◌, ◌≤◌, ◌^◌, false, Some, List, [], length, Result, Ok, Err, refl, ap, ◌∙◌, subst, arith}
+use Rattle.cip_bytes.specs.declared.protocol.ExtendedStatus.{ExtendedStatus}
 use Rattle.cip_message.specs.Reply.{reply_of, reply_of_fields, reply_service}
 use Rattle.cip_message.specs.Open.{Layout, small, large}
 use Rattle.cip_manager.specs.declared.opening.Opening.{Opening}
 use Rattle.cip_manager.specs.Manager.{Turn}
 use Rattle.cip_manager.specs.Opening.{opening_check, opening_turn, decided_opening, service_in, read_opening_turn, open_success}
-use Rattle.cip_manager.specs.Replies.{service_code, failure_reply, open_success_data}
+use Rattle.cip_manager.specs.Replies.{failure_reply, open_success_data}
 use Rattle.cip_objects.specs.Contents.{Contents}
 use Rattle.enip_wire.specs.Bodies.{rr_text}
 use Rattle.enip_wire.specs.Frames.{Frame, frame}
@@ -79,11 +80,11 @@ module _ (objects : Contents) (listen : Listen) (limits : Limits) (wants : Wants
   abbrev pub asked : Opening
   asked = wanted wants
 
-  abbrev pub checked : Result (Unit {0}) ℕ
+  abbrev pub checked : Result (Unit {0}) ExtendedStatus
   checked = opening_check (new_shared objects listen limits).manager asked
 
   -- what the Connection Manager does with the client's request, by what the checks said
-  abbrev pub decided : Result (Unit {0}) ℕ → Turn
+  abbrev pub decided : Result (Unit {0}) ExtendedStatus → Turn
   decided r = decided_opening (service_in layout) (new_shared objects listen limits).manager 0 peer asked r
 
   abbrev open_served : Turn → Served
@@ -118,7 +119,7 @@ module _ (objects : Contents) (listen : Listen) (limits : Limits) (wants : Wants
   abbrev success_in : Layout → Answer
   success_in l = record {
     bytes = success_bytes_in l;
-    reply = reply_of_fields (reply_service (service_code (service_in l))) 0 [] success_data;
+    reply = reply_of_fields (reply_service (manager_service_number (service_in l))) 0 [] success_data;
   }
 
   success-read : (l : Layout) →
@@ -131,10 +132,10 @@ module _ (objects : Contents) (listen : Listen) (limits : Limits) (wants : Wants
   success-size small = omega arith
   success-size large = omega arith
 
-  abbrev failure_in : Layout → ℕ → List ℕ
+  abbrev failure_in : Layout → ExtendedStatus → List ℕ
   failure_in l extended = failure_reply (service_in l) extended asked.triad
 
-  refusal-heard : (l : Layout) (extended : ℕ) →
+  refusal-heard : (l : Layout) (extended : ExtendedStatus) →
       is_opened_news (hears_opening connecting.state
       (answer_read (manager_service_number (open_service_in l)) (failure_in l extended) (reply_of (failure_in l extended)))).news
       ≡ false
@@ -142,7 +143,7 @@ module _ (objects : Contents) (listen : Listen) (limits : Limits) (wants : Wants
   refusal-heard small extended = refl
   refusal-heard large extended = refl
 
-  failure-size : (l : Layout) (extended : ℕ) → length (failure_in l extended) ≤ 30
+  failure-size : (l : Layout) (extended : ExtendedStatus) → length (failure_in l extended) ≤ 30
   failure-size small extended = omega arith
   failure-size large extended = omega arith
 
@@ -150,7 +151,7 @@ module _ (objects : Contents) (listen : Listen) (limits : Limits) (wants : Wants
   abbrev pub opened : ClientState
   opened = record { state = (hears_opening connecting.state (Some (success_in layout))).state; held = [] }
 
-  pub second-exchange : IsWanted wants → peer < 2 ^ 32 → (r : Result (Unit {0}) ℕ) → checked ≡ r →
+  pub second-exchange : IsWanted wants → peer < 2 ^ 32 → (r : Result (Unit {0}) ExtendedStatus) → checked ≡ r →
       exchange (record { adapter = begun_single (registered_as peer); client = registered wants peer }) peer is_opened_news
       (opens (registered wants peer).state)
       ≡ elim r [

@@ -219,13 +219,3 @@ asked-is wants is = go (is_large wants) refl
         ap₂ (λ x y. opening_with x y (open_asked wants))
         (small-direction wants wants.o_to_t_size (ltb-false 511 wants.o_to_t_size fit.0))
         (small-direction wants wants.t_to_o_size (ltb-false 511 wants.t_to_o_size fit.1))
-
--- what a list of checks says that passes
-pub passed : (x : Result (Unit {0}) ℕ) (xs : List (Result (Unit {0}) ℕ)) → first_failure (x ∷ xs) ≡ Ok tt →
-    (x ≡ Ok tt) × (first_failure xs ≡ Ok tt)
-passed (Ok done) xs e = (refl, e)
-passed (Err extended) xs e = absurd (cc)
-
-pub demanded : (b : Bool) (extended : ℕ) → demand b extended ≡ Ok tt → b ≡ true
-demanded true extended e = refl
-demanded false extended e = absurd (cc)

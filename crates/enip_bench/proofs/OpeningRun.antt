@@ -1,5 +1,6 @@
 -- Whatever opens without a refusal is an opening: step by step, as it is defined.
 use Rattle.std.proofs.Common.{◌≡◌, ℕ, ◌+◌, ◌<◌, ◌^◌, Result, Ok, Err, refl, ap, ap₂, sym, ◌∙◌, subst, arith}
+use Rattle.cip_bytes.specs.declared.protocol.ExtendedStatus.{ExtendedStatus}
 use Rattle.cip_bytes.specs.Reading.{◌>>=◌}
 use Rattle.cip_bytes.proofs.Steps.{bind_ok}
 use Rattle.cip_objects.specs.Contents.{Contents}
@@ -78,7 +79,7 @@ module _ (objects : Contents) (listen : Listen) (limits : Limits) (wants : Wants
       })
 
   -- by what the checks of the Forward_Open say
-  by_checks : (r : Result (Unit {0}) ℕ) → checked objects listen limits wants next peer ≡ r → peer < 2 ^ 32 →
+  by_checks : (r : Result (Unit {0}) ExtendedStatus) → checked objects listen limits wants next peer ≡ r → peer < 2 ^ 32 →
       second (record { adapter = begun_single objects listen limits wants next peer (registered_as peer); client = registered wants peer }) peer
       ≡ Ok world → IsOpened objects wants world
   by_checks (Err extended) e below done =
