@@ -21,7 +21,7 @@ use Rattle.enip_adapter.specs.Commands.{command_served, long_refused, sight_serv
 use Rattle.enip_adapter.specs.Lookup.{first_with, with_first, IsFirstWith}
 use Rattle.enip_adapter.specs.Places.{IsFed, piece_at}
 use Rattle.enip_adapter.specs.Replies.{Served, leaving, silent, written}
-use Rattle.enip_adapter.specs.Turn.{State, Answer, turned, after, answers, session_of, serve_found, session_after, shared_after, sent, at_moment}
+use Rattle.enip_adapter.specs.Turn.{State, Said, Answer, turned, after, answers, session_of, serve_found, session_after, shared_after, sent, at_moment}
 use Rattle.enip_adapter.specs.Turn.Said.{Silent}
 use Rattle.enip_adapter.proofs.LookupLemmas.{first-Some, first-None, slice_get-past, slice_get-within}
 use Rattle.enip_adapter.proofs.MapLemmas.{map-first_with, map-with_first}
@@ -253,6 +253,6 @@ pub said_written : (reply : Reply) (bytes : List ℕ) (slice : Bor (List ℕ)) �
     → feed_said (Some slice) None ≡ sent (written reply bytes)
 said_written reply bytes slice is same = rw (is, same) refl
 
-pub said_silent : (reply : Reply) (bytes : List ℕ) (why : Silence) → reply ≡ replies.Silent why
-    → feed_said None (Some why) ≡ sent (written reply bytes)
-said_silent reply bytes why is = rw is refl
+pub said_silent : (reply : Reply) (bytes : List ℕ) (why : Silence) (said : Said) → reply ≡ replies.Silent why
+    → sent (written reply bytes) ≡ said → Silent why ≡ said
+said_silent reply bytes why said is same = ap (λ r. sent (written r bytes)) (sym is) ∙ same

@@ -40,29 +40,26 @@ pub(crate) fn serve(
         ≡ (command_served shared.old session.old (frame_of frame.entry)).reaction.answer }
     ensures close { result.close ≡ (command_served shared.old session.old (frame_of frame.entry)).reaction.close }
 {
+    let asked = &frame.header;
     // options that are not 0: discarded (a frame)
-    if frame.header.options != 0 {
+    if asked.options != 0 {
         return Reaction::silent(Silence::Options);
     }
     // a status that is not 0: discarded (ours)
-    if frame.header.status != 0 {
+    if asked.status != 0 {
         return Reaction::silent(Silence::Status);
     }
-    match Command::of(frame.header.command) {
+    match Command::of(asked.command) {
         Some(Command::Nop) => return Reaction::silent(Silence::Nop),
-        Some(Command::ListServices) => list_services(&frame.header, answer),
-        Some(Command::ListIdentity) => list_identity(shared, &frame.header, reply, answer),
-        Some(Command::ListInterfaces) => list_interfaces(&frame.header, answer),
+        Some(Command::ListServices) => list_services(asked, answer),
+        Some(Command::ListIdentity) => list_identity(shared, asked, reply, answer),
+        Some(Command::ListInterfaces) => list_interfaces(asked, answer),
         Some(Command::RegisterSession) => register_session(session, frame, answer),
-        Some(Command::UnRegisterSession) => return unregister_session(*session, &frame.header),
+        Some(Command::UnRegisterSession) => return unregister_session(*session, asked),
         Some(Command::SendRRData) => send_rr_data(shared, *session, frame, reply, answer),
         Some(Command::SendUnitData) => return send_unit_data(shared, *session, frame, answer),
         // every other command is unsupported (ours)
-        None => refuse(
-            &frame.header,
-            EncapsulationStatus::UnsupportedCommand,
-            answer,
-        ),
+        None => refuse(asked, EncapsulationStatus::UnsupportedCommand, answer),
     }
     Reaction::ANSWERED
 }

@@ -69,5 +69,12 @@ fn write_unit_reply(asked: &Header, id: u32, kept: &[u8], answer: &mut AnswerFra
     ensures { answer.new.items ≡ reply asked.now asked.now.session Success (unit_text id kept.now) }
 {
     let front = unit_front(id, kept.len() as u16);
-    write_reply(asked, asked.session, EncapsulationStatus::Success, &front, kept, answer);
+    write_reply(
+        asked,
+        asked.session,
+        EncapsulationStatus::Success,
+        &front,
+        kept,
+        answer,
+    );
 }

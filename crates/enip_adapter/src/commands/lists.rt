@@ -104,7 +104,14 @@ fn write_identity(asked: &Header, item: &[u8], answer: &mut AnswerFrame)
     ensures { answer.new.items ≡ reply asked.now asked.now.session Success (text_of_item item.now) }
 {
     let front = item_head(item.len() as u16);
-    write_reply(asked, asked.session, EncapsulationStatus::Success, &front, item, answer);
+    write_reply(
+        asked,
+        asked.session,
+        EncapsulationStatus::Success,
+        &front,
+        item,
+        answer,
+    );
 }
 
 /// The count of items, 1, and the type and the length of an identity item.

@@ -20,39 +20,49 @@ const REGISTER_DATA: usize = 4;
 const PROTOCOL_VERSION: u16 = 1;
 
 /// RegisterSession: its data are the version 2 and the flags 2.
-pub(super) fn register_session(session: &mut Session, frame: FrameView<'_>, answer: &mut AnswerFrame)
+pub(super) fn register_session(
+    session: &mut Session,
+    frame: FrameView<'_>,
+    answer: &mut AnswerFrame,
+)
     ensures session { session.new ≡ record session.old {
       registered = (register_session session.old (frame_of frame.entry)).registered;
     } }
     ensures answer { Sends answer.new.items ≡ (register_session session.old (frame_of frame.entry)).answer }
 {
+    let asked = &frame.header;
     // four bytes of data: 0x0065 (RegisterSession)
     if frame.body.len() != REGISTER_DATA {
-        return refuse(&frame.header, EncapsulationStatus::InvalidLength, answer);
+        return refuse(asked, EncapsulationStatus::InvalidLength, answer);
     }
     // one session a peer: 0x0001 (RegisterSession, ours)
     if session.registered {
-        return refuse(&frame.header, EncapsulationStatus::UnsupportedCommand, answer);
+        return refuse(asked, EncapsulationStatus::UnsupportedCommand, answer);
     }
     // version 1: 0x0069, with the version that is served (RegisterSession)
     if LittleEndian::read_u16(&frame.body[0..2]) != PROTOCOL_VERSION {
         return answer_version(
-            &frame.header,
-            frame.header.session,
+            asked,
+            asked.session,
             EncapsulationStatus::UnsupportedRevision,
             answer,
         );
     }
     // no flags: 0x0003 (RegisterSession, ours)
     if LittleEndian::read_u16(&frame.body[2..4]) != 0 {
-        return refuse(&frame.header, EncapsulationStatus::PoorlyFormedData, answer);
+        return refuse(asked, EncapsulationStatus::PoorlyFormedData, answer);
     }
     session.registered = true;
-    answer_version(&frame.header, session.handle, EncapsulationStatus::Success, answer)
+    answer_version(asked, session.handle, EncapsulationStatus::Success, answer)
 }
 
 /// Answers with the version and flags that are served.
-fn answer_version(asked: &Header, session: u32, status: EncapsulationStatus, answer: &mut AnswerFrame)
+fn answer_version(
+    asked: &Header,
+    session: u32,
+    status: EncapsulationStatus,
+    answer: &mut AnswerFrame,
+)
     ensures { answer.new.items ≡ reply asked.now session status version_one }
 {
     let mut version = [0; REGISTER_DATA];

@@ -16,8 +16,7 @@ returns-in-Written c =
     c.self.view_is c.advance.ensures c.deref_mut.ensures.value c.peer.view_is
     (with_items_is c.self.inside.places c.feed_places-taken.new.places
     (omega (arith, c.feed_places-taken.ensures.size, ap length c.deref_mut.ensures.value, c.self.inside.places.ok.0)))
-    (c.feed_places-taken.ensures.fed c.self.inside.limit c.self.inside.next_handle) in
-    (
+    (c.feed_places-taken.ensures.fed c.self.inside.limit c.self.inside.next_handle) in (
       (refl, (λ _. tt), fed.state),
       record {
         state = tt;
@@ -43,14 +42,13 @@ returns-in-Silent c =
     c.self.view_is c.advance.ensures c.deref_mut.ensures.value c.peer.view_is
     (with_items_is c.self.inside.places c.feed_places-taken.new.places
     (omega (arith, c.feed_places-taken.ensures.size, ap length c.deref_mut.ensures.value, c.self.inside.places.ok.0)))
-    (c.feed_places-taken.ensures.fed c.self.inside.limit c.self.inside.next_handle) in
-    (
+    (c.feed_places-taken.ensures.fed c.self.inside.limit c.self.inside.next_handle) in (
       (refl, (λ _. tt), fed.state),
       record {
         state = tt;
         taken = fed.taken;
-        answer = said_silent c.feed_places-taken.result.1.reply c.feed_places-taken.new.answer.items c.in-Silent.why
-            c.in-Silent.is ∙ ap (λ a. a.said) fed.answer;
+        answer = let told = said_silent c.feed_places-taken.result.1.reply c.feed_places-taken.new.answer.items c.in-Silent.why _
+            c.in-Silent.is (ap (λ a. a.said) fed.answer) in cc;
         silent = refl;
         close = ap (λ a. a.close) fed.answer;
         within = c.feed_places-taken.ensures.within;
