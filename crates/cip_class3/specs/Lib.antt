@@ -2,6 +2,7 @@ pub mod Calls
 pub mod Came
 pub mod Deliveries
 pub mod Item
+pub mod Lent
 pub mod Originator
 pub mod OriginatorRule
 pub mod Rows

@@ -1,20 +1,20 @@
 -- What a contract sees of a `Target`.
-use Rattle.std.specs.Prelude.{◌≡◌, ℕ, ◌≤◌, Option, Some, None, List, length, take, drop}
+use Rattle.std.specs.Prelude.{ℕ, ◌+◌, ◌≤◌, Option, Some, None, List, length}
 use Rattle.cip_bytes.specs.declared.protocol.TheConstants.{LARGEST_SIZE, SMALLEST_O_TO_T_SIZE, SMALLEST_T_TO_O_SIZE}
-use Rattle.cip_class3.specs.TargetRule.{TargetState, Kept, kept_bytes}
+use Rattle.cip_bytes.specs.declared.protocol.TheConstants.{SEQUENCE_COUNT_SIZE}
+use Rattle.cip_class3.specs.TargetRule.{TargetState, Kept}
 use Rattle.cip_class3.specs.declared.target.Target.TheInside.{Inside}
 
--- the held count, and the reply behind the count's two bytes
+-- the held count, with the reply that is kept
 abbrev pub held_of : Option ℕ → List ℕ → Option Kept
-held_of None kept = None
-held_of (Some count) kept = Some (record { sequence_count = count; reply = drop 2 kept })
+held_of None reply = None
+held_of (Some sequence_count) reply = Some (record { sequence_count = sequence_count; reply = reply })
 
--- the kept bytes stand at the front of the block
 abbrev pub target_state : Inside → TargetState
 target_state target = record {
   o_to_t_size = target.o_to_t_size;
   t_to_o_size = target.t_to_o_size;
-  held = held_of target.held (take target.length target.block);
+  held = held_of target.held target.reply.items;
 }
 
 pub record IsTarget (target : Inside) : Type 0 where
@@ -22,6 +22,4 @@ pub record IsTarget (target : Inside) : Type 0 where
   pub o_to_t_to : target.o_to_t_size ≤ LARGEST_SIZE
   pub t_to_o_from : SMALLEST_T_TO_O_SIZE ≤ target.t_to_o_size
   pub t_to_o_to : target.t_to_o_size ≤ LARGEST_SIZE
-  pub block : length target.block ≡ LARGEST_SIZE
-  pub fits : target.length ≤ target.t_to_o_size
-  pub kept : take target.length target.block ≡ kept_bytes (held_of target.held (take target.length target.block))
+  pub fits : length target.reply.items + SEQUENCE_COUNT_SIZE ≤ target.t_to_o_size

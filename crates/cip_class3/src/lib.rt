@@ -1,7 +1,7 @@
 //! Both ends of a class 3 connection (ODVA CIP Networks Library, Volume 1, transport class 3).
 //!
 //! A [`Target`] executes each request once, however often it comes: it keeps the sequence count and the reply of
-//! the one that it executed last, and answers a repeat with these bytes. An [`Originator`] has at most one request
+//! the one that it executed last, and answers a repeat with these. An [`Originator`] has at most one request
 //! on the way, and takes what answers that one. [`laws`] says what follows over whole lists of items and calls.
 //!
 //! A target runs over any router that keeps the laws of `cip_objects::Router`. Only `Originator::new` takes memory.
@@ -15,4 +15,4 @@ mod target;
 
 pub use cip_bytes::protocol::LARGEST_SIZE;
 pub use originator::{Came, Originator, Refused, Stage};
-pub use target::{Received, Target};
+pub use target::{Kept, Received, Target};

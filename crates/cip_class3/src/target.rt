@@ -1,10 +1,11 @@
 //! The target's end of a class 3 connection.
 
-ghost use Rattle.std.specs.Prelude.{◌≡◌, ℕ, ◌≤◌, ◌-◌, ◌<◌, Option, Some, None, length};
+ghost use Rattle.std.specs.Prelude.{◌≡◌, ℕ, ◌≤◌, ◌+◌, ◌-◌, ◌<◌, Option, Some, None, IfSome, length};
+ghost use Rattle.std.specs.Option.{option_map};
 ghost use Rattle.cip_class3.specs.TargetRule.{kept_bytes};
+ghost use Rattle.cip_class3.specs.Lent.{kept_of};
 ghost use Rattle.cip_class3.specs.Item.{message_of};
 
-use crate::item::write_item;
 use arrayvec::ArrayVec;
 use byteorder::{ByteOrder, LittleEndian};
 use cip_bytes::protocol::{
@@ -18,10 +19,19 @@ use std::marker::Model;
 pub enum Received {
     /// The item has under 4 bytes or more than the connection's O->T size. Nothing changed.
     Dropped,
-    /// The item's count is the held one. Nothing changed, and the kept bytes answer it.
+    /// The item's count is the held one. Nothing changed, and what is kept answers it.
     Repeated,
     /// The request was executed. Its count and reply are held.
     Executed,
+}
+
+/// The sequence count and the reply of the request that was executed last.
+#[derive(Clone, Copy, Debug, PartialEq, Eq)]
+pub struct Kept<'a> {
+    /// The request's sequence count.
+    pub sequence_count: u16,
+    /// The reply to it.
+    pub reply: &'a [u8],
 }
 
 /// The target's end: the count and reply of the request that was executed last.
@@ -31,10 +41,7 @@ pub struct Target {
     t_to_o_size: u16,
     /// The sequence count that is held.
     held: Option<u16>,
-    /// How much of the block is kept: that count and its reply.
-    length: usize,
-    block: [u8; LARGEST_SIZE],
-    /// Where the router writes, so that the kept bytes are written once and never moved.
+    /// The reply that is kept with it: the router writes it in place.
     reply: ReplyBuf,
 }
 
@@ -68,8 +75,6 @@ impl Target {
             o_to_t_size,
             t_to_o_size,
             held: None,
-            length: 0,
-            block: [0; LARGEST_SIZE],
             reply: ArrayVec::new(),
         }
     }
@@ -101,20 +106,23 @@ impl Target {
         }
         let room = self.t_to_o_size as usize - SEQUENCE_COUNT_SIZE;
         router.execute(&item[SEQUENCE_COUNT_SIZE..], room, &mut self.reply);
-        write_item(&mut self.block, sequence_count, self.reply.as_slice());
-        self.length = SEQUENCE_COUNT_SIZE + self.reply.len();
         self.held = Some(sequence_count);
         Received::Executed
     }
 
-    /// The held count and reply, joined: what answers the connection's last request.
-    ///
-    /// Empty before the first execution.
-    pub fn kept(&self) -> &[u8]
-        ensures bytes { result.now ≡ kept_bytes self.now.held }
-        ensures fits { length result.now ≤ self.now.t_to_o_size }
-        ensures within { length result.now ≤ LARGEST_SIZE }
+    /// The held count and reply: what answers the connection's last request. `None` before the first execution.
+    pub fn kept(&self) -> Option<Kept<'_>>
+        ensures held { option_map kept_of result ≡ self.now.held }
+        // With its count the reply has no more bytes than the T->O size.
+        ensures fits { IfSome result (λ kept. length kept.reply.now + SEQUENCE_COUNT_SIZE ≤ self.now.t_to_o_size) }
+        ensures within { IfSome result (λ kept. length kept.reply.now + SEQUENCE_COUNT_SIZE ≤ LARGEST_SIZE) }
     {
-        &self.block[..self.length]
+        match self.held {
+            Some(sequence_count) => Some(Kept {
+                sequence_count,
+                reply: self.reply.as_slice(),
+            }),
+            None => None,
+        }
     }
 }

@@ -3,7 +3,7 @@ use Rattle.std.proofs.Common.{◌≡◌, ℕ, List, [], ◌∷◌, Bool, true, f
 use Rattle.std.specs.Prelude.{find, is_some}
 use Rattle.cip_class3.specs.declared.target.Received.TheVariants.{Dropped, Repeated}
 use Rattle.cip_class3.specs.Item.{sequence_count_of}
-use Rattle.cip_class3.specs.TargetRule.{TargetState, TargetStep, step_of, target_step, after_execution, is_of_size, is_held}
+use Rattle.cip_class3.specs.TargetRule.{TargetState, Kept, TargetStep, step_of, target_step, after_execution, is_of_size, is_held}
 use Rattle.cip_manager.specs.declared.connection.Connection.{Connection}
 use Rattle.cip_manager.specs.Connection.{is_named, is_answered, after_item, deadline_at_item}
 use Rattle.cip_manager.specs.Items.{with_first, Reply, turn_of_found, item_turn, is_taken_by, is_taken, IsAt}
@@ -39,6 +39,22 @@ module _ {M : Type 0} (after : M → ℕ → List ℕ → M) (answer : M → ℕ
             ]
         | false ↦ record { answered = refl; same = λ e. refl; still = λ e. refl }
       ]
+
+  -- what answers is held
+  pub answered-held : (target : TargetState) (router : M) (bytes : List ℕ)
+      → is_answered (target_step after answer target router bytes).received ≡ true → is_some (target_step after answer target router bytes).target.held ≡ true
+  answered-held target router bytes e = go (is_of_size target bytes) (is_held target.held (sequence_count_of bytes)) refl e
+    where
+      holds : (held : Option Kept) (sequence_count : ℕ) → is_held held sequence_count ≡ true → is_some held ≡ true
+      holds None sequence_count f = cc
+      holds (Some kept) sequence_count f = refl
+
+      go : (sized same : Bool) → is_held target.held (sequence_count_of bytes) ≡ same
+          → is_answered (cond sized (cond same (step_of Repeated target router) (after_execution after answer target router bytes)) (step_of Dropped target router)).received ≡ true
+          → is_some (cond sized (cond same (step_of Repeated target router) (after_execution after answer target router bytes)) (step_of Dropped target router)).target.held ≡ true
+      go true true f answered = holds target.held (sequence_count_of bytes) f
+      go true false f answered = refl
+      go false same f answered = cc
 
   -- an item is answered exactly if it is taken
   pub answered_item : (cs : List Connection) (now session id : ℕ) (bytes : List ℕ) (router : M)

@@ -1,6 +1,6 @@
 -- The place of the first connection that passes a test.
 use Rattle.std.proofs.Common.{◌≡◌, ℕ, zero, suc, ◌+◌, ◌<◌, ◌≤◌, List, [], ◌∷◌, Bool, true, false, cond, not, ltb, ltb-true, ltb-false, get_or, Option, Some, None, length, refl, ap, subst, sym, ◌∙◌, ◌⊎◌, inl, inr, arith}
-use Rattle.std.specs.Prelude.{slice_get, slice_set, slice_index_or, find, MatchOption}
+use Rattle.std.specs.Prelude.{is_some, slice_get, slice_set, slice_index_or, find, MatchOption}
 use Rattle.std.specs.List.{position_or_len, position}
 use Rattle.std.proofs.lemmas.List.Folds.{find_at}
 use Rattle.std.proofs.Math.ListN.{length-set}
@@ -9,7 +9,8 @@ use Rattle.cip_class3.specs.declared.target.Received.{Received}
 use Rattle.cip_class3.specs.declared.target.Received.TheVariants.{Dropped, Repeated, Executed}
 use Rattle.cip_manager.specs.declared.connection.Connection.{Connection}
 use Rattle.cip_manager.specs.Connection.{is_named, is_answered}
-use Rattle.cip_manager.specs.Items.{with_first, ConnectionTurn, ItemTurn, turn_of_connection, connection_turn, turn_of_found, item_turn, reply_of, IsAt}
+use Rattle.cip_manager.specs.Items.{with_first, ConnectionTurn, ItemTurn, turn_of_connection, connection_turn, turn_of_found, item_turn, reply_of, AnswersAt, IsAt}
+use Rattle.cip_manager.proofs.ItemLemmas.{answered-held}
 
 -- a change of the first is a change at its place
 with_first-place : {X : Type 0} → (test : X → Bool) (y : X) (xs : List X) → with_first test y xs ≡ slice_set xs (position_or_len test xs) y
@@ -74,13 +75,22 @@ module _ {M : Type 0} (after : M → ℕ → List ℕ → M) (answer : M → ℕ
     reply = cond (is_answered turn.received) (Some (reply_of turn.connection)) None;
   }
 
-  replied : (received : Received) (cs : List Connection) (i : ℕ) (new : Connection) → i < length cs
-      → MatchOption (cond (is_answered received) (Some i) None)
-      (cond (is_answered received) (Some (reply_of new)) None ≡ None)
-      (λ k. (k < length (slice_set cs i new)) × ((d : Connection) → cond (is_answered received) (Some (reply_of new)) None ≡ Some (reply_of (slice_index_or (slice_set cs i new) k d))))
-  replied Dropped cs i new h = refl
-  replied Repeated cs i new h = (omega (arith, length-set cs i new), λ d. ap (λ c. Some (reply_of c)) (sym (get_or-set_same cs i new d h)))
-  replied Executed cs i new h = (omega (arith, length-set cs i new), λ d. ap (λ c. Some (reply_of c)) (sym (get_or-set_same cs i new d h)))
+  -- what an item left at a place answers it, unless it was dropped
+  replied : (test : Connection → Bool) (received : Received) (cs : List Connection) (i : ℕ) (new : Connection) (moved : M) → i < length cs
+      → (is_answered received ≡ true → is_some new.target.held ≡ true)
+      → MatchOption (cond (is_answered received) (Some i) None) ((turned test cs (connection_turn received new moved)).reply ≡ None)
+      (λ k. AnswersAt k (turned test cs (connection_turn received new moved)) (slice_set cs i new))
+  replied test Dropped cs i new moved h held = refl
+  replied test Repeated cs i new moved h held = record {
+    within = omega (arith, length-set cs i new);
+    held = λ d. subst (λ (c : Connection). is_some c.target.held ≡ true) (sym (get_or-set_same cs i new d h)) (held refl);
+    reply = λ d. ap (λ c. Some (reply_of c)) (sym (get_or-set_same cs i new d h));
+  }
+  replied test Executed cs i new moved h held = record {
+    within = omega (arith, length-set cs i new);
+    held = λ d. subst (λ (c : Connection). is_some c.target.held ≡ true) (sym (get_or-set_same cs i new d h)) (held refl);
+    reply = λ d. ap (λ c. Some (reply_of c)) (sym (get_or-set_same cs i new d h));
+  }
 
   -- the connection at the place of the first that is named receives the item
   pub receives_at : (cs : List Connection) (now session id : ℕ) (bytes : List ℕ) (router moved : M) (place : Option ℕ) (i : ℕ) (d new : Connection) (received : Received)
@@ -98,7 +108,9 @@ module _ {M : Type 0} (after : M → ℕ → List ℕ → M) (answer : M → ℕ
       (record {
         connections = sym (first.changed new);
         router = refl;
-        reply = replied received cs i new first.within;
+        reply = replied (is_named session id) received cs i new moved first.within (λ answered.
+            ap (λ (turn : ConnectionTurn M). is_some turn.connection.target.held) t
+            ∙ answered-held after answer (slice_index_or cs i d).target router bytes (sym (ap (λ (turn : ConnectionTurn M). is_answered turn.received) t) ∙ answered));
       })
       )
       )

@@ -39,7 +39,7 @@ module _ {M : Type 0} (after : M → ℕ → List ℕ → M) (answer : M → ℕ
       → ((d : Connection) → reply ≡ reply_of (slice_index_or left place d))
       → Answered cs now session id bytes router reply
   answered_at cs left now session id bytes router moved place reply at shows =
-      let told = same_reply left place reply (item_turn after answer cs now session id bytes router).reply at.reply.0 at.reply.1 shows in
+      let told = same_reply left place reply (item_turn after answer cs now session id bytes router).reply at.reply.within at.reply.reply shows in
       record { told = told; taken = ap is_some told ∙ answered_item after answer cs now session id bytes router }
 
   -- where no place answers, what follows from nothing being changed

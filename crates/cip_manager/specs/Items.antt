@@ -1,10 +1,11 @@
 -- Items that come on connections (Volume 1, Connection Manager and transport class 3).
 use Rattle.std.specs.Prelude.{◌≡◌, ℕ, ◌<◌, Bool, false, if◌then◌else◌, List, [], ◌∷◌, length, slice_index_or, find}
-use Rattle.std.specs.Prelude.{Option, Some, None, MatchOption}
+use Rattle.std.specs.Prelude.{Option, Some, None, IsSome, MatchOption}
 use Rattle.cip_class3.specs.declared.target.Received.{Received}
+use Rattle.cip_class3.specs.Item.{item}
 use Rattle.cip_class3.specs.TargetRule.{target_step, is_of_size, kept_bytes}
 use Rattle.cip_manager.specs.declared.connection.Connection.{Connection}
-use Rattle.cip_manager.specs.declared.manager.Answer.{Answer}
+use Rattle.cip_manager.specs.declared.manager.KeptAnswer.{KeptAnswer}
 use Rattle.cip_manager.specs.Connection.{is_named, is_answered, after_item}
 
 -- what answers an item: the T->O ID, and the count and reply that are held
@@ -13,8 +14,8 @@ pub record Reply : Type 0 where
   pub bytes : List ℕ
 
 -- what an answer of the code shows
-abbrev pub view : Answer → Reply
-view answer = record { id = answer.id; bytes = answer.bytes.now }
+abbrev pub view : KeptAnswer → Reply
+view answer = record { id = answer.id; bytes = item answer.sequence_count answer.reply.now }
 
 abbrev pub reply_of : Connection → Reply
 reply_of connection = record { id = connection.t_to_o_id; bytes = kept_bytes connection.target.held }
@@ -72,9 +73,14 @@ is_taken_by (Some connection) bytes = is_of_size connection.target bytes
 abbrev pub is_taken : List Connection → ℕ → ℕ → List ℕ → Bool
 is_taken connections session id bytes = is_taken_by (find (is_named session id) connections) bytes
 
+-- the connection at that place has executed a request, and what it keeps of it answers
+pub record AnswersAt {M : Type 0} (place : ℕ) (turn : ItemTurn M) (left : List Connection) : Type 0 where
+  pub within : place < length left
+  pub held : (d : Connection) → IsSome (slice_index_or left place d).target.held
+  pub reply : (d : Connection) → turn.reply ≡ Some (reply_of (slice_index_or left place d))
+
 -- the connection at that place answers, or none does
 pub record IsAt {M : Type 0} (place : Option ℕ) (turn : ItemTurn M) (left : List Connection) (moved : M) : Type 0 where
   pub connections : left ≡ turn.connections
   pub router : moved ≡ turn.router
-  pub reply : MatchOption place (turn.reply ≡ None)
-      (λ i. (i < length left) × ((d : Connection) → turn.reply ≡ Some (reply_of (slice_index_or left i d))))
+  pub reply : MatchOption place (turn.reply ≡ None) (λ i. AnswersAt i turn left)

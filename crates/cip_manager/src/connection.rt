@@ -1,12 +1,12 @@
 //! One open connection (Volume 1, Connection Manager).
-ghost use Rattle.std.specs.Prelude.{◌≡◌, ◌≤◌, length};
+ghost use Rattle.std.specs.Prelude.{◌≡◌, ◌+◌, ◌≤◌, length, IsSome};
 ghost use Rattle.cip_manager.specs.Opening.{CanBeOpened, new_connection};
 ghost use Rattle.cip_manager.specs.Items.{view as reply_in, reply_of, connection_turn, turn_of_connection};
 ghost use Rattle.cip_manager.specs.Connection.{timeout_of, moment_after, is_of_session_with};
 
-use crate::manager::Answer;
+use crate::manager::KeptAnswer;
 use crate::opening::Opening;
-use cip_bytes::protocol::LARGEST_SIZE;
+use cip_bytes::protocol::{LARGEST_SIZE, SEQUENCE_COUNT_SIZE};
 use cip_class3::{Received, Target};
 use cip_message::CloseRequest;
 use cip_objects::Router;
@@ -94,15 +94,18 @@ impl Connection {
         received
     }
 
-    /// What answers the connection's last request.
+    /// What answers the connection's last request, where one was executed.
     #[inline(always)]
-    pub fn answer(&self) -> Answer<'_>
+    pub fn answer(&self) -> KeptAnswer<'_>
+        requires { IsSome self.now.target.held }
         ensures reply { reply_in result ≡ reply_of self.now }
-        ensures fits { length result.bytes.now ≤ LARGEST_SIZE }
+        ensures fits { length result.reply.now + SEQUENCE_COUNT_SIZE ≤ LARGEST_SIZE }
     {
-        Answer {
+        let kept = self.target.kept().unwrap();
+        KeptAnswer {
             id: self.t_to_o_id,
-            bytes: self.target.kept(),
+            sequence_count: kept.sequence_count,
+            reply: kept.reply,
         }
     }
 }

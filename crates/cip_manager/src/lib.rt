@@ -19,4 +19,4 @@ mod search;
 mod table;
 
 pub use index::Steps;
-pub use manager::{Answer, LONGEST_REPLY, Manager};
+pub use manager::{KeptAnswer, LONGEST_REPLY, Manager};

@@ -16,7 +16,7 @@ use crate::index::Steps;
 use crate::opening::Opening;
 use crate::reply::{write_close_success, write_failure, write_length_fault, write_open_success};
 use crate::table::Table;
-use cip_bytes::protocol::{ExtendedStatus, LARGEST_SIZE, ManagerService};
+use cip_bytes::protocol::{ExtendedStatus, LARGEST_SIZE, ManagerService, SEQUENCE_COUNT_SIZE};
 use cip_message::{CloseRequest, Device, OpenRequest};
 use cip_objects::{ReplyBuf, Router};
 use std::alloc::{AllocError, Global};
@@ -25,13 +25,15 @@ use std::marker::Model;
 /// The most bytes that a reply to a Forward_Open, a Large_Forward_Open or a Forward_Close has.
 pub const LONGEST_REPLY: usize = 30;
 
-/// What answers an item on a connection.
+/// What answers an item on a connection: the count and the reply that the connection keeps.
 #[derive(Clone, Copy, Debug)]
-pub struct Answer<'a> {
+pub struct KeptAnswer<'a> {
     /// The T->O connection ID.
     pub id: u32,
-    /// The sequence count and the reply.
-    pub bytes: &'a [u8],
+    /// The sequence count of the request that was executed last.
+    pub sequence_count: u16,
+    /// The reply to that request.
+    pub reply: &'a [u8],
 }
 
 /// The open connections of a device.
@@ -167,7 +169,7 @@ impl Manager {
         id: u32,
         item: &[u8],
         router: &mut R,
-    ) -> Option<Answer<'_>>
+    ) -> Option<KeptAnswer<'_>>
         ensures* state { sem 𝓛 (Rests the_row self.entry (λ last.
             (last ≡ record self.old {
               connections =
@@ -182,7 +184,8 @@ impl Manager {
             ≡ (item_turn R.after R.answer self.old.connections now session id item.now router.old).reply }
         ensures router { router.new
             ≡ (item_turn R.after R.answer self.old.connections now session id item.now router.old).router }
-        ensures fits { IfSome result (λ answer. length answer.bytes.now ≤ LARGEST_SIZE) }
+        // With its count the reply has no more bytes than the largest size.
+        ensures fits { IfSome result (λ answer. length answer.reply.now + SEQUENCE_COUNT_SIZE ≤ LARGEST_SIZE) }
     {
         let place = self.table.receive(now, session, id, item, router)?;
         Some(self.table.answer(place))

@@ -1,6 +1,6 @@
 //! The open connections, in the order in which they were opened.
 ghost use Rattle.std.specs.Prelude.{◌≡◌, ◌≤◌, ◌+◌, ◌-◌, ◌<◌, ◌^◌, ℕ, not, filter, [], ◌∷◌, ◌++◌, length, slice_index_or};
-ghost use Rattle.std.specs.Prelude.{IfOk, IfNone};
+ghost use Rattle.std.specs.Prelude.{IfOk, IfNone, IsSome};
 ghost use Rattle.std.specs.List.{list_any, remove};
 ghost use Rattle.cip_manager.specs.declared.connection.Connection.{Connection as OpenConnection};
 ghost use Rattle.cip_manager.specs.Connection.{has_id, is_open_at};
@@ -11,9 +11,9 @@ ghost use Rattle.cip_manager.specs.Table.{is_in, no_entry, AreBelow, AreOpenUnti
 use crate::connection::Connection;
 use crate::group::Group;
 use crate::index::{Index, Steps};
-use crate::manager::Answer;
+use crate::manager::KeptAnswer;
 use crate::search::place_of;
-use cip_bytes::protocol::LARGEST_SIZE;
+use cip_bytes::protocol::{LARGEST_SIZE, SEQUENCE_COUNT_SIZE};
 use cip_class3::Received;
 use cip_objects::Router;
 use slab::Slab;
@@ -169,13 +169,14 @@ impl Table {
         }
     }
 
-    /// What answers the last request of the connection at a place.
+    /// What answers the last request of the connection at a place, where one was executed.
     #[inline(always)]
-    pub fn answer(&self, place: usize) -> Answer<'_>
-        requires { place < length self.now.connections }
+    pub fn answer(&self, place: usize) -> KeptAnswer<'_>
+        requires place { place < length self.now.connections }
+        requires held { (d : OpenConnection) → IsSome (slice_index_or self.now.connections place d).target.held }
         ensures reply { (d : OpenConnection) →
             reply_in result ≡ reply_of (slice_index_or self.now.connections place d) }
-        ensures fits { length result.bytes.now ≤ LARGEST_SIZE }
+        ensures fits { length result.reply.now + SEQUENCE_COUNT_SIZE ≤ LARGEST_SIZE }
     {
         self.at(place).answer()
     }

@@ -1,7 +1,7 @@
 //! Both ends of a connection over more requests than there are counts.
 
 use crate::counting::{ADD_ONE, objects};
-use cip_class3::{Came, Originator, Received, Refused, Stage, Target};
+use cip_class3::{Came, Kept, Originator, Received, Refused, Stage, Target};
 use cip_objects::Objects;
 use std::alloc::Global;
 use std::process::Abort;
@@ -32,12 +32,16 @@ impl Ends {
         self.target.receive(&mut self.objects, item);
         let [a, b, c, d] = n.to_le_bytes();
         let reply = [0xb2, 0x00, 0x00, 0x00, a, b, c, d];
+        let kept = self.target.kept().ok_or("nothing is kept")?;
+        assert!(rt; kept.reply == reply.as_slice(), "at {n}");
+        let [low, high] = kept.sequence_count.to_le_bytes();
+        let item = [low, high, 0xb2, 0x00, 0x00, 0x00, a, b, c, d];
         assert!(rt;
-            self.originator.receive(self.target.kept()) == Came::Accepted(&reply),
+            self.originator.receive(&item) == Came::Accepted(&reply),
             "at {n}"
         );
         assert!(rt;
-            self.originator.receive(self.target.kept()) == Came::Ignored,
+            self.originator.receive(&item) == Came::Ignored,
             "at {n}"
         );
         Ok(())
@@ -86,7 +90,7 @@ fn requests_are_taken_up_to_the_bound(rt: HostRuntime) -> Result<(), Fail> {
     Ok(())
 }
 
-/// An item with this count is dealt with so, and is answered with its count and this value.
+/// An item with this count is dealt with so, and its count and the reply with this value are kept.
 fn check_item(
     rt: &impl Abort,
     target: &mut Target,
@@ -101,7 +105,12 @@ fn check_item(
     let (received, value) = dealt;
     assert!(rt; target.receive(objects, &item) == received);
     let [a, b, c, d] = value.to_le_bytes();
-    assert!(rt; target.kept() == [low, high, 0xb2, 0x00, 0x00, 0x00, a, b, c, d].as_slice());
+    let reply = [0xb2, 0x00, 0x00, 0x00, a, b, c, d];
+    let wanted = Kept {
+        sequence_count: count,
+        reply: &reply,
+    };
+    assert!(rt; target.kept() == Some(wanted));
 }
 
 /// Count 7 is executed, all between are lost, and the request so many later is executed too, but for the 65,536th.
@@ -112,7 +121,7 @@ fn one_more_than_the_bound_would_get_the_old_reply(rt: HostRuntime) -> Result<()
     let mut count = 7u16;
     for later in 1..=65_536u32 {
         let mut target = Target::new(500, 500);
-        assert!(rt; target.kept().is_empty());
+        assert!(rt; target.kept().is_none());
         value = value.wrapping_add(1);
         check_item(
             &rt,

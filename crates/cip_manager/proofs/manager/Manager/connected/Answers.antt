@@ -13,6 +13,10 @@ invariant_of-self-2 g c = record {
       c.args.now c.args.session c.args.id c.args.item.now c.args.router.now c.receive.new.router c.receive.result c.receive.ensures.at c.self.invariant.below;
 }
 
+-- the connection at the place has executed a request
+pub answer-requires : goal.answer-requires
+answer-requires g c = record { place = c.in_ok-place.ensures.at.reply.within; held = c.in_ok-place.ensures.at.reply.held }
+
 -- the connection at the place answers the item
 pub returns : goal.returns
 returns g c =
