@@ -1,5 +1,5 @@
 -- UnRegisterSession, 0x0066 (Volume 2, encapsulation commands).
-use Rattle.std.specs.Prelude.{if◌then◌else◌, true}
+use Rattle.std.specs.Prelude.{if◌then◌else◌}
 use Rattle.enip_wire.specs.Frames.{Frame}
 use Rattle.enip_adapter.specs.declared.peer.Session.{Session}
 use Rattle.enip_adapter.specs.declared.silence.Silence.TheVariants.{Unregistered, AnotherSession}

@@ -11,10 +11,10 @@ use std::marker::Model;
 
 /// The most bytes of a packet in front of its data: interface 4, timeout 2, count 2, address item 4 or 8, type and
 /// length of the data item 4. (Volume 2, common packet format.)
-const PACKET_HEAD: usize = 20;
+pub(crate) const PACKET_HEAD: usize = 20;
 
 /// The most bytes of a connection's item, its count included.
-pub(crate) const LONGEST_ITEM: usize = LARGEST_SIZE;
+const LONGEST_ITEM: usize = LARGEST_SIZE;
 
 /// The most data of an answer, in bytes.
 pub(crate) const LONGEST_DATA: usize = PACKET_HEAD + LONGEST_ITEM;

@@ -1,18 +1,23 @@
 //! SendUnitData: items on connections.
 
-ghost use Rattle.std.specs.Prelude.{◌≡◌, ◌≤◌, length, false};
+ghost use Rattle.std.specs.Prelude.{◌≡◌, ◌≤◌, ℕ, List, ◌+◌, ◌++◌, length, false};
 ghost use Rattle.cip_bytes.specs.declared.protocol.EncapsulationStatus.TheVariants.{Success};
+ghost use Rattle.cip_class3.specs.Item.{item};
 ghost use Rattle.enip_wire.specs.Bodies.{unit_text};
 ghost use Rattle.enip_wire.specs.Stream.{frame_of};
 ghost use Rattle.enip_adapter.specs.Replies.{reply, written};
 ghost use Rattle.enip_adapter.specs.SendUnitData.{send_unit_data, turn_of_item, left_by_item, item_reply};
 
 use crate::peer::Session;
-use crate::reply::{AnswerFrame, LONGEST_ITEM, Reaction, write_reply};
+use crate::reply::{AnswerFrame, PACKET_HEAD, Reaction, write_reply};
 use crate::shared::Shared;
 use crate::silence::Silence;
-use cip_bytes::protocol::EncapsulationStatus;
+use cip_bytes::protocol::{EncapsulationStatus, LARGEST_SIZE, SEQUENCE_COUNT_SIZE};
+use cip_manager::KeptAnswer;
 use enip_wire::{FrameView, Header, unit_body, unit_front};
+
+/// The bytes in front of the reply in an item that answers: the front of the packet, and the count.
+const ITEM_FRONT: usize = PACKET_HEAD + SEQUENCE_COUNT_SIZE;
 
 /// SendUnitData: no answer to another session, to a packet that is none, and where no connection answers (ours).
 pub(super) fn send_unit_data(
@@ -55,7 +60,7 @@ fn send_item(
         .connected(moment, session.handle, id, item, &mut shared.objects)
     {
         Some(kept) => {
-            write_unit_reply(asked, kept.id, kept.bytes, answer);
+            write_unit_reply(asked, kept, answer);
             Reaction::ANSWERED
         }
         None => Reaction::silent(Silence::NotTaken),
@@ -64,17 +69,32 @@ fn send_item(
 
 /// Writes a whole SendUnitData that answers, with the T->O connection ID, and the count and reply that are held.
 #[inline(always)]
-fn write_unit_reply(asked: &Header, id: u32, kept: &[u8], answer: &mut AnswerFrame)
-    requires { length kept.now ≤ LONGEST_ITEM }
-    ensures { answer.new.items ≡ reply asked.now asked.now.session Success (unit_text id kept.now) }
+fn write_unit_reply(asked: &Header, kept: KeptAnswer<'_>, answer: &mut AnswerFrame)
+    requires { length kept.reply.now + SEQUENCE_COUNT_SIZE ≤ LARGEST_SIZE }
+    ensures { answer.new.items ≡ reply asked.now asked.now.session Success
+        (unit_text kept.entry.id (item kept.entry.sequence_count kept.entry.reply.now)) }
 {
-    let front = unit_front(id, kept.len() as u16);
+    let size = SEQUENCE_COUNT_SIZE + kept.reply.len();
+    let front = item_front(kept.id, kept.sequence_count, size as u16);
     write_reply(
         asked,
         asked.session,
         EncapsulationStatus::Success,
         &front,
-        kept,
+        kept.reply,
         answer,
     );
+}
+
+/// The body of a SendUnitData up to the reply in its item, which with its count has so many bytes: the front of the
+/// packet, and the count.
+#[inline(always)]
+fn item_front(id: u32, sequence_count: u16, size: u16) -> [u8; ITEM_FRONT]
+    ensures { (reply : List ℕ) → length reply + SEQUENCE_COUNT_SIZE ≡ size →
+        unit_text id (item sequence_count reply) ≡ result ++ reply }
+{
+    let mut front = [0; ITEM_FRONT];
+    front[..PACKET_HEAD].copy_from_slice(&unit_front(id, size));
+    front[PACKET_HEAD..].copy_from_slice(&sequence_count.to_le_bytes());
+    front
 }

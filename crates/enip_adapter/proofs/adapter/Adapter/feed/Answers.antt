@@ -1,4 +1,4 @@
-use Rattle.std.proofs.Common.{◌≡◌, length, arith, refl, ap, ◌∙◌}
+use Rattle.std.proofs.Common.{length, arith, refl, ap, ◌∙◌}
 use Rattle.std.specs.Vec.{with_items}
 use Rattle.std.proofs.lemmas.List.{with_items_is}
 use Rattle.enip_adapter.specs.Adapter.{adapter_in}
