@@ -3,7 +3,7 @@ use Rattle.std.proofs.Common.{◌≡◌, ℕ, zero, suc, ◌+◌, ◌%◌, ◌<�
 use Rattle.std.proofs.lemmas.Bool.{and_parts, eqb-true, ltb-true}
 use Rattle.cip_class3.specs.Item.{sequence_count_of, NeighboursDiffer}
 use Rattle.cip_class3.specs.OriginatorRule.{OriginatorState, Phase, Idle, Waiting, GivenUp, originator_at_opening, MOST_UNACCEPTED, form_refusal, first_refusal, submit_refusal, with_next_request, answers, is_reply, idle_again, is_waiting}
-use Rattle.cip_class3.specs.Calls.{Call, Submit, Resend, Receive, GiveUp, Event, Took, Accepted, after_submit, seen_of_submit, events_of, counts_taken, taken_since_accepted, AcceptedOnce}
+use Rattle.cip_class3.specs.Calls.{OriginatorCall, Submit, Resend, Receive, GiveUp, Event, Took, Accepted, after_submit, seen_of_submit, events_of, counts_taken, taken_since_accepted, AcceptedOnce}
 use Rattle.cip_class3.specs.declared.originator.Refused.{Refused}
 use Rattle.cip_class3.specs.declared.originator.Refused.TheVariants as refusals
 
@@ -17,11 +17,11 @@ one_more next counts fits later zero below = omega arith
 one_more next counts fits later (suc n) below = later n (omega arith) ∙ omega arith
 
 -- what is to hold of the counts that are taken from a state on
-abbrev InOrder : List Call → Type 0
+abbrev InOrder : List OriginatorCall → Type 0
 InOrder calls = (originator : OriginatorState) → originator.next < 2 ^ 16 →
     AreInOrder originator.next (counts_taken (events_of originator calls))
 
-at_submit : (why : Option Refused) (originator : OriginatorState) (request : List ℕ) (calls : List Call) →
+at_submit : (why : Option Refused) (originator : OriginatorState) (request : List ℕ) (calls : List OriginatorCall) →
     originator.next < 2 ^ 16 → InOrder calls →
     AreInOrder originator.next
     (counts_taken (seen_of_submit why originator.next (events_of (after_submit why originator request) calls)))
@@ -30,20 +30,20 @@ at_submit None originator request calls fits later =
     (later (with_next_request originator request) (omega arith))
 at_submit (Some why) originator request calls fits later = later originator fits
 
-at_receive : (is : Bool) (originator : OriginatorState) (bytes : List ℕ) (calls : List Call) →
+at_receive : (is : Bool) (originator : OriginatorState) (bytes : List ℕ) (calls : List OriginatorCall) →
     originator.next < 2 ^ 16 → InOrder calls →
     AreInOrder originator.next (counts_taken
     (let later = events_of (if is then idle_again originator else originator) calls in if is then Accepted (sequence_count_of bytes) ∷ later else later))
 at_receive true originator bytes calls fits later = later (idle_again originator) fits
 at_receive false originator bytes calls fits later = later originator fits
 
-at_give_up : (is : Bool) (originator : OriginatorState) (calls : List Call) → originator.next < 2 ^ 16 → InOrder calls →
+at_give_up : (is : Bool) (originator : OriginatorState) (calls : List OriginatorCall) → originator.next < 2 ^ 16 → InOrder calls →
     AreInOrder originator.next
     (counts_taken (events_of (if is then record originator { phase = GivenUp } else originator) calls))
 at_give_up true originator calls fits later = later (record originator { phase = GivenUp }) fits
 at_give_up false originator calls fits later = later originator fits
 
-in_order : (calls : List Call) → InOrder calls
+in_order : (calls : List OriginatorCall) → InOrder calls
 in_order [] originator fits = λ n below. absurd (omega arith)
 in_order (Submit request ∷ calls) originator fits =
     at_submit (submit_refusal originator request) originator request calls fits (in_order calls)
@@ -54,22 +54,22 @@ in_order (GiveUp ∷ calls) originator fits =
     at_give_up (is_waiting originator.phase) originator calls fits (in_order calls)
 
 -- the count of the n-th request that is taken, from 0 on
-pub counts_taken-at : (first o_to_t_size t_to_o_size n : ℕ) (calls : List Call) → first < 2 ^ 16 →
+pub counts_taken-at : (first o_to_t_size t_to_o_size n : ℕ) (calls : List OriginatorCall) → first < 2 ^ 16 →
     n < length (counts_taken (events_of (originator_at_opening first o_to_t_size t_to_o_size) calls)) →
     slice_index (counts_taken (events_of (originator_at_opening first o_to_t_size t_to_o_size) calls)) n ≡ (first + n) % 65536
 counts_taken-at first o_to_t_size t_to_o_size n calls fits below = in_order calls (originator_at_opening first o_to_t_size t_to_o_size) fits n below
 
 neighbours_differ : (next : ℕ) (counts : List ℕ) → AreInOrder next counts → NeighboursDiffer counts
 neighbours_differ next [] order = tt
-neighbours_differ next (count ∷ []) order = tt
-neighbours_differ next (count ∷ after ∷ counts) order = (
-  (λ (e : count ≡ after). omega (arith, order 0 (omega arith), order 1 (omega arith))),
+neighbours_differ next (sequence_count ∷ []) order = tt
+neighbours_differ next (sequence_count ∷ after ∷ counts) order = (
+  (λ (e : sequence_count ≡ after). omega (arith, order 0 (omega arith), order 1 (omega arith))),
   neighbours_differ (next + 1) (after ∷ counts)
       (λ n below. order (suc n) (omega arith) ∙ ap (λ place. place % 65536) (omega arith)),
 )
 
 -- no two requests that are taken one after the other have the same count
-pub counts_taken-differ : (first o_to_t_size t_to_o_size : ℕ) (calls : List Call) → first < 2 ^ 16 →
+pub counts_taken-differ : (first o_to_t_size t_to_o_size : ℕ) (calls : List OriginatorCall) → first < 2 ^ 16 →
     NeighboursDiffer (counts_taken (events_of (originator_at_opening first o_to_t_size t_to_o_size) calls))
 counts_taken-differ first o_to_t_size t_to_o_size calls fits =
     neighbours_differ first (counts_taken (events_of (originator_at_opening first o_to_t_size t_to_o_size) calls))
@@ -78,21 +78,21 @@ counts_taken-differ first o_to_t_size t_to_o_size calls fits =
 -- what is to hold of the events from a state on
 abbrev Sound : Phase → List Event → Type 0
 Sound Idle events = AcceptedOnce events
-Sound (Waiting count request) events = AcceptedOnce (Took count ∷ events)
+Sound (Waiting sequence_count request) events = AcceptedOnce (Took sequence_count ∷ events)
 Sound GivenUp events = AcceptedOnce events
 
 abbrev state : ℕ → ℕ → ℕ → ℕ → Phase → OriginatorState
 state o_to_t_size t_to_o_size next tries phase = record { o_to_t_size = o_to_t_size; t_to_o_size = t_to_o_size; next = next; phase = phase; tries = tries }
 
-abbrev AllSound : List Call → Type 0
+abbrev AllSound : List OriginatorCall → Type 0
 AllSound calls = (o_to_t_size t_to_o_size next tries : ℕ) (phase : Phase) → Sound phase (events_of (state o_to_t_size t_to_o_size next tries phase) calls)
 
-took_before : (count : ℕ) (events : List Event) → AcceptedOnce events → AcceptedOnce (Took count ∷ events)
-took_before count [] once = tt
-took_before count (Took next ∷ events) once = once
-took_before count (Accepted same ∷ events) once = absurd once
+took_before : (sequence_count : ℕ) (events : List Event) → AcceptedOnce events → AcceptedOnce (Took sequence_count ∷ events)
+took_before sequence_count [] once = tt
+took_before sequence_count (Took next ∷ events) once = once
+took_before sequence_count (Accepted same ∷ events) once = absurd once
 
-submit_sound : (why : Option Refused) (o_to_t_size t_to_o_size next tries : ℕ) (phase : Phase) (request : List ℕ) (calls : List Call) →
+submit_sound : (why : Option Refused) (o_to_t_size t_to_o_size next tries : ℕ) (phase : Phase) (request : List ℕ) (calls : List OriginatorCall) →
     AllSound calls → AcceptedOnce (events_of (state o_to_t_size t_to_o_size next tries phase) calls) →
     let originator = state o_to_t_size t_to_o_size next tries phase in
     AcceptedOnce (seen_of_submit why next (events_of (after_submit why originator request) calls))
@@ -100,47 +100,47 @@ submit_sound None o_to_t_size t_to_o_size next tries phase request calls later o
 submit_sound (Some why) o_to_t_size t_to_o_size next tries phase request calls later once = once
 
 -- while a request waits, none is taken
-waiting_sound : (room : Bool) (o_to_t_size t_to_o_size next tries count : ℕ) (waiting request : List ℕ) (calls : List Call) → AllSound calls →
-    let originator = state o_to_t_size t_to_o_size next tries (Waiting count waiting) in
+waiting_sound : (room : Bool) (o_to_t_size t_to_o_size next tries sequence_count : ℕ) (waiting request : List ℕ) (calls : List OriginatorCall) → AllSound calls →
+    let originator = state o_to_t_size t_to_o_size next tries (Waiting sequence_count waiting) in
     let why : Option Refused = if room then Some refusals.Busy else Some refusals.TooManyAbandoned in
-    AcceptedOnce (Took count ∷ seen_of_submit why next (events_of (after_submit why originator request) calls))
-waiting_sound true o_to_t_size t_to_o_size next tries count waiting request calls later = later o_to_t_size t_to_o_size next tries (Waiting count waiting)
-waiting_sound false o_to_t_size t_to_o_size next tries count waiting request calls later = later o_to_t_size t_to_o_size next tries (Waiting count waiting)
+    AcceptedOnce (Took sequence_count ∷ seen_of_submit why next (events_of (after_submit why originator request) calls))
+waiting_sound true o_to_t_size t_to_o_size next tries sequence_count waiting request calls later = later o_to_t_size t_to_o_size next tries (Waiting sequence_count waiting)
+waiting_sound false o_to_t_size t_to_o_size next tries sequence_count waiting request calls later = later o_to_t_size t_to_o_size next tries (Waiting sequence_count waiting)
 
-receive_sound : (is : Bool) (o_to_t_size t_to_o_size next tries count : ℕ) (request bytes : List ℕ) (calls : List Call) →
-    answers t_to_o_size count (slice_index request 0) bytes ≡ is → AllSound calls →
-    let originator = state o_to_t_size t_to_o_size next tries (Waiting count request) in
-    AcceptedOnce (Took count ∷ (let later = events_of (if is then idle_again originator else originator) calls in
+receive_sound : (is : Bool) (o_to_t_size t_to_o_size next tries sequence_count : ℕ) (request bytes : List ℕ) (calls : List OriginatorCall) →
+    answers t_to_o_size sequence_count (slice_index request 0) bytes ≡ is → AllSound calls →
+    let originator = state o_to_t_size t_to_o_size next tries (Waiting sequence_count request) in
+    AcceptedOnce (Took sequence_count ∷ (let later = events_of (if is then idle_again originator else originator) calls in
     if is then Accepted (sequence_count_of bytes) ∷ later else later))
-receive_sound true o_to_t_size t_to_o_size next tries count request bytes calls is later =
+receive_sound true o_to_t_size t_to_o_size next tries sequence_count request bytes calls is later =
     (sym (eqb-true _ _ (and_parts _ _ ((and_parts _ _ is).0)).1), later o_to_t_size t_to_o_size next 0 Idle)
-receive_sound false o_to_t_size t_to_o_size next tries count request bytes calls is later = later o_to_t_size t_to_o_size next tries (Waiting count request)
+receive_sound false o_to_t_size t_to_o_size next tries sequence_count request bytes calls is later = later o_to_t_size t_to_o_size next tries (Waiting sequence_count request)
 
-sound : (calls : List Call) → AllSound calls
+sound : (calls : List OriginatorCall) → AllSound calls
 sound [] o_to_t_size t_to_o_size next tries Idle = tt
-sound [] o_to_t_size t_to_o_size next tries (Waiting count request) = tt
+sound [] o_to_t_size t_to_o_size next tries (Waiting sequence_count request) = tt
 sound [] o_to_t_size t_to_o_size next tries GivenUp = tt
 sound (Submit request ∷ calls) o_to_t_size t_to_o_size next tries Idle =
     submit_sound (submit_refusal (state o_to_t_size t_to_o_size next tries Idle) request) o_to_t_size t_to_o_size next tries Idle request calls (sound calls)
     (sound calls o_to_t_size t_to_o_size next tries Idle)
-sound (Submit request ∷ calls) o_to_t_size t_to_o_size next tries (Waiting count waiting) =
-    waiting_sound (nat_lt tries MOST_UNACCEPTED) o_to_t_size t_to_o_size next tries count waiting request calls (sound calls)
+sound (Submit request ∷ calls) o_to_t_size t_to_o_size next tries (Waiting sequence_count waiting) =
+    waiting_sound (nat_lt tries MOST_UNACCEPTED) o_to_t_size t_to_o_size next tries sequence_count waiting request calls (sound calls)
 sound (Submit request ∷ calls) o_to_t_size t_to_o_size next tries GivenUp =
     submit_sound (submit_refusal (state o_to_t_size t_to_o_size next tries GivenUp) request) o_to_t_size t_to_o_size next tries GivenUp request calls (sound calls)
     (sound calls o_to_t_size t_to_o_size next tries GivenUp)
 sound (Resend ∷ calls) o_to_t_size t_to_o_size next tries Idle = sound calls o_to_t_size t_to_o_size next tries Idle
-sound (Resend ∷ calls) o_to_t_size t_to_o_size next tries (Waiting count request) = sound calls o_to_t_size t_to_o_size next tries (Waiting count request)
+sound (Resend ∷ calls) o_to_t_size t_to_o_size next tries (Waiting sequence_count request) = sound calls o_to_t_size t_to_o_size next tries (Waiting sequence_count request)
 sound (Resend ∷ calls) o_to_t_size t_to_o_size next tries GivenUp = sound calls o_to_t_size t_to_o_size next tries GivenUp
 sound (Receive bytes ∷ calls) o_to_t_size t_to_o_size next tries Idle = sound calls o_to_t_size t_to_o_size next tries Idle
-sound (Receive bytes ∷ calls) o_to_t_size t_to_o_size next tries (Waiting count request) =
-    receive_sound _ o_to_t_size t_to_o_size next tries count request bytes calls refl (sound calls)
+sound (Receive bytes ∷ calls) o_to_t_size t_to_o_size next tries (Waiting sequence_count request) =
+    receive_sound _ o_to_t_size t_to_o_size next tries sequence_count request bytes calls refl (sound calls)
 sound (Receive bytes ∷ calls) o_to_t_size t_to_o_size next tries GivenUp = sound calls o_to_t_size t_to_o_size next tries GivenUp
 sound (GiveUp ∷ calls) o_to_t_size t_to_o_size next tries Idle = sound calls o_to_t_size t_to_o_size next tries Idle
-sound (GiveUp ∷ calls) o_to_t_size t_to_o_size next tries (Waiting count request) = took_before count (events_of (state o_to_t_size t_to_o_size next tries GivenUp) calls) (sound calls o_to_t_size t_to_o_size next tries GivenUp)
+sound (GiveUp ∷ calls) o_to_t_size t_to_o_size next tries (Waiting sequence_count request) = took_before sequence_count (events_of (state o_to_t_size t_to_o_size next tries GivenUp) calls) (sound calls o_to_t_size t_to_o_size next tries GivenUp)
 sound (GiveUp ∷ calls) o_to_t_size t_to_o_size next tries GivenUp = sound calls o_to_t_size t_to_o_size next tries GivenUp
 
 -- from a state in which no request waits, a reply is accepted at most once for each request
-pub events_of-accepted_once : (first o_to_t_size t_to_o_size : ℕ) (calls : List Call) → AcceptedOnce (events_of (originator_at_opening first o_to_t_size t_to_o_size) calls)
+pub events_of-accepted_once : (first o_to_t_size t_to_o_size : ℕ) (calls : List OriginatorCall) → AcceptedOnce (events_of (originator_at_opening first o_to_t_size t_to_o_size) calls)
 events_of-accepted_once first o_to_t_size t_to_o_size calls = sound calls o_to_t_size t_to_o_size first 0 Idle
 
 -- what holds where a request is not refused
@@ -161,11 +161,11 @@ first_refusal-none since_accepted waits form is = go (nat_lt since_accepted MOST
     go false waiting e f = absurd (cc)
 
 -- what is to hold of the events from a state on, of how many requests were taken since the last accepted reply
-abbrev Fewer : List Call → Type 0
+abbrev Fewer : List OriginatorCall → Type 0
 Fewer calls = (originator : OriginatorState) → originator.tries ≤ MOST_UNACCEPTED →
     taken_since_accepted originator.tries (events_of originator calls) ≤ MOST_UNACCEPTED
 
-submit_fewer : (why : Option Refused) (originator : OriginatorState) (request : List ℕ) (calls : List Call) →
+submit_fewer : (why : Option Refused) (originator : OriginatorState) (request : List ℕ) (calls : List OriginatorCall) →
     submit_refusal originator request ≡ why → originator.tries ≤ MOST_UNACCEPTED → Fewer calls →
     taken_since_accepted originator.tries (seen_of_submit why originator.next (events_of (after_submit why originator request) calls))
     ≤ MOST_UNACCEPTED
@@ -174,19 +174,19 @@ submit_fewer None originator request calls is fits later =
     (omega (arith, (first_refusal-none originator.tries (is_waiting originator.phase) (form_refusal originator.o_to_t_size request) is).room))
 submit_fewer (Some why) originator request calls is fits later = later originator fits
 
-receive_fewer : (is : Bool) (originator : OriginatorState) (bytes : List ℕ) (calls : List Call) →
+receive_fewer : (is : Bool) (originator : OriginatorState) (bytes : List ℕ) (calls : List OriginatorCall) →
     originator.tries ≤ MOST_UNACCEPTED → Fewer calls →
     taken_since_accepted originator.tries (let later = events_of (if is then idle_again originator else originator) calls in
     if is then Accepted (sequence_count_of bytes) ∷ later else later) ≤ MOST_UNACCEPTED
 receive_fewer true originator bytes calls fits later = later (idle_again originator) (omega arith)
 receive_fewer false originator bytes calls fits later = later originator fits
 
-give_up_fewer : (is : Bool) (originator : OriginatorState) (calls : List Call) → originator.tries ≤ MOST_UNACCEPTED → Fewer calls →
+give_up_fewer : (is : Bool) (originator : OriginatorState) (calls : List OriginatorCall) → originator.tries ≤ MOST_UNACCEPTED → Fewer calls →
     taken_since_accepted originator.tries (events_of (if is then record originator { phase = GivenUp } else originator) calls) ≤ MOST_UNACCEPTED
 give_up_fewer true originator calls fits later = later (record originator { phase = GivenUp }) fits
 give_up_fewer false originator calls fits later = later originator fits
 
-fewer : (calls : List Call) → Fewer calls
+fewer : (calls : List OriginatorCall) → Fewer calls
 fewer [] originator fits = fits
 fewer (Submit request ∷ calls) originator fits =
     submit_fewer (submit_refusal originator request) originator request calls refl fits (fewer calls)
@@ -196,6 +196,6 @@ fewer (Receive bytes ∷ calls) originator fits =
 fewer (GiveUp ∷ calls) originator fits = give_up_fewer (is_waiting originator.phase) originator calls fits (fewer calls)
 
 -- since the last accepted reply never more requests are taken
-pub events_of-fewer : (first o_to_t_size t_to_o_size : ℕ) (calls : List Call) →
+pub events_of-fewer : (first o_to_t_size t_to_o_size : ℕ) (calls : List OriginatorCall) →
     taken_since_accepted 0 (events_of (originator_at_opening first o_to_t_size t_to_o_size) calls) ≤ MOST_UNACCEPTED
 events_of-fewer first o_to_t_size t_to_o_size calls = fewer calls (originator_at_opening first o_to_t_size t_to_o_size) (omega arith)

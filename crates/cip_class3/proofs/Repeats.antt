@@ -8,8 +8,8 @@ use Rattle.cip_class3.specs.TargetRule.{TargetState, Kept, TargetStep, step_of, 
 use Rattle.cip_class3.specs.Deliveries.{Delivery, IsDeliverable, AreDelivered, items_of, requests_of, counts_from, answer_to, router_after, answers_to, router_after_requests, answers_once}
 use Rattle.cip_class3.specs.declared.target.Received.TheVariants.{Repeated, Executed}
 
-pub sequence_count_of-item : (count : ℕ) (message : List ℕ) → count < 2 ^ 16 → sequence_count_of (item count message) ≡ count
-sequence_count_of-item count message fits = le2_again count fits message
+pub sequence_count_of-item : (sequence_count : ℕ) (message : List ℕ) → sequence_count < 2 ^ 16 → sequence_count_of (item sequence_count message) ≡ sequence_count
+sequence_count_of-item sequence_count message fits = le2_again sequence_count fits message
 
 pub is_of_size-item : (target : TargetState) (d : Delivery) → IsDeliverable target.o_to_t_size d → is_of_size target (item d.sequence_count d.request) ≡ true
 is_of_size-item target d fits =
@@ -19,7 +19,7 @@ is_of_size-item target d fits =
 
 -- the target that holds this count and this reply
 abbrev pub holding : TargetState → ℕ → List ℕ → TargetState
-holding target count reply = record target { held = Some (record { sequence_count = count; reply = reply }) }
+holding target sequence_count reply = record target { held = Some (record { sequence_count = sequence_count; reply = reply }) }
 
 -- the count of the next request isn't held
 not_held : (held : Option Kept) (d : Delivery) (deliveries : List Delivery) → NeighboursDiffer (counts_from held (d ∷ deliveries)) →
@@ -51,16 +51,16 @@ module _ {M : Type 0} (after : M → ℕ → List ℕ → M) (answer : M → ℕ
       ≡ step_of Executed (holding target d.sequence_count (answer router (room_of target) d.request)) (after router (room_of target) d.request)
   step-first target router d fits other =
       step-executes target router (item d.sequence_count d.request) (is_of_size-item target d fits)
-      (ap (is_held target.held) (sequence_count_of-item d.sequence_count d.request fits.count) ∙ other)
-      ∙ ap (λ count. step_of Executed (holding target count (answer router (room_of target) d.request)) (after router (room_of target) d.request))
-      (sequence_count_of-item d.sequence_count d.request fits.count)
+      (ap (is_held target.held) (sequence_count_of-item d.sequence_count d.request fits.sequence_count) ∙ other)
+      ∙ ap (λ sequence_count. step_of Executed (holding target sequence_count (answer router (room_of target) d.request)) (after router (room_of target) d.request))
+      (sequence_count_of-item d.sequence_count d.request fits.sequence_count)
 
   -- a request whose count is held changes nothing
   pub step-again : (target : TargetState) (router : M) (d : Delivery) (reply : List ℕ) → IsDeliverable target.o_to_t_size d →
       step (holding target d.sequence_count reply) router (item d.sequence_count d.request) ≡ step_of Repeated (holding target d.sequence_count reply) router
   step-again target router d reply fits =
       step-repeats (holding target d.sequence_count reply) router (item d.sequence_count d.request) (is_of_size-item (holding target d.sequence_count reply) d fits)
-      (eq-eqb _ _ (sym (sequence_count_of-item d.sequence_count d.request fits.count)))
+      (eq-eqb _ _ (sym (sequence_count_of-item d.sequence_count d.request fits.sequence_count)))
 
   repeats-router : (n : ℕ) (target : TargetState) (router : M) (d : Delivery) (reply : List ℕ) (items : List (List ℕ)) → IsDeliverable target.o_to_t_size d →
       router_after after answer (holding target d.sequence_count reply) router (replicate n (item d.sequence_count d.request) ++ items)

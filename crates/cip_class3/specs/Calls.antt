@@ -6,22 +6,22 @@ use Rattle.cip_class3.specs.OriginatorRule.{after_give_up}
 use Rattle.cip_class3.specs.declared.originator.Refused.{Refused}
 
 -- a call
-pub data Call : Type 0 where
-  Submit : (request : List ℕ) → Call
-  Resend : Call
-  Receive : (bytes : List ℕ) → Call
-  GiveUp : Call
+pub data OriginatorCall : Type 0 where
+  Submit : (request : List ℕ) → OriginatorCall
+  Resend : OriginatorCall
+  Receive : (bytes : List ℕ) → OriginatorCall
+  GiveUp : OriginatorCall
 
 -- what a call can be seen to do: a request is taken with this count, or a reply with this count is accepted
 pub data Event : Type 0 where
-  Took : (count : ℕ) → Event
-  Accepted : (count : ℕ) → Event
+  Took : (sequence_count : ℕ) → Event
+  Accepted : (sequence_count : ℕ) → Event
 
 abbrev pub after_submit : Option Refused → OriginatorState → List ℕ → OriginatorState
 after_submit None originator request = with_next_request originator request
 after_submit (Some why) originator request = originator
 
-abbrev pub after_call : OriginatorState → Call → OriginatorState
+abbrev pub after_call : OriginatorState → OriginatorCall → OriginatorState
 after_call originator (Submit request) = after_submit (submit_refusal originator request) originator request
 after_call originator Resend = originator
 after_call originator (Receive bytes) = after_item originator bytes
@@ -29,11 +29,11 @@ after_call originator GiveUp = after_give_up originator
 
 -- what is seen of a submit, and then later
 abbrev pub seen_of_submit : Option Refused → ℕ → List Event → List Event
-seen_of_submit None count later = Took count ∷ later
-seen_of_submit (Some why) count later = later
+seen_of_submit None sequence_count later = Took sequence_count ∷ later
+seen_of_submit (Some why) sequence_count later = later
 
 -- what is seen of a call, and then later
-abbrev pub seen_of_call : OriginatorState → Call → List Event → List Event
+abbrev pub seen_of_call : OriginatorState → OriginatorCall → List Event → List Event
 seen_of_call originator (Submit request) later =
     seen_of_submit (submit_refusal originator request) originator.next later
 seen_of_call originator Resend later = later
@@ -42,28 +42,28 @@ seen_of_call originator (Receive bytes) later =
 seen_of_call originator GiveUp later = later
 
 -- what is seen of the calls, in order
-abbrev pub events_of : OriginatorState → List Call → List Event
+abbrev pub events_of : OriginatorState → List OriginatorCall → List Event
 events_of originator [] = []
 events_of originator (call ∷ calls) = seen_of_call originator call (events_of (after_call originator call) calls)
 
 -- the counts of the requests that were taken
 abbrev pub counts_taken : List Event → List ℕ
 counts_taken [] = []
-counts_taken (Took count ∷ events) = count ∷ counts_taken events
-counts_taken (Accepted count ∷ events) = counts_taken events
+counts_taken (Took sequence_count ∷ events) = sequence_count ∷ counts_taken events
+counts_taken (Accepted sequence_count ∷ events) = counts_taken events
 
 -- How many requests were taken since the last one whose reply was accepted, after these events, where so many were
 -- before them.
 abbrev pub taken_since_accepted : ℕ → List Event → ℕ
 taken_since_accepted before [] = before
-taken_since_accepted before (Took count ∷ events) = taken_since_accepted (before + 1) events
-taken_since_accepted before (Accepted count ∷ events) = taken_since_accepted 0 events
+taken_since_accepted before (Took sequence_count ∷ events) = taken_since_accepted (before + 1) events
+taken_since_accepted before (Accepted sequence_count ∷ events) = taken_since_accepted 0 events
 
 -- Each accepted reply has the count of the request that was taken last before it, and no other is accepted
 -- before the next request is taken.
 abbrev pub AcceptedOnce : List Event → Type 0
 AcceptedOnce [] = Unit {0}
-AcceptedOnce (Accepted count ∷ events) = ⊥
-AcceptedOnce (Took count ∷ []) = Unit {0}
-AcceptedOnce (Took count ∷ Accepted same ∷ events) = (count ≡ same) × AcceptedOnce events
-AcceptedOnce (Took count ∷ Took next ∷ events) = AcceptedOnce (Took next ∷ events)
+AcceptedOnce (Accepted sequence_count ∷ events) = ⊥
+AcceptedOnce (Took sequence_count ∷ []) = Unit {0}
+AcceptedOnce (Took sequence_count ∷ Accepted same ∷ events) = (sequence_count ≡ same) × AcceptedOnce events
+AcceptedOnce (Took sequence_count ∷ Took next ∷ events) = AcceptedOnce (Took next ∷ events)

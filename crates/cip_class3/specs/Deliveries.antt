@@ -14,7 +14,7 @@ pub record Delivery : Type 0 where
 
 -- it has a count and a request, and fits the O->T size
 pub record IsDeliverable (o_to_t_size : ℕ) (delivery : Delivery) : Type 0 where
-  pub count : delivery.sequence_count < 2 ^ 16
+  pub sequence_count : delivery.sequence_count < 2 ^ 16
   pub request : 2 ≤ length delivery.request
   pub size : length delivery.request + 2 ≤ o_to_t_size
 

@@ -4,7 +4,7 @@ use Rattle.cip_bytes.specs.Numbers.{le, number_at}
 
 -- two bytes of sequence count, least first, and a request or a reply
 abbrev pub item : ℕ → List ℕ → List ℕ
-item count message = le 2 count ++ message
+item sequence_count message = le 2 sequence_count ++ message
 
 abbrev pub sequence_count_of : List ℕ → ℕ
 sequence_count_of bytes = number_at 0 2 bytes
@@ -15,5 +15,5 @@ message_of bytes = drop 2 bytes
 -- no two counts that stand side by side are the same
 abbrev pub NeighboursDiffer : List ℕ → Type 0
 NeighboursDiffer [] = Unit {0}
-NeighboursDiffer (count ∷ []) = Unit {0}
-NeighboursDiffer (count ∷ next ∷ counts) = (count ≢ next) × NeighboursDiffer (next ∷ counts)
+NeighboursDiffer (sequence_count ∷ []) = Unit {0}
+NeighboursDiffer (sequence_count ∷ next ∷ counts) = (sequence_count ≢ next) × NeighboursDiffer (next ∷ counts)

@@ -10,7 +10,7 @@ use Rattle.cip_class3.specs.declared.originator.Originator.TheInside.{Inside}
 -- the request that waits stands behind the two bytes of its count, at the front of the block
 abbrev pub phase_of : Progress → List ℕ → Phase
 phase_of progress.Idle block = Idle
-phase_of (progress.Waiting count length) block = Waiting count (drop 2 (take length block))
+phase_of (progress.Waiting sequence_count length) block = Waiting sequence_count (drop 2 (take length block))
 phase_of progress.GivenUp block = GivenUp
 
 abbrev pub originator_state : Inside → OriginatorState
@@ -23,15 +23,15 @@ originator_state originator = record {
 }
 
 -- an item of this count and length stands at the front of the block
-pub record StandsInFront (count item_length : ℕ) (block : List ℕ) : Type 0 where
+pub record StandsInFront (sequence_count item_length : ℕ) (block : List ℕ) : Type 0 where
   pub from : 4 ≤ item_length
   pub to : item_length ≤ length block
-  pub item : take item_length block ≡ item count (drop 2 (take item_length block))
+  pub item : take item_length block ≡ item sequence_count (drop 2 (take item_length block))
 
 -- the item of the request that waits, if one does, is in the block
 abbrev pub HoldsItem : Progress → List ℕ → Type 0
 HoldsItem progress.Idle block = Unit {0}
-HoldsItem (progress.Waiting count length) block = StandsInFront count length block
+HoldsItem (progress.Waiting sequence_count length) block = StandsInFront sequence_count length block
 HoldsItem progress.GivenUp block = Unit {0}
 
 pub record IsOriginator (originator : Inside) : Type 0 where

@@ -11,7 +11,7 @@ use Rattle.cip_class3.specs.declared.originator.Refused.TheVariants as refusals
 -- no request waits, this one waits for its reply with this count, or the last one was given up
 pub data Phase : Type 0 where
   Idle : Phase
-  Waiting : (count : ℕ) (request : List ℕ) → Phase
+  Waiting : (sequence_count : ℕ) (request : List ℕ) → Phase
   GivenUp : Phase
 
 -- the originator's end: both sizes, the sequence count included, the count of the next request, the phase,
@@ -53,7 +53,7 @@ form_refusal o_to_t_size request =
 
 abbrev pub is_waiting : Phase → Bool
 is_waiting Idle = false
-is_waiting (Waiting count request) = true
+is_waiting (Waiting sequence_count request) = true
 is_waiting GivenUp = false
 
 -- The first reason not to take a request, if there is one: so many were submitted since the last one whose reply was
@@ -80,19 +80,20 @@ with_next_request originator request =
 -- the item of the request that waits
 abbrev pub waiting_item : Phase → Option (List ℕ)
 waiting_item Idle = None
-waiting_item (Waiting count request) = Some (item count request)
+waiting_item (Waiting sequence_count request) = Some (item sequence_count request)
 waiting_item GivenUp = None
 
 -- an item of 6 to `t_to_o_size` bytes, with this count, and with this service with bit 7 set
 abbrev pub answers : ℕ → ℕ → ℕ → List ℕ → Bool
-answers t_to_o_size count service bytes =
-    nat_le 6 (length bytes) && nat_le (length bytes) t_to_o_size && (sequence_count_of bytes == count)
+answers t_to_o_size sequence_count service bytes =
+    nat_le 6 (length bytes) && nat_le (length bytes) t_to_o_size && (sequence_count_of bytes == sequence_count)
     && (slice_index bytes 2 == reply_service service)
 
 -- the item has the reply to the request that waits
 abbrev pub is_reply : ℕ → Phase → List ℕ → Bool
 is_reply t_to_o_size Idle bytes = false
-is_reply t_to_o_size (Waiting count request) bytes = answers t_to_o_size count (slice_index request 0) bytes
+is_reply t_to_o_size (Waiting sequence_count request) bytes =
+    answers t_to_o_size sequence_count (slice_index request 0) bytes
 is_reply t_to_o_size GivenUp bytes = false
 
 -- no request waits any more, and the requests are counted from here
@@ -115,5 +116,5 @@ after_give_up originator = if is_waiting originator.phase then record originator
 
 abbrev pub stage_of : Phase → Stage
 stage_of Idle = stages.Idle
-stage_of (Waiting count request) = stages.Waiting
+stage_of (Waiting sequence_count request) = stages.Waiting
 stage_of GivenUp = stages.GivenUp

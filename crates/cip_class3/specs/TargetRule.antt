@@ -31,8 +31,8 @@ room_of target = target.t_to_o_size - 2
 
 -- this count is held
 abbrev pub is_held : Option Kept → ℕ → Bool
-is_held None count = false
-is_held (Some kept) count = kept.sequence_count == count
+is_held None sequence_count = false
+is_held (Some kept) sequence_count = kept.sequence_count == sequence_count
 
 -- a count and a request of two bytes at least, within the O->T size
 abbrev pub is_of_size : TargetState → List ℕ → Bool

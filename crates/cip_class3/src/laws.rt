@@ -8,7 +8,7 @@ ghost use Rattle.cip_class3.specs.TargetRule.{TargetState, room_of};
 ghost use Rattle.cip_class3.specs.Deliveries.{Delivery, AreDelivered, items_of, requests_of, router_after, answers_to};
 ghost use Rattle.cip_class3.specs.Deliveries.{router_after_requests, answers_once};
 ghost use Rattle.cip_class3.specs.OriginatorRule.{originator_at_opening, MOST_UNACCEPTED};
-ghost use Rattle.cip_class3.specs.Calls.{Call, events_of, counts_taken, taken_since_accepted, AcceptedOnce};
+ghost use Rattle.cip_class3.specs.Calls.{OriginatorCall, events_of, counts_taken, taken_since_accepted, AcceptedOnce};
 
 use cip_objects::Router;
 
@@ -33,7 +33,7 @@ pub fn each_request_once<R: Router>()
 /// The counts that an originator takes follow one another, whatever the calls: that of the n-th request, from 0
 /// on, is n more than the first one's, modulo 65,536.
 pub fn counts_in_order()
-    ensures { (first o_to_t_size t_to_o_size n : ℕ) (calls : List Call) → first < 2 ^ 16 →
+    ensures { (first o_to_t_size t_to_o_size n : ℕ) (calls : List OriginatorCall) → first < 2 ^ 16 →
         n < length (counts_taken (events_of (originator_at_opening first o_to_t_size t_to_o_size) calls)) →
         slice_index (counts_taken (events_of (originator_at_opening first o_to_t_size t_to_o_size) calls)) n
         ≡ (first + n) % 65536 }
@@ -41,19 +41,19 @@ pub fn counts_in_order()
 
 /// Two requests that an originator takes one after the other never have the same count, whatever the calls.
 pub fn counts_differ()
-    ensures { (first o_to_t_size t_to_o_size : ℕ) (calls : List Call) → first < 2 ^ 16 →
+    ensures { (first o_to_t_size t_to_o_size : ℕ) (calls : List OriginatorCall) → first < 2 ^ 16 →
         NeighboursDiffer (counts_taken (events_of (originator_at_opening first o_to_t_size t_to_o_size) calls)) }
 {}
 
 /// An originator never takes so many requests, without an accepted reply between them, that a count would come again.
 pub fn fewer_than_counts()
-    ensures { (first o_to_t_size t_to_o_size : ℕ) (calls : List Call) →
+    ensures { (first o_to_t_size t_to_o_size : ℕ) (calls : List OriginatorCall) →
         taken_since_accepted 0 (events_of (originator_at_opening first o_to_t_size t_to_o_size) calls)
         ≤ MOST_UNACCEPTED }
 {}
 
 /// A reply is accepted at most once for each request that an originator takes, whatever the calls.
 pub fn one_reply_each()
-    ensures { (first o_to_t_size t_to_o_size : ℕ) (calls : List Call) →
+    ensures { (first o_to_t_size t_to_o_size : ℕ) (calls : List OriginatorCall) →
         AcceptedOnce (events_of (originator_at_opening first o_to_t_size t_to_o_size) calls) }
 {}

@@ -18,7 +18,7 @@ use Rattle.cip_manager.specs.Manager.{ManagerState, Turn, no_connection}
 use Rattle.cip_manager.specs.Opening.{new_connection, with_opening, open_success, decided_opening, service_in, open_turn_in}
 use Rattle.cip_manager.specs.Closing.{triad_of}
 use Rattle.cip_manager.specs.Replies.{SUCCESS, o_to_t_id_in}
-use Rattle.cip_manager.specs.Runs.{Call, Opens, Closes, Receives, Expires, Ends, State, state_after_call, state_after, ids_of_call, ids_drawn, CountsFrom, AreApart}
+use Rattle.cip_manager.specs.Runs.{ManagerCall, Opens, Closes, Receives, Expires, Ends, State, state_after_call, state_after, ids_of_call, ids_drawn, CountsFrom, AreApart}
 use Rattle.cip_manager.proofs.CheckLemmas.{HasRoom, passes_checks}
 use Rattle.cip_manager.proofs.CallLemmas.{after_open, after_close, after_item_turn}
 use Rattle.cip_manager.proofs.ListLemmas.{All-with_first, AllPairs-with_first}
@@ -50,7 +50,7 @@ draws-open layout manager now session bytes =
     })
 
 module _ {M : Type 0} (after : M → ℕ → List ℕ → M) (answer : M → ℕ → List ℕ → List ℕ) where
-  draws-call : (state : State M) (call : Call) → Draws state.manager.next_id (state_after_call after answer state call).manager.next_id (ids_of_call after answer state call)
+  draws-call : (state : State M) (call : ManagerCall) → Draws state.manager.next_id (state_after_call after answer state call).manager.next_id (ids_of_call after answer state call)
   draws-call state (Opens layout now session bytes) = draws-open layout state.manager now session bytes
   draws-call state (Closes session bytes) =
       record { drawn = inl (refl, after_close (λ m. m.next_id ≡ state.manager.next_id) state.manager session bytes refl (λ request e. refl)) }
@@ -58,7 +58,7 @@ module _ {M : Type 0} (after : M → ℕ → List ℕ → M) (answer : M → ℕ
   draws-call state (Expires now) = record { drawn = inl (refl, refl) }
   draws-call state (Ends session) = record { drawn = inl (refl, refl) }
 
-  pub counts-ids_drawn : (state : State M) (calls : List Call) → CountsFrom state.manager.next_id (ids_drawn after answer state calls)
+  pub counts-ids_drawn : (state : State M) (calls : List ManagerCall) → CountsFrom state.manager.next_id (ids_drawn after answer state calls)
   counts-ids_drawn state [] = tt
   counts-ids_drawn state (call ∷ calls) =
       let next = state_after_call after answer state call in
@@ -118,7 +118,7 @@ differ-opening manager now session asked room d =
     }
 
 module _ {M : Type 0} (after : M → ℕ → List ℕ → M) (answer : M → ℕ → List ℕ → List ℕ) where
-  differ-call : (state : State M) (call : Call) → Differ state.manager → Differ (state_after_call after answer state call).manager
+  differ-call : (state : State M) (call : ManagerCall) → Differ state.manager → Differ (state_after_call after answer state call).manager
   differ-call state (Opens layout now session bytes) d =
       after_open (λ turn. Differ turn.manager) layout state.manager now session bytes (λ reply refused. d)
       (λ asked check. differ-opening state.manager now session asked (passes_checks state.manager asked check).room d)
@@ -137,11 +137,11 @@ module _ {M : Type 0} (after : M → ℕ → List ℕ → M) (answer : M → ℕ
   differ-call state (Expires now) d = differ-filter (is_open_at now) state.manager d
   differ-call state (Ends session) d = differ-filter (λ c. not (is_of_session session c)) state.manager d
 
-  differ-calls : (state : State M) (calls : List Call) → Differ state.manager → Differ (state_after after answer state calls).manager
+  differ-calls : (state : State M) (calls : List ManagerCall) → Differ state.manager → Differ (state_after after answer state calls).manager
   differ-calls state [] d = d
   differ-calls state (call ∷ calls) d = differ-calls (state_after_call after answer state call) calls (differ-call state call d)
 
-  pub connections-apart : (places first_id : ℕ) (device : Device) (router : M) (calls : List Call)
+  pub connections-apart : (places first_id : ℕ) (device : Device) (router : M) (calls : List ManagerCall)
       → AllPairs AreApart (state_after after answer (record { manager = no_connection places first_id device; router = router }) calls).manager.connections
   connections-apart places first_id device router calls =
       (differ-calls (record { manager = no_connection places first_id device; router = router }) calls

@@ -5,11 +5,13 @@ use Rattle.std.specs.List.{position_or_len, position}
 use Rattle.std.proofs.lemmas.List.Folds.{find_at}
 use Rattle.std.proofs.Math.ListN.{length-set}
 use Rattle.std.proofs.Math.Seq.{get_or-set_same}
+use Rattle.std.specs.Option.{option_map}
+use Rattle.cip_class3.specs.TargetRule.{Kept, kept_bytes}
 use Rattle.cip_class3.specs.declared.target.Received.{Received}
 use Rattle.cip_class3.specs.declared.target.Received.TheVariants.{Dropped, Repeated, Executed}
 use Rattle.cip_manager.specs.declared.connection.Connection.{Connection}
 use Rattle.cip_manager.specs.Connection.{is_named, is_answered}
-use Rattle.cip_manager.specs.Items.{with_first, ConnectionTurn, ItemTurn, turn_of_connection, connection_turn, turn_of_found, item_turn, reply_of, AnswersAt, IsAt}
+use Rattle.cip_manager.specs.Items.{with_first, ConnectionTurn, ItemTurn, turn_of_connection, connection_turn, turn_of_found, item_turn, reply_of, kept_reply, held_reply, AnswersAt, IsAt}
 use Rattle.cip_manager.proofs.ItemLemmas.{answered-held}
 
 -- a change of the first is a change at its place
@@ -75,6 +77,11 @@ module _ {M : Type 0} (after : M → ℕ → List ℕ → M) (answer : M → ℕ
     reply = cond (is_answered turn.received) (Some (reply_of turn.connection)) None;
   }
 
+  -- what is held is what answers
+  reply-held : (id : ℕ) (held : Option Kept) → is_some held ≡ true → option_map (kept_reply id) held ≡ Some (record { id = id; bytes = kept_bytes held })
+  reply-held id None some = cc
+  reply-held id (Some kept) some = refl
+
   -- what an item left at a place answers it, unless it was dropped
   replied : (test : Connection → Bool) (received : Received) (cs : List Connection) (i : ℕ) (new : Connection) (moved : M) → i < length cs
       → (is_answered received ≡ true → is_some new.target.held ≡ true)
@@ -83,13 +90,13 @@ module _ {M : Type 0} (after : M → ℕ → List ℕ → M) (answer : M → ℕ
   replied test Dropped cs i new moved h held = refl
   replied test Repeated cs i new moved h held = record {
     within = omega (arith, length-set cs i new);
-    held = λ d. subst (λ (c : Connection). is_some c.target.held ≡ true) (sym (get_or-set_same cs i new d h)) (held refl);
-    reply = λ d. ap (λ c. Some (reply_of c)) (sym (get_or-set_same cs i new d h));
+    answered = refl;
+    reply = λ d. sym (reply-held new.t_to_o_id new.target.held (held refl)) ∙ ap held_reply (sym (get_or-set_same cs i new d h));
   }
   replied test Executed cs i new moved h held = record {
     within = omega (arith, length-set cs i new);
-    held = λ d. subst (λ (c : Connection). is_some c.target.held ≡ true) (sym (get_or-set_same cs i new d h)) (held refl);
-    reply = λ d. ap (λ c. Some (reply_of c)) (sym (get_or-set_same cs i new d h));
+    answered = refl;
+    reply = λ d. sym (reply-held new.t_to_o_id new.target.held (held refl)) ∙ ap held_reply (sym (get_or-set_same cs i new d h));
   }
 
   -- the connection at the place of the first that is named receives the item

@@ -7,7 +7,7 @@ use Rattle.std.proofs.lemmas.List.Elements.{filter-append}
 use Rattle.cip_manager.specs.declared.connection.Connection.{Connection}
 use Rattle.cip_manager.specs.Connection.{is_of_session, is_named, is_open_at}
 use Rattle.cip_manager.specs.Opening.{new_connection}
-use Rattle.cip_manager.specs.Runs.{Call, Opens, Closes, Receives, Expires, Ends, State, state_after_call, state_after, IsOfOther, of_session, is_open_after, is_open_after_all, is_closed_by, is_spared}
+use Rattle.cip_manager.specs.Runs.{ManagerCall, Opens, Closes, Receives, Expires, Ends, State, state_after_call, state_after, IsOfOther, of_session, is_open_after, is_open_after_all, is_closed_by, is_spared}
 use Rattle.cip_manager.proofs.CallLemmas.{after_open, after_close, after_item_turn}
 use Rattle.cip_manager.proofs.ListLemmas.{filter-true, filter-filter, filter-swap, filter-implied, find-passes, find-append, find-filter, find-with_first, filter-with_first}
 
@@ -34,7 +34,7 @@ misses-other session other c b differ e = ap (λ t. not (t && b)) (of_session-ot
 
 module _ {M : Type 0} (after : M → ℕ → List ℕ → M) (answer : M → ℕ → List ℕ → List ℕ) where
   -- one call of another session leaves the session's connections, but for time-outs
-  call-of_other : (session : ℕ) (state : State M) (call : Call) → IsOfOther session call
+  call-of_other : (session : ℕ) (state : State M) (call : ManagerCall) → IsOfOther session call
       → of_session session (state_after_call after answer state call).manager.connections
       ≡ filter (λ c. is_open_after c call) (of_session session state.manager.connections)
   call-of_other session state (Opens layout now other bytes) differ =
@@ -64,7 +64,7 @@ module _ {M : Type 0} (after : M → ℕ → List ℕ → M) (answer : M → ℕ
       let cs = state.manager.connections in
       filter-implied (is_of_session session) (λ c. not (is_of_session other c)) cs (λ c mine. ap not (of_session-other session other c differ mine)) ∙ sym (filter-true (of_session session cs))
 
-  pub calls-of_other : (session : ℕ) (state : State M) (calls : List Call) → AllByRecursion (IsOfOther session) calls
+  pub calls-of_other : (session : ℕ) (state : State M) (calls : List ManagerCall) → AllByRecursion (IsOfOther session) calls
       → of_session session (state_after after answer state calls).manager.connections ≡ filter (is_open_after_all calls) (of_session session state.manager.connections)
   calls-of_other session state [] others = sym (filter-true (of_session session state.manager.connections))
   calls-of_other session state (call ∷ calls) others =
@@ -73,7 +73,7 @@ module _ {M : Type 0} (after : M → ℕ → List ℕ → M) (answer : M → ℕ
       ∙ filter-filter (λ c. is_open_after c call) (is_open_after_all calls) (of_session session state.manager.connections))
 
   -- one call that spares a connection leaves it where it is found
-  call-is_spared : (session id : ℕ) (c : Connection) (state : State M) (call : Call) → find (is_named session id) state.manager.connections ≡ Some c → is_spared c call ≡ true
+  call-is_spared : (session id : ℕ) (c : Connection) (state : State M) (call : ManagerCall) → find (is_named session id) state.manager.connections ≡ Some c → is_spared c call ≡ true
       → find (is_named session id) (state_after_call after answer state call).manager.connections ≡ Some c
   call-is_spared session id c state (Opens layout now other bytes) found spared =
       let cs = state.manager.connections in
@@ -95,7 +95,7 @@ module _ {M : Type 0} (after : M → ℕ → List ℕ → M) (answer : M → ℕ
   call-is_spared session id c state (Ends other) found spared =
       find-filter (is_named session id) (λ d. not (is_of_session other d)) c state.manager.connections found spared
 
-  pub calls-are_spared : (session id : ℕ) (c : Connection) (state : State M) (calls : List Call) → find (is_named session id) state.manager.connections ≡ Some c
+  pub calls-are_spared : (session id : ℕ) (c : Connection) (state : State M) (calls : List ManagerCall) → find (is_named session id) state.manager.connections ≡ Some c
       → list_all (is_spared c) calls ≡ true
       → find (is_named session id) (state_after after answer state calls).manager.connections ≡ Some c
   calls-are_spared session id c state [] found spared = found

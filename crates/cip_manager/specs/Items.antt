@@ -1,9 +1,10 @@
 -- Items that come on connections (Volume 1, Connection Manager and transport class 3).
 use Rattle.std.specs.Prelude.{◌≡◌, ℕ, ◌<◌, Bool, false, if◌then◌else◌, List, [], ◌∷◌, length, slice_index_or, find}
 use Rattle.std.specs.Prelude.{Option, Some, None, IsSome, MatchOption}
+use Rattle.std.specs.Option.{option_map}
 use Rattle.cip_class3.specs.declared.target.Received.{Received}
 use Rattle.cip_class3.specs.Item.{item}
-use Rattle.cip_class3.specs.TargetRule.{target_step, is_of_size, kept_bytes}
+use Rattle.cip_class3.specs.TargetRule.{Kept, target_step, is_of_size, kept_bytes}
 use Rattle.cip_manager.specs.declared.connection.Connection.{Connection}
 use Rattle.cip_manager.specs.declared.manager.KeptAnswer.{KeptAnswer}
 use Rattle.cip_manager.specs.Connection.{is_named, is_answered, after_item}
@@ -19,6 +20,13 @@ view answer = record { id = answer.id; bytes = item answer.sequence_count answer
 
 abbrev pub reply_of : Connection → Reply
 reply_of connection = record { id = connection.t_to_o_id; bytes = kept_bytes connection.target.held }
+
+-- the same where something is held, and nothing where nothing is
+abbrev pub kept_reply : ℕ → Kept → Reply
+kept_reply id kept = record { id = id; bytes = item kept.sequence_count kept.reply }
+
+abbrev pub held_reply : Connection → Option Reply
+held_reply connection = option_map (kept_reply connection.t_to_o_id) connection.target.held
 
 -- the list with another item in the place of the first that passes the test
 abbrev pub with_first : {X : Type 0} → (X → Bool) → X → List X → List X
@@ -76,8 +84,8 @@ is_taken connections session id bytes = is_taken_by (find (is_named session id) 
 -- the connection at that place has executed a request, and what it keeps of it answers
 pub record AnswersAt {M : Type 0} (place : ℕ) (turn : ItemTurn M) (left : List Connection) : Type 0 where
   pub within : place < length left
-  pub held : (d : Connection) → IsSome (slice_index_or left place d).target.held
-  pub reply : (d : Connection) → turn.reply ≡ Some (reply_of (slice_index_or left place d))
+  pub answered : IsSome turn.reply
+  pub reply : (d : Connection) → turn.reply ≡ held_reply (slice_index_or left place d)
 
 -- the connection at that place answers, or none does
 pub record IsAt {M : Type 0} (place : Option ℕ) (turn : ItemTurn M) (left : List Connection) (moved : M) : Type 0 where

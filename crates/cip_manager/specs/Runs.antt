@@ -15,12 +15,12 @@ use Rattle.cip_manager.specs.Items.{item_turn}
 use Rattle.cip_manager.specs.Replies.{SUCCESS, o_to_t_id_in}
 
 -- a call of the manager: of `open` or `open_large`, by the layout, of `close`, `connected`, `expire` or `end_session`
-pub data Call : Type 0 where
-  Opens : (layout : Layout) (now session : ℕ) (bytes : List ℕ) → Call
-  Closes : (session : ℕ) (bytes : List ℕ) → Call
-  Receives : (now session id : ℕ) (bytes : List ℕ) → Call
-  Expires : (now : ℕ) → Call
-  Ends : (session : ℕ) → Call
+pub data ManagerCall : Type 0 where
+  Opens : (layout : Layout) (now session : ℕ) (bytes : List ℕ) → ManagerCall
+  Closes : (session : ℕ) (bytes : List ℕ) → ManagerCall
+  Receives : (now session id : ℕ) (bytes : List ℕ) → ManagerCall
+  Expires : (now : ℕ) → ManagerCall
+  Ends : (session : ℕ) → ManagerCall
 
 -- a manager, and the router that its connections lead to
 pub record State (M : Type 0) : Type 0 where
@@ -29,7 +29,7 @@ pub record State (M : Type 0) : Type 0 where
 
 module _ {M : Type 0} (after : M → ℕ → List ℕ → M) (answer : M → ℕ → List ℕ → List ℕ) where
   -- the state after a call
-  abbrev pub state_after_call : State M → Call → State M
+  abbrev pub state_after_call : State M → ManagerCall → State M
   state_after_call state (Opens layout now session bytes) =
       record { manager = (open_turn_in layout state.manager now session bytes).manager; router = state.router }
   state_after_call state (Closes session bytes) =
@@ -42,12 +42,12 @@ module _ {M : Type 0} (after : M → ℕ → List ℕ → M) (answer : M → ℕ
       record { manager = without_session state.manager session; router = state.router }
 
   -- the state after calls, one after the other
-  abbrev pub state_after : State M → List Call → State M
+  abbrev pub state_after : State M → List ManagerCall → State M
   state_after state [] = state
   state_after state (call ∷ calls) = state_after (state_after_call state call) calls
 
   -- the IDs that the replies to calls of `open` and `open_large` give out, in their order
-  abbrev pub ids_of_call : State M → Call → List ℕ
+  abbrev pub ids_of_call : State M → ManagerCall → List ℕ
   ids_of_call state (Opens layout now session bytes) =
       let reply = (open_turn_in layout state.manager now session bytes).reply in
       (if general_status reply == SUCCESS then o_to_t_id_in reply ∷ [] else [])
@@ -56,7 +56,7 @@ module _ {M : Type 0} (after : M → ℕ → List ℕ → M) (answer : M → ℕ
   ids_of_call state (Expires now) = []
   ids_of_call state (Ends session) = []
 
-  abbrev pub ids_drawn : State M → List Call → List ℕ
+  abbrev pub ids_drawn : State M → List ManagerCall → List ℕ
   ids_drawn state [] = []
   ids_drawn state (call ∷ calls) = ids_of_call state call ++ ids_drawn (state_after_call state call) calls
 
@@ -66,7 +66,7 @@ CountsFrom n [] = ⊤
 CountsFrom n (id ∷ ids) = (id ≡ n) × CountsFrom (n + 1) ids
 
 -- the call comes from another session, or from none
-abbrev pub IsOfOther : ℕ → Call → Type 0
+abbrev pub IsOfOther : ℕ → ManagerCall → Type 0
 IsOfOther session (Opens layout now other bytes) = other ≢ session
 IsOfOther session (Closes other bytes) = other ≢ session
 IsOfOther session (Receives now other id bytes) = other ≢ session
@@ -78,14 +78,14 @@ abbrev pub of_session : ℕ → List Connection → List Connection
 of_session session connections = filter (is_of_session session) connections
 
 -- the connection is still open after the time-outs of a call
-abbrev pub is_open_after : Connection → Call → Bool
+abbrev pub is_open_after : Connection → ManagerCall → Bool
 is_open_after connection (Opens layout now session bytes) = true
 is_open_after connection (Closes session bytes) = true
 is_open_after connection (Receives now session id bytes) = true
 is_open_after connection (Expires now) = is_open_at now connection
 is_open_after connection (Ends session) = true
 
-abbrev pub is_open_after_all : List Call → Connection → Bool
+abbrev pub is_open_after_all : List ManagerCall → Connection → Bool
 is_open_after_all calls connection = list_all (is_open_after connection) calls
 
 -- the data of a Forward_Close of this session name the connection
@@ -94,7 +94,7 @@ is_closed_by session (Ok request) connection = is_of_session_with session (triad
 is_closed_by session (Err fault) connection = false
 
 -- the call is for another session or another connection of it, and no time-out
-abbrev pub is_spared : Connection → Call → Bool
+abbrev pub is_spared : Connection → ManagerCall → Bool
 is_spared connection (Opens layout now session bytes) = true
 is_spared connection (Closes session bytes) = not (is_closed_by session (close_of bytes) connection)
 is_spared connection (Receives now session id bytes) = not (is_named session id connection)

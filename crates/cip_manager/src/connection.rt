@@ -1,7 +1,8 @@
 //! One open connection (Volume 1, Connection Manager).
-ghost use Rattle.std.specs.Prelude.{◌≡◌, ◌+◌, ◌≤◌, length, IsSome};
+ghost use Rattle.std.specs.Prelude.{◌≡◌, ◌+◌, ◌≤◌, length, IfSome};
+ghost use Rattle.std.specs.Option.{option_map};
 ghost use Rattle.cip_manager.specs.Opening.{CanBeOpened, new_connection};
-ghost use Rattle.cip_manager.specs.Items.{view as reply_in, reply_of, connection_turn, turn_of_connection};
+ghost use Rattle.cip_manager.specs.Items.{view as reply_in, held_reply, connection_turn, turn_of_connection};
 ghost use Rattle.cip_manager.specs.Connection.{timeout_of, moment_after, is_of_session_with};
 
 use crate::manager::KeptAnswer;
@@ -96,17 +97,16 @@ impl Connection {
 
     /// What answers the connection's last request, where one was executed.
     #[inline(always)]
-    pub fn answer(&self) -> KeptAnswer<'_>
-        requires { IsSome self.now.target.held }
-        ensures reply { reply_in result ≡ reply_of self.now }
-        ensures fits { length result.reply.now + SEQUENCE_COUNT_SIZE ≤ LARGEST_SIZE }
+    pub fn answer(&self) -> Option<KeptAnswer<'_>>
+        ensures reply { option_map reply_in result ≡ held_reply self.now }
+        ensures fits { IfSome result (λ answer. length answer.reply.now + SEQUENCE_COUNT_SIZE ≤ LARGEST_SIZE) }
     {
-        let kept = self.target.kept().unwrap();
-        KeptAnswer {
+        let kept = self.target.kept()?;
+        Some(KeptAnswer {
             id: self.t_to_o_id,
             sequence_count: kept.sequence_count,
             reply: kept.reply,
-        }
+        })
     }
 }
 

@@ -7,7 +7,7 @@ ghost use Rattle.cip_message.specs.declared.key.Device.{Device};
 ghost use Rattle.cip_manager.specs.declared.connection.Connection.{Connection};
 ghost use Rattle.cip_manager.specs.Connection.{is_named};
 ghost use Rattle.cip_manager.specs.Manager.{no_connection};
-ghost use Rattle.cip_manager.specs.Runs.{Call, State, state_after, ids_drawn, CountsFrom, IsOfOther, of_session};
+ghost use Rattle.cip_manager.specs.Runs.{ManagerCall, State, state_after, ids_drawn, CountsFrom, IsOfOther, of_session};
 ghost use Rattle.cip_manager.specs.Runs.{is_open_after_all, is_spared, AreApart};
 
 use cip_objects::Router;
@@ -15,7 +15,7 @@ use cip_objects::Router;
 /// Calls of other sessions, and time-outs, leave a session exactly those of its connections whose deadline no
 /// moment reached, each with its count, kept reply and deadline.
 pub fn sessions_apart<R: Router>()
-    ensures { (session : ℕ) (state : State R) (calls : List Call) → AllByRecursion (IsOfOther session) calls →
+    ensures { (session : ℕ) (state : State R) (calls : List ManagerCall) → AllByRecursion (IsOfOther session) calls →
         of_session session (state_after R.after R.answer state calls).manager.connections
         ≡ filter (is_open_after_all calls) (of_session session state.manager.connections) }
 {}
@@ -23,7 +23,7 @@ pub fn sessions_apart<R: Router>()
 /// Calls for other sessions, and for other IDs and triads of the same session, leave a connection as it is found,
 /// with its count, kept reply and deadline, as long as no moment reaches its deadline.
 pub fn connections_apart<R: Router>()
-    ensures { (session id : ℕ) (connection : Connection) (state : State R) (calls : List Call) →
+    ensures { (session id : ℕ) (connection : Connection) (state : State R) (calls : List ManagerCall) →
         find (is_named session id) state.manager.connections ≡ Some connection →
         list_all (is_spared connection) calls ≡ true →
         find (is_named session id) (state_after R.after R.answer state calls).manager.connections ≡ Some connection }
@@ -31,14 +31,14 @@ pub fn connections_apart<R: Router>()
 
 /// The IDs that are given out are the next ID, and so on by one: none comes again.
 pub fn ids_rise<R: Router>()
-    ensures { (state : State R) (calls : List Call) →
+    ensures { (state : State R) (calls : List ManagerCall) →
         CountsFrom state.manager.next_id (ids_drawn R.after R.answer state calls) }
 {}
 
 /// Whatever the calls of a manager that had no connection, no two open connections have the same ID, nor the same
 /// triad. They stand in the order of their IDs.
 pub fn connections_differ<R: Router>()
-    ensures { (places first_id : ℕ) (device : Device) (router : R) (calls : List Call) →
+    ensures { (places first_id : ℕ) (device : Device) (router : R) (calls : List ManagerCall) →
         AllPairs AreApart (state_after R.after R.answer
         (record { manager = no_connection places first_id device; router = router }) calls).manager.connections }
 {}

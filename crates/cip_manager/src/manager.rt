@@ -188,7 +188,7 @@ impl Manager {
         ensures fits { IfSome result (λ answer. length answer.reply.now + SEQUENCE_COUNT_SIZE ≤ LARGEST_SIZE) }
     {
         let place = self.table.receive(now, session, id, item, router)?;
-        Some(self.table.answer(place))
+        self.table.answer(place)
     }
 
     /// Whether a connection with an O->T ID is open, whichever session opened it. Each comparison of an ID with it adds

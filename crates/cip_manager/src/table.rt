@@ -1,11 +1,12 @@
 //! The open connections, in the order in which they were opened.
 ghost use Rattle.std.specs.Prelude.{◌≡◌, ◌≤◌, ◌+◌, ◌-◌, ◌<◌, ◌^◌, ℕ, not, filter, [], ◌∷◌, ◌++◌, length, slice_index_or};
-ghost use Rattle.std.specs.Prelude.{IfOk, IfNone, IsSome};
+ghost use Rattle.std.specs.Prelude.{IfOk, IfSome, IfNone};
+ghost use Rattle.std.specs.Option.{option_map};
 ghost use Rattle.std.specs.List.{list_any, remove};
 ghost use Rattle.cip_manager.specs.declared.connection.Connection.{Connection as OpenConnection};
 ghost use Rattle.cip_manager.specs.Connection.{has_id, is_open_at};
 ghost use Rattle.cip_manager.specs.Index.{binary_digits};
-ghost use Rattle.cip_manager.specs.Items.{view as reply_in, reply_of, item_turn, IsAt};
+ghost use Rattle.cip_manager.specs.Items.{view as reply_in, held_reply, item_turn, IsAt};
 ghost use Rattle.cip_manager.specs.Table.{is_in, no_entry, AreBelow, AreOpenUntil};
 
 use crate::connection::Connection;
@@ -171,12 +172,11 @@ impl Table {
 
     /// What answers the last request of the connection at a place, where one was executed.
     #[inline(always)]
-    pub fn answer(&self, place: usize) -> KeptAnswer<'_>
-        requires place { place < length self.now.connections }
-        requires held { (d : OpenConnection) → IsSome (slice_index_or self.now.connections place d).target.held }
+    pub fn answer(&self, place: usize) -> Option<KeptAnswer<'_>>
+        requires { place < length self.now.connections }
         ensures reply { (d : OpenConnection) →
-            reply_in result ≡ reply_of (slice_index_or self.now.connections place d) }
-        ensures fits { length result.reply.now + SEQUENCE_COUNT_SIZE ≤ LARGEST_SIZE }
+            option_map reply_in result ≡ held_reply (slice_index_or self.now.connections place d) }
+        ensures fits { IfSome result (λ answer. length answer.reply.now + SEQUENCE_COUNT_SIZE ≤ LARGEST_SIZE) }
     {
         self.at(place).answer()
     }

@@ -40,10 +40,7 @@ impl Ends {
             self.originator.receive(&item) == Came::Accepted(&reply),
             "at {n}"
         );
-        assert!(rt;
-            self.originator.receive(&item) == Came::Ignored,
-            "at {n}"
-        );
+        assert!(rt; self.originator.receive(&item) == Came::Ignored, "at {n}");
         Ok(())
     }
 }
