@@ -1,8 +1,8 @@
 //! An EtherNet/IP adapter (ODVA CIP Networks Library, Volume 2): it serves its objects to peers over their streams.
 //!
 //! An `Adapter` has no socket and no clock. `begin` and `end` tell it of TCP connections; `feed` hands it bytes of a
-//! peer's stream at a moment, in microseconds, and lends the answer; `tick` tells it of a moment alone. `serve` does so
-//! over a reader and a writer.
+//! peer's stream at a moment, in microseconds, and lends the answer, or says why there is none; `tick` tells it of a
+//! moment alone. `serve` does so over a reader and a writer.
 //!
 //! What it answers is a function of the peers' whole frames and of the moments: the turn of `specs/Turn.antt`, over one
 //! definition for each command. Its calls after `Adapter::new` take no memory.

@@ -13,11 +13,8 @@ use std::marker::Model;
 /// length of the data item 4. (Volume 2, common packet format.)
 pub(crate) const PACKET_HEAD: usize = 20;
 
-/// The most bytes of a connection's item, its count included.
-const LONGEST_ITEM: usize = LARGEST_SIZE;
-
 /// The most data of an answer, in bytes.
-pub(crate) const LONGEST_DATA: usize = PACKET_HEAD + LONGEST_ITEM;
+pub(crate) const LONGEST_DATA: usize = PACKET_HEAD + LARGEST_SIZE;
 
 /// The longest answer, in bytes.
 pub const LONGEST_ANSWER: usize = Header::SIZE + LONGEST_DATA;
