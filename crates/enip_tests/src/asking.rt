@@ -496,7 +496,7 @@ fn check_left<A: Abort>(rt: &A, ends: &mut Ends) -> Result<(), Fail> {
 }
 
 /// The ends, of which nothing was sent.
-fn ends(alloc: Global) -> Result<Ends, Fail> {
+fn both_ends(alloc: Global) -> Result<Ends, Fail> {
     let mut adapter = demo_adapter(alloc)?;
     let peer = adapter.begin().ok().ok_or("a peer")?;
     let client = Client::new(alloc, &WANTS).ok().ok_or("a client")?;
@@ -510,7 +510,7 @@ fn ends(alloc: Global) -> Result<Ends, Fail> {
 
 #[test]
 fn a_client_and_an_adapter(rt: HostRuntime) -> Result<(), Fail> {
-    let mut ends = ends(rt.alloc())?;
+    let mut ends = both_ends(rt.alloc())?;
     exchange(&rt, &mut ends, Sent::Registers, Heard::Registered)?;
     for (request, reply) in SERVICES {
         exchange(&rt, &mut ends, Sent::Asks(request), Heard::Reply(reply))?;
