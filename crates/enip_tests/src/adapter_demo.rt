@@ -1,8 +1,13 @@
-//! The objects of the demo configuration at an adapter, and frames for it.
+//! The objects of the demo configuration at an adapter, frames for it, and calls of it that are compared.
+//!
+//! The calls stand each in a function of its own, so that the proof of a list of them carries no state from one to the
+//! next.
 
 use cip_objects::{AssemblyConfig, Config, CounterConfig, Objects};
-use enip_adapter::{Adapter, Limits, Listen, Peer};
+use enip_adapter::{Adapter, Limits, Listen, Peer, ServeFault, Served, serve};
+use enip_wire::{MemorySink, MemorySource, Sink, Source};
 use std::alloc::Global;
+use std::process::Abort;
 use std::test::Fail;
 
 /// A RegisterSession, and its answer to the first peer.
@@ -114,4 +119,31 @@ pub fn value(adapter: &Adapter) -> Result<u8, Fail> {
         .attribute(0x64, 1, 1)
         .ok_or("the counter has a value")?;
     Ok(*value.as_slice().first().ok_or("it has bytes")?)
+}
+
+/// Serves a peer once, and compares what it came to, and all that was written so far.
+pub fn check_serve<A: Abort>(
+    rt: &A,
+    adapter: &mut Adapter,
+    peer: &Peer,
+    reader: &mut MemorySource<'_>,
+    writer: &mut MemorySink<'_>,
+    told: Result<Served, ServeFault>,
+    written: &[u8],
+) {
+    assert!(rt; reader.reads() < u64::MAX && reader.failures() < u64::MAX);
+    assert!(rt; writer.failures() < u64::MAX);
+    assert_eq!(rt; serve(adapter, peer, reader, writer), told);
+    assert_eq!(rt; writer.written(), written);
+}
+
+/// The counter has this value.
+pub fn check_value<A: Abort>(rt: &A, adapter: &Adapter, wanted: u8) -> Result<(), Fail> {
+    assert_eq!(rt; value(adapter)?, wanted);
+    Ok(())
+}
+
+/// So many places for peers are free, and so many for connections.
+pub fn check_free<A: Abort>(rt: &A, adapter: &Adapter, wanted: (u16, u16)) {
+    assert_eq!(rt; adapter.free(), wanted);
 }

@@ -1,45 +1,97 @@
 //! Sessions with all that needs room, where growths of memory are refused.
 
 use crate::adapter_demo::{
-    ADD, ADDED, LIMITS, LISTEN, LONG, OPEN, REFUSED, REGISTER, REGISTERED, demo, value,
+    ADD, ADDED, LIMITS, LISTEN, LONG, OPEN, REFUSED, REGISTER, REGISTERED, check_free, check_serve,
+    check_value, demo,
 };
-use enip_adapter::{Adapter, Served, serve};
-use enip_wire::{MemorySink, MemorySource, Sink};
-use std::alloc::AllocError;
+use enip_adapter::{Adapter, Peer, Served};
+use enip_wire::{MemorySink, MemorySource};
+use std::alloc::{AllocError, Global};
+use std::process::Abort;
 use std::test::Fail;
+
+/// An adapter, made again where a growth of it is refused.
+fn made(alloc: Global) -> Result<Adapter, Fail> {
+    let objects = demo(alloc)?;
+    let again = demo(alloc)?;
+    match Adapter::new(alloc, objects, LISTEN, LIMITS) {
+        Ok(adapter) => Ok(adapter),
+        Err(AllocError) => Ok(Adapter::new(alloc, again, LISTEN, LIMITS)?),
+    }
+}
+
+/// A session is registered, over devices in memory.
+fn check_registered<A: Abort>(rt: &A, adapter: &mut Adapter, peer: &Peer) {
+    let mut reader = MemorySource::new(REGISTER, &[]);
+    let mut bytes = [0; 64];
+    let mut writer = MemorySink::new(&mut bytes);
+    let told = Ok(Served::More);
+    check_serve(
+        rt,
+        adapter,
+        peer,
+        &mut reader,
+        &mut writer,
+        told,
+        REGISTERED,
+    );
+}
+
+/// A connection is opened.
+fn check_opened<A: Abort>(rt: &A, adapter: &mut Adapter, peer: &Peer) {
+    assert!(rt; adapter.feed(0, peer, OPEN).answer.is_some());
+}
+
+/// A piece has this answer.
+fn check_answer<A: Abort>(
+    rt: &A,
+    adapter: &mut Adapter,
+    peer: &Peer,
+    piece: &[u8],
+    answer: Option<&[u8]>,
+) {
+    assert_eq!(rt; adapter.feed(0, peer, piece).answer, answer);
+}
+
+/// A request in two pieces, and its repeat in one.
+fn check_requests<A: Abort>(rt: &A, adapter: &mut Adapter, peer: &Peer) {
+    let rows: [(&[u8], Option<&[u8]>); 3] = [
+        (&ADD[..30], None),
+        (&ADD[30..], Some(ADDED)),
+        (ADD, Some(ADDED)),
+    ];
+    for (piece, answer) in rows {
+        check_answer(rt, adapter, peer, piece, answer);
+    }
+}
+
+/// A header that is too long closes.
+fn check_closed<A: Abort>(rt: &A, adapter: &mut Adapter, peer: &Peer) {
+    let fed = adapter.feed(0, peer, LONG);
+    assert_eq!(rt; (fed.answer, fed.close), (Some(REFUSED), true));
+}
+
+/// The connection is over, and then the session.
+fn check_end<A: Abort>(rt: &A, adapter: &mut Adapter, peer: Peer) {
+    adapter.tick(20_000_000);
+    check_free(rt, adapter, (8, 16));
+    check_closed(rt, adapter, &peer);
+    adapter.end(peer);
+    check_free(rt, adapter, (9, 16));
+}
 
 /// A session with all that needs room: a peer, frames in pieces, a connection, kept bytes and answers. `new` takes all
 /// memory, so this ends well whichever growth after the objects is refused, each in turn by
 /// `rt try --test --fail-alloc N -- adapter_memory::only_new_takes_memory`.
 #[test]
 fn only_new_takes_memory(rt: HostRuntime) -> Result<(), Fail> {
-    let objects = demo(rt.alloc())?;
-    let again = demo(rt.alloc())?;
-    let mut adapter = match Adapter::new(rt.alloc(), objects, LISTEN, LIMITS) {
-        Ok(adapter) => adapter,
-        Err(AllocError) => Adapter::new(rt.alloc(), again, LISTEN, LIMITS)?,
-    };
+    let mut adapter = made(rt.alloc())?;
     let peer = adapter.begin().ok().ok_or("a place is free")?;
-    let mut reader = MemorySource::new(REGISTER, &[]);
-    let mut bytes = [0; 64];
-    let mut writer = MemorySink::new(&mut bytes);
-    assert_eq!(rt;
-        serve(&mut adapter, &peer, &mut reader, &mut writer),
-        Ok(Served::More)
-    );
-    assert_eq!(rt; writer.written(), REGISTERED);
-    assert!(rt; adapter.feed(0, &peer, OPEN).answer.is_some());
-    assert_eq!(rt; adapter.free(), (8, 15));
-    // A request in two pieces, and its repeat in one.
-    assert!(rt; adapter.feed(0, &peer, &ADD[..30]).answer.is_none());
-    assert_eq!(rt; adapter.feed(0, &peer, &ADD[30..]).answer, Some(ADDED));
-    assert_eq!(rt; adapter.feed(0, &peer, ADD).answer, Some(ADDED));
-    assert_eq!(rt; value(&adapter)?, 5);
-    adapter.tick(20_000_000);
-    assert_eq!(rt; adapter.free(), (8, 16));
-    let fed = adapter.feed(0, &peer, LONG);
-    assert_eq!(rt; (fed.answer, fed.close), (Some(REFUSED), true));
-    adapter.end(peer);
-    assert_eq!(rt; adapter.free(), (9, 16));
+    check_registered(&rt, &mut adapter, &peer);
+    check_opened(&rt, &mut adapter, &peer);
+    check_free(&rt, &adapter, (8, 15));
+    check_requests(&rt, &mut adapter, &peer);
+    check_value(&rt, &adapter, 5)?;
+    check_end(&rt, &mut adapter, peer);
     Ok(())
 }

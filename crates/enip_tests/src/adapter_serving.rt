@@ -1,14 +1,54 @@
 //! Worked rows over devices in memory, and devices that fail.
 
 use crate::adapter_demo::{
-    ADD, ADDED, LONG, OPEN, REFUSED, REGISTER, REGISTERED, adapter_with_peer, demo_with_connection,
-    value,
+    ADD, ADDED, LONG, OPEN, REFUSED, REGISTER, REGISTERED, adapter_with_peer, check_free,
+    check_serve, check_value, demo_with_connection,
 };
-use enip_adapter::{ServeFault, Served, serve};
+use enip_adapter::{Adapter, Peer, ServeFault, Served};
 use enip_wire::{MemorySink, MemorySource, Sink, Source};
 use std::alloc::Global;
 use std::process::Abort;
 use std::test::Fail;
+
+/// What is told, in the order of the calls, each with all that was written by then.
+type Told<'a> = &'a [(Result<Served, ServeFault>, &'a [u8])];
+
+/// Serves so often, and compares each call.
+fn check_served<A: Abort>(
+    rt: &A,
+    adapter: &mut Adapter,
+    peer: &Peer,
+    reader: &mut MemorySource<'_>,
+    writer: &mut MemorySink<'_>,
+    told: Told<'_>,
+) {
+    for (served, written) in told {
+        check_serve(rt, adapter, peer, reader, writer, *served, written);
+    }
+}
+
+/// How many reads there were, and how many of them failed.
+fn check_reads<A: Abort>(rt: &A, reader: &MemorySource<'_>, reads: u64, failures: u64) {
+    assert_eq!(rt; (reader.reads(), reader.failures()), (reads, failures));
+}
+
+/// How many reads there were, and how many writes failed.
+fn check_calls<A: Abort>(
+    rt: &A,
+    reader: &MemorySource<'_>,
+    writer: &MemorySink<'_>,
+    reads: u64,
+    failures: u64,
+) {
+    assert_eq!(rt; (reader.reads(), writer.failures()), (reads, failures));
+}
+
+/// Two texts, one behind the other.
+fn joined(alloc: Global, front: &[u8], back: &[u8]) -> Result<Vec<u8>, Fail> {
+    let mut bytes = Vec::from_slice(alloc, front)?;
+    bytes.extend_from_slice(back)?;
+    Ok(bytes)
+}
 
 #[test]
 fn more_and_then_the_end(rt: HostRuntime) -> Result<(), Fail> {
@@ -16,42 +56,40 @@ fn more_and_then_the_end(rt: HostRuntime) -> Result<(), Fail> {
     let mut reader = MemorySource::new(REGISTER, &[]);
     let mut bytes = [0; 64];
     let mut writer = MemorySink::new(&mut bytes);
-    assert_eq!(rt;
-        serve(&mut adapter, &peer, &mut reader, &mut writer),
-        Ok(Served::More)
-    );
-    assert_eq!(rt; writer.written(), REGISTERED);
-    assert_eq!(rt;
-        serve(&mut adapter, &peer, &mut reader, &mut writer),
-        Ok(Served::Input)
-    );
-    assert_eq!(rt; writer.written(), REGISTERED);
-    assert_eq!(rt; (reader.reads(), reader.failures()), (2, 0));
+    let told: [(Result<Served, ServeFault>, &[u8]); 2] = [
+        (Ok(Served::More), REGISTERED),
+        (Ok(Served::Input), REGISTERED),
+    ];
+    check_served(&rt, &mut adapter, &peer, &mut reader, &mut writer, &told);
+    check_reads(&rt, &reader, 2, 0);
     Ok(())
 }
 
 #[test]
 fn each_read_has_its_moment(rt: HostRuntime) -> Result<(), Fail> {
     let (mut adapter, peer) = demo_with_connection(rt.alloc())?;
-    let mut input = Vec::from_slice(rt.alloc(), ADD)?;
-    input.extend_from_slice(ADD)?;
+    let input = joined(rt.alloc(), ADD, ADD)?;
     let moments = [0, 20_000_000];
     let mut reader = MemorySource::new(input.as_slice(), &moments).with_largest_count(56);
     let mut bytes = [0; 128];
     let mut writer = MemorySink::new(&mut bytes);
-    assert_eq!(rt;
-        serve(&mut adapter, &peer, &mut reader, &mut writer),
-        Ok(Served::More)
-    );
-    assert_eq!(rt; writer.written(), ADDED);
-    // The connection is over, so its item has no answer.
-    assert_eq!(rt;
-        serve(&mut adapter, &peer, &mut reader, &mut writer),
-        Ok(Served::More)
-    );
-    assert_eq!(rt; writer.written(), ADDED);
-    assert_eq!(rt; adapter.free(), (8, 16));
+    // At the second read the connection is over, so its item has no answer.
+    let told: [(Result<Served, ServeFault>, &[u8]); 2] = [
+        (Ok(Served::More), ADDED),
+        (Ok(Served::More), ADDED),
+    ];
+    check_served(&rt, &mut adapter, &peer, &mut reader, &mut writer, &told);
+    check_free(&rt, &adapter, (8, 16));
     Ok(())
+}
+
+/// An addition by a writer that does not fail.
+fn check_addition<A: Abort>(rt: &A, adapter: &mut Adapter, peer: &Peer, answer: &[u8]) {
+    let mut reader = MemorySource::new(ADD, &[]);
+    let mut bytes = [0; 128];
+    let mut writer = MemorySink::new(&mut bytes);
+    let told = Ok(Served::More);
+    check_serve(rt, adapter, peer, &mut reader, &mut writer, told, answer);
 }
 
 /// Serves a RegisterSession and an opening that come in one read, by a writer that takes 10 bytes a call and fails
@@ -64,27 +102,24 @@ fn serve_with_failure_after(
     answer: &[u8],
 ) -> Result<(), Fail> {
     let (mut adapter, peer) = adapter_with_peer(alloc)?;
-    let mut input = Vec::from_slice(alloc, REGISTER)?;
-    input.extend_from_slice(OPEN)?;
+    let input = joined(alloc, REGISTER, OPEN)?;
     let mut reader = MemorySource::new(input.as_slice(), &[]);
     let mut bytes = [0; 128];
     let mut writer = MemorySink::new(&mut bytes)
         .with_largest_count(10)
         .with_failure_after(calls);
-    assert_eq!(rt;
-        serve(&mut adapter, &peer, &mut reader, &mut writer),
-        Err(ServeFault::Write)
+    let told = Err(ServeFault::Write);
+    check_serve(
+        rt,
+        &mut adapter,
+        &peer,
+        &mut reader,
+        &mut writer,
+        told,
+        front,
     );
-    assert_eq!(rt; writer.written(), front);
-    assert_eq!(rt; (reader.reads(), writer.failures()), (1, 1));
-    let mut reader = MemorySource::new(ADD, &[]);
-    let mut bytes = [0; 128];
-    let mut writer = MemorySink::new(&mut bytes);
-    assert_eq!(rt;
-        serve(&mut adapter, &peer, &mut reader, &mut writer),
-        Ok(Served::More)
-    );
-    assert_eq!(rt; writer.written(), answer);
+    check_calls(rt, &reader, &writer, 1, 1);
+    check_addition(rt, &mut adapter, &peer, answer);
     Ok(())
 }
 
@@ -97,25 +132,32 @@ fn the_writer_fails(rt: HostRuntime) -> Result<(), Fail> {
     Ok(())
 }
 
+/// The addition is served by this writer, and the counter has its value then.
+fn check_added<A: Abort>(
+    rt: &A,
+    adapter: &mut Adapter,
+    peer: &Peer,
+    writer: &mut MemorySink<'_>,
+    told: Result<Served, ServeFault>,
+    written: &[u8],
+) -> Result<(), Fail> {
+    let mut reader = MemorySource::new(ADD, &[]);
+    check_serve(rt, adapter, peer, &mut reader, writer, told, written);
+    check_value(rt, adapter, 5)
+}
+
 #[test]
 fn a_reply_that_was_not_written_is_kept(rt: HostRuntime) -> Result<(), Fail> {
     let (mut adapter, peer) = demo_with_connection(rt.alloc())?;
-    let mut reader = MemorySource::new(ADD, &[]);
     let mut bytes = [0; 128];
     let mut writer = MemorySink::new(&mut bytes).with_failure_after(0);
-    assert_eq!(rt;
-        serve(&mut adapter, &peer, &mut reader, &mut writer),
-        Err(ServeFault::Write)
-    );
-    assert_eq!(rt; writer.written(), b"".as_slice());
-    assert_eq!(rt; value(&adapter)?, 5);
-    let mut reader = MemorySource::new(ADD, &[]);
-    assert_eq!(rt;
-        serve(&mut adapter, &peer, &mut reader, &mut writer),
-        Ok(Served::More)
-    );
-    assert_eq!(rt; writer.written(), ADDED);
-    assert_eq!(rt; value(&adapter)?, 5);
+    let told: [(Result<Served, ServeFault>, &[u8]); 2] = [
+        (Err(ServeFault::Write), b""),
+        (Ok(Served::More), ADDED),
+    ];
+    for (served, written) in told {
+        check_added(&rt, &mut adapter, &peer, &mut writer, served, written)?;
+    }
     Ok(())
 }
 
@@ -127,54 +169,60 @@ fn the_reader_fails(rt: HostRuntime) -> Result<(), Fail> {
         .with_failure_after(1);
     let mut bytes = [0; 64];
     let mut writer = MemorySink::new(&mut bytes);
-    assert_eq!(rt;
-        serve(&mut adapter, &peer, &mut reader, &mut writer),
-        Ok(Served::More)
-    );
-    assert_eq!(rt;
-        serve(&mut adapter, &peer, &mut reader, &mut writer),
-        Err(ServeFault::Read)
-    );
-    assert_eq!(rt; (reader.reads(), reader.failures()), (2, 1));
-    assert_eq!(rt; writer.written(), b"".as_slice());
+    let told: [(Result<Served, ServeFault>, &[u8]); 2] = [
+        (Ok(Served::More), b""),
+        (Err(ServeFault::Read), b""),
+    ];
+    check_served(&rt, &mut adapter, &peer, &mut reader, &mut writer, &told);
+    check_reads(&rt, &reader, 2, 1);
     // What came before it is not lost.
-    assert_eq!(rt;
-        serve(&mut adapter, &peer, &mut reader, &mut writer),
-        Ok(Served::More)
-    );
-    assert_eq!(rt; writer.written(), REGISTERED);
+    let told: [(Result<Served, ServeFault>, &[u8]); 1] = [(Ok(Served::More), REGISTERED)];
+    check_served(&rt, &mut adapter, &peer, &mut reader, &mut writer, &told);
     Ok(())
+}
+
+/// A peer that is not held is not read.
+fn check_not_held<A: Abort>(
+    rt: &A,
+    adapter: &mut Adapter,
+    peer: &Peer,
+    writer: &mut MemorySink<'_>,
+) {
+    let mut reader = MemorySource::new(REGISTER, &[]).with_failure_after(0);
+    let told = Ok(Served::Closed);
+    check_serve(rt, adapter, peer, &mut reader, writer, told, REFUSED);
+    check_reads(rt, &reader, 0, 0);
+}
+
+/// A peer that has ended is not held.
+fn check_ended<A: Abort>(rt: &A, adapter: &mut Adapter, peer: Peer, writer: &mut MemorySink<'_>) {
+    adapter.end(peer);
+    check_not_held(rt, adapter, &peer, writer);
 }
 
 #[test]
 fn a_closed_peer_is_not_read(rt: HostRuntime) -> Result<(), Fail> {
     let (mut adapter, peer) = adapter_with_peer(rt.alloc())?;
-    let mut input = Vec::from_slice(rt.alloc(), LONG)?;
-    input.extend_from_slice(REGISTER)?;
+    let input = joined(rt.alloc(), LONG, REGISTER)?;
     let mut reader = MemorySource::new(input.as_slice(), &[]);
     let mut bytes = [0; 64];
     let mut writer = MemorySink::new(&mut bytes);
-    // The answer is written before the peer closes, and the rest of the read is not fed.
-    assert_eq!(rt;
-        serve(&mut adapter, &peer, &mut reader, &mut writer),
-        Ok(Served::Closed)
-    );
-    assert_eq!(rt; writer.written(), REFUSED);
-    assert_eq!(rt; (reader.reads(), writer.failures()), (1, 0));
-    // A peer that is closed is not read, nor is one that is not held.
-    assert_eq!(rt;
-        serve(&mut adapter, &peer, &mut reader, &mut writer),
-        Ok(Served::Closed)
-    );
-    assert_eq!(rt; writer.written(), REFUSED);
-    assert_eq!(rt; reader.reads(), 1);
-    adapter.end(peer);
-    let mut reader = MemorySource::new(REGISTER, &[]).with_failure_after(0);
-    assert_eq!(rt;
-        serve(&mut adapter, &peer, &mut reader, &mut writer),
-        Ok(Served::Closed)
-    );
-    assert_eq!(rt; reader.reads(), 0);
+    // The answer is written before the peer closes, and the rest of the read is not fed. A peer that is closed is not
+    // read, nor is one that is not held.
+    for _ in 0..2 {
+        let told = Ok(Served::Closed);
+        check_serve(
+            &rt,
+            &mut adapter,
+            &peer,
+            &mut reader,
+            &mut writer,
+            told,
+            REFUSED,
+        );
+        check_calls(&rt, &reader, &writer, 1, 0);
+    }
+    check_ended(&rt, &mut adapter, peer, &mut writer);
     Ok(())
 }
 

@@ -4,10 +4,11 @@ use crate::demo::demo_adapter;
 use crate::streams::BrokenWriter;
 use cip_message::Path;
 use enip_adapter::{Adapter, Peer};
-use enip_client::{Client, ClientFault, Heard, SubmitFault};
+use enip_client::{Client, ClientFault, Heard};
 use enip_text::{Question, WANTS, ask_over, end_asking};
 use enip_wire::{MemorySink, MemorySource};
 use std::alloc::Global;
+use std::process::Abort;
 use std::test::Fail;
 
 /// RegisterSession with context 1, its answer, and UnRegisterSession, which has no context.
@@ -439,37 +440,92 @@ fn pass(
     Ok(Vec::from_slice(alloc, answer)?)
 }
 
-/// The frame of a request on the connection.
-fn submitted(lent: Result<&[u8], SubmitFault>) -> Result<&[u8], ClientFault> {
-    lent.map_err(|_| ClientFault::State)
+/// What a client sends.
+#[derive(Clone, Copy)]
+enum Sent<'a> {
+    Registers,
+    Opens,
+    Asks(&'a [u8]),
+    Submits(&'a [u8]),
+    Closes,
+}
+
+/// Its frame.
+fn lent<'a>(client: &'a mut Client, sent: Sent<'_>) -> Result<&'a [u8], ClientFault> {
+    match sent {
+        Sent::Registers => client.register(),
+        Sent::Opens => client.open(),
+        Sent::Asks(request) => client.unconnected(request),
+        Sent::Submits(request) => client.submit(request).map_err(|_| ClientFault::State),
+        Sent::Closes => client.close(),
+    }
+}
+
+/// What the client hears of an answer.
+fn check_heard<A: Abort>(rt: &A, client: &mut Client, answer: &[u8], heard: Heard<'_>) {
+    assert_eq!(rt; client.feed(answer).heard, heard);
+}
+
+/// A client and the adapter that it is a peer of.
+#[derive(Drop)]
+struct Ends {
+    alloc: Global,
+    adapter: Adapter,
+    peer: Peer,
+    client: Client,
+}
+
+/// The client sends this, and hears that of the adapter's answer.
+fn exchange<A: Abort>(
+    rt: &A,
+    ends: &mut Ends,
+    sent: Sent<'_>,
+    heard: Heard<'_>,
+) -> Result<(), Fail> {
+    let frame = lent(&mut ends.client, sent);
+    let answer = pass(ends.alloc, &mut ends.adapter, &ends.peer, frame)?;
+    check_heard(rt, &mut ends.client, answer.as_slice(), heard);
+    Ok(())
+}
+
+/// The session ends, and the adapter closes.
+fn check_left<A: Abort>(rt: &A, ends: &mut Ends) -> Result<(), Fail> {
+    let left = ends.client.unregister().ok().ok_or("a frame")?;
+    assert!(rt; ends.adapter.feed(0, &ends.peer, left).close);
+    Ok(())
+}
+
+/// The ends, of which nothing was sent.
+fn both_ends(alloc: Global) -> Result<Ends, Fail> {
+    let mut adapter = demo_adapter(alloc)?;
+    let peer = adapter.begin().ok().ok_or("a peer")?;
+    let client = Client::new(alloc, &WANTS).ok().ok_or("a client")?;
+    Ok(Ends {
+        alloc,
+        adapter,
+        peer,
+        client,
+    })
 }
 
 #[test]
 fn a_client_and_an_adapter(rt: HostRuntime) -> Result<(), Fail> {
-    let alloc = rt.alloc();
-    let mut adapter = demo_adapter(alloc)?;
-    let peer = adapter.begin().ok().ok_or("a peer")?;
-    let mut client = Client::new(alloc, &WANTS).ok().ok_or("a client")?;
-    let answer = pass(alloc, &mut adapter, &peer, client.register())?;
-    assert_eq!(rt; client.feed(answer.as_slice()).heard, Heard::Registered);
+    let mut ends = both_ends(rt.alloc())?;
+    exchange(&rt, &mut ends, Sent::Registers, Heard::Registered)?;
     for (request, reply) in SERVICES {
-        let answer = pass(alloc, &mut adapter, &peer, client.unconnected(request))?;
-        assert_eq!(rt; client.feed(answer.as_slice()).heard, Heard::Reply(reply));
+        exchange(&rt, &mut ends, Sent::Asks(request), Heard::Reply(reply))?;
     }
-    let answer = pass(alloc, &mut adapter, &peer, client.open())?;
-    assert_eq!(rt; client.feed(answer.as_slice()).heard, Heard::Opened);
+    exchange(&rt, &mut ends, Sent::Opens, Heard::Opened)?;
     for (request, reply) in SERVICES {
-        let frame = submitted(client.submit(request));
-        let answer = pass(alloc, &mut adapter, &peer, frame)?;
-        assert_eq!(rt;
-            client.feed(answer.as_slice()).heard,
-            Heard::Accepted(reply)
-        );
+        exchange(
+            &rt,
+            &mut ends,
+            Sent::Submits(request),
+            Heard::Accepted(reply),
+        )?;
     }
-    let answer = pass(alloc, &mut adapter, &peer, client.close())?;
-    assert_eq!(rt; client.feed(answer.as_slice()).heard, Heard::Closed);
-    let left = client.unregister().ok().ok_or("a frame")?;
-    assert!(rt; adapter.feed(0, &peer, left).close);
-    assert_eq!(rt; adapter.free(), (3, 16));
+    exchange(&rt, &mut ends, Sent::Closes, Heard::Closed)?;
+    check_left(&rt, &mut ends)?;
+    assert_eq!(rt; ends.adapter.free(), (3, 16));
     Ok(())
 }

@@ -1,5 +1,8 @@
 //! The demo device.
 
+ghost use Rattle.std.specs.Prelude.{IfOk};
+ghost use Rattle.enip_bench.specs.Reached.{IsNewAdapter};
+
 use enip_adapter::Adapter;
 use enip_config::adapter_from;
 use std::alloc::Global;
@@ -24,10 +27,11 @@ members = [1, 2, 1]
 ";
 
 /// Its adapter, of which no peer has begun.
-pub(crate) fn demo_adapter(alloc: Global) -> Result<Adapter, Fail> {
-    Ok(
-        adapter_from(alloc, DEMO.as_bytes())
-            .ok()
-            .ok_or("an adapter")?,
-    )
+pub(crate) fn demo_adapter(alloc: Global) -> Result<Adapter, Fail>
+    ensures { IfOk result IsNewAdapter }
+{
+    match adapter_from(alloc, DEMO.as_bytes()) {
+        Ok(adapter) => Ok(adapter),
+        Err(_) => Err(Fail::from("an adapter")),
+    }
 }

@@ -40,6 +40,8 @@ mod configuration;
 #[cfg(test)]
 mod demo;
 #[cfg(test)]
+mod replaying;
+#[cfg(test)]
 mod showing;
 #[cfg(test)]
 mod streams;
