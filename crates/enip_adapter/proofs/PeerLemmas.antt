@@ -5,7 +5,7 @@ use Rattle.std.specs.Prelude.{filter, max}
 use Rattle.std.specs.List.{AllByRecursion}
 use Rattle.cip_manager.specs.declared.connection.Connection.{Connection}
 use Rattle.cip_manager.specs.Connection.{is_of_session, is_open_at}
-use Rattle.cip_manager.specs.Runs.{Call as Manager_call, Opens, Closes, Receives, Ends, IsOfOther, of_session}
+use Rattle.cip_manager.specs.Runs.{ManagerCall, Opens, Closes, Receives, Ends, IsOfOther, of_session}
 use Rattle.cip_manager.specs.Runs.{state_after, is_open_after_all}
 use Rattle.cip_manager.proofs.SessionLemmas.{calls-of_other}
 use Rattle.cip_manager.proofs.ListLemmas.{filter-true, filter-filter, filter-swap}
@@ -47,7 +47,7 @@ abbrev exec_answer : Contents → ℕ → List ℕ → List ℕ
 exec_answer objects room request = (exec objects room request).answer
 
 -- One call of the manager for another session.
-leaves-manager : (peer : ℕ) (shared : Shared) (call : Manager_call) → IsOfOther peer call
+leaves-manager : (peer : ℕ) (shared : Shared) (call : ManagerCall) → IsOfOther peer call
     → of_session peer (state_after exec_after exec_answer
     (record { manager = shared.manager; router = shared.objects }) (call ∷ [])).manager.connections
     ≡ filter (is_open_after_all (call ∷ [])) (connections_of peer shared)

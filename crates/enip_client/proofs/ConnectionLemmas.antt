@@ -51,7 +51,7 @@ asked-kept s true lent e = e
 asked-kept s false lent e = refl
 
 -- An originator after at most one call.
-abbrev stepped : OriginatorState → Option originators.Call → OriginatorState
+abbrev stepped : OriginatorState → Option originators.OriginatorCall → OriginatorState
 stepped originator o = elim o [ None ↦ originator | Some call ↦ originators.after_call originator call ]
 
 -- Where the client is connected, a submit is the originator's.
@@ -114,7 +114,7 @@ originator-event s (Acted a) = originator-action s a
 originator-event s (Framed f) = originator-turn (is-turn s f)
 originator-event s (Long h) = refl
 
-after-before : (originator : OriginatorState) (o : Option originators.Call) (calls : List originators.Call)
+after-before : (originator : OriginatorState) (o : Option originators.OriginatorCall) (calls : List originators.OriginatorCall)
     → originator_after originator (call_before o calls) ≡ originator_after (stepped originator o) calls
 after-before originator None calls = refl
 after-before originator (Some call) calls = refl

@@ -289,10 +289,10 @@ abbrev pub item_in : State → Frame → Option (List ℕ)
 item_in s f = if is_for_connection s f.header then item_of s (unit_body_of f.body) else None
 
 -- What an event is to the connection's originator: one of its calls, or none.
-abbrev pub call_where_connected : State → originators.Call → Option originators.Call
+abbrev pub call_where_connected : State → originators.OriginatorCall → Option originators.OriginatorCall
 call_where_connected s call = if is_connected s then Some call else None
 
-abbrev pub call_of_action : State → Action → Option originators.Call
+abbrev pub call_of_action : State → Action → Option originators.OriginatorCall
 call_of_action s Register = None
 call_of_action s Open = None
 call_of_action s (Unconnected request) = None
@@ -302,27 +302,27 @@ call_of_action s GiveUp = call_where_connected s originators.GiveUp
 call_of_action s Close = None
 call_of_action s Unregister = None
 
-abbrev pub call_of_item : Option (List ℕ) → Option originators.Call
+abbrev pub call_of_item : Option (List ℕ) → Option originators.OriginatorCall
 call_of_item None = None
 call_of_item (Some item) = Some (originators.Receive item)
 
-abbrev pub call_of_event : State → Event → Option originators.Call
+abbrev pub call_of_event : State → Event → Option originators.OriginatorCall
 call_of_event s (Acted action) = call_of_action s action
 call_of_event s (Framed f) = call_of_item (item_in s f)
 call_of_event s (Long header) = None
 
-abbrev pub call_before : Option originators.Call → List originators.Call → List originators.Call
+abbrev pub call_before : Option originators.OriginatorCall → List originators.OriginatorCall → List originators.OriginatorCall
 call_before None more = more
 call_before (Some call) more = call ∷ more
 
 -- The calls of the connection's originator that events are.
-abbrev pub originator_calls : State → List Event → List originators.Call
+abbrev pub originator_calls : State → List Event → List originators.OriginatorCall
 originator_calls s [] = []
 originator_calls s (event ∷ events) =
     call_before (call_of_event s event) (originator_calls (after_event s event) events)
 
 -- An originator after calls of its own.
-abbrev pub originator_after : OriginatorState → List originators.Call → OriginatorState
+abbrev pub originator_after : OriginatorState → List originators.OriginatorCall → OriginatorState
 originator_after originator [] = originator
 originator_after originator (call ∷ calls) = originator_after (originators.after_call originator call) calls
 
