@@ -130,7 +130,7 @@ module _ {M : Type 0} (after : M → ℕ → List ℕ → M) (answer : M → ℕ
   deliverable own = record { sequence_count = count_of first own.number; request = own.request; repeats = 0 }
 
   is_deliverable : (own : Own) → IsOfForm o_to_t_size own.request → IsDeliverable o_to_t_size (deliverable own)
-  is_deliverable own form = record { count = count_of-below first own.number; request = form.least; size = form.fits }
+  is_deliverable own form = record { sequence_count = count_of-below first own.number; request = form.least; size = form.fits }
 
   pub repeats : (world : TrackedWorld) (own : Own) → IsOfForm o_to_t_size own.request →
       is_held (held_of after answer first t_to_o_size start world.log) (count_of first own.number) ≡ true →
