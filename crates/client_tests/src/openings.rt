@@ -1,6 +1,6 @@
 //! Which opening a client sends by the sizes that it wants, and what it makes of the answers to a large one.
 
-use crate::client_stands::{REGISTERED, WANTS};
+use crate::stands::{REGISTERED, WANTS};
 use enip_client::{Client, ClientFault, Heard, Wants};
 use std::alloc::Global;
 use std::process::Abort;

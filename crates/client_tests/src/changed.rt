@@ -1,6 +1,6 @@
 //! Replies that are changed in one byte, at a client that awaits them.
 
-use crate::client_stands::{ADDED, CLOSED, GOT, OPENED, REGISTERED, Stand, standing, with_bytes};
+use crate::stands::{ADDED, CLOSED, GOT, OPENED, REGISTERED, Stand, standing, with_bytes};
 use enip_client::{Client, Heard};
 use std::alloc::Global;
 use std::process::Abort;

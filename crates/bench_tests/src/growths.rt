@@ -1,6 +1,6 @@
 //! Growths of memory that are refused, and what stands then.
 
-use crate::bench_demo::{ADD_5, ADD_7, CLEAR, LIMITS, LISTEN, Row, WANTS, bench, counter, demo};
+use crate::demo::{ADD_5, ADD_7, CLEAR, LIMITS, LISTEN, Row, WANTS, bench, counter, demo};
 use cip_class3::Stage;
 use enip_adapter::Adapter;
 use enip_bench::{Bench, BenchFault, Event};
@@ -86,7 +86,7 @@ fn made(alloc: Global) -> Result<Bench, Fail> {
 }
 
 /// Whichever growth of `new` and `run` is refused, the events before it stand and no other, and the rest can be done
-/// then. Each is refused in turn by `rt try --test --fail-alloc N -- bench_growths::events_before_a_refused_growth`.
+/// then. Each is refused in turn by `rt try --test --fail-alloc N -- growths::events_before_a_refused_growth`.
 #[test]
 fn events_before_a_refused_growth(rt: HostRuntime) -> Result<(), Fail> {
     let mut events = Vec::new(rt.alloc());

@@ -1,6 +1,6 @@
 //! Large connections: one of 4,002 bytes each way is opened and used without any memory.
 
-use crate::adapter_demo::{LIMITS, LISTEN, REGISTER, config};
+use crate::demo::{LIMITS, LISTEN, REGISTER, config};
 use cip_objects::{AssemblyConfig, Objects};
 use enip_adapter::{Adapter, Peer};
 use std::alloc::{AllocError, Global};

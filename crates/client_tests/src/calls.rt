@@ -1,6 +1,6 @@
 //! Calls of a client in orders that no command makes, and what it answers.
 
-use crate::client_stands::{
+use crate::stands::{
     ADD, ADD_SENT, ADD_SENT_NEXT, ADDED, CLOSE, CLOSED, GET, GET_SENT_THIRD, GOT, IS_5, OPEN,
     OPENED, REGISTER, REGISTERED, Stand, UNREGISTER, WANTS, made, opened, standing, with_bytes,
 };
@@ -300,7 +300,7 @@ fn check_session_in_pieces<A: Abort>(rt: &A, client: &mut Client) {
 }
 
 /// A session with all that needs room. `new` takes all memory, so this ends well whichever growth is refused, each in
-/// turn by `rt try --test --fail-alloc N -- client_calls::only_new_takes_memory`.
+/// turn by `rt try --test --fail-alloc N -- calls::only_new_takes_memory`.
 #[test]
 fn only_new_takes_memory(rt: HostRuntime) -> Result<(), Fail> {
     let mut client = match Client::new(rt.alloc(), &WANTS) {

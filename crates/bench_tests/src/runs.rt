@@ -1,6 +1,6 @@
 //! The laws at the objects, and runs of many events. (Volume 1, transport class 3.)
 
-use crate::bench_demo::{ADD_1, EXACTLY_ONCE, IS_12, Row, bench, counter};
+use crate::demo::{ADD_1, EXACTLY_ONCE, IS_12, Row, bench, counter};
 use cip_objects::Objects;
 use enip_bench::{Bench, Event, Step, laws};
 use std::alloc::Global;

@@ -1,6 +1,6 @@
 //! Sessions with all that needs room, where growths of memory are refused.
 
-use crate::adapter_demo::{
+use crate::demo::{
     ADD, ADDED, LIMITS, LISTEN, LONG, OPEN, REFUSED, REGISTER, REGISTERED, check_free, check_serve,
     check_value, demo,
 };
@@ -82,7 +82,7 @@ fn check_end<A: Abort>(rt: &A, adapter: &mut Adapter, peer: Peer) {
 
 /// A session with all that needs room: a peer, frames in pieces, a connection, kept bytes and answers. `new` takes all
 /// memory, so this ends well whichever growth after the objects is refused, each in turn by
-/// `rt try --test --fail-alloc N -- adapter_memory::only_new_takes_memory`.
+/// `rt try --test --fail-alloc N -- memory::only_new_takes_memory`.
 #[test]
 fn only_new_takes_memory(rt: HostRuntime) -> Result<(), Fail> {
     let mut adapter = made(rt.alloc())?;

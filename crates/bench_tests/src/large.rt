@@ -1,6 +1,6 @@
 //! A connection of 4,002 bytes each way.
 
-use crate::bench_demo::{CLEAR, EXACTLY_ONCE, LIMITS, LISTEN, WANTS, compare, config, counter};
+use crate::demo::{CLEAR, EXACTLY_ONCE, LIMITS, LISTEN, WANTS, compare, config, counter};
 use cip_class3::{Refused, Stage};
 use cip_objects::{AssemblyConfig, Objects};
 use enip_adapter::Adapter;

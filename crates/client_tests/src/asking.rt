@@ -2,7 +2,7 @@
 
 ghost use Rattle.std.specs.Prelude.{None};
 
-use crate::client_stands::{
+use crate::stands::{
     ADD, ADD_SENT, ADDED, CLOSE, CLOSED, GET, GET_SENT, GOT, IS_5, OPEN, OPENED, REGISTER,
     REGISTERED, Stand, UNREGISTER, VENDOR, made, standing,
 };

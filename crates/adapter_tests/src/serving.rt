@@ -1,6 +1,6 @@
 //! Worked rows over devices in memory, and devices that fail.
 
-use crate::adapter_demo::{
+use crate::demo::{
     ADD, ADDED, LONG, OPEN, REFUSED, REGISTER, REGISTERED, adapter_with_peer, check_free,
     check_serve, check_value, demo_with_connection,
 };
