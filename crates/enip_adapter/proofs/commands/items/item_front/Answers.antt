@@ -23,4 +23,4 @@ returns c reply fits =
     ∙ sym (append_assoc c.copy_from_slice.new.self (item c.args.sequence_count []) reply)
     ∙ ap (λ l. (c.copy_from_slice.new.self ++ l) ++ reply) (sym count)
     ∙ ap (λ l. l ++ reply) (sym (joined c.copy_from_slice.new.self c.copy_from_slice-2.new.self c.copy_from_slice.ensures.len
-        c.copy_from_slice-2.ensures.len (ap length count)))
+    c.copy_from_slice-2.ensures.len (ap length count)))
