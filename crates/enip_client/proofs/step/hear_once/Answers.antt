@@ -3,7 +3,7 @@ use Rattle.std.proofs.lemmas.Result.{err_from_is_err_and}
 use Rattle.enip_client.specs.AskSteps.{step_in}
 use Rattle.enip_client.specs.Client.{news_in}
 use Rattle.enip_client.proofs.AskLemmas.{once_failed, once_faulted, once_waits, once_said}
-use Rattle.enip_client.proofs.asking.hear_once.Goals as goal
+use Rattle.enip_client.proofs.step.hear_once.Goals as goal
 
 pub returns-in_err-next-clause-heard : goal.returns-in_err-next-clause-heard
 returns-in_err-next-clause-heard g c =

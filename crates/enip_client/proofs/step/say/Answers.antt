@@ -2,7 +2,7 @@ use Rattle.std.proofs.Common.{◌≡◌, refl, Result, Ok, Err}
 use Rattle.std.proofs.lemmas.Result.{err_from_is_err_and}
 use Rattle.std.proofs.KnownBytes.{Appends-nil}
 use Rattle.enip_client.specs.Calls.{Lent, bytes_lent, submits}
-use Rattle.enip_client.proofs.asking.say.Goals as goal
+use Rattle.enip_client.proofs.step.say.Goals as goal
 
 err_lent : {E : Type 0} (r : Result Lent E) (fault : E) → Err fault ≡ bytes_lent r → r ≡ Err fault
 err_lent (Ok lent) fault is = cc
