@@ -5,7 +5,7 @@ use Rattle.std.proofs.KnownBytes.{Appends-nil}
 use Rattle.std.specs.Io.KnownBytes.{Appends}
 use Rattle.enip_wire.specs.Frames.{Frame, frame}
 use Rattle.enip_wire.specs.Bodies.{unit_body_of}
-use Rattle.enip_wire.specs.declared.packet.CpfFault.{CpfFault}
+use Rattle.enip_wire.specs.declared.item_list.CpfFault.{CpfFault}
 use Rattle.enip_wire.specs.Stream.{Sight, sight_of, joined_of, cleared}
 use Rattle.enip_wire.specs.Stream.Sight.{Nothing_yet, A_frame, A_long_header}
 use Rattle.cip_class3.specs.OriginatorRule.{accepted_reply, after_item}

@@ -196,14 +196,14 @@ fn length_in(held: &[u8], piece: &[u8]) -> u16
 
 /// One byte of two texts that stand one after the other.
 #[inline(always)]
-fn byte_in(held: &[u8], piece: &[u8], place: usize) -> u8
-    requires { place < length held.now + length piece.now }
-    ensures { result ≡ slice_index (held.now ++ piece.now) place }
+fn byte_in(held: &[u8], piece: &[u8], index: usize) -> u8
+    requires { index < length held.now + length piece.now }
+    ensures { result ≡ slice_index (held.now ++ piece.now) index }
 {
-    if place < held.len() {
-        held[place]
+    if index < held.len() {
+        held[index]
     } else {
-        piece[place - held.len()]
+        piece[index - held.len()]
     }
 }
 

@@ -2,7 +2,7 @@ use Rattle.std.proofs.Common.{sym, ◌∙◌, get_or}
 use Rattle.std.proofs.lemmas.List.Elements.{All-set}
 use Rattle.enip_adapter.specs.Adapter.{IsWaiting}
 use Rattle.enip_adapter.proofs.FeedLemmas.{none_found, closed_found, open_found, found_item, alive_there}
-use Rattle.enip_adapter.proofs.adapter.feed_places.Goals as goal
+use Rattle.enip_adapter.proofs.places.feed_taken.Goals as goal
 
 pub returns-in_default-2-clause-fed : goal.returns-in_default-2-clause-fed
 returns-in_default-2-clause-fed c limit next_handle =

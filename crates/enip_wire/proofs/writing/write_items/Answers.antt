@@ -1,6 +1,6 @@
 use Rattle.std.proofs.Common.{rules, refl}
 use Rattle.enip_wire.proofs.WriteLemmas.{room_for, counted_at}
-use Rattle.enip_wire.proofs.packet.write_items.Goals as goal
+use Rattle.enip_wire.proofs.writing.write_items.Goals as goal
 
 pub append_item-requires : goal.append_item-requires
 append_item-requires g c = (

@@ -1,6 +1,6 @@
 use Rattle.std.proofs.Common.{◌∙◌}
 use Rattle.enip_wire.proofs.ItemLemmas.{after_step}
-use Rattle.enip_wire.proofs.packet.after_items.Goals as goal
+use Rattle.enip_wire.proofs.item_list.after_items.Goals as goal
 
 pub loop-index-preserved : goal.loop-index-preserved
 loop-index-preserved c =

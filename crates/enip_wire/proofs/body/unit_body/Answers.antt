@@ -1,7 +1,7 @@
 use Rattle.std.proofs.Common.{ℕ, List, Ok, Err, arith}
 use Rattle.cip_bytes.specs.Reading.{seen_by}
 use Rattle.enip_wire.proofs.BodyLemmas.{unit_iff}
-use Rattle.enip_wire.proofs.packet.unit_body.Goals as goal
+use Rattle.enip_wire.proofs.body.unit_body.Goals as goal
 
 pub returns-clause-spelled : goal.returns-clause-spelled
 returns-clause-spelled c id bytes =

@@ -1,7 +1,7 @@
 use Rattle.std.proofs.Common.{refl}
 use Rattle.enip_wire.specs.Bodies.{unit_text}
 use Rattle.enip_wire.proofs.WriteLemmas.{joined}
-use Rattle.enip_wire.proofs.packet.write_unit_body.Goals as goal
+use Rattle.enip_wire.proofs.writing.write_unit_body.Goals as goal
 
 pub returns-clause-ok : goal.returns-clause-ok
 returns-clause-ok g c =

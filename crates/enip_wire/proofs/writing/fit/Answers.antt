@@ -1,7 +1,7 @@
 use Rattle.std.proofs.Common.{◌≡◌, ◌+◌, ◌≤◌, length, take, get_or, [], arith}
 use Rattle.enip_wire.proofs.WriteLemmas.{texts, length-texts}
-use Rattle.enip_wire.proofs.packet.fit.Goals as goal
-use Rattle.enip_wire.proofs.packet.fit.Goals.{then-room-lt-ITEM_HEAD-via-then-room-lt-ITEM_HEAD, then-room-lt-ITEM_HEAD-via-else-room-lt-ITEM_HEAD+then-room-item}
+use Rattle.enip_wire.proofs.writing.fit.Goals as goal
+use Rattle.enip_wire.proofs.writing.fit.Goals.{then-room-lt-ITEM_HEAD-via-then-room-lt-ITEM_HEAD, then-room-lt-ITEM_HEAD-via-else-room-lt-ITEM_HEAD+then-room-item}
 
 pub returns-then-room-lt-ITEM_HEAD : goal.returns-then-room-lt-ITEM_HEAD
 returns-then-room-lt-ITEM_HEAD c =

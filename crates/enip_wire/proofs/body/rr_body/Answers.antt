@@ -1,7 +1,7 @@
 use Rattle.std.proofs.Common.{Ok, Err, arith}
 use Rattle.cip_bytes.specs.Reading.{seen_by}
 use Rattle.enip_wire.proofs.BodyLemmas.{rr_iff}
-use Rattle.enip_wire.proofs.packet.rr_body.Goals as goal
+use Rattle.enip_wire.proofs.body.rr_body.Goals as goal
 
 pub returns-clause-spelled : goal.returns-clause-spelled
 returns-clause-spelled c bytes =

@@ -1,7 +1,7 @@
 use Rattle.std.proofs.Common.{Ok, Err, arith}
-use Rattle.enip_wire.specs.declared.packet.CpfFault.TheVariants.{Short, Trailing}
+use Rattle.enip_wire.specs.declared.item_list.CpfFault.TheVariants.{Short, Trailing}
 use Rattle.enip_wire.proofs.ItemLemmas.{items_iff}
-use Rattle.enip_wire.proofs.packet.cpf_items.Goals as goal
+use Rattle.enip_wire.proofs.item_list.cpf_items.Goals as goal
 
 pub returns-clause-spelled : goal.returns-clause-spelled
 returns-clause-spelled c l =
