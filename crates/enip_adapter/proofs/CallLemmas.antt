@@ -1,6 +1,6 @@
 -- A peer that begins, and one that ends.
-use Rattle.std.proofs.Common.{◌≡◌, ℕ, ◌+◌, ◌<◌, ltb, not, List, [], ◌∷◌, ◌++◌, Bool, true, false, cond, Some, None, length, map, get_or, sym, ap, ◌∙◌, rules, All, ◌≤◌}
-use Rattle.std.specs.Prelude.{remove}
+use Rattle.std.proofs.Common.{◌≡◌, ℕ, ◌+◌, ltb, not, List, [], ◌∷◌, ◌++◌, Bool, true, false, cond, if◌then◌else◌, Option, Some, None, length, map, refl, sym, ap, ◌∙◌, rules, All, ◌≤◌}
+use Rattle.std.specs.Prelude.{is_some}
 use Rattle.std.proofs.lemmas.List.Elements.{All-head, All-tail}
 use Rattle.enip_adapter.specs.declared.adapter.Full.TheVariants.{Places, Handles}
 use Rattle.enip_adapter.specs.declared.peer.Place.{Place}
@@ -9,41 +9,61 @@ use Rattle.enip_adapter.specs.declared.shared.Shared.{Shared}
 use Rattle.enip_adapter.specs.Adapter.{adapter_in, state_in, session_in, held_in}
 use Rattle.enip_adapter.specs.Calls.{AdapterState, Held, after_call, held_at_beginning}
 use Rattle.enip_adapter.specs.Calls.Call.{Begins_peer, Ends_peer}
-use Rattle.enip_adapter.specs.Lookup.{without_first, IsFirstWith}
+use Rattle.enip_adapter.specs.Lookup.{first_with, without_first}
 use Rattle.enip_adapter.specs.Turn.{State, Turned, turned, with_peer, new_session, session_of, end_found, without_connections}
 use Rattle.enip_adapter.specs.Turn.Said.{Begins, Refuses}
-use Rattle.enip_adapter.proofs.FeedLemmas.{handle_of, finds, session_found, found_item}
-use Rattle.enip_adapter.proofs.LookupLemmas.{first-Some, first-None, slice_get-past, remove-past}
+use Rattle.enip_adapter.specs.Places.{PlacesState, handle_of}
+use Rattle.enip_adapter.proofs.FeedLemmas.{finds, session_found}
+use Rattle.enip_adapter.proofs.ListLemmas.{without_first-none}
 use Rattle.enip_adapter.proofs.MapLemmas.{map-without_first, map-append_one}
 
--- A peer that ends at the place where it is found.
-pub ended_found : (limit next_handle : ℕ) (shared left : Shared) (places : List Place) (handle i : ℕ) (d : Place) → finds handle places ≡ Some i
-    → left ≡ without_connections shared handle
-    → adapter_in limit next_handle left (remove places i) ≡ after_call (adapter_in limit next_handle shared places) (Ends_peer handle)
-ended_found limit next_handle shared left places handle i d e same =
-    let both : (i < length places) × IsFirstWith handle_of handle places i = first-Some handle_of handle places i e in
-    let o : session_of (state_in limit next_handle shared places) handle ≡ Some (get_or places i d).session
-    = session_found limit next_handle shared places handle (Some (get_or places i d)) (found_item places handle i d e) in
-    let peers : map session_in (remove places i) ≡ without_first (λ (s : Session). s.handle) handle (map session_in places)
-    = ap (map session_in) (sym both.1.taken) ∙ map-without_first session_in (λ (s : Session). s.handle) handle places in
-    let held : map held_in (remove places i) ≡ without_first (λ (h : Held). h.peer) handle (map held_in places)
-    = ap (map held_in) (sym both.1.taken) ∙ map-without_first held_in (λ (h : Held). h.peer) handle places in
-    ap (λ s. let r : AdapterState = record { state = record { places = limit; next_handle = next_handle; shared = s; peers = map session_in (remove places i) }; held = map held_in (remove places i) } in r) same
-    ∙ ap (λ ps. let r : AdapterState = record { state = record { places = limit; next_handle = next_handle; shared = without_connections shared handle; peers = ps }; held = map held_in (remove places i) } in r) peers
-    ∙ ap (λ h. let r : AdapterState = record { state = end_found (state_in limit next_handle shared places) handle (Some (get_or places i d).session); held = h } in r) held
+-- A peer that gives its place back.
+ended_found : (limit next_handle : ℕ) (shared : Shared) (places : List Place) (handle : ℕ) (p : Place) → first_with handle_of handle places ≡ Some p
+    → adapter_in limit next_handle (without_connections shared handle) (without_first handle_of handle places)
+    ≡ after_call (adapter_in limit next_handle shared places) (Ends_peer handle)
+ended_found limit next_handle shared places handle p e =
+    let o : session_of (state_in limit next_handle shared places) handle ≡ Some p.session
+    = session_found limit next_handle shared places handle (Some p) e in
+    let peers : map session_in (without_first handle_of handle places) ≡ without_first (λ (s : Session). s.handle) handle (map session_in places)
+    = map-without_first session_in (λ (s : Session). s.handle) handle places in
+    let held : map held_in (without_first handle_of handle places) ≡ without_first (λ (h : Held). h.peer) handle (map held_in places)
+    = map-without_first held_in (λ (h : Held). h.peer) handle places in
+    ap (λ ps. let r : AdapterState = record { state = record { places = limit; next_handle = next_handle; shared = without_connections shared handle; peers = ps }; held = map held_in (without_first handle_of handle places) } in r) peers
+    ∙ ap (λ h. let r : AdapterState = record { state = end_found (state_in limit next_handle shared places) handle (Some p.session); held = h } in r) held
     ∙ ap (λ x. let r : AdapterState = record { state = end_found (state_in limit next_handle shared places) handle x; held = without_first (λ (h : Held). h.peer) handle (map held_in places) } in r) (sym o)
 
--- One that is not held.
-pub ended_none : (limit next_handle : ℕ) (shared : Shared) (places : List Place) (handle : ℕ) → finds handle places ≡ None
-    → adapter_in limit next_handle shared places ≡ after_call (adapter_in limit next_handle shared places) (Ends_peer handle)
+-- One that holds none.
+ended_none : (limit next_handle : ℕ) (shared : Shared) (places : List Place) (handle : ℕ) → first_with handle_of handle places ≡ None
+    → adapter_in limit next_handle shared (without_first handle_of handle places)
+    ≡ after_call (adapter_in limit next_handle shared places) (Ends_peer handle)
 ended_none limit next_handle shared places handle e =
-    let there : IsFirstWith handle_of handle places (length places) = first-None handle_of handle places e in
     let o : session_of (state_in limit next_handle shared places) handle ≡ None
-    = session_found limit next_handle shared places handle None (there.found ∙ slice_get-past places) in
+    = session_found limit next_handle shared places handle None e in
+    let same : without_first handle_of handle places ≡ places = without_first-none handle_of handle places e in
     let held : map held_in places ≡ without_first (λ (h : Held). h.peer) handle (map held_in places)
-    = ap (map held_in) (sym (remove-past places) ∙ sym there.taken) ∙ map-without_first held_in (λ (h : Held). h.peer) handle places in
-    ap (λ h. let r : AdapterState = record { state = state_in limit next_handle shared places; held = h } in r) held
+    = ap (map held_in) (sym same) ∙ map-without_first held_in (λ (h : Held). h.peer) handle places in
+    ap (adapter_in limit next_handle shared) same
+    ∙ ap (λ h. let r : AdapterState = record { state = state_in limit next_handle shared places; held = h } in r) held
     ∙ ap (λ x. let r : AdapterState = record { state = end_found (state_in limit next_handle shared places) handle x; held = without_first (λ (h : Held). h.peer) handle (map held_in places) } in r) (sym o)
+
+ended_either : (limit next_handle : ℕ) (shared : Shared) (places : List Place) (handle : ℕ) (o : Option Place) → first_with handle_of handle places ≡ o
+    → adapter_in limit next_handle (if is_some o then without_connections shared handle else shared) (without_first handle_of handle places)
+    ≡ after_call (adapter_in limit next_handle shared places) (Ends_peer handle)
+ended_either limit next_handle shared places handle (Some p) e = ended_found limit next_handle shared places handle p e
+ended_either limit next_handle shared places handle None e = ended_none limit next_handle shared places handle e
+
+-- the adapter after a place was given back, or none was held
+pub ended : (old new : PlacesState) (next_handle handle peer : ℕ) (shared left : Shared) (held : Bool) (a : AdapterState)
+    → adapter_in old.limit next_handle shared old.taken ≡ a → handle ≡ peer → held ≡ is_some (first_with handle_of handle old.taken)
+    → new.limit ≡ old.limit → new.taken ≡ without_first handle_of handle old.taken
+    → left ≡ (if held then without_connections shared handle else shared)
+    → adapter_in new.limit next_handle left new.taken ≡ after_call a (Ends_peer peer)
+ended old new next_handle handle peer shared left held a is who found limit taken ends =
+    ap (λ n. adapter_in n next_handle left new.taken) limit ∙ ap (adapter_in old.limit next_handle left) taken
+    ∙ ap (λ s. adapter_in old.limit next_handle s (without_first handle_of handle old.taken)) ends
+    ∙ ap (λ b. adapter_in old.limit next_handle (if b then without_connections shared handle else shared) (without_first handle_of handle old.taken)) found
+    ∙ ended_either old.limit next_handle shared old.taken handle (first_with handle_of handle old.taken) refl
+    ∙ ap (λ x. after_call x (Ends_peer handle)) is ∙ ap (λ n. after_call a (Ends_peer n)) who
 
 -- What begins, by the two tests.
 abbrev begun_by : State → Bool → Bool → Turned

@@ -19,16 +19,13 @@ use Rattle.enip_adapter.specs.Calls.{AdapterState, Held, Meaning, piece_to, piec
 use Rattle.enip_adapter.specs.Calls.Call.{Feeds}
 use Rattle.enip_adapter.specs.Commands.{command_served, long_refused, sight_served}
 use Rattle.enip_adapter.specs.Lookup.{first_with, with_first, IsFirstWith}
-use Rattle.enip_adapter.specs.Places.{IsFed, piece_at}
+use Rattle.enip_adapter.specs.Places.{PlacesState, places_in, IsFed, piece_at, handle_of}
 use Rattle.enip_adapter.specs.Replies.{Served, leaving, silent, written}
 use Rattle.enip_adapter.specs.Turn.{State, Said, Answer, turned, after, answers, session_of, serve_found, session_after, shared_after, sent, at_moment}
 use Rattle.enip_adapter.specs.Turn.Said.{Silent}
 use Rattle.enip_adapter.proofs.LookupLemmas.{first-Some, first-None, slice_get-past, slice_get-within}
 use Rattle.enip_adapter.proofs.MapLemmas.{map-first_with, map-with_first}
 use Rattle.enip_adapter.proofs.ListLemmas.{with_first-same, first_with-number}
-
-abbrev pub handle_of : Place → ℕ
-handle_of p = p.session.handle
 
 abbrev pub finds : ℕ → List Place → Option ℕ
 finds handle places = position (λ p. eqb p.session.handle handle) places
@@ -236,17 +233,26 @@ feeds_now : (limit next_handle : ℕ) (shared left : Shared) (places kept : List
 feeds_now limit next_handle shared left places kept now peer piece bytes outcome fed =
     record { state = fed.adapter; taken = fed.taken; answer = fed.answer }
 
-pub feeds : (limit next_handle : ℕ) (shared first left : Shared) (places seen kept stored : List Place) (now handle peer : ℕ) (piece bytes : List ℕ) (outcome : ℕ × Reaction) (old : AdapterState)
-    → adapter_in limit next_handle shared places ≡ old → first ≡ at_moment shared now → seen ≡ places → handle ≡ peer → stored ≡ kept
-    → IsFed limit next_handle first seen (piece_at limit next_handle first seen handle piece) left kept outcome bytes
-    → IsFeed old now peer piece (adapter_in limit next_handle left stored) outcome bytes
-feeds limit next_handle shared first left places seen kept stored now handle peer piece bytes outcome old is moment same who stores fed =
-    subst (λ l. IsFeed old now peer piece (adapter_in limit next_handle left l) outcome bytes) (sym stores)
-    (subst (λ o. IsFeed o now peer piece (adapter_in limit next_handle left kept) outcome bytes) is
-    (feeds_now limit next_handle shared left places kept now peer piece bytes outcome
-    (subst (λ h. IsFed limit next_handle (at_moment shared now) places (piece_at limit next_handle (at_moment shared now) places h piece) left kept outcome bytes) who
-    (subst (λ s. IsFed limit next_handle (at_moment shared now) s (piece_at limit next_handle (at_moment shared now) s handle piece) left kept outcome bytes) same
-    (subst (λ s. IsFed limit next_handle s seen (piece_at limit next_handle s seen handle piece) left kept outcome bytes) moment fed)))))
+-- a piece at the list of places is one at the places that they are
+pub fed_at : (old : PlacesState) (limit next_handle : ℕ) (shared left : Shared) (items seen kept stored : List Place) (handle : ℕ) (piece bytes : List ℕ) (outcome : ℕ × Reaction)
+    → places_in limit items ≡ old → seen ≡ items → stored ≡ kept
+    → IsFed limit next_handle shared seen (piece_at limit next_handle shared seen handle piece) left kept outcome bytes
+    → IsFed old.limit next_handle shared old.taken (piece_at old.limit next_handle shared old.taken handle piece) left stored outcome bytes
+fed_at old limit next_handle shared left items seen kept stored handle piece bytes outcome is same stores fed =
+    subst (λ l. IsFed old.limit next_handle shared old.taken (piece_at old.limit next_handle shared old.taken handle piece) left l outcome bytes) (sym stores)
+    (subst (λ p. IsFed p.limit next_handle shared p.taken (piece_at p.limit next_handle shared p.taken handle piece) left kept outcome bytes) is
+    (subst (λ s. IsFed limit next_handle shared s (piece_at limit next_handle shared s handle piece) left kept outcome bytes) same fed))
+
+pub feeds : (old new : PlacesState) (next_handle : ℕ) (shared first left : Shared) (now handle peer : ℕ) (piece bytes : List ℕ) (outcome : ℕ × Reaction) (a : AdapterState)
+    → adapter_in old.limit next_handle shared old.taken ≡ a → first ≡ at_moment shared now → handle ≡ peer → new.limit ≡ old.limit
+    → IsFed old.limit next_handle first old.taken (piece_at old.limit next_handle first old.taken handle piece) left new.taken outcome bytes
+    → IsFeed a now peer piece (adapter_in new.limit next_handle left new.taken) outcome bytes
+feeds old new next_handle shared first left now handle peer piece bytes outcome a is moment who limit fed =
+    subst (λ l. IsFeed a now peer piece (adapter_in l next_handle left new.taken) outcome bytes) (sym limit)
+    (subst (λ o. IsFeed o now peer piece (adapter_in old.limit next_handle left new.taken) outcome bytes) is
+    (feeds_now old.limit next_handle shared left old.taken new.taken now peer piece bytes outcome
+    (subst (λ h. IsFed old.limit next_handle (at_moment shared now) old.taken (piece_at old.limit next_handle (at_moment shared now) old.taken h piece) left new.taken outcome bytes) who
+    (subst (λ s. IsFed old.limit next_handle s old.taken (piece_at old.limit next_handle s old.taken handle piece) left new.taken outcome bytes) moment fed))))
 
 -- What was lent is what was written, or there is a reason.
 pub said_written : (reply : Reply) (bytes : List ℕ) (slice : Bor (List ℕ)) → reply ≡ replies.Written → slice.now ≡ bytes

@@ -15,3 +15,4 @@ pub mod CallLemmas
 pub mod IdentityLemmas
 pub mod WaitLemmas
 pub mod ServeLemmas
+pub mod DeedLemmas

@@ -9,22 +9,22 @@ use Rattle.enip_adapter.specs.Serving.{Feeding, feeds, fed_more, bytes_said, Goe
 
 -- So many bytes of a piece were fed, each feed went on, and what they answered was written.
 pub record HasFed (now peer : ℕ) (a : AdapterState) (piece : List ℕ) (fed : ℕ) (new : AdapterState) (before after : Option (List ℕ)) : Type 0 where
-  pub count : ℕ
-  pub each : AllGoOn now peer a piece count
-  pub rest : (feeds now peer a piece count).rest ≡ drop fed piece
-  pub adapter : new ≡ (feeds now peer a piece count).adapter
-  pub written : Appends before after (feeds now peer a piece count).sent
+  pub times : ℕ
+  pub each : AllGoOn now peer a piece times
+  pub rest : (feeds now peer a piece times).rest ≡ drop fed piece
+  pub adapter : new ≡ (feeds now peer a piece times).adapter
+  pub written : Appends before after (feeds now peer a piece times).sent
 
 -- before the first feed
 pub none_fed : (now peer : ℕ) (a : AdapterState) (piece : List ℕ) (before : Option (List ℕ)) → HasFed now peer a piece 0 a before before
 none_fed now peer a piece before =
-    record { count = 0; each = tt; rest = refl; adapter = refl; written = Appends-nil before }
+    record { times = 0; each = tt; rest = refl; adapter = refl; written = Appends-nil before }
 
 -- once nothing is left
 pub all_fed : (now peer : ℕ) (a new : AdapterState) (piece : List ℕ) (fed : ℕ) (before after : Option (List ℕ)) → length piece ≤ fed
     → HasFed now peer a piece fed new before after → FedWhole now peer a piece new before after
 all_fed now peer a new piece fed before after past h = record {
-  count = h.count;
+  times = h.times;
   each = h.each;
   whole = h.rest ∙ drop_all fed piece past;
   adapter = h.adapter;
@@ -59,16 +59,16 @@ pub more_fed : (now peer : ℕ) (a seen new : AdapterState) (piece rest : List �
     → Appends between after (more_answer now peer seen rest)
     → HasFed now peer a piece (fed + taken) new before after
 more_fed now peer a seen new piece rest fed taken close before between after h below same state number closes going written =
-    let is : feeds now peer a piece h.count ≡ record { adapter = seen; rest = rest; sent = (feeds now peer a piece h.count).sent }
-    = at_feeding now peer a piece rest h.count seen (h.rest ∙ sym same) h.adapter in
+    let is : feeds now peer a piece h.times ≡ record { adapter = seen; rest = rest; sent = (feeds now peer a piece h.times).sent }
+    = at_feeding now peer a piece rest h.times seen (h.rest ∙ sym same) h.adapter in
     let some : 0 < length rest = omega (arith, ap length same, length-drop fed piece, below) in
     record {
-      count = suc h.count;
-      each = (h.each, goes_on now peer a seen piece rest h.count is some (sym closes ∙ going));
+      times = suc h.times;
+      each = (h.each, goes_on now peer a seen piece rest h.times is some (sym closes ∙ going));
       rest = ap (λ f. (fed_more now peer f).rest) is ∙ ap (λ n. drop n rest) (sym number) ∙ ap (drop taken) same ∙ drop-drop taken fed piece;
       adapter = state ∙ ap (λ f. (fed_more now peer f).adapter) (sym is);
       written = subst (Appends before after) (ap (λ f. (fed_more now peer f).sent) (sym is))
-          (Appends-trans before between after (feeds now peer a piece h.count).sent (more_answer now peer seen rest) h.written written);
+          (Appends-trans before between after (feeds now peer a piece h.times).sent (more_answer now peer seen rest) h.written written);
     }
 
 -- a read of no byte

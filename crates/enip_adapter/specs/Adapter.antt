@@ -1,9 +1,7 @@
 -- The adapter as it is made and stored.
-use Rattle.std.specs.Prelude.{ℕ, List, [], ◌≡◌, ◌≤◌, ◌+◌, ◌^◌, map, vec_len, All, false, Option, Some, None, Result, Ok}
+use Rattle.std.specs.Prelude.{ℕ, List, [], ◌≡◌, map, false, Option, Some, None, Result, Ok}
 use Rattle.std.specs.Prelude.{Err, unwrap_or}
 use Rattle.std.specs.Borrow.{Bor}
-use Rattle.std.specs.Global.{Vec}
-use Rattle.std.specs.Vec.{vec_capacity}
 use Rattle.cip_manager.specs.Manager.{no_connection}
 use Rattle.cip_objects.specs.Contents.{Contents}
 use Rattle.enip_wire.specs.Frames.{Stops}
@@ -56,16 +54,6 @@ new_adapter objects listen limits = adapter_in limits.peers limits.first_handle 
 -- Of a peer that is not closed, neither a whole frame nor a header that is too long is held between calls.
 abbrev pub IsWaiting : Place → Type 0
 IsWaiting place = place.session.closed ≡ false → Stops place.reader → ⊥
-
--- Each place is taken or free, a free reader holds no byte, and there is room for all on either side.
-pub record IsRoomy (places next_handle : ℕ) (peers : Vec Place) (free : Vec (List ℕ)) : Type 0 where
-  pub few : places ≤ 16
-  pub handles : next_handle ≤ 2 ^ 32
-  pub for_peers : places ≤ vec_capacity peers
-  pub for_free : places ≤ vec_capacity free
-  pub all : vec_len peers + vec_len free ≡ places
-  pub blank : All (λ held. held ≡ []) free.items
-  pub waiting : All IsWaiting peers.items
 
 -- What a call of begin says, and one of feed, which has a frame to send or a reason for none.
 abbrev pub begin_said : Result ℕ Full → Said

@@ -17,3 +17,4 @@ pub mod Places
 pub mod Destinations
 pub mod Buffers
 pub mod Serving
+pub mod Deeds

@@ -1,12 +1,42 @@
--- A piece at the places of peers is the piece at the adapter.
-use Rattle.std.specs.Prelude.{ℕ, List, ◌≡◌, map}
+-- The places for peers, and a piece at them, which is the piece at the adapter.
+use Rattle.std.specs.Prelude.{ℕ, List, [], ◌∷◌, ◌++◌, ◌≡◌, ◌≤◌, ◌+◌, map, vec_len, All}
+use Rattle.std.specs.Global.{Vec}
+use Rattle.std.specs.Vec.{vec_capacity}
 use Rattle.enip_adapter.specs.declared.peer.Place.{Place}
 use Rattle.enip_adapter.specs.declared.reply.Reaction.{Reaction}
 use Rattle.enip_adapter.specs.declared.shared.Shared.{Shared}
-use Rattle.enip_adapter.specs.Adapter.{adapter_in, state_in, held_in}
+use Rattle.enip_adapter.specs.Adapter.{adapter_in, state_in, held_in, IsWaiting}
 use Rattle.enip_adapter.specs.Calls.{Meaning, piece_to, after_meaning, answer_of}
 use Rattle.enip_adapter.specs.Replies.{written}
-use Rattle.enip_adapter.specs.Turn.{Answer, session_of, sent}
+use Rattle.enip_adapter.specs.Turn.{Answer, session_of, sent, new_session}
+
+-- So many places for peers, and those that are taken, in the order in which their peers began.
+pub record PlacesState : Type 0 where
+  pub limit : ℕ
+  pub taken : List Place
+
+abbrev pub places_in : ℕ → List Place → PlacesState
+places_in limit taken = record { limit = limit; taken = taken }
+
+abbrev pub no_place_taken : ℕ → PlacesState
+no_place_taken limit = places_in limit []
+
+-- The session handle of the peer that holds a place.
+abbrev pub handle_of : Place → ℕ
+handle_of place = place.session.handle
+
+-- A peer that begins takes a place, and no byte of it has come.
+abbrev pub with_place : PlacesState → ℕ → PlacesState
+with_place p handle = places_in p.limit (p.taken ++ record { session = new_session handle; reader = [] } ∷ [])
+
+-- Each place is taken or free, a free reader holds no byte, and there is room for all on either side.
+pub record IsRoomy (places : ℕ) (peers : Vec Place) (free : Vec (List ℕ)) : Type 0 where
+  pub few : places ≤ 16
+  pub for_peers : places ≤ vec_capacity peers
+  pub for_free : places ≤ vec_capacity free
+  pub all : vec_len peers + vec_len free ≡ places
+  pub blank : All (λ held. held ≡ []) free.items
+  pub waiting : All IsWaiting peers.items
 
 -- What is shared, the places, how many bytes were taken, what came of them, and the buffer after a piece for a peer.
 pub record IsFed (limit next_handle : ℕ) (shared : Shared) (places : List Place) (m : Meaning) (left : Shared)

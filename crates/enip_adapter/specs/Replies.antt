@@ -13,9 +13,9 @@ use Rattle.enip_adapter.specs.declared.silence.Silence.{Silence}
 
 -- The header of a reply with so many bytes of data: command and context of what asked, no options.
 abbrev pub reply_header : Header → ℕ → EncapsulationStatus → ℕ → Header
-reply_header asked session status count = record {
+reply_header asked session status size = record {
   command = asked.command;
-  length = count;
+  length = size;
   session = session;
   status = encapsulation_status_number status;
   context = asked.context;

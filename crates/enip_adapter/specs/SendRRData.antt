@@ -18,7 +18,7 @@ use Rattle.cip_manager.specs.Closing.{close_turn}
 use Rattle.cip_objects.specs.Execution.{exec}
 use Rattle.enip_wire.specs.Bodies.{rr_text, rr_body_of}
 use Rattle.enip_wire.specs.Frames.{Frame}
-use Rattle.enip_wire.specs.declared.packet.CpfFault.{CpfFault}
+use Rattle.enip_wire.specs.declared.item_list.CpfFault.{CpfFault}
 use Rattle.enip_adapter.specs.declared.peer.Session.{Session}
 use Rattle.enip_adapter.specs.declared.shared.Shared.{Shared}
 use Rattle.enip_adapter.specs.Replies.{Served, leaving, replied, refused, is_registered_as}

@@ -7,7 +7,7 @@ use Rattle.cip_objects.specs.Execution.{exec}
 use Rattle.enip_wire.specs.Bodies.{unit_text, unit_body_of}
 use Rattle.enip_wire.specs.Frames.{Frame}
 use Rattle.enip_wire.specs.declared.header.Header.{Header}
-use Rattle.enip_wire.specs.declared.packet.CpfFault.{CpfFault}
+use Rattle.enip_wire.specs.declared.item_list.CpfFault.{CpfFault}
 use Rattle.enip_adapter.specs.declared.peer.Session.{Session}
 use Rattle.enip_adapter.specs.declared.shared.Shared.{Shared}
 use Rattle.enip_adapter.specs.declared.silence.Silence.TheVariants.{AnotherSession, NotAPacket, NotTaken}

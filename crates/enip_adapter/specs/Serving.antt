@@ -70,33 +70,33 @@ AllGoOn now peer a piece (suc k) = AllGoOn now peer a piece k × GoesOn now peer
 -- A piece was fed to its end, and each answer was written.
 pub record FedWhole (now peer : ℕ) (a : AdapterState) (piece : List ℕ) (new : AdapterState)
     (before after : Option (List ℕ)) : Type 0 where
-  pub count : ℕ
-  pub each : AllGoOn now peer a piece count
-  pub whole : (feeds now peer a piece count).rest ≡ []
-  pub adapter : new ≡ (feeds now peer a piece count).adapter
-  pub written : Appends before after (feeds now peer a piece count).sent
+  pub times : ℕ
+  pub each : AllGoOn now peer a piece times
+  pub whole : (feeds now peer a piece times).rest ≡ []
+  pub adapter : new ≡ (feeds now peer a piece times).adapter
+  pub written : Appends before after (feeds now peer a piece times).sent
 
 -- A piece was fed until a feed closed, and each answer was written, also that of the feed that closed.
 pub record FedToClose (now peer : ℕ) (a : AdapterState) (piece : List ℕ) (new : AdapterState)
     (before after : Option (List ℕ)) : Type 0 where
-  pub count : ℕ
-  pub each : AllGoOn now peer a piece count
-  pub some : 0 < length (feeds now peer a piece count).rest
-  pub close : (next_answer now peer (feeds now peer a piece count)).close ≡ true
-  pub adapter : new ≡ (feeds now peer a piece (suc count)).adapter
-  pub written : Appends before after (feeds now peer a piece (suc count)).sent
+  pub times : ℕ
+  pub each : AllGoOn now peer a piece times
+  pub some : 0 < length (feeds now peer a piece times).rest
+  pub close : (next_answer now peer (feeds now peer a piece times)).close ≡ true
+  pub adapter : new ≡ (feeds now peer a piece (suc times)).adapter
+  pub written : Appends before after (feeds now peer a piece (suc times)).sent
 
 -- A piece was fed until an answer could not be written: those before it were, and a front of it that is not all of it.
 pub record FedToFault (now peer : ℕ) (a : AdapterState) (piece : List ℕ) (new : AdapterState)
     (before after : Option (List ℕ)) : Type 0 where
-  pub count : ℕ
-  pub each : AllGoOn now peer a piece count
-  pub some : 0 < length (feeds now peer a piece count).rest
-  pub adapter : new ≡ (feeds now peer a piece (suc count)).adapter
+  pub times : ℕ
+  pub each : AllGoOn now peer a piece times
+  pub some : 0 < length (feeds now peer a piece times).rest
+  pub adapter : new ≡ (feeds now peer a piece (suc times)).adapter
   pub front : ℕ
-  pub not_all : front < length (bytes_said (next_answer now peer (feeds now peer a piece count)).said)
-  pub written : Appends before after ((feeds now peer a piece count).sent
-      ++ take front (bytes_said (next_answer now peer (feeds now peer a piece count)).said))
+  pub not_all : front < length (bytes_said (next_answer now peer (feeds now peer a piece times)).said)
+  pub written : Appends before after ((feeds now peer a piece times).sent
+      ++ take front (bytes_said (next_answer now peer (feeds now peer a piece times)).said))
 
 -- A piece was fed to its end, or closed, or met a fault of the writer.
 abbrev pub IsFedAll : {E : Type 0} → ℕ → ℕ → AdapterState → List ℕ → AdapterState

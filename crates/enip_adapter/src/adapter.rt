@@ -1,20 +1,18 @@
 //! The adapter: its peers, and the calls that change it.
 
-ghost use Rattle.std.specs.Prelude.{ℕ, ◌≡◌, ◌==◌, ◌<◌, ◌≤◌, ◌-◌, length, false};
-ghost use Rattle.std.specs.Prelude.{All, IfOk, IfSome, is_some, is_none};
+ghost use Rattle.std.specs.Prelude.{◌≡◌, ◌<◌, ◌≤◌, ◌-◌, length, false};
+ghost use Rattle.std.specs.Prelude.{IfOk, IfSome, is_some, is_none};
 ghost use Rattle.std.specs.Borrow.{sem};
 ghost use Rattle.std.specs.Io.BufRead.{Rests};
-ghost use Rattle.std.specs.List.{position};
-ghost use Rattle.enip_adapter.specs.Adapter.{full_number, IsWaiting};
-ghost use Rattle.enip_adapter.specs.Places.{IsFed, piece_at};
+ghost use Rattle.enip_adapter.specs.Adapter.{full_number};
 
-use crate::peer::{Peer, Place, Session};
+use crate::peer::Peer;
+use crate::places::Places;
 use crate::reply::{AnswerFrame, LONGEST_ANSWER, Reaction, Reply};
 use crate::shared::{Listen, Shared};
 use crate::silence::Silence;
 use cip_manager::Manager;
 use cip_objects::{Objects, ReplyBuf};
-use enip_wire::FrameReader;
 use std::alloc::{AllocError, Global};
 use std::marker::Model;
 use thiserror::Error;
@@ -68,12 +66,10 @@ pub struct Fed<'a> {
 /// An adapter that serves its objects to its peers.
 #[derive(Drop)]
 pub struct Adapter {
-    limit: u16,
     // Past the greatest handle once that was drawn.
     next_handle: u64,
     shared: Shared,
-    places: Vec<Place>,
-    free: Vec<FrameReader>,
+    places: Places,
     // Where a router writes; what it held before counts for nothing.
     reply: ReplyBuf,
     answer: AnswerFrame,
@@ -87,11 +83,12 @@ impl Model for Adapter {
 
     ghost coded = { adapter_code };
 
-    ghost use Rattle.enip_adapter.specs.Adapter.{adapter_in, IsRoomy};
+    ghost use Rattle.std.specs.Prelude.{◌≤◌, ◌^◌};
+    ghost use Rattle.enip_adapter.specs.Adapter.{adapter_in};
 
-    ghost view = { λ a. adapter_in a.limit a.next_handle a.shared a.places.items };
+    ghost view = { λ a. adapter_in a.places.limit a.next_handle a.shared a.places.taken };
 
-    ghost invariant = { λ a. IsRoomy a.limit a.next_handle a.places a.free };
+    ghost invariant = { λ a. a.next_handle ≤ 2 ^ 32 };
 }
 
 impl Adapter {
@@ -119,14 +116,9 @@ impl Adapter {
         requires id { 1 ≤ limits.first_id }
         ensures { IfOk result (λ a. a ≡ new_adapter objects listen limits) }
     {
-        let places = Vec::with_capacity(alloc, usize::from(limits.peers))?;
-        let mut free = Vec::with_capacity(alloc, usize::from(limits.peers))?;
-        for _ in 0..limits.peers {
-            free.push_reserved(FrameReader::new(alloc)?);
-        }
+        let places = Places::new(alloc, limits.peers)?;
         let manager = Manager::new(alloc, limits.connections, limits.first_id, objects.device())?;
         Ok(Adapter {
-            limit: limits.peers,
             next_handle: u64::from(limits.first_handle),
             shared: Shared {
                 listen,
@@ -135,7 +127,6 @@ impl Adapter {
                 objects,
             },
             places,
-            free,
             reply: ReplyBuf::new(),
             answer: AnswerFrame::new(),
         })
@@ -151,21 +142,15 @@ impl Adapter {
         ensures said { begin_said result ≡ (call_answer self.old Call.Begins_peer).said }
     {
         // places before handles (ours)
-        let Some(reader) = self.free.pop() else {
+        if self.places.free() == 0 {
             return Err(Full::Places);
-        };
+        }
         // a handle is not used again (RegisterSession)
         let Ok(handle) = u32::try_from(self.next_handle) else {
-            self.free.push_reserved(reader);
             return Err(Full::Handles);
         };
         self.next_handle += 1;
-        let session = Session {
-            handle,
-            registered: false,
-            closed: false,
-        };
-        self.places.push_reserved(Place { session, reader });
+        self.places.take(handle);
         Ok(Peer { handle })
     }
 
@@ -187,9 +172,8 @@ impl Adapter {
         ensures fits { IfSome result.answer (λ frame. length frame.now ≤ LONGEST_ANSWER) }
     {
         self.shared.advance(now);
-        let (taken, reaction) = feed_places(
+        let (taken, reaction) = self.places.feed(
             &mut self.shared,
-            &mut self.places,
             peer.handle,
             piece,
             &mut self.reply,
@@ -215,11 +199,7 @@ impl Adapter {
     pub fn end(&mut self, peer: Peer)
         ensures { self.new ≡ after_call self.old (Call.Ends_peer peer) }
     {
-        if let Some(index) = index_of(&self.places, peer.handle) {
-            let place = self.places.remove(index);
-            let mut reader = place.reader;
-            reader.clear();
-            self.free.push_reserved(reader);
+        if self.places.give_back(peer.handle) {
             self.shared.end_session(peer.handle);
         }
     }
@@ -243,10 +223,7 @@ impl Adapter {
     pub(crate) fn is_served(&self, peer: &Peer) -> bool
         ensures { result ≡ is_peer_served self.now peer.now }
     {
-        match index_of(&self.places, peer.handle) {
-            Some(index) => !self.places[index].session.closed,
-            None => false,
-        }
+        self.places.is_open(peer.handle)
     }
 
     /// How many places are free, of peers and of connections.
@@ -255,41 +232,6 @@ impl Adapter {
         ensures connections { result.1
             ≡ self.now.state.shared.manager.places - length self.now.state.shared.manager.connections }
     {
-        (self.free.len() as u16, self.shared.manager.free())
-    }
-}
-
-/// Where the first peer with this handle is.
-fn index_of(places: &[Place], handle: u32) -> Option<usize>
-    ensures { result ≡ position (λ p. p.session.handle == handle) places.now }
-{
-    places
-        .iter()
-        .position(|place| place.session.handle == handle)
-}
-
-/// Feeds a piece to the peer with this handle. Answers how many bytes were taken, and what came of them.
-fn feed_places(
-    shared: &mut Shared,
-    places: &mut [Place],
-    handle: u32,
-    piece: &[u8],
-    reply: &mut ReplyBuf,
-    answer: &mut AnswerFrame,
-) -> (usize, Reaction)
-    requires { All IsWaiting places.old }
-    ensures fed { (limit next_handle : ℕ) → IsFed limit next_handle shared.old places.old
-        (piece_at limit next_handle shared.old places.old handle piece.now)
-        shared.new places.new result answer.new.items }
-    ensures size { length places.new ≡ length places.old }
-    ensures within { result.0 ≤ length piece.now }
-    ensures progress { 0 < length piece.now → result.1.close ≡ false → 0 < result.0 }
-    ensures waiting { All IsWaiting places.new }
-{
-    match index_of(places, handle) {
-        Some(index) if !places[index].session.closed => places[index].feed(
-            shared, piece, reply, answer,
-        ),
-        _ => (0, Reaction::NOT_SERVED),
+        (self.places.free(), self.shared.manager.free())
     }
 }

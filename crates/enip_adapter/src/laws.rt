@@ -18,6 +18,7 @@ ghost use Rattle.enip_adapter.specs.Runs.{IsForOther, moments_of_calls, is_open_
 ghost use Rattle.enip_adapter.specs.Runs.{RisesFrom, handles_in, ids_of_events};
 ghost use Rattle.enip_adapter.specs.Runs.{Run, at_end, taken_in, frames_in, Pours, audible_answers};
 ghost use Rattle.enip_adapter.specs.Serving.{is_peer_served};
+ghost use Rattle.enip_adapter.specs.Deeds.{Deed, Lead, StandFor, IsDoneForOther};
 
 /// Whatever calls come, for any number of peers, the adapter is where the events lead that they stand for, and the
 /// answers of these events are each call's own, call by call. What calls say is what the events say; a call closes
@@ -31,6 +32,17 @@ pub fn answers_of_events()
         said_in (call_answers a calls) ≡ said_in (answers a.state (events_of_calls a calls)) }
     ensures close { (a : AdapterState) (call : Call) → (call_answer a call).close
         ≡ ((call_meaning a call).dropped || list_any (λ x. x.close) (answers a.state (call_meaning a call).events)) }
+{}
+
+/// Servings among calls are feeds: whatever is done to an adapter, calls and servings, it is where the calls lead that
+/// this stands for, each serving for feeds of its peer at its moment (the clause `feeds` of `serve`). Where all is done
+/// for other peers than one, so are these calls. So `peers_apart`, `handles_rise` and all that holds of every list of
+/// calls holds with servings among them.
+pub fn servings_are_calls()
+    ensures calls { (a last : AdapterState) (deeds : List Deed) → Lead a deeds last →
+        (calls : List Call) × (StandFor deeds calls × (last ≡ after_calls a calls)) }
+    ensures others { (peer : ℕ) (deeds : List Deed) (calls : List Call) → StandFor deeds calls →
+        AllByRecursion (IsDoneForOther peer) deeds → AllByRecursion (IsForOther peer) calls }
 {}
 
 /// Calls for other peers, of those that begin, and ticks leave what a peer's session is and which bytes of its next

@@ -12,6 +12,7 @@ mod adapter;
 mod commands;
 pub mod laws;
 mod peer;
+mod places;
 mod reply;
 mod serving;
 mod shared;

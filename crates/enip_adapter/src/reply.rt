@@ -128,13 +128,13 @@ impl Reaction {
 
 /// The header of a reply with so many bytes of data: command and context of what asked, no options.
 #[inline(always)]
-fn header_of(asked: &Header, session: u32, status: EncapsulationStatus, count: usize) -> Header
-    requires { count ≤ LONGEST_DATA }
-    ensures { result ≡ reply_header asked.now session status count }
+fn header_of(asked: &Header, session: u32, status: EncapsulationStatus, size: usize) -> Header
+    requires { size ≤ LONGEST_DATA }
+    ensures { result ≡ reply_header asked.now session status size }
 {
     Header {
         command: asked.command,
-        length: count as u16,
+        length: size as u16,
         session,
         status: status.number(),
         context: asked.context,

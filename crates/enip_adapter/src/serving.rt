@@ -4,6 +4,7 @@ ghost use Rattle.std.specs.Prelude.{◌≡◌, ◌+◌, ◌<◌, ◌≤◌, leng
 ghost use Rattle.std.specs.Prelude.{IfOk, MatchResult};
 ghost use Rattle.std.specs.Io.KnownBytes.{Appends};
 ghost use Rattle.enip_wire.specs.Devices.{failures_in};
+ghost use Rattle.enip_adapter.specs.Deeds.{AreFeeds};
 ghost use Rattle.enip_adapter.specs.Calls.{Call, call_meaning, call_answer, after_call};
 ghost use Rattle.enip_adapter.specs.Serving.{serve_fault_number, is_peer_served, read_faults, write_faults};
 ghost use Rattle.enip_adapter.specs.Serving.{bytes_said, AppendsFront, IsFedAll, IsServed, IfNothingFed};
@@ -55,6 +56,7 @@ impl ServeFault {
 /// # Errors
 ///
 /// `ServeFault::Read` where the read failed, `ServeFault::Write` where a write failed.
+#[tactic(auto, using(crate::proofs::DeedLemmas::no_feeds))]
 pub fn serve<R: Source, W: Sink>(
     adapter: &mut Adapter,
     peer: &Peer,
@@ -67,6 +69,7 @@ pub fn serve<R: Source, W: Sink>(
     ensures served { is_peer_served adapter.old peer.now ≡ true → IsServed (R.moment reader.new) peer.now
         (record { adapter = adapter.old; left = R.left reader.old; written = W.written writer.old })
         (record { adapter = adapter.new; left = R.left reader.new; written = W.written writer.new }) result }
+    ensures feeds { AreFeeds (R.moment reader.new) peer.now adapter.old adapter.new }
     ensures nothing_fed { IfNothingFed result ((adapter.new ≡ adapter.old) × (writer.new ≡ writer.old)) }
     ensures not_served { is_peer_served adapter.old peer.now ≡ false → (result ≡ Ok Served.Closed)
         × (adapter.new ≡ adapter.old) × (reader.new ≡ reader.old) × (writer.new ≡ writer.old) }
@@ -80,14 +83,14 @@ pub fn serve<R: Source, W: Sink>(
         return Ok(Served::Closed);
     }
     let mut buffer = [0; LONGEST_READ];
-    let Ok(count) = reader.read(&mut buffer) else {
+    let Ok(size) = reader.read(&mut buffer) else {
         return Err(ServeFault::Read);
     };
     // A read of no byte is the end of the stream (a peer that closed its side).
-    if count == 0 {
+    if size == 0 {
         return Ok(Served::Input);
     }
-    match feed_all(adapter, reader.moment(), peer, &buffer[..count], writer) {
+    match feed_all(adapter, reader.moment(), peer, &buffer[..size], writer) {
         Ok(false) => Ok(Served::More),
         Ok(true) => Ok(Served::Closed),
         Err(_) => Err(ServeFault::Write),
@@ -107,6 +110,7 @@ fn feed_all<W: Sink>(
     writer: &mut W,
 ) -> Result<bool, Failed>
     requires { W.failures writer.old < u64.MAX }
+    ensures feeds { AreFeeds now peer.now adapter.old adapter.new }
     ensures fed { IsFedAll now peer.now adapter.old piece.now adapter.new
         (W.written writer.old) (W.written writer.new) result }
     ensures failures { W.failures writer.new ≡ W.failures writer.old + failures_in result }

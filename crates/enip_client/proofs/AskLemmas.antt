@@ -5,17 +5,17 @@ use Rattle.std.proofs.KnownBytes.{Appends-nil}
 use Rattle.std.specs.Io.KnownBytes.{Appends}
 use Rattle.enip_wire.specs.Frames.{Frame, frame}
 use Rattle.enip_wire.specs.Bodies.{unit_body_of}
-use Rattle.enip_wire.specs.declared.packet.CpfFault.{CpfFault}
+use Rattle.enip_wire.specs.declared.item_list.CpfFault.{CpfFault}
 use Rattle.enip_wire.specs.Stream.{Sight, sight_of, joined_of, cleared}
 use Rattle.enip_wire.specs.Stream.Sight.{Nothing_yet, A_frame, A_long_header}
 use Rattle.cip_class3.specs.OriginatorRule.{accepted_reply, after_item}
-use Rattle.enip_client.specs.declared.asking.AskFault.{AskFault}
-use Rattle.enip_client.specs.declared.asking.AskFault.TheVariants as ask_faults
-use Rattle.enip_client.specs.declared.asking.Step.{Step}
-use Rattle.enip_client.specs.declared.asking.Step.TheVariants as steps
-use Rattle.enip_client.specs.declared.asking.Call.{Call}
-use Rattle.enip_client.specs.declared.asking.Call.TheVariants as calls
-use Rattle.enip_client.specs.declared.asking.Asked.{Asked}
+use Rattle.enip_client.specs.declared.fault.AskFault.{AskFault}
+use Rattle.enip_client.specs.declared.fault.AskFault.TheVariants as ask_faults
+use Rattle.enip_client.specs.declared.step.Step.{Step}
+use Rattle.enip_client.specs.declared.step.Step.TheVariants as steps
+use Rattle.enip_client.specs.declared.step.Call.{Call}
+use Rattle.enip_client.specs.declared.step.Call.TheVariants as calls
+use Rattle.enip_client.specs.declared.step.Asked.{Asked}
 use Rattle.enip_client.specs.declared.fault.ClientFault.{ClientFault}
 use Rattle.enip_client.specs.declared.fault.ClientFault.TheVariants as faults
 use Rattle.enip_client.specs.declared.fault.SubmitFault.{SubmitFault}

@@ -1,26 +1,27 @@
 -- The exchange over all that was read.
-use Rattle.std.proofs.Common.{◌≡◌, ℕ, ◌<◌, ◌≤◌, Bool, true, false, List, [], ◌∷◌, ◌++◌, length, take, append-nil, append_assoc, refl, sym, ap, subst, ◌∙◌, Option, Some, None, Result, Ok, Err, arith}
+use Rattle.std.proofs.Common.{◌≡◌, ℕ, ◌<◌, ◌≤◌, Bool, true, false, List, [], ◌∷◌, ◌++◌, length, take, append-nil, append_assoc, refl, sym, ap, subst, ◌∙◌, if◌then◌else◌, Option, Some, None, Result, Ok, Err, arith}
 use Rattle.std.specs.List.{flat_map, AllByRecursion}
 use Rattle.std.proofs.lemmas.List.Concat.{flat_map-append}
 use Rattle.std.proofs.lemmas.List.{length-take-le}
 use Rattle.std.proofs.KnownBytes.{Appends-nil, Consumes-nil, Consumes-trans}
 use Rattle.std.specs.Io.KnownBytes.{Appends, Consumes}
 use Rattle.enip_wire.specs.Frames.{Frame, frame, IsFrame}
-use Rattle.enip_wire.specs.Stream.{sight_of}
-use Rattle.enip_wire.specs.Stream.Sight.{A_frame}
-use Rattle.enip_client.specs.declared.asking.AskFault.{AskFault}
-use Rattle.enip_client.specs.declared.asking.AskFault.TheVariants as ask_faults
-use Rattle.enip_client.specs.declared.asking.Step.{Step}
-use Rattle.enip_client.specs.declared.asking.Step.TheVariants as steps
-use Rattle.enip_client.specs.declared.asking.Asked.{Asked}
+use Rattle.enip_wire.specs.Stream.{Sight, sight_of}
+use Rattle.enip_wire.specs.Stream.Sight.{Nothing_yet, A_frame, A_long_header}
+use Rattle.enip_client.specs.declared.fault.AskFault.{AskFault}
+use Rattle.enip_client.specs.declared.fault.AskFault.TheVariants as ask_faults
+use Rattle.enip_client.specs.declared.step.Step.{Step}
+use Rattle.enip_client.specs.declared.step.Step.TheVariants as steps
+use Rattle.enip_client.specs.declared.step.Asked.{Asked}
 use Rattle.enip_client.specs.declared.fault.ClientFault.{ClientFault}
 use Rattle.enip_client.specs.declared.state.State.{State}
 use Rattle.enip_client.specs.declared.fault.ClientFault.TheVariants as faults
 use Rattle.enip_client.specs.declared.state.Awaited.TheVariants.{Session}
 use Rattle.enip_client.specs.Frames.{register_frame}
 use Rattle.enip_client.specs.Calls.{Lent, lending, unless, refusal, can_register, next_number, awaiting, registers, bytes_lent, after_lending}
-use Rattle.enip_client.specs.Client.{ClientState, with_state}
-use Rattle.enip_client.specs.Asking.{Stand, Exchange, is_awaiting, failed, lends_plainly, says, begun, after_sight, at_last, over, AllAwaited, Heard, IsPartial, Writes, Ends, Asking, IsAwaiting, IsAsked}
+use Rattle.enip_client.specs.Client.{ClientState, with_state, IsBetween}
+use Rattle.enip_client.specs.Hears.{hears_sight}
+use Rattle.enip_client.specs.Asking.{Stand, Exchange, is_awaiting, failed, lends_plainly, says, begun, after_turn, after_sight, at_last, over, AllAwaited, Heard, IsPartial, Writes, Ends, Asking, IsAwaiting, IsAsked}
 use Rattle.enip_client.specs.Asking.Stand.{Registering, Completed, Failed}
 use Rattle.enip_client.specs.AskSteps.{stand_of, held_as, now_held, Held, Stands, CameTo, Hears, IsHeardPiece, IsAwaited, IsRead, FailsWithin}
 use Rattle.enip_client.proofs.HearingLemmas.{hears_none, heard_of, parts_on, came_more}
@@ -270,58 +271,42 @@ pub lent_err : {E : Type 0} (r : Result Lent E) (fault : E) → Err fault ≡ by
 lent_err (Ok lent) fault is = cc
 lent_err (Err why) fault is = cc
 
+-- an exchange that ended hears nothing more
+stays : (e : Exchange) (seen : Sight) → is_awaiting e.stand ≡ false → at_last e seen ≡ e
+stays e Nothing_yet ended = refl
+stays e (A_frame f) ended = refl
+stays e (A_long_header h) ended = ap (λ b. if b then after_turn e (hears_sight e.state (A_long_header h)) else e) ended
+
 -- the first call was refused
 pub start_refused : (asked : Asked) (old : Ends) (client : ClientState) (fault : ClientFault) → registers old.client.state ≡ Err fault
-    → client ≡ with_state old.client (after_lending old.client.state (registers old.client.state)) → IsPartial old.client.held
+    → client ≡ with_state old.client (after_lending old.client.state (registers old.client.state)) → IsBetween old.client
     → Come asked old (record old { client = client }) (Err (ask_faults.Client fault))
-start_refused asked old client fault refused is partial =
+start_refused asked old client fault refused is between =
     let begins : begins_at asked old ≡ failed (unbegun asked old) (ask_faults.Client fault)
     = ap (λ l. says (unbegun asked old) Registering (lends_plainly l)) refused in
     let same : client ≡ old.client = is ∙ ap (λ l. with_state old.client (after_lending old.client.state l)) refused in
-    started asked old (record old { client = client }) (Err (ask_faults.Client fault)) partial (ap (λ x. x.held) same)
-    (ap (λ x. x.state) same ∙ ap (λ x. x.state) (sym begins)) refl (record {
-      frames = [];
-      exchange = begins ∙ ap (λ x. held_as asked x.state (Failed (ask_faults.Client fault)) old.reply []) (sym same);
-      written = Appends-nil old.written;
-    })
-
--- the first frame was written
-pub start_sent : (asked : Asked) (old : Ends) (client : ClientState) (after : Option (List ℕ)) (lent : Lent) → registers old.client.state ≡ Ok lent
-    → client ≡ with_state old.client (after_lending old.client.state (registers old.client.state)) → IsPartial old.client.held
-    → Appends old.written after (frame lent.frame)
-    → Come asked old (record old { client = client; written = after }) (Ok steps.Registering)
-start_sent asked old client after lent made is partial wrote =
-    let begins : begins_at asked old ≡ held_as asked lent.state Registering old.reply (lent.frame ∷ [])
-    = ap (λ l. says (unbegun asked old) Registering (lends_plainly l)) made in
-    let same : client ≡ with_state old.client lent.state = is ∙ ap (λ l. with_state old.client (after_lending old.client.state l)) made in
-    started asked old (record old { client = client; written = after }) (Ok steps.Registering) partial (ap (λ x. x.held) same)
-    (ap (λ x. x.state) same ∙ ap (λ x. x.state) (sym begins)) refl (record {
-      frames = lent.frame ∷ [];
-      exchange = begins ∙ ap (λ x. held_as asked x.state Registering old.reply (lent.frame ∷ [])) (sym same);
-      written = subst (Appends old.written after) (sym (append-nil (frame lent.frame))) wrote;
-    })
-
--- the writer failed within the first frame
-pub start_broken : (asked : Asked) (old : Ends) (client : ClientState) (after : Option (List ℕ)) (lent : Lent) (bytes : List ℕ) (fault : AskFault)
-    → registers old.client.state ≡ Ok lent → bytes ≡ frame lent.frame
-    → client ≡ with_state old.client (after_lending old.client.state (registers old.client.state)) → IsPartial old.client.held
-    → FailsWithin old.written after bytes fault
-    → Come asked old (record old { client = client; written = after }) (Err fault)
-start_broken asked old client after lent bytes fault made whole is partial fails =
-    let begins : begins_at asked old ≡ held_as asked lent.state Registering old.reply (lent.frame ∷ [])
-    = ap (λ l. says (unbegun asked old) Registering (lends_plainly l)) made in
-    let same : client ≡ with_state old.client lent.state = is ∙ ap (λ l. with_state old.client (after_lending old.client.state l)) made in
-    subst (λ f. Come asked old (record old { client = client; written = after }) (Err f)) (sym fails.fault_is)
-    (started asked old (record old { client = client; written = after }) (Err ask_faults.Write) partial (ap (λ x. x.held) same)
-    (ap (λ x. x.state) same ∙ ap (λ x. x.state) (sym begins)) refl (record {
-      whole = [];
-      last = lent.frame;
-      stand = Registering;
-      exchange = begins ∙ ap (λ x. held_as asked x.state Registering old.reply (lent.frame ∷ [])) (sym same);
-      front = fails.front;
-      not_all = subst (λ b. fails.front < length b) whole fails.not_all;
-      written = subst (λ b. Appends old.written after (take fails.front b)) whole fails.written;
-    }))
+    record {
+      exchange = begins_at asked old;
+      fed = [];
+      rest = [];
+      few = omega arith;
+      consumed = Consumes-nil old.left;
+      heard = record {
+        frames = [];
+        parts = append-nil old.client.held ∙ ap (λ x. x.held) (sym same);
+        each = tt;
+        awaited = tt;
+        unheard = λ f is. between.unheard f (ap (λ x. sight_of x.held) (sym same) ∙ is);
+        exchange = sym (stays (begins_at asked old) (sight_of client.held) (ap (λ x. is_awaiting x.stand) begins));
+        state = ap (λ x. x.state) same ∙ ap (λ x. x.state) (sym begins);
+      };
+      came = record {
+        frames = [];
+        exchange = begins ∙ ap (λ x. held_as asked x.state (Failed (ask_faults.Client fault)) old.reply []) (sym same);
+        written = Appends-nil old.written;
+      };
+      more = λ no. absurd no;
+    }
 
 healthy_refusal : (s : State) (o : Option ClientFault) (possible : Bool) (x l : Lent)
     → unless (refusal (record s { fault = o }) possible) (Ok x) ≡ Ok l → (o ≡ None) × (x ≡ l)
@@ -334,3 +319,50 @@ pub start_healthy : (s : State) (l : Lent) → registers s ≡ Ok l → l.state.
 start_healthy s l is =
     let p = healthy_refusal s s.fault (can_register s) (lending (register_frame (next_number s)) (awaiting Session s)) l is in
     ap (λ x. x.state.fault) (sym p.1) ∙ p.0
+
+-- what the client held where the exchange began is a front of a frame, or no byte
+start_partial : (c : ClientState) (l : Lent) → registers c.state ≡ Ok l → IsBetween c → IsPartial c.held
+start_partial c l is between =
+    let p = healthy_refusal c.state c.state.fault (can_register c.state)
+    (lending (register_frame (next_number c.state)) (awaiting Session c.state)) l is in
+    record { bytes = between.bytes; partly = between.partly p.0 }
+
+-- the first frame was written
+pub start_sent : (asked : Asked) (old : Ends) (client : ClientState) (after : Option (List ℕ)) (lent : Lent) → registers old.client.state ≡ Ok lent
+    → client ≡ with_state old.client (after_lending old.client.state (registers old.client.state)) → IsBetween old.client
+    → Appends old.written after (frame lent.frame)
+    → Come asked old (record old { client = client; written = after }) (Ok steps.Registering)
+start_sent asked old client after lent made is between wrote =
+    let begins : begins_at asked old ≡ held_as asked lent.state Registering old.reply (lent.frame ∷ [])
+    = ap (λ l. says (unbegun asked old) Registering (lends_plainly l)) made in
+    let same : client ≡ with_state old.client lent.state = is ∙ ap (λ l. with_state old.client (after_lending old.client.state l)) made in
+    started asked old (record old { client = client; written = after }) (Ok steps.Registering)
+    (start_partial old.client lent made between) (ap (λ x. x.held) same)
+    (ap (λ x. x.state) same ∙ ap (λ x. x.state) (sym begins)) refl (record {
+      frames = lent.frame ∷ [];
+      exchange = begins ∙ ap (λ x. held_as asked x.state Registering old.reply (lent.frame ∷ [])) (sym same);
+      written = subst (Appends old.written after) (sym (append-nil (frame lent.frame))) wrote;
+    })
+
+-- the writer failed within the first frame
+pub start_broken : (asked : Asked) (old : Ends) (client : ClientState) (after : Option (List ℕ)) (lent : Lent) (bytes : List ℕ) (fault : AskFault)
+    → registers old.client.state ≡ Ok lent → bytes ≡ frame lent.frame
+    → client ≡ with_state old.client (after_lending old.client.state (registers old.client.state)) → IsBetween old.client
+    → FailsWithin old.written after bytes fault
+    → Come asked old (record old { client = client; written = after }) (Err fault)
+start_broken asked old client after lent bytes fault made whole is between fails =
+    let begins : begins_at asked old ≡ held_as asked lent.state Registering old.reply (lent.frame ∷ [])
+    = ap (λ l. says (unbegun asked old) Registering (lends_plainly l)) made in
+    let same : client ≡ with_state old.client lent.state = is ∙ ap (λ l. with_state old.client (after_lending old.client.state l)) made in
+    subst (λ f. Come asked old (record old { client = client; written = after }) (Err f)) (sym fails.fault_is)
+    (started asked old (record old { client = client; written = after }) (Err ask_faults.Write)
+    (start_partial old.client lent made between) (ap (λ x. x.held) same)
+    (ap (λ x. x.state) same ∙ ap (λ x. x.state) (sym begins)) refl (record {
+      whole = [];
+      last = lent.frame;
+      stand = Registering;
+      exchange = begins ∙ ap (λ x. held_as asked x.state Registering old.reply (lent.frame ∷ [])) (sym same);
+      front = fails.front;
+      not_all = subst (λ b. fails.front < length b) whole fails.not_all;
+      written = subst (λ b. Appends old.written after (take fails.front b)) whole fails.written;
+    }))

@@ -17,12 +17,12 @@ use Rattle.enip_wire.specs.Stream.{Sight, sight_of, joined_of, taken_of, cleared
 use Rattle.enip_wire.specs.Stream.Sight.{Nothing_yet, A_frame, A_long_header}
 use Rattle.enip_wire.proofs.HeaderLemmas.{header_spelling-header_at}
 use Rattle.enip_wire.proofs.FrameLemmas.{IsHeader-header_at}
-use Rattle.enip_client.specs.declared.asking.AskFault.{AskFault}
-use Rattle.enip_client.specs.declared.asking.AskFault.TheVariants as ask_faults
-use Rattle.enip_client.specs.declared.asking.Step.{Step}
-use Rattle.enip_client.specs.declared.asking.Step.TheVariants as steps
+use Rattle.enip_client.specs.declared.fault.AskFault.{AskFault}
+use Rattle.enip_client.specs.declared.fault.AskFault.TheVariants as ask_faults
+use Rattle.enip_client.specs.declared.step.Step.{Step}
+use Rattle.enip_client.specs.declared.step.Step.TheVariants as steps
 use Rattle.enip_client.specs.declared.state.State.{State}
-use Rattle.enip_client.specs.declared.asking.Asked.{Asked}
+use Rattle.enip_client.specs.declared.step.Asked.{Asked}
 use Rattle.enip_client.specs.Client.{ClientState}
 use Rattle.enip_client.specs.Hears.{hears_sight}
 use Rattle.enip_client.specs.Hears.News.{Nothing}

@@ -1,6 +1,7 @@
 pub mod PlaceLemmas
 pub mod HearLemmas
 pub mod FeedLemmas
+pub mod BetweenLemmas
 pub mod TurnLemmas
 pub mod ActionLemmas
 pub mod RunLemmas

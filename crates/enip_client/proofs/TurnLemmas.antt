@@ -11,7 +11,7 @@ use Rattle.cip_message.specs.declared.reply.ReplyFault.TheVariants as reply_faul
 use Rattle.enip_wire.specs.Bodies.{unit_body_of, rr_body_of}
 use Rattle.enip_wire.specs.Frames.{Frame}
 use Rattle.enip_wire.specs.declared.header.Header.{Header}
-use Rattle.enip_wire.specs.declared.packet.CpfFault.{CpfFault}
+use Rattle.enip_wire.specs.declared.item_list.CpfFault.{CpfFault}
 use Rattle.enip_client.specs.declared.fault.ClientFault.{ClientFault}
 use Rattle.enip_client.specs.declared.fault.ClientFault.TheVariants as faults
 use Rattle.enip_client.specs.declared.state.Awaited.{Awaited}

@@ -5,14 +5,14 @@ use Rattle.std.specs.List.{flat_map, AllByRecursion}
 use Rattle.std.specs.Io.KnownBytes.{Appends, Consumes, IsAtEnd}
 use Rattle.enip_wire.specs.Frames.{Frame, frame, IsFrame}
 use Rattle.enip_wire.specs.Stream.{sight_of, joined_of, cleared}
-use Rattle.enip_client.specs.declared.asking.AskFault.{AskFault}
-use Rattle.enip_client.specs.declared.asking.AskFault.TheVariants as ask_faults
-use Rattle.enip_client.specs.declared.asking.Step.{Step}
-use Rattle.enip_client.specs.declared.asking.Step.TheVariants as steps
-use Rattle.enip_client.specs.declared.asking.Call.{Call}
-use Rattle.enip_client.specs.declared.asking.Call.TheVariants as calls
-use Rattle.enip_client.specs.declared.asking.Asked.{Asked}
-use Rattle.enip_client.specs.declared.asking.Progress.{Progress}
+use Rattle.enip_client.specs.declared.fault.AskFault.{AskFault}
+use Rattle.enip_client.specs.declared.fault.AskFault.TheVariants as ask_faults
+use Rattle.enip_client.specs.declared.step.Step.{Step}
+use Rattle.enip_client.specs.declared.step.Step.TheVariants as steps
+use Rattle.enip_client.specs.declared.step.Call.{Call}
+use Rattle.enip_client.specs.declared.step.Call.TheVariants as calls
+use Rattle.enip_client.specs.declared.step.Asked.{Asked}
+use Rattle.enip_client.specs.declared.step.Progress.{Progress}
 use Rattle.enip_client.specs.declared.fault.ClientFault.TheVariants as faults
 use Rattle.enip_client.specs.declared.state.State.{State}
 use Rattle.enip_client.specs.Calls.{Lent, opens, closes, unregisters}

@@ -7,8 +7,8 @@ use Rattle.cip_bytes.specs.Numbers.{AreBytes}
 use Rattle.enip_wire.specs.Frames.{Frame, frame, IsFrame}
 use Rattle.enip_wire.specs.Stream.{Sight, sight_of}
 use Rattle.enip_wire.specs.Stream.Sight.{Nothing_yet, A_frame, A_long_header}
-use Rattle.enip_client.specs.declared.asking.AskFault.{AskFault}
-use Rattle.enip_client.specs.declared.asking.AskFault.TheVariants as ask_faults
+use Rattle.enip_client.specs.declared.fault.AskFault.{AskFault}
+use Rattle.enip_client.specs.declared.fault.AskFault.TheVariants as ask_faults
 use Rattle.enip_client.specs.declared.fault.ClientFault.{ClientFault}
 use Rattle.enip_client.specs.declared.fault.ClientFault.TheVariants as faults
 use Rattle.enip_client.specs.declared.fault.SubmitFault.{SubmitFault}
@@ -52,15 +52,6 @@ pub record Exchange : Type 0 where
 
 abbrev pub failed : Exchange → AskFault → Exchange
 failed e fault = record e { stand = Failed fault }
-
--- The number of why an exchange was not completed, by which it is printed.
-abbrev pub ask_fault_number : AskFault → ℕ
-ask_fault_number ask_faults.Read = 1
-ask_fault_number ask_faults.Write = 2
-ask_fault_number ask_faults.Ended = 3
-ask_fault_number (ask_faults.Client fault) = 4
-ask_fault_number (ask_faults.Submit why) = 5
-ask_fault_number ask_faults.Spent = 6
 
 -- How the exchange fails where a call is refused.
 abbrev pub client_failure : ClientFault → AskFault
@@ -195,6 +186,10 @@ pub record Ends : Type 0 where
   pub reads : ℕ
   pub written : Option (List ℕ)
   pub reply : List ℕ
+
+abbrev pub ends : ClientState → Option (List ℕ) → ℕ → Option (List ℕ) → List ℕ → Ends
+ends client left reads written reply =
+    record { client = client; left = left; reads = reads; written = written; reply = reply }
 
 -- The exchange that was heard: of the bytes that were read a front was fed. What was not fed is of the last read, which
 -- gave at most 4,096 bytes, and of which a byte or more was fed.

@@ -2,8 +2,10 @@
 use Rattle.std.specs.Prelude.{◌≡◌, ◌≤◌, ◌+◌, ℕ, ⊤, Bool, true, false, List, [], length, take, slice_range, Option}
 use Rattle.std.specs.Prelude.{Some, None, Result, Ok, Err}
 use Rattle.cip_message.specs.Reply.{view}
+use Rattle.cip_bytes.specs.Numbers.{AreBytes}
 use Rattle.enip_wire.specs.Frames.{Frame, frame, IsTooLong}
 use Rattle.enip_wire.specs.Stream.{taken_of, joined_of, sight_of, cleared}
+use Rattle.enip_wire.specs.Stream.Sight.{Nothing_yet, A_frame}
 use Rattle.enip_client.specs.declared.fault.ClientFault.{ClientFault}
 use Rattle.enip_client.specs.declared.hearing.Heard.{Heard}
 use Rattle.enip_client.specs.declared.hearing.Heard.TheVariants as heards
@@ -116,6 +118,12 @@ frame_bytes false taken piece held = held
 -- The client as it is stored: a frame that was heard stays with the reader until more comes, and counts as no byte.
 abbrev pub client_in : State → List ℕ → ClientState
 client_in s bytes = record { state = s; held = cleared (sight_of bytes) bytes }
+
+-- Between calls a client holds bytes that are no whole frame; where no fault lasts, they are a front of one, or none.
+pub record IsBetween (c : ClientState) : Type 0 where
+  pub bytes : AreBytes c.held
+  pub unheard : (f : Frame) → sight_of c.held ≡ A_frame f → ⊥
+  pub partly : c.state.fault ≡ None → sight_of c.held ≡ Nothing_yet
 
 -- Where no fault lasts, what is held goes on.
 abbrev pub IsListening : State → List ℕ → Type 0

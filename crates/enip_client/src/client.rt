@@ -5,6 +5,7 @@ ghost use Rattle.std.specs.Option.{option_map};
 ghost use Rattle.std.specs.Borrow.{sem};
 ghost use Rattle.std.specs.Io.BufRead.{Rests};
 ghost use Rattle.cip_bytes.specs.declared.protocol.TheConstants.{LARGEST_SIZE};
+ghost use Rattle.cip_bytes.specs.Numbers.{AreBytes};
 ghost use Rattle.enip_wire.specs.Frames.{frame, IsTooLong, Stops};
 ghost use Rattle.enip_wire.specs.Stream.{sight_of, joined_of, taken_of, left_of, cleared};
 ghost use Rattle.enip_client.specs.Client.{client_in, fed, news_at, IsWithin, frame_bytes, IsListening, IsTold};
@@ -49,16 +50,17 @@ pub struct Client {
 
 impl Model for Client {
     ghost use Rattle.enip_client.specs.Client.{ClientState, client_in, IsListening};
+    ghost use Rattle.cip_bytes.specs.Numbers.{AreBytes};
 
     ghost Value = { ClientState };
 
     ghost view = { λ c. client_in c.state c.reader };
 
-    ghost invariant = { λ c. IsListening c.state c.reader };
+    ghost invariant = { λ c. IsListening c.state c.reader × AreBytes c.reader };
 }
 
 impl Client {
-    ghost use Rattle.enip_client.specs.Client.{new_client, with_state, news_in};
+    ghost use Rattle.enip_client.specs.Client.{new_client, with_state, news_in, IsBetween};
     ghost use Rattle.enip_client.specs.Calls.{registers, opens, asks, submits, closes, unregisters, resends};
     ghost use Rattle.enip_client.specs.Calls.{gives_up, after_giving_up, stage_in};
     ghost use Rattle.enip_client.specs.contracts.client.Client.{the_row};
@@ -108,6 +110,7 @@ impl Client {
     ///
     /// A lasting fault, else `State`. Nothing changed.
     pub fn register(&mut self) -> Result<&[u8], ClientFault>
+        ensures held { IsBetween self.old }
         ensures lent { bytes_in result ≡ bytes_lent (registers self.old.state) }
         ensures* after { sem 𝓛 (Rests the_row self.entry (λ new. new
             ≡ with_state self.old (after_lending self.old.state (registers self.old.state)))) }
@@ -142,7 +145,7 @@ impl Client {
         ensures* after { sem 𝓛 (Rests the_row self.entry (λ new. new
             ≡ with_state self.old (after_lending self.old.state (asks self.old.state request.now)))) }
     {
-        self.state.ask(request, &mut self.sent)?;
+        self.state.unconnected(request, &mut self.sent)?;
         Ok(self.sent.as_slice())
     }
 
@@ -258,7 +261,9 @@ impl Client {
 
 /// Takes bytes of a piece up to the end of one frame, and hears the frame, unless a fault lasts.
 fn hear(state: &mut State, reader: &mut FrameReader, piece: &[u8]) -> Told
-    requires { IsListening state.old reader.old }
+    requires listening { IsListening state.old reader.old }
+    requires bytes { AreBytes reader.old }
+    ensures bytes { AreBytes reader.new }
     ensures told { IsTold state.new reader.new result piece.now (fed (client_in state.old reader.old) piece.now) }
     ensures progress { 0 < length piece.now → state.old.fault ≡ None → 0 < result.taken }
 {

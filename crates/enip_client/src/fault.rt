@@ -1,4 +1,4 @@
-//! Why a call of the client is refused.
+//! Why a call of the client is refused, and why an exchange was not completed.
 
 ghost use Rattle.std.specs.Prelude.{◌≡◌};
 
@@ -71,6 +71,70 @@ impl SubmitFault {
         match self {
             SubmitFault::Client(_) => 1,
             SubmitFault::Refused(_) => 2,
+        }
+    }
+}
+
+/// Why an exchange was not completed.
+#[derive(Clone, Copy, Debug, PartialEq, Eq, Error)]
+pub enum AskFault {
+    /// The reader failed.
+    #[error("the reader failed")]
+    Read,
+    /// The writer failed.
+    #[error("the writer failed")]
+    Write,
+    /// The input ended before the exchange did.
+    #[error("the input ended")]
+    Ended,
+    /// The client refuses a call, a reply has a fault that lasts, or an open or a close was refused.
+    #[error("the client met a fault")]
+    Client(ClientFault),
+    /// The connection refuses the request.
+    #[error("the connection refuses the request")]
+    Submit(Refused),
+    /// The reader counts no further read.
+    #[error("the reader counts no further read")]
+    Spent,
+}
+
+impl AskFault {
+    ghost use Rattle.enip_client.specs.Faults.{ask_fault_number};
+
+    /// The number of the fault, by which it is printed.
+    pub fn number(self) -> u8
+        ensures { result ≡ ask_fault_number self }
+    {
+        match self {
+            AskFault::Read => 1,
+            AskFault::Write => 2,
+            AskFault::Ended => 3,
+            AskFault::Client(_) => 4,
+            AskFault::Submit(_) => 5,
+            AskFault::Spent => 6,
+        }
+    }
+}
+
+impl From<ClientFault> for AskFault {
+    ghost use Rattle.enip_client.specs.Asking.{client_failure};
+
+    ghost from_gives = { λ fault e. e ≡ client_failure fault };
+
+    fn from(fault: ClientFault) -> AskFault {
+        AskFault::Client(fault)
+    }
+}
+
+impl From<SubmitFault> for AskFault {
+    ghost use Rattle.enip_client.specs.Asking.{submit_failure};
+
+    ghost from_gives = { λ fault e. e ≡ submit_failure fault };
+
+    fn from(fault: SubmitFault) -> AskFault {
+        match fault {
+            SubmitFault::Client(fault) => AskFault::Client(fault),
+            SubmitFault::Refused(why) => AskFault::Submit(why),
         }
     }
 }

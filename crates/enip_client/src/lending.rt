@@ -37,12 +37,12 @@ impl State {
         let possible = self.is_ready() && matches!(self.link, Link::NotOpened);
         self.allow(possible)?;
         let request = open_request(&self.wants);
-        self.send_request(Awaited::Connection, request.as_slice(), sent);
+        self.write_awaited_request(Awaited::Connection, request.as_slice(), sent);
         Ok(())
     }
 
     /// Writes an unconnected request to send.
-    pub(crate) fn ask(&mut self, request: &[u8], sent: &mut Sent) -> Result<(), ClientFault>
+    pub(crate) fn unconnected(&mut self, request: &[u8], sent: &mut Sent) -> Result<(), ClientFault>
         ensures state { self.new ≡ after_lending self.old (asks self.old request.now) }
         ensures bytes { bytes_written result sent.new.items ≡ bytes_lent (asks self.old request.now) }
     {
@@ -54,7 +54,7 @@ impl State {
         {
             return Err(ClientFault::Request);
         }
-        self.send_request(Awaited::Reply(request[0]), request, sent);
+        self.write_awaited_request(Awaited::Reply(request[0]), request, sent);
         Ok(())
     }
 
@@ -102,7 +102,7 @@ impl State {
         self.allow(possible)?;
         self.link = Link::Closed;
         let request = close_request(&self.wants);
-        self.send_request(Awaited::End, request.as_slice(), sent);
+        self.write_awaited_request(Awaited::End, request.as_slice(), sent);
         Ok(())
     }
 
@@ -123,7 +123,7 @@ impl State {
     }
 
     /// Writes a request to the message router, whose reply is awaited.
-    fn send_request(&mut self, awaited: Awaited, request: &[u8], sent: &mut Sent)
+    fn write_awaited_request(&mut self, awaited: Awaited, request: &[u8], sent: &mut Sent)
         requires { length request.now ≤ UNCONNECTED_ROOM }
         ensures state { self.new ≡ (asking self.old awaited request.now).state }
         ensures bytes { sent.new.items ≡ frame (asking self.old awaited request.now).frame }

@@ -17,11 +17,12 @@ pub mod laws;
 mod lending;
 mod sending;
 mod state;
+mod step;
 mod wants;
 
-pub use asking::{AskFault, ask};
+pub use asking::ask;
 pub use client::Client;
-pub use fault::{ClientFault, SubmitFault};
+pub use fault::{AskFault, ClientFault, SubmitFault};
 pub use hearing::{Heard, Hearing};
 pub use sending::{LONGEST_SENT, Sent, write_register, write_request};
 pub use wants::Wants;

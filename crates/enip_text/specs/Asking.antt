@@ -3,8 +3,8 @@ use Rattle.std.specs.Prelude.{◌≡◌, ◌==◌, ℕ, List, Some, Ok, ⊤, if�
 use Rattle.cip_message.specs.PathWriting.{short}
 use Rattle.cip_message.specs.Request.{request}
 use Rattle.cip_message.specs.Reply.{Reply, reply_of}
-use Rattle.enip_client.specs.declared.asking.AskFault.{AskFault}
-use Rattle.enip_client.specs.declared.asking.AskFault.TheVariants as ask
+use Rattle.enip_client.specs.declared.fault.AskFault.{AskFault}
+use Rattle.enip_client.specs.declared.fault.AskFault.TheVariants as ask
 use Rattle.enip_client.specs.declared.fault.ClientFault.TheVariants as client
 use Rattle.enip_text.specs.declared.asking.Question.{Question}
 use Rattle.enip_text.specs.declared.asking.Replied.{Replied}

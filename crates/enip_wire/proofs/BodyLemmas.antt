@@ -5,8 +5,8 @@ use Rattle.std.proofs.lemmas.List.{take_at, drop_all}
 use Rattle.std.proofs.lemmas.Bool.{cases_lt}
 use Rattle.std.proofs.lemmas.Bool.Decides.{nat_tests}
 use Rattle.std.specs.List.{flat_map}
-use Rattle.enip_wire.specs.declared.packet.CpfFault.{CpfFault}
-use Rattle.enip_wire.specs.declared.packet.CpfFault.TheVariants.{Short, Trailing, Interface, Address, Data}
+use Rattle.enip_wire.specs.declared.item_list.CpfFault.{CpfFault}
+use Rattle.enip_wire.specs.declared.item_list.CpfFault.TheVariants.{Short, Trailing, Interface, Address, Data}
 use Rattle.cip_bytes.specs.Numbers.{le, number_at, AreBytes}
 use Rattle.cip_bytes.specs.Reading.{◌>>=◌, seen_by}
 use Rattle.enip_wire.specs.Items.{Item, item, items, IsShort, IsTrailing, items_of}

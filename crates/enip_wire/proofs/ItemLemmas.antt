@@ -5,8 +5,8 @@ use Rattle.std.proofs.lemmas.List.{take-append-drop, drop-drop}
 use Rattle.std.proofs.lemmas.Bool.{cases_lt}
 use Rattle.std.proofs.lemmas.Bool.Decides.{nat_tests}
 use Rattle.std.specs.List.{flat_map, AllByRecursion}
-use Rattle.enip_wire.specs.declared.packet.CpfFault.{CpfFault}
-use Rattle.enip_wire.specs.declared.packet.CpfFault.TheVariants.{Short, Trailing, Interface, Address, Data}
+use Rattle.enip_wire.specs.declared.item_list.CpfFault.{CpfFault}
+use Rattle.enip_wire.specs.declared.item_list.CpfFault.TheVariants.{Short, Trailing, Interface, Address, Data}
 use Rattle.cip_bytes.specs.Numbers.{le, number_at, AreBytes}
 use Rattle.enip_wire.specs.Items.{Item, item, items, IsItem, AreItems, IsShort, IsTrailing, item_at, size_at, first_items, after, whole, items_of}
 use Rattle.cip_bytes.proofs.Bytes.{AreBytes-drop, cells, drop-cells, le-number_at_2, of_two, AreBytes-append}

@@ -4,7 +4,7 @@ use Rattle.std.specs.List.{flat_map, AllByRecursion}
 use Rattle.std.proofs.lemmas.Grind.{flat_map-append}
 use Rattle.std.proofs.lemmas.List.{take_more, map-append, take_at, drop_at}
 use Rattle.std.proofs.lemmas.List.Folds.{flat_map-map, length-flat_map-take}
-use Rattle.enip_wire.specs.declared.packet.ItemView.{ItemView}
+use Rattle.enip_wire.specs.declared.item_list.ItemView.{ItemView}
 use Rattle.cip_bytes.specs.Numbers.{le, number_at}
 use Rattle.cip_bytes.specs.Reading.{◌>>=◌}
 use Rattle.enip_wire.specs.Items.{Item, item, items, item_of, IsItem, AreItems, item_at, size_at, first_items, after, whole, items_of}

@@ -1,7 +1,7 @@
 use Rattle.std.specs.Prelude.{if◌then◌else◌, nat_lt, ◌==◌, ◌&&◌, ℕ, List, [], ◌∷◌, ◌≡◌, ◌≢◌, ◌<◌, ◌≤◌, ◌^◌, ◌++◌, ◌⊎◌}
 use Rattle.std.specs.Prelude.{length, drop, Result, Ok, Err, refl}
-use Rattle.enip_wire.specs.declared.packet.CpfFault.{CpfFault}
-use Rattle.enip_wire.specs.declared.packet.CpfFault.TheVariants.{Short, Trailing, Interface, Address, Data}
+use Rattle.enip_wire.specs.declared.item_list.CpfFault.{CpfFault}
+use Rattle.enip_wire.specs.declared.item_list.CpfFault.TheVariants.{Short, Trailing, Interface, Address, Data}
 use Rattle.cip_bytes.specs.Numbers.{le, number_at}
 use Rattle.cip_bytes.specs.Reading.{◌>>=◌, seen_by}
 use Rattle.enip_wire.specs.Items.{Item, items, AreItems, IsShort, IsTrailing, items_of}

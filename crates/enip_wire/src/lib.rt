@@ -14,17 +14,18 @@
 //! function `read_..`, whose one clause is the equation that the public clauses follow from.
 #![tactic(auto)]
 
+mod body;
 mod device;
 mod header;
+mod item_list;
 pub mod laws;
-mod packet;
 mod reader;
+mod writing;
 
+pub use body::{rr_body, unit_body};
 pub use cip_bytes::Full;
 pub use device::{Failed, MemorySink, MemorySource, Sink, Source, write_all};
 pub use header::Header;
-pub use packet::{
-    CpfFault, ItemView, Items, cpf_items, rr_body, rr_front, unit_body, unit_front, write_items,
-    write_rr_body, write_unit_body,
-};
+pub use item_list::{CpfFault, ItemView, Items, cpf_items};
 pub use reader::{FrameReader, FrameView, Held, LONGEST_BODY};
+pub use writing::{rr_front, unit_front, write_items, write_rr_body, write_unit_body};

@@ -16,6 +16,7 @@ ghost use Rattle.std.specs.Io.BufRead.{Rests};
 use crate::header::Header;
 use byteorder::{ByteOrder, LittleEndian};
 use std::alloc::{AllocError, Global};
+use std::boxed::BoxedSlice;
 use std::marker::Model;
 
 /// The longest data of a frame, in bytes: header and data are at most 65,535.
@@ -48,19 +49,22 @@ pub enum Held<'a> {
 /// Gathers one frame at a time from the pieces of a stream.
 #[derive(Drop)]
 pub struct FrameReader {
-    buffer: Vec<u8>,
+    // as long from `new` on: a boxed slice does not grow
+    buffer: BoxedSlice<u8>,
     len: usize,
 }
 
 impl Model for FrameReader {
-    ghost use Rattle.std.specs.Prelude.{ℕ, List, ◌≡◌, ◌≤◌, take, vec_len};
+    ghost use Rattle.std.specs.Prelude.{ℕ, List, ◌≡◌, ◌≤◌, take};
+    ghost use Rattle.std.specs.Box.{boxed_slice_items, boxed_slice_len};
     ghost use Rattle.enip_wire.specs.Stream.{IsFresh};
 
     ghost Value = { List ℕ };
 
-    ghost view = { λ r. take r.len r.buffer.items };
+    ghost view = { λ r. take r.len (boxed_slice_items r.buffer) };
 
-    ghost invariant = { λ r. (vec_len r.buffer ≡ 65535) × (r.len ≤ 65535) × IsFresh (take r.len r.buffer.items) };
+    ghost invariant = { λ r. (boxed_slice_len r.buffer ≡ 65535) × (r.len ≤ 65535)
+        × IsFresh (take r.len (boxed_slice_items r.buffer)) };
 }
 
 impl FrameReader {
@@ -75,7 +79,10 @@ impl FrameReader {
         ensures { IfOk result (λ r. r ≡ []) }
     {
         let buffer = vec![in alloc; 0u8; LONGEST_FRAME]?;
-        Ok(FrameReader { buffer, len: 0 })
+        Ok(FrameReader {
+            buffer: buffer.into_boxed_slice(),
+            len: 0,
+        })
     }
 
     /// Takes bytes of the piece up to the end of one frame, or of a header that is too long, and
@@ -88,7 +95,7 @@ impl FrameReader {
         ensures bound { length self.new ≤ 65535 }
     {
         let taken = count(&self.buffer[..self.len], piece);
-        place(&mut self.buffer, self.len, &piece[..taken]);
+        copy_behind(&mut self.buffer, self.len, &piece[..taken]);
         self.len += taken;
         taken
     }
@@ -158,7 +165,7 @@ fn count(held: &[u8], piece: &[u8]) -> usize
 }
 
 /// Copies a text into a buffer, behind its first bytes.
-fn place(buffer: &mut [u8], len: usize, text: &[u8])
+fn copy_behind(buffer: &mut [u8], len: usize, text: &[u8])
     requires { len + length text.now ≤ length buffer.old }
     ensures { take (len + length text.now) buffer.new ≡ take len buffer.old ++ text.now }
 {
@@ -189,14 +196,14 @@ fn length_in(held: &[u8], piece: &[u8]) -> u16
 
 /// One byte of two texts that stand one after the other.
 #[inline(always)]
-fn byte_in(held: &[u8], piece: &[u8], place: usize) -> u8
-    requires { place < length held.now + length piece.now }
-    ensures { result ≡ slice_index (held.now ++ piece.now) place }
+fn byte_in(held: &[u8], piece: &[u8], index: usize) -> u8
+    requires { index < length held.now + length piece.now }
+    ensures { result ≡ slice_index (held.now ++ piece.now) index }
 {
-    if place < held.len() {
-        held[place]
+    if index < held.len() {
+        held[index]
     } else {
-        piece[place - held.len()]
+        piece[index - held.len()]
     }
 }
 

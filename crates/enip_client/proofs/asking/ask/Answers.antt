@@ -2,35 +2,36 @@ use Rattle.std.proofs.Common.{take, refl, sym, subst, Ok, Err, arith}
 use Rattle.std.proofs.lemmas.Result.{err_from_is_err_and}
 use Rattle.std.specs.Io.KnownBytes.{Appends}
 use Rattle.enip_client.specs.Calls.{registers}
+use Rattle.enip_client.specs.Asking.{ends}
 use Rattle.enip_client.proofs.AskedLemmas.{asked_fault, asked_done, asked_read, come_on, start_refused, start_sent, start_broken, start_healthy, lent_ok, lent_err, size_read}
 use Rattle.enip_client.proofs.HearingLemmas.{healthy_step}
 use Rattle.enip_client.proofs.asking.ask.Goals as goal
 
 pub returns-in_err-frame-clause-asked : goal.returns-in_err-frame-clause-asked
-returns-in_err-frame-clause-asked g c partial =
+returns-in_err-frame-clause-asked g c =
     let p = err_from_is_err_and c.from_residual.result c.from_residual.ensures.1 in
     rw (p.1, p.2)
     (asked_fault (record { request = c.args.request; connected = c.args.connected })
-    (record { client = c.args.client.now; left = g.R.Source.left c.args.reader.now; reads = g.R.Source.reads c.args.reader.now; written = g.W.Sink.written c.args.writer.now; reply = c.args.reply.now.items })
-    (record { client = c.register.follows.lender-at-none; left = g.R.Source.left c.args.reader.now; reads = g.R.Source.reads c.args.reader.now; written = g.W.Sink.written c.args.writer.now; reply = c.args.reply.now.items })
+    (ends c.args.client.now (g.R.Source.left c.args.reader.now) (g.R.Source.reads c.args.reader.now) (g.W.Sink.written c.args.writer.now) c.args.reply.now.items)
+    (ends c.register.follows.lender-at-none (g.R.Source.left c.args.reader.now) (g.R.Source.reads c.args.reader.now) (g.W.Sink.written c.args.writer.now) c.args.reply.now.items)
     _ (start_refused (record { request = c.args.request; connected = c.args.connected })
-    (record { client = c.args.client.now; left = g.R.Source.left c.args.reader.now; reads = g.R.Source.reads c.args.reader.now; written = g.W.Sink.written c.args.writer.now; reply = c.args.reply.now.items })
+    (ends c.args.client.now (g.R.Source.left c.args.reader.now) (g.R.Source.reads c.args.reader.now) (g.W.Sink.written c.args.writer.now) c.args.reply.now.items)
     c.register.follows.lender-at-none c.in_err-frame.field-0.0
     (lent_err (registers c.args.client.now.state) c.in_err-frame.field-0.0 c.in_err-frame.ensures.lent)
-    c.register.follows.holds-at-none partial))
+    c.register.follows.holds-at-none c.in_err-frame.ensures.held))
 
 pub returns-in_err-send-clause-asked : goal.returns-in_err-send-clause-asked
-returns-in_err-send-clause-asked g c partial =
+returns-in_err-send-clause-asked g c =
     let p = err_from_is_err_and c.from_residual-in_err-send.result c.from_residual-in_err-send.ensures.1 in
     let l = lent_ok (registers c.args.client.now.state) c.in_ok-frame.frame.now c.in_ok-frame.ensures.lent in
     rw (p.1, p.2)
     (asked_fault (record { request = c.args.request; connected = c.args.connected })
-    (record { client = c.args.client.now; left = g.R.Source.left c.args.reader.now; reads = g.R.Source.reads c.args.reader.now; written = g.W.Sink.written c.args.writer.now; reply = c.args.reply.now.items })
-    (record { client = c.register.follows.lender-at-none; left = g.R.Source.left c.args.reader.now; reads = g.R.Source.reads c.args.reader.now; written = g.W.Sink.written c.send.new.writer; reply = c.args.reply.now.items })
+    (ends c.args.client.now (g.R.Source.left c.args.reader.now) (g.R.Source.reads c.args.reader.now) (g.W.Sink.written c.args.writer.now) c.args.reply.now.items)
+    (ends c.register.follows.lender-at-none (g.R.Source.left c.args.reader.now) (g.R.Source.reads c.args.reader.now) (g.W.Sink.written c.send.new.writer) c.args.reply.now.items)
     c.in_err-send.field-0.0 (start_broken (record { request = c.args.request; connected = c.args.connected })
-    (record { client = c.args.client.now; left = g.R.Source.left c.args.reader.now; reads = g.R.Source.reads c.args.reader.now; written = g.W.Sink.written c.args.writer.now; reply = c.args.reply.now.items })
+    (ends c.args.client.now (g.R.Source.left c.args.reader.now) (g.R.Source.reads c.args.reader.now) (g.W.Sink.written c.args.writer.now) c.args.reply.now.items)
     c.register.follows.lender-at-none (g.W.Sink.written c.send.new.writer) l.0 c.in_ok-frame.frame.now c.in_err-send.field-0.0 l.1 l.2
-    c.register.follows.holds-at-none partial c.in_err-send.ensures.written))
+    c.register.follows.holds-at-none c.in_ok-frame.ensures.held c.in_err-send.ensures.written))
 
 pub loop-asked-init : goal.loop-asked-init
 loop-asked-init g c =
@@ -39,34 +40,34 @@ loop-asked-init g c =
       read_failures = refl;
       write_failures = omega (arith, c.in_ok-send.ensures.failures);
       healthy = λ w. rw (c.register.follows.holds-at-none, l.1) (start_healthy c.args.client.now.state l.0 l.1);
-      so_far = λ partial. start_sent (record { request = c.args.request; connected = c.args.connected })
-          (record { client = c.args.client.now; left = g.R.Source.left c.args.reader.now; reads = g.R.Source.reads c.args.reader.now; written = g.W.Sink.written c.args.writer.now; reply = c.args.reply.now.items })
-          c.register.follows.lender-at-none (g.W.Sink.written c.send.new.writer) l.0 l.1 c.register.follows.holds-at-none partial
+      so_far = start_sent (record { request = c.args.request; connected = c.args.connected })
+          (ends c.args.client.now (g.R.Source.left c.args.reader.now) (g.R.Source.reads c.args.reader.now) (g.W.Sink.written c.args.writer.now) c.args.reply.now.items)
+          c.register.follows.lender-at-none (g.W.Sink.written c.send.new.writer) l.0 l.1 c.register.follows.holds-at-none c.in_ok-frame.ensures.held
           (subst (Appends (g.W.Sink.written c.args.writer.now) (g.W.Sink.written c.send.new.writer)) l.2 c.in_ok-send.ensures.written);
     }
 
 pub returns-in_err-count-clause-asked : goal.returns-in_err-count-clause-asked
-returns-in_err-count-clause-asked g c partial =
+returns-in_err-count-clause-asked g c =
     let p = err_from_is_err_and c.from_residual-in_err-count.result c.from_residual-in_err-count.ensures.1 in
     rw (p.1, p.2)
     (asked_read (record { request = c.args.request; connected = c.args.connected }) c.loop-asked.step
-    (record { client = c.args.client.now; left = g.R.Source.left c.args.reader.now; reads = g.R.Source.reads c.args.reader.now; written = g.W.Sink.written c.args.writer.now; reply = c.args.reply.now.items })
-    (record { client = c.loop-asked.client; left = g.R.Source.left c.loop-asked.reader; reads = g.R.Source.reads c.loop-asked.reader; written = g.W.Sink.written c.loop-asked.writer; reply = c.loop-asked.reply.items })
+    (ends c.args.client.now (g.R.Source.left c.args.reader.now) (g.R.Source.reads c.args.reader.now) (g.W.Sink.written c.args.writer.now) c.args.reply.now.items)
+    (ends c.loop-asked.client (g.R.Source.left c.loop-asked.reader) (g.R.Source.reads c.loop-asked.reader) (g.W.Sink.written c.loop-asked.writer) c.loop-asked.reply.items)
     (g.R.Source.left c.read.new.reader) (g.R.Source.reads c.read.new.reader) c.read.new.into c.in_err-count.field-0.0
-    (c.loop-asked.invariant.so_far partial) (sym c.loop-asked-test.ensures) c.in_err-count.ensures.bytes)
+    c.loop-asked.invariant.so_far (sym c.loop-asked-test.ensures) c.in_err-count.ensures.bytes)
 
 pub returns-in_err-step-clause-asked : goal.returns-in_err-step-clause-asked
-returns-in_err-step-clause-asked g c partial =
+returns-in_err-step-clause-asked g c =
     let p = err_from_is_err_and c.from_residual-in_err-step.result c.from_residual-in_err-step.ensures.1 in
     rw (p.1, p.2)
     (asked_fault (record { request = c.args.request; connected = c.args.connected })
-    (record { client = c.args.client.now; left = g.R.Source.left c.args.reader.now; reads = g.R.Source.reads c.args.reader.now; written = g.W.Sink.written c.args.writer.now; reply = c.args.reply.now.items })
-    (record { client = c.hear_piece.new.client; left = g.R.Source.left c.read.new.reader; reads = g.R.Source.reads c.read.new.reader; written = g.W.Sink.written c.hear_piece.new.writer; reply = c.hear_piece.new.reply.items })
+    (ends c.args.client.now (g.R.Source.left c.args.reader.now) (g.R.Source.reads c.args.reader.now) (g.W.Sink.written c.args.writer.now) c.args.reply.now.items)
+    (ends c.hear_piece.new.client (g.R.Source.left c.read.new.reader) (g.R.Source.reads c.read.new.reader) (g.W.Sink.written c.hear_piece.new.writer) c.hear_piece.new.reply.items)
     c.in_err-step.field-0.0 (come_on (record { request = c.args.request; connected = c.args.connected }) c.loop-asked.step
-    (record { client = c.args.client.now; left = g.R.Source.left c.args.reader.now; reads = g.R.Source.reads c.args.reader.now; written = g.W.Sink.written c.args.writer.now; reply = c.args.reply.now.items })
-    (record { client = c.loop-asked.client; left = g.R.Source.left c.loop-asked.reader; reads = g.R.Source.reads c.loop-asked.reader; written = g.W.Sink.written c.loop-asked.writer; reply = c.loop-asked.reply.items })
-    (record { client = c.hear_piece.new.client; left = g.R.Source.left c.read.new.reader; reads = g.R.Source.reads c.read.new.reader; written = g.W.Sink.written c.hear_piece.new.writer; reply = c.hear_piece.new.reply.items })
-    (take c.in_ok-count.count c.read.new.into) c.in_ok-count.count (Err c.in_err-step.field-0.0) (c.loop-asked.invariant.so_far partial)
+    (ends c.args.client.now (g.R.Source.left c.args.reader.now) (g.R.Source.reads c.args.reader.now) (g.W.Sink.written c.args.writer.now) c.args.reply.now.items)
+    (ends c.loop-asked.client (g.R.Source.left c.loop-asked.reader) (g.R.Source.reads c.loop-asked.reader) (g.W.Sink.written c.loop-asked.writer) c.loop-asked.reply.items)
+    (ends c.hear_piece.new.client (g.R.Source.left c.read.new.reader) (g.R.Source.reads c.read.new.reader) (g.W.Sink.written c.hear_piece.new.writer) c.hear_piece.new.reply.items)
+    (take c.in_ok-count.count c.read.new.into) c.in_ok-count.count (Err c.in_err-step.field-0.0) c.loop-asked.invariant.so_far
     (sym c.loop-asked-test.ensures) c.in_ok-count.ensures.bytes.0
     (size_read c.in_ok-count.count c.read.new.into c.in_ok-count.ensures.count c.in_ok-count.ensures.size)
     c.in_ok-count.ensures.bytes.1 c.in_ok-count.ensures.count
@@ -77,11 +78,11 @@ loop-asked-preserved g c = record {
   read_failures = omega (arith, c.in_ok-count.ensures.failures, c.loop-asked.invariant.read_failures);
   write_failures = omega (arith, c.in_ok-step.ensures.failures, c.loop-asked.invariant.write_failures);
   healthy = healthy_step c.hear_piece.new.client.state c.in_ok-step.step c.in_ok-step.ensures.healthy;
-  so_far = λ partial. come_on (record { request = c.args.request; connected = c.args.connected }) c.loop-asked.step
-      (record { client = c.args.client.now; left = g.R.Source.left c.args.reader.now; reads = g.R.Source.reads c.args.reader.now; written = g.W.Sink.written c.args.writer.now; reply = c.args.reply.now.items })
-      (record { client = c.loop-asked.client; left = g.R.Source.left c.loop-asked.reader; reads = g.R.Source.reads c.loop-asked.reader; written = g.W.Sink.written c.loop-asked.writer; reply = c.loop-asked.reply.items })
-      (record { client = c.hear_piece.new.client; left = g.R.Source.left c.read.new.reader; reads = g.R.Source.reads c.read.new.reader; written = g.W.Sink.written c.hear_piece.new.writer; reply = c.hear_piece.new.reply.items })
-      (take c.in_ok-count.count c.read.new.into) c.in_ok-count.count (Ok c.in_ok-step.step) (c.loop-asked.invariant.so_far partial)
+  so_far = come_on (record { request = c.args.request; connected = c.args.connected }) c.loop-asked.step
+      (ends c.args.client.now (g.R.Source.left c.args.reader.now) (g.R.Source.reads c.args.reader.now) (g.W.Sink.written c.args.writer.now) c.args.reply.now.items)
+      (ends c.loop-asked.client (g.R.Source.left c.loop-asked.reader) (g.R.Source.reads c.loop-asked.reader) (g.W.Sink.written c.loop-asked.writer) c.loop-asked.reply.items)
+      (ends c.hear_piece.new.client (g.R.Source.left c.read.new.reader) (g.R.Source.reads c.read.new.reader) (g.W.Sink.written c.hear_piece.new.writer) c.hear_piece.new.reply.items)
+      (take c.in_ok-count.count c.read.new.into) c.in_ok-count.count (Ok c.in_ok-step.step) c.loop-asked.invariant.so_far
       (sym c.loop-asked-test.ensures) c.in_ok-count.ensures.bytes.0
       (size_read c.in_ok-count.count c.read.new.into c.in_ok-count.ensures.count c.in_ok-count.ensures.size)
       c.in_ok-count.ensures.bytes.1 c.in_ok-count.ensures.count
@@ -89,8 +90,8 @@ loop-asked-preserved g c = record {
 }
 
 pub returns-clause-asked : goal.returns-clause-asked
-returns-clause-asked g c partial =
+returns-clause-asked g c =
     asked_done (record { request = c.args.request; connected = c.args.connected })
-    (record { client = c.args.client.now; left = g.R.Source.left c.args.reader.now; reads = g.R.Source.reads c.args.reader.now; written = g.W.Sink.written c.args.writer.now; reply = c.args.reply.now.items })
-    (record { client = c.loop-asked.client; left = g.R.Source.left c.loop-asked.reader; reads = g.R.Source.reads c.loop-asked.reader; written = g.W.Sink.written c.loop-asked.writer; reply = c.loop-asked.reply.items })
-    c.loop-asked.step (c.loop-asked.invariant.so_far partial) (sym c.loop-asked-test.ensures)
+    (ends c.args.client.now (g.R.Source.left c.args.reader.now) (g.R.Source.reads c.args.reader.now) (g.W.Sink.written c.args.writer.now) c.args.reply.now.items)
+    (ends c.loop-asked.client (g.R.Source.left c.loop-asked.reader) (g.R.Source.reads c.loop-asked.reader) (g.W.Sink.written c.loop-asked.writer) c.loop-asked.reply.items)
+    c.loop-asked.step c.loop-asked.invariant.so_far (sym c.loop-asked-test.ensures)

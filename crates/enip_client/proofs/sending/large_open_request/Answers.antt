@@ -1,4 +1,4 @@
-use Rattle.std.proofs.Common.{◌≡◌, List, ◌++◌, length, ap, ap₂, subst, ◌∙◌, arith}
+use Rattle.std.proofs.Common.{◌≡◌, ◌++◌, length, ap, ap₂, ◌∙◌, arith}
 use Rattle.cip_message.specs.Open.{large, large_view, large_open}
 use Rattle.cip_message.specs.declared.parameters.LargeParameters.{LargeParameters}
 use Rattle.enip_client.specs.Frames.{manager_request, open_service_in, asked_by, large_asked}

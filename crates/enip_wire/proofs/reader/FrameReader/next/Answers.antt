@@ -1,4 +1,5 @@
 use Rattle.std.proofs.Common.{◌≡◌, ◌≤◌, ◌++◌, [], length, take, refl, sym, ap, subst, ◌∙◌, arith, length-append, length-take}
+use Rattle.std.specs.Box.{boxed_slice_items}
 use Rattle.enip_wire.specs.Stream.{taken_of, Shows, sight_of, left_after}
 use Rattle.enip_wire.proofs.NextLemmas.{no_frame, some_held, left_of-pushed}
 use Rattle.enip_wire.proofs.reader.FrameReader.next.Goals as goal
@@ -10,7 +11,7 @@ kept : (c : goal.After-state)
 kept c =
     elim c.if-self-eq0.branch [
       | then-self-eq0+in_default w ↦
-          let empty : c.args.self.now ≡ [] = sym c.self.view_is ∙ ap (λ n. take n c.self.inside.buffer.items) w.if-self-eq0.true in
+          let empty : c.args.self.now ≡ [] = sym c.self.view_is ∙ ap (λ n. take n (boxed_slice_items c.self.inside.buffer)) w.if-self-eq0.true in
           let bytes : c.push-taken.new.self ≡ take w.count-taken.result c.args.piece.now
           = c.push-taken.ensures.held ∙ ap (λ h. h ++ take c.push-taken.result c.args.piece.now) empty
           ∙ ap (λ n. take n c.args.piece.now) (c.push-taken.ensures.number ∙ ap (λ h. taken_of h c.args.piece.now) empty ∙ sym w.count-taken.ensures.number) in
@@ -19,11 +20,11 @@ kept c =
       | else-self-eq0 w ↦
           some_held c.args.self.now c.push-taken.new.self (sight_of c.push-taken.new.self) (
           λ empty.
-          let none : length (take c.self.inside.len c.self.inside.buffer.items) ≡ 0 = ap length (c.self.view_is ∙ empty) in
+          let none : length (take c.self.inside.len (boxed_slice_items c.self.inside.buffer)) ≡ 0 = ap length (c.self.view_is ∙ empty) in
           let some : c.self.inside.len ≡ 0 → ⊥ = w.if-self-eq0.false in
-          let size : length c.self.inside.buffer.items ≡ 65535 = sym c.self.inside.buffer.ok.0 ∙ c.self.invariant.0 in
+          let size : length (boxed_slice_items c.self.inside.buffer) ≡ 65535 = sym c.self.inside.buffer.items.ok.0 ∙ c.self.invariant.0 in
           let within : c.self.inside.len ≤ 65535 = c.self.invariant.1 in
-          omega (arith, length-take c.self.inside.len c.self.inside.buffer.items)
+          omega (arith, length-take c.self.inside.len (boxed_slice_items c.self.inside.buffer))
           )
     ]
 

@@ -1,4 +1,5 @@
 use Rattle.std.proofs.Common.{◌≡◌, ◌+◌, ◌≤◌, ◌++◌, length, take, drop, sym, ap, subst, ◌∙◌, arith, length-take}
+use Rattle.std.specs.Box.{boxed_slice_items, boxed_slice_len}
 use Rattle.enip_wire.specs.Stream.{IsFresh, Takes}
 use Rattle.enip_wire.proofs.SeeLemmas.{placed}
 use Rattle.enip_wire.proofs.TakeLemmas.{IsFresh-after}
@@ -6,26 +7,26 @@ use Rattle.enip_wire.proofs.reader.FrameReader.push.Goals as goal
 
 held : (c : goal.After-self-2-1)
     → take (c.self.inside.len + c.count-taken.result)
-    (take c.self.inside.buffer.len (c.place.new.buffer ++ drop (length c.place.new.buffer) c.self.inside.buffer.items))
-    ≡ take c.self.inside.len c.self.inside.buffer.items ++ take c.count-taken.result c.args.piece.now
+    (take (boxed_slice_len c.self.inside.buffer) (c.copy_behind.new.buffer ++ drop (length c.copy_behind.new.buffer) (boxed_slice_items c.self.inside.buffer)))
+    ≡ take c.self.inside.len (boxed_slice_items c.self.inside.buffer) ++ take c.count-taken.result c.args.piece.now
 held c =
-    placed c.self.inside.len c.count-taken.result c.self.inside.buffer.len c.self.inside.buffer.items c.place.new.buffer
-    c.args.piece.now (drop (length c.place.new.buffer) c.self.inside.buffer.items) c.count-taken.ensures.takes.within
-    (c.place.auto.buffer ∙ c.deref_mut.ensures.len)
+    placed c.self.inside.len c.count-taken.result (boxed_slice_len c.self.inside.buffer) (boxed_slice_items c.self.inside.buffer) c.copy_behind.new.buffer
+    c.args.piece.now (drop (length c.copy_behind.new.buffer) (boxed_slice_items c.self.inside.buffer)) c.count-taken.ensures.takes.within
+    (c.copy_behind.auto.buffer ∙ c.deref_mut.ensures.len)
     (
-    c.place.ensures
+    c.copy_behind.ensures
     ∙ ap (λ xs. take c.self.inside.len xs ++ take c.count-taken.result c.args.piece.now) c.deref_mut.ensures.value
     )
 
 takes : (c : goal.After-self-2-1)
-    → Takes (take c.self.inside.len c.self.inside.buffer.items) c.args.piece.now c.count-taken.result
+    → Takes (take c.self.inside.len (boxed_slice_items c.self.inside.buffer)) c.args.piece.now c.count-taken.result
 takes c =
     subst (λ xs. Takes (take c.self.inside.len xs) c.args.piece.now c.count-taken.result) c.deref.ensures.value
     c.count-taken.ensures.takes
 
 fresh : (c : goal.After-self-2-1)
-    → IsFresh (take c.self.inside.len c.self.inside.buffer.items ++ take c.count-taken.result c.args.piece.now)
-fresh c = IsFresh-after (take c.self.inside.len c.self.inside.buffer.items) c.args.piece.now c.count-taken.result c.self.invariant.2 (takes c)
+    → IsFresh (take c.self.inside.len (boxed_slice_items c.self.inside.buffer) ++ take c.count-taken.result c.args.piece.now)
+fresh c = IsFresh-after (take c.self.inside.len (boxed_slice_items c.self.inside.buffer)) c.args.piece.now c.count-taken.result c.self.invariant.2 (takes c)
 
 within : (c : goal.After-self-2-1) → c.self.inside.len + c.count-taken.result ≤ 65535
 within c =

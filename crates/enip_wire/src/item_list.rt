@@ -1,0 +1,172 @@
+//! The items of a packet, read one after the other. (Volume 2, common packet format.)
+//!
+//! ```text
+//!  items   [ count ][ type | length | data ][ type | length | data ] ..
+//!            2        2      2               2      2
+//! ```
+
+ghost use Rattle.std.specs.Prelude.{◌≡◌, ◌↔◌, ◌≤◌, ◌<◌, drop, length, List, Ok, Err, MatchOption};
+ghost use Rattle.enip_wire.specs.declared.item_list.CpfFault.{CpfFault};
+ghost use Rattle.std.specs.Iterator.{YieldsFirstBy, item_count};
+ghost use Rattle.cip_bytes.specs.Reading.{seen_by};
+ghost use Rattle.enip_wire.specs.Items.{Item, items, AreItems, IsShort, IsTrailing, item_of};
+ghost use Rattle.enip_wire.specs.Items.{item_at, size_at, after, items_of};
+
+use byteorder::{ByteOrder, LittleEndian};
+use std::marker::Model;
+use thiserror::Error;
+
+/// How many bytes the number of items has, in front of the first.
+pub(crate) const COUNT: usize = 2;
+
+/// How many bytes an item has in front of its data: its type and its length.
+pub(crate) const ITEM_HEAD: usize = 4;
+
+/// Why a text is no list of items, or no body: the first of these that is met, from 1 on.
+/// (Volume 2, common packet format.)
+#[derive(Clone, Copy, Debug, PartialEq, Eq, Drop, Error)]
+pub enum CpfFault {
+    /// The text ends within an item, or before the items.
+    #[error("the text ends within an item")]
+    Short = 1,
+    /// Bytes follow the last item.
+    #[error("bytes follow the last item")]
+    Trailing = 2,
+    /// The interface is not 0.
+    #[error("the interface is not 0")]
+    Interface = 3,
+    /// There is no first item, or it is not the address of this body.
+    #[error("the first item is not the address")]
+    Address = 4,
+    /// There is no second item, or it is not the data of this body.
+    #[error("the second item is not the data")]
+    Data = 5,
+}
+
+impl CpfFault {
+    ghost use Rattle.enip_wire.specs.Items.{cpf_fault_number};
+
+    /// The number of the fault, by which it is printed.
+    pub fn number(self) -> u8
+        ensures { result ≡ cpf_fault_number self }
+    {
+        self as u8
+    }
+}
+
+/// An item, lent: its type and its data.
+#[derive(Clone, Copy, Debug)]
+pub struct ItemView<'a> {
+    /// What the data are, by the type's number of 16 bits.
+    pub kind: u16,
+    /// The data, at most 65,535 bytes.
+    pub bytes: &'a [u8],
+}
+
+/// The items of a text, one after the other.
+#[derive(Debug, Drop)]
+pub struct Items<'a> {
+    left: u16,
+    text: &'a [u8],
+}
+
+impl<'a> Model for Items<'a> {
+    ghost use Rattle.std.specs.Prelude.{List};
+    ghost use Rattle.std.specs.Coded.{coded_list};
+    ghost use Rattle.enip_wire.specs.Items.{Item, item_code, first_items};
+
+    ghost Value = { List Item };
+
+    ghost coded = { coded_list item_code };
+
+    ghost view = { λ s. first_items s.left s.text.now };
+}
+
+impl<'a> Iterator for Items<'a> {
+    type Item = ItemView<'a>;
+
+    ghost next_gives = { YieldsFirstBy item_of (λ left. left) };
+
+    ghost remaining = { item_count (λ left. left) };
+
+    fn next(&mut self) -> Option<ItemView<'a>> {
+        if self.left == 0 {
+            return None;
+        }
+        let (item, rest) = first_item(self.text)?;
+        self.left -= 1;
+        self.text = rest;
+        Some(item)
+    }
+}
+
+/// The items that the text spells, the whole of it. They are lent. (Volume 2, common packet format.)
+///
+/// # Errors
+///
+/// `Short` where the text ends within an item or the count, `Trailing` where bytes follow the last item.
+pub fn cpf_items(text: &[u8]) -> Result<Items<'_>, CpfFault>
+    // What is read is spelled so, and what is spelled so is read.
+    ensures spelled { (l : List Item) → (result ≡ Ok l) ↔ (AreItems l × (text.now ≡ items l)) }
+    ensures short { (result ≡ Err CpfFault.Short) ↔ IsShort text.now }
+    ensures trailing { (result ≡ Err CpfFault.Trailing) ↔ IsTrailing text.now }
+    ensures exact { result ≡ items_of text.now }
+{
+    read_items(text)
+}
+
+/// The items of the whole text.
+fn read_items(text: &[u8]) -> Result<Items<'_>, CpfFault>
+    ensures { result ≡ items_of text.now }
+{
+    if text.len() < COUNT {
+        return Err(CpfFault::Short);
+    }
+    let left = LittleEndian::read_u16(&text[..COUNT]);
+    let text = &text[COUNT..];
+    let rest = after_items(left, text)?;
+    // Nothing follows the last item (common packet format).
+    if rest.is_empty() {
+        Ok(Items { left, text })
+    } else {
+        Err(CpfFault::Trailing)
+    }
+}
+
+/// The item at the front of a text and what follows it, where the item is whole.
+#[inline(always)]
+fn first_item(text: &[u8]) -> Option<(ItemView<'_>, &[u8])>
+    ensures { MatchOption result (length text.now < size_at text.now)
+        (λ x. (size_at text.now ≤ length text.now) × (item_of x.0 ≡ item_at text.now)
+        × (x.1.now ≡ drop (size_at text.now) text.now)) }
+{
+    if text.len() < ITEM_HEAD {
+        return None;
+    }
+    let kind = LittleEndian::read_u16(&text[..2]);
+    let length = usize::from(LittleEndian::read_u16(&text[2..ITEM_HEAD]));
+    let rest = &text[ITEM_HEAD..];
+    // The data lie in the text whole, else the item is cut short (common packet format).
+    if rest.len() < length {
+        return None;
+    }
+    let item = ItemView {
+        kind,
+        bytes: &rest[..length],
+    };
+    Some((item, &rest[length..]))
+}
+
+/// What follows so many items at the front of a text.
+fn after_items(count: u16, text: &[u8]) -> Result<&[u8], CpfFault>
+    ensures { seen_by (λ rest. rest.now) result ≡ after count text.now }
+{
+    let mut rest = text;
+    for index in 0..count {
+        let Some((_, next)) = first_item(rest) else {
+            return Err(CpfFault::Short);
+        };
+        rest = next;
+    }
+    Ok(rest)
+}
