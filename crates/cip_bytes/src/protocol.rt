@@ -1,4 +1,5 @@
-//! The numbers of the standard that more than one layer names, each once: commands, services, statuses, sizes.
+//! The numbers of the standard that more than one layer names, each once: classes, commands, services, statuses,
+//! sizes.
 //!
 //! A number stands beside its words, which are those that are printed.
 
@@ -6,7 +7,7 @@ ghost use Rattle.std.specs.Prelude.{◌≡◌};
 ghost use Rattle.cip_bytes.specs.Protocol.{command_number, command_of, manager_service_number, manager_service_of};
 ghost use Rattle.cip_bytes.specs.Protocol.{encapsulation_status_number, general_status_number, extended_status_number};
 
-use thiserror::Error;
+use std::fmt;
 
 /// The room of an unconnected request, and of the reply to one, in bytes. (Volume 2, UCMM requests.)
 pub const UNCONNECTED_ROOM: usize = 504;
@@ -37,24 +38,31 @@ pub const SMALLEST_T_TO_O_SIZE: u16 = 10;
 /// parameters.)
 pub const LARGEST_SMALL_SIZE: u16 = 511;
 
+/// The class of the Identity object. (Volume 1, class codes.)
+pub const IDENTITY: u16 = 0x01;
+
+/// The class of the Message Router, to which a connection is opened. (Volume 1, class codes.)
+pub const MESSAGE_ROUTER: u16 = 0x02;
+
+/// The class of the Assembly object. (Volume 1, class codes.)
+pub const ASSEMBLY: u16 = 0x04;
+
+/// The class of the Connection Manager. (Volume 1, class codes.)
+pub const CONNECTION_MANAGER: u16 = 0x06;
+
+/// The class of the counter, in the range of the vendor's own (ours).
+pub const COUNTER: u16 = 0x64;
+
 /// What a frame asks for. (Volume 2, encapsulation commands.)
-#[derive(Clone, Copy, Debug, PartialEq, Eq, Error)]
+#[derive(Clone, Copy)]
 pub enum Command {
-    #[error("NOP")]
     Nop = 0x0000,
-    #[error("ListServices")]
     ListServices = 0x0004,
-    #[error("ListIdentity")]
     ListIdentity = 0x0063,
-    #[error("ListInterfaces")]
     ListInterfaces = 0x0064,
-    #[error("RegisterSession")]
     RegisterSession = 0x0065,
-    #[error("UnRegisterSession")]
     UnRegisterSession = 0x0066,
-    #[error("SendRRData")]
     SendRRData = 0x006f,
-    #[error("SendUnitData")]
     SendUnitData = 0x0070,
 }
 
@@ -91,14 +99,26 @@ impl Command {
     }
 }
 
+impl fmt::Display for Command {
+    fn fmt<W: fmt::Write>(&self, f: &mut fmt::Formatter<W>) -> fmt::Result {
+        f.write_str(match self {
+            Command::Nop => "NOP",
+            Command::ListServices => "ListServices",
+            Command::ListIdentity => "ListIdentity",
+            Command::ListInterfaces => "ListInterfaces",
+            Command::RegisterSession => "RegisterSession",
+            Command::UnRegisterSession => "UnRegisterSession",
+            Command::SendRRData => "SendRRData",
+            Command::SendUnitData => "SendUnitData",
+        })
+    }
+}
+
 /// A service of the Connection Manager. (Volume 1, Connection Manager services.)
-#[derive(Clone, Copy, Debug, PartialEq, Eq, Error)]
+#[derive(Clone, Copy)]
 pub enum ManagerService {
-    #[error("Forward_Close")]
     ForwardClose = 0x4e,
-    #[error("Forward_Open")]
     ForwardOpen = 0x54,
-    #[error("Large_Forward_Open")]
     LargeForwardOpen = 0x5b,
 }
 
@@ -130,20 +150,24 @@ impl ManagerService {
     }
 }
 
+impl fmt::Display for ManagerService {
+    fn fmt<W: fmt::Write>(&self, f: &mut fmt::Formatter<W>) -> fmt::Result {
+        f.write_str(match self {
+            ManagerService::ForwardClose => "Forward_Close",
+            ManagerService::ForwardOpen => "Forward_Open",
+            ManagerService::LargeForwardOpen => "Large_Forward_Open",
+        })
+    }
+}
+
 /// The status in the header of an answer. (Volume 2, encapsulation status.)
-#[derive(Clone, Copy, Debug, PartialEq, Eq, Error)]
+#[derive(Clone, Copy)]
 pub enum EncapsulationStatus {
-    #[error("success")]
     Success = 0x0000,
-    #[error("invalid or unsupported command")]
     UnsupportedCommand = 0x0001,
-    #[error("poorly formed data")]
     PoorlyFormedData = 0x0003,
-    #[error("invalid session handle")]
     InvalidSession = 0x0064,
-    #[error("invalid length")]
     InvalidLength = 0x0065,
-    #[error("unsupported protocol revision")]
     UnsupportedRevision = 0x0069,
 }
 
@@ -157,53 +181,51 @@ impl EncapsulationStatus {
     }
 }
 
+impl fmt::Display for EncapsulationStatus {
+    fn fmt<W: fmt::Write>(&self, f: &mut fmt::Formatter<W>) -> fmt::Result {
+        f.write_str(match self {
+            EncapsulationStatus::Success => "success",
+            EncapsulationStatus::UnsupportedCommand => "invalid or unsupported command",
+            EncapsulationStatus::PoorlyFormedData => "poorly formed data",
+            EncapsulationStatus::InvalidSession => "invalid session handle",
+            EncapsulationStatus::InvalidLength => "invalid length",
+            EncapsulationStatus::UnsupportedRevision => "unsupported protocol revision",
+        })
+    }
+}
+
 /// The general status of a router reply. (Volume 1, general status codes.)
-#[derive(Clone, Copy, Debug, PartialEq, Eq, Error)]
+#[derive(Clone, Copy)]
 pub enum GeneralStatus {
     /// The service was done.
-    #[error("success")]
     Success = 0x00,
     /// A connection was refused; an additional word says why.
-    #[error("connection failure")]
     ConnectionFailure = 0x01,
     /// The path is no path.
-    #[error("path segment error")]
     PathSegmentError = 0x04,
     /// No such class or instance.
-    #[error("path destination unknown")]
     PathDestinationUnknown = 0x05,
     /// The instance has no such service.
-    #[error("service not supported")]
     ServiceNotSupported = 0x08,
     /// The value isn't one that the attribute can have.
-    #[error("invalid attribute value")]
     InvalidAttributeValue = 0x09,
     /// An attribute of a list couldn't be read.
-    #[error("attribute list error")]
     AttributeListError = 0x0a,
     /// The attribute can't be set.
-    #[error("attribute not settable")]
     AttributeNotSettable = 0x0e,
     /// The reply is longer than the room for it.
-    #[error("reply data too large")]
     ReplyDataTooLarge = 0x11,
     /// The service has too little data.
-    #[error("not enough data")]
     NotEnoughData = 0x13,
     /// No such attribute.
-    #[error("attribute not supported")]
     AttributeNotSupported = 0x14,
     /// The service has too much data.
-    #[error("too much data")]
     TooMuchData = 0x15,
     /// The parameter isn't one that the service can take.
-    #[error("invalid parameter")]
     InvalidParameter = 0x20,
     /// The path goes past the end of the request.
-    #[error("path size invalid")]
     PathSizeInvalid = 0x26,
     /// No such member.
-    #[error("invalid member ID")]
     InvalidMemberId = 0x28,
 }
 
@@ -217,45 +239,55 @@ impl GeneralStatus {
     }
 }
 
+impl fmt::Display for GeneralStatus {
+    fn fmt<W: fmt::Write>(&self, f: &mut fmt::Formatter<W>) -> fmt::Result {
+        f.write_str(match self {
+            GeneralStatus::Success => "success",
+            GeneralStatus::ConnectionFailure => "connection failure",
+            GeneralStatus::PathSegmentError => "path segment error",
+            GeneralStatus::PathDestinationUnknown => "path destination unknown",
+            GeneralStatus::ServiceNotSupported => "service not supported",
+            GeneralStatus::InvalidAttributeValue => "invalid attribute value",
+            GeneralStatus::AttributeListError => "attribute list error",
+            GeneralStatus::AttributeNotSettable => "attribute not settable",
+            GeneralStatus::ReplyDataTooLarge => "reply data too large",
+            GeneralStatus::NotEnoughData => "not enough data",
+            GeneralStatus::AttributeNotSupported => "attribute not supported",
+            GeneralStatus::TooMuchData => "too much data",
+            GeneralStatus::InvalidParameter => "invalid parameter",
+            GeneralStatus::PathSizeInvalid => "path size invalid",
+            GeneralStatus::InvalidMemberId => "invalid member ID",
+        })
+    }
+}
+
 /// Why a connection was refused: the additional word behind the general status "connection failure".
 /// (Volume 1, Connection Manager extended status codes.)
-#[derive(Clone, Copy, Debug, PartialEq, Eq, Error)]
+#[derive(Clone, Copy)]
 pub enum ExtendedStatus {
     /// An open connection has the same connection serial, originator vendor and originator serial.
-    #[error("connection in use or duplicate Forward_Open")]
     DoubleOpen = 0x0100,
     /// The target is no server, or the class is not 3.
-    #[error("transport class and trigger combination not supported")]
     Transport = 0x0103,
     /// No connection of the session has these three numbers.
-    #[error("target connection not found")]
     ConnectionNotFound = 0x0107,
     /// The type of a direction is not point to point, or the multiplier is over 7.
-    #[error("invalid network connection parameter")]
     ConnectionParameter = 0x0108,
     /// A size is not one that a connection can have.
-    #[error("invalid connection size")]
     ConnectionSize = 0x0109,
     /// The O->T RPI is 0.
-    #[error("RPI not supported")]
     Rpi = 0x0111,
     /// All places are taken, or all IDs were drawn.
-    #[error("out of connections")]
     OutOfConnections = 0x0113,
     /// The electronic key has another vendor or product code.
-    #[error("vendor ID or product code mismatch")]
     VendorOrProduct = 0x0114,
     /// The electronic key has another device type.
-    #[error("device type mismatch")]
     DeviceType = 0x0115,
     /// The electronic key has another revision.
-    #[error("revision mismatch")]
     Revision = 0x0116,
     /// The path is not the Message Router's.
-    #[error("invalid application path")]
     ApplicationPath = 0x0117,
     /// The path is none.
-    #[error("invalid segment in the connection path")]
     PathSegment = 0x0315,
 }
 
@@ -266,5 +298,24 @@ impl ExtendedStatus {
         ensures { result ≡ extended_status_number self }
     {
         self as u16
+    }
+}
+
+impl fmt::Display for ExtendedStatus {
+    fn fmt<W: fmt::Write>(&self, f: &mut fmt::Formatter<W>) -> fmt::Result {
+        f.write_str(match self {
+            ExtendedStatus::DoubleOpen => "connection in use or duplicate Forward_Open",
+            ExtendedStatus::Transport => "transport class and trigger combination not supported",
+            ExtendedStatus::ConnectionNotFound => "target connection not found",
+            ExtendedStatus::ConnectionParameter => "invalid network connection parameter",
+            ExtendedStatus::ConnectionSize => "invalid connection size",
+            ExtendedStatus::Rpi => "RPI not supported",
+            ExtendedStatus::OutOfConnections => "out of connections",
+            ExtendedStatus::VendorOrProduct => "vendor ID or product code mismatch",
+            ExtendedStatus::DeviceType => "device type mismatch",
+            ExtendedStatus::Revision => "revision mismatch",
+            ExtendedStatus::ApplicationPath => "invalid application path",
+            ExtendedStatus::PathSegment => "invalid segment in the connection path",
+        })
     }
 }

@@ -5,7 +5,7 @@
 use Rattle.std.specs.Prelude.{◌≡◌, ℕ, ◌+◌, ◌^◌, ◌≤◌, nat_lt, nat_le, ◌==◌, Bool, false, not, ◌&&◌, is_some, is_none}
 use Rattle.std.specs.Prelude.{List, [], ◌∷◌, ◌++◌, length, Option, Some, None, Result, Ok, Err}
 use Rattle.std.specs.List.{list_any}
-use Rattle.cip_bytes.specs.declared.protocol.TheConstants.{LARGEST_SIZE, SMALLEST_O_TO_T_SIZE, SMALLEST_T_TO_O_SIZE}
+use Rattle.cip_bytes.specs.declared.protocol.TheConstants.{LARGEST_SIZE, MESSAGE_ROUTER, SMALLEST_O_TO_T_SIZE, SMALLEST_T_TO_O_SIZE}
 use Rattle.cip_bytes.specs.declared.protocol.ManagerService.{ManagerService}
 use Rattle.cip_bytes.specs.declared.protocol.ManagerService.TheVariants.{ForwardOpen, LargeForwardOpen}
 use Rattle.cip_bytes.specs.declared.protocol.GeneralStatus.TheVariants.{Success}
@@ -90,10 +90,10 @@ abbrev pub key_in : Option OpenPath → Option Key
 key_in None = None
 key_in (Some o) = o.key
 
--- class 2, instance 1, with no attribute and no member
+-- the Message Router, instance 1, with no attribute and no member
 abbrev pub is_message_router : Path → Bool
 is_message_router path =
-    (path.class == 2) && (path.instance == 1) && is_none path.attribute && is_none path.member
+    (path.class == MESSAGE_ROUTER) && (path.instance == 1) && is_none path.attribute && is_none path.member
 
 abbrev pub names_message_router : Option OpenPath → Bool
 names_message_router None = false

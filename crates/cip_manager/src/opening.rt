@@ -8,7 +8,7 @@ ghost use Rattle.cip_manager.specs.Opening.{path_checks, field_checks, CanBeOpen
 
 use crate::connection::Triad;
 use cip_bytes::protocol::{
-    ExtendedStatus, LARGEST_SIZE, SMALLEST_O_TO_T_SIZE, SMALLEST_T_TO_O_SIZE,
+    ExtendedStatus, LARGEST_SIZE, MESSAGE_ROUTER, SMALLEST_O_TO_T_SIZE, SMALLEST_T_TO_O_SIZE,
 };
 use cip_message::{
     Device, Key, LargeParameters, OpenPath, OpenRequest, Parameters, Path, read_open_path,
@@ -169,9 +169,9 @@ fn key_refusal(device: &Device, key: Option<Key>) -> Option<ExtendedStatus>
     }
 }
 
-/// Class 2, instance 1, with no attribute and no member.
+/// The Message Router, instance 1, with no attribute and no member.
 fn is_message_router(path: &Path) -> bool
     ensures { result ≡ is_message_router path.now }
 {
-    path.class == 2 && path.instance == 1 && path.attribute.is_none() && path.member.is_none()
+    path.class == MESSAGE_ROUTER && path.instance == 1 && path.attribute.is_none() && path.member.is_none()
 }

@@ -14,7 +14,8 @@ use Rattle.cip_objects.specs.Destination.{class_at, instance_at, number_at, IsPl
 use Rattle.cip_objects.specs.Entries.{IdentityValues, Block, CounterValues, contents_of, shape_of, block_at, NoneIsClass}
 use Rattle.cip_objects.specs.Entries.{attribute_in, block_attributes, class_attributes, greatest_of}
 use Rattle.cip_objects.specs.Places.{IsFirst}
-use Rattle.cip_objects.specs.Tables.{Shape, shape_at, services_of, assembly_services, ASSEMBLY}
+use Rattle.cip_objects.specs.Tables.{Shape, shape_at, services_of, assembly_services}
+use Rattle.cip_bytes.specs.declared.protocol.TheConstants.{ASSEMBLY}
 use Rattle.cip_objects.specs.Tables.{settable_size, size_if_settable}
 use Rattle.cip_objects.proofs.Blocks.{eqb-other, first_at}
 use Rattle.cip_objects.proofs.Lookup.{block_value, none_of_class, value_at-contents_of}

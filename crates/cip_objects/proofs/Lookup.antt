@@ -7,7 +7,7 @@ use Rattle.std.proofs.lemmas.Bool.Decides.{nat_tests}
 use Rattle.std.proofs.lemmas.Bool.{eqb-true}
 use Rattle.std.specs.FinMap.{find, get-from_entries}
 use Rattle.cip_objects.specs.ObjectMap.{Key, key, key_cmp}
-use Rattle.cip_objects.specs.Tables.{IDENTITY, ASSEMBLY, COUNTER}
+use Rattle.cip_bytes.specs.declared.protocol.TheConstants.{IDENTITY, ASSEMBLY, COUNTER}
 use Rattle.cip_objects.specs.Contents.{value_at}
 use Rattle.cip_objects.specs.Entries.{IdentityValues, Block, CounterValues, Entries, entries_at, attribute_in, class_attributes, identity_attributes, block_attributes, counter_attributes, block_at, greatest_of, entries_of, contents_of, NoneIsClass}
 use Rattle.cip_objects.proofs.Blocks.{first_at}

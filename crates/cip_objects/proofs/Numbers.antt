@@ -3,7 +3,7 @@ use Rattle.std.proofs.Common.{◌≡◌, ℕ, ◌%◌, ◌^◌, ◌<◌, ◌≤�
 use Rattle.std.proofs.Math.Nat.{div-one, mod-eq_of_lt}
 use Rattle.byteorder.specs.Endian.{little_bytes, little_number}
 use Rattle.byteorder.specs.Numbers.{little_from-bytes}
-use Rattle.cip_objects.specs.Tables.{COUNTER}
+use Rattle.cip_bytes.specs.declared.protocol.TheConstants.{COUNTER}
 use Rattle.cip_objects.specs.Contents.{Contents, bytes_at, udint_at}
 use Rattle.cip_objects.specs.Entries.{IdentityValues, Block, CounterValues, contents_of, NoneIsClass, attribute_in, counter_attributes}
 use Rattle.cip_objects.specs.Run.{IsCounter}

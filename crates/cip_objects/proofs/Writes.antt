@@ -5,7 +5,8 @@ use Rattle.std.specs.Option.{option_or}
 use Rattle.std.specs.FinMap.{find, insert, from_entries}
 use Rattle.byteorder.specs.Endian.{little_bytes}
 use Rattle.cip_objects.specs.ObjectMap.{Key, key, key_cmp}
-use Rattle.cip_objects.specs.Tables.{Shape, IDENTITY, ASSEMBLY, COUNTER}
+use Rattle.cip_objects.specs.Tables.{Shape}
+use Rattle.cip_bytes.specs.declared.protocol.TheConstants.{IDENTITY, ASSEMBLY, COUNTER}
 use Rattle.cip_objects.specs.Contents.{Contents, with_value, bytes_at}
 use Rattle.cip_objects.specs.Places.{IsFirst}
 use Rattle.cip_objects.specs.Entries.{IdentityValues, Block, CounterValues, Entries, entries_at, attribute_in, class_attributes, identity_attributes, block_attributes, counter_attributes, block_at, greatest_of, entries_of, contents_of, shape_of, device_of, NoneIsClass}

@@ -13,7 +13,8 @@ use Rattle.cip_bytes.specs.Reading.{◌>>=◌, ◌>>◌}
 use Rattle.cip_objects.specs.Check.{demand, exactly}
 use Rattle.cip_objects.specs.Contents.{Contents, value_at, bytes_at, udint_at, with_value}
 use Rattle.cip_objects.specs.ReadServices.{named_member}
-use Rattle.cip_objects.specs.Tables.{settable_size, ASSEMBLY, COUNTER}
+use Rattle.cip_objects.specs.Tables.{settable_size}
+use Rattle.cip_bytes.specs.declared.protocol.TheConstants.{ASSEMBLY, COUNTER}
 
 -- what a service that changes leaves, and the data of its reply
 pub record Change : Type 0 where

@@ -22,7 +22,7 @@ use Rattle.cip_objects.specs.Contents.{Contents, value_at, bytes_at, with_value}
 use Rattle.cip_objects.specs.Service.{service_code, service_in}
 use Rattle.cip_objects.specs.Places.{IsFirst}
 use Rattle.cip_objects.specs.Tables.{Shape, shape_at, assembly_services}
-use Rattle.cip_objects.specs.Tables.{IDENTITY, ASSEMBLY, CONNECTION_MANAGER, COUNTER}
+use Rattle.cip_bytes.specs.declared.protocol.TheConstants.{IDENTITY, ASSEMBLY, CONNECTION_MANAGER, COUNTER}
 
 abbrev pub class_number : Class → ℕ
 class_number classes.Identity = IDENTITY

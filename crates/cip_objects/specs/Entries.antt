@@ -7,7 +7,8 @@ use Rattle.std.specs.FinMap.{from_entries}
 use Rattle.byteorder.specs.Endian.{little_bytes}
 use Rattle.cip_message.specs.declared.key.Device.{Device}
 use Rattle.cip_objects.specs.ObjectMap.{Key, key}
-use Rattle.cip_objects.specs.Tables.{Shape, IDENTITY, ASSEMBLY, COUNTER}
+use Rattle.cip_objects.specs.Tables.{Shape}
+use Rattle.cip_bytes.specs.declared.protocol.TheConstants.{IDENTITY, ASSEMBLY, COUNTER}
 use Rattle.cip_objects.specs.Contents.{Contents}
 
 abbrev pub Entries : Type 0

@@ -12,7 +12,8 @@ use Rattle.cip_objects.specs.Contents.{Contents, value_at}
 use Rattle.cip_objects.specs.Execution.{Outcome, perform, reply_to, exec, run}
 use Rattle.cip_objects.specs.Router.{general_status, REPLY_TOO_LARGE}
 use Rattle.cip_objects.specs.Status.{completion_status}
-use Rattle.cip_objects.specs.Tables.{settable_size, COUNTER}
+use Rattle.cip_objects.specs.Tables.{settable_size}
+use Rattle.cip_bytes.specs.declared.protocol.TheConstants.{COUNTER}
 
 -- the text is a request of this service, with this path and these data
 abbrev pub Reads : List ℕ → ℕ → List ℕ → List ℕ → Type 0

@@ -7,7 +7,8 @@ use Rattle.cip_objects.specs.Contents.{Contents, bytes_at}
 use Rattle.cip_objects.specs.Execution.{reply_to, exec, run}
 use Rattle.cip_objects.specs.Laws.{Reads}
 use Rattle.cip_objects.specs.Router.{general_status}
-use Rattle.cip_objects.specs.Tables.{Shape, shape_at, ASSEMBLY}
+use Rattle.cip_objects.specs.Tables.{Shape, shape_at}
+use Rattle.cip_bytes.specs.declared.protocol.TheConstants.{ASSEMBLY}
 
 -- the data of each assembly have the size that its members have together
 abbrev pub AreWhole : Contents → Type 0

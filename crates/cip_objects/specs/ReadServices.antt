@@ -19,7 +19,8 @@ use Rattle.cip_objects.specs.Contents.{Contents, value_at, bytes_at}
 use Rattle.cip_objects.specs.Service.{service_in}
 use Rattle.cip_bytes.specs.Protocol.{general_status_number}
 use Rattle.cip_objects.specs.Status.{completion_status, refusal_status}
-use Rattle.cip_objects.specs.Tables.{Shape, services_of, member_at, ASSEMBLY}
+use Rattle.cip_objects.specs.Tables.{Shape, services_of, member_at}
+use Rattle.cip_bytes.specs.declared.protocol.TheConstants.{ASSEMBLY}
 
 -- the service of this code, where the class and instance are there and have it
 unfoldable pub service_at : List Shape → ℕ → ℕ → ℕ → Result Service Refusal

@@ -11,7 +11,7 @@ use Rattle.cip_message.specs.Request.{Request, request_of}
 use Rattle.cip_objects.specs.Contents.{Contents, udint_at}
 use Rattle.cip_objects.specs.Execution.{run, Ran}
 use Rattle.cip_objects.specs.Router.{general_status}
-use Rattle.cip_objects.specs.Tables.{COUNTER}
+use Rattle.cip_bytes.specs.declared.protocol.TheConstants.{COUNTER}
 
 abbrev pub value_of : Contents → ℕ
 value_of m = udint_at m COUNTER 1 1

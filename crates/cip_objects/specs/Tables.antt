@@ -2,6 +2,7 @@
 -- of a class has, which attributes can be set, and where the members of an assembly lie.
 use Rattle.std.specs.Prelude.{ℕ, ◌-◌, Bool, List, [], ◌∷◌, Option, Some, None, option_map, ◌==◌, ◌&&◌, ◌||◌}
 use Rattle.std.specs.Prelude.{if◌then◌else◌, nat_lt, length, slice_index, sum, take}
+use Rattle.cip_bytes.specs.declared.protocol.TheConstants.{IDENTITY, ASSEMBLY, CONNECTION_MANAGER, COUNTER}
 use Rattle.cip_objects.specs.declared.service.Service.{Service}
 use Rattle.cip_objects.specs.declared.service.Service.TheVariants.{GetAttributesAll, GetAttributeList}
 use Rattle.cip_objects.specs.declared.service.Service.TheVariants.{GetAttributeSingle, SetAttributeSingle, GetMember}
@@ -13,19 +14,6 @@ pub record Shape : Type 0 where
   pub instance : ℕ
   pub settable : Bool
   pub members : List ℕ
-
--- the classes (Volume 1: Identity, Assembly, Connection Manager; the counter is in the vendor's range)
-abbrev pub IDENTITY : ℕ
-IDENTITY = 0x01
-
-abbrev pub ASSEMBLY : ℕ
-ASSEMBLY = 0x04
-
-abbrev pub CONNECTION_MANAGER : ℕ
-CONNECTION_MANAGER = 0x06
-
-abbrev pub COUNTER : ℕ
-COUNTER = 0x64
 
 -- the assembly of this instance number: the first, if one stood twice
 abbrev pub shape_at : ℕ → List Shape → Option Shape

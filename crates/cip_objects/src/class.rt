@@ -5,18 +5,6 @@ ghost use Rattle.cip_objects.specs.Value.{value_bytes, IsShort};
 
 use crate::value::Value;
 
-/// The class of the Identity object.
-pub(crate) const IDENTITY: u16 = 0x01;
-
-/// The class of the Assembly object.
-pub(crate) const ASSEMBLY: u16 = 0x04;
-
-/// The class of the Connection Manager, whose services are not the objects'.
-pub(crate) const CONNECTION_MANAGER: u16 = 0x06;
-
-/// The class of the counter, in the range of the vendor's own.
-pub(crate) const COUNTER: u16 = 0x64;
-
 /// A class that has attributes as such, at instance 0.
 #[derive(Clone, Copy, PartialEq, Eq, Debug)]
 pub(crate) enum Class {

@@ -16,7 +16,7 @@ ghost use Rattle.cip_objects.specs.Tables.{services_of, shape_at, settable_size}
 ghost use Rattle.cip_objects.specs.Value.{value_bytes, IsShort};
 
 use crate::assembly::{Assembly, DATA_LIMIT, MEMBER_LIMIT, greatest, position};
-use crate::class::{ASSEMBLY, CONNECTION_MANAGER, COUNTER, Class, IDENTITY, class_attribute};
+use crate::class::{Class, class_attribute};
 use crate::config::{AssemblyConfig, Config, ConfigFault};
 use crate::counter::Counter;
 use crate::destination::{Destination, Settable};
@@ -24,7 +24,7 @@ use crate::identity::{Identity, NAME_LIMIT};
 use crate::router::ReplyBuf;
 use crate::value::Value;
 use arrayvec::ArrayVec;
-use cip_bytes::protocol::REPLY_LIMIT;
+use cip_bytes::protocol::{ASSEMBLY, CONNECTION_MANAGER, COUNTER, IDENTITY, REPLY_LIMIT};
 use cip_message::Device;
 use std::alloc::{AllocError, Global};
 use std::marker::Model;

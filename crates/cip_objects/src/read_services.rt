@@ -19,7 +19,7 @@ use crate::status::{Completion, Refusal};
 use crate::text::append;
 use crate::value::Value;
 use byteorder::{ByteOrder, LittleEndian};
-use cip_bytes::protocol::REPLY_LIMIT;
+use cip_bytes::protocol::{GeneralStatus, REPLY_LIMIT};
 
 impl Objects {
     /// Get_Attribute_Single: the attribute's value.
@@ -182,13 +182,17 @@ impl Objects {
         append(&attribute.to_le_bytes(), room, reply)?;
         match self.value(subject.destination, attribute) {
             Some(value) => {
-                append(&[0, 0], room, reply)?;
+                append(&[GeneralStatus::Success.number(), 0], room, reply)?;
                 value.append(room, reply)?;
                 Ok(true)
             }
             None => {
                 // its status, attribute not supported, in two bytes (common services)
-                append(&[0x14, 0], room, reply)?;
+                append(
+                    &[GeneralStatus::AttributeNotSupported.number(), 0],
+                    room,
+                    reply,
+                )?;
                 Ok(false)
             }
         }

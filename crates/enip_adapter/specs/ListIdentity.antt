@@ -3,6 +3,7 @@ use Rattle.std.specs.Prelude.{ℕ, List, [], ◌∷◌, ◌++◌, length}
 use Rattle.std.specs.List.{flat_map}
 use Rattle.byteorder.specs.Endian.{big_bytes}
 use Rattle.cip_bytes.specs.Numbers.{le}
+use Rattle.cip_bytes.specs.declared.protocol.TheConstants.{IDENTITY}
 use Rattle.cip_objects.specs.Contents.{Contents, bytes_at}
 use Rattle.enip_wire.specs.Frames.{Frame}
 use Rattle.enip_adapter.specs.declared.peer.Session.{Session}
@@ -20,7 +21,7 @@ abbrev pub identity_attributes : List ℕ
 identity_attributes = 1 ∷ 2 ∷ 3 ∷ 4 ∷ 5 ∷ 6 ∷ 7 ∷ 8 ∷ []
 
 abbrev pub identity_bytes : Contents → List ℕ
-identity_bytes objects = flat_map (bytes_at objects 1 1) identity_attributes
+identity_bytes objects = flat_map (bytes_at objects IDENTITY 1) identity_attributes
 
 -- Protocol version 1, the socket address, and the Identity object's attributes.
 abbrev pub identity_item : Listen → Contents → List ℕ

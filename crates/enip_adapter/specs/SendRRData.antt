@@ -4,7 +4,7 @@ use Rattle.std.specs.Prelude.{Option, Some, None}
 use Rattle.cip_bytes.specs.Protocol.{manager_service_of}
 use Rattle.cip_bytes.specs.declared.protocol.ManagerService.{ManagerService}
 use Rattle.cip_bytes.specs.declared.protocol.ManagerService.TheVariants.{ForwardOpen, LargeForwardOpen, ForwardClose}
-use Rattle.cip_bytes.specs.declared.protocol.TheConstants.{UNCONNECTED_ROOM}
+use Rattle.cip_bytes.specs.declared.protocol.TheConstants.{CONNECTION_MANAGER, UNCONNECTED_ROOM}
 use Rattle.cip_bytes.specs.declared.protocol.EncapsulationStatus.TheVariants.{PoorlyFormedData, InvalidSession}
 use Rattle.cip_message.specs.declared.path.Path.{Path}
 use Rattle.cip_message.specs.declared.path.PathFault.{PathFault}
@@ -31,7 +31,7 @@ pub data Destination : Type 0 where
   Executes : Destination
 
 abbrev pub is_manager : Path → Bool
-is_manager path = (path.class == 0x06) && (path.instance == 1)
+is_manager path = (path.class == CONNECTION_MANAGER) && (path.instance == 1)
 
 -- The three services of the Connection Manager, class 0x06, instance 1.
 abbrev pub by_service : List ℕ → Option ManagerService → Destination

@@ -7,7 +7,7 @@ use Rattle.cip_bytes.specs.declared.protocol.Command.TheVariants.{RegisterSessio
 use Rattle.cip_bytes.specs.declared.protocol.Command.TheVariants.{SendUnitData}
 use Rattle.cip_bytes.specs.declared.protocol.ManagerService.{ManagerService}
 use Rattle.cip_bytes.specs.declared.protocol.ManagerService.TheVariants.{ForwardOpen, LargeForwardOpen, ForwardClose}
-use Rattle.cip_bytes.specs.declared.protocol.TheConstants.{LARGEST_SMALL_SIZE}
+use Rattle.cip_bytes.specs.declared.protocol.TheConstants.{CONNECTION_MANAGER, LARGEST_SMALL_SIZE, MESSAGE_ROUTER}
 use Rattle.cip_message.specs.Open.{Layout, small, large, Open, «open», large_open}
 use Rattle.cip_message.specs.Close.{Close, close}
 use Rattle.cip_message.specs.Request.{request}
@@ -48,13 +48,12 @@ request_frame session number bytes = sent SendRRData session number (rr_text byt
 abbrev pub item_frame : ℕ → ℕ → List ℕ → Frame
 item_frame session o_to_t_id item = sent SendUnitData session 0 (unit_text o_to_t_id item)
 
--- The Connection Manager, class 0x06, instance 1; and the message router, class 0x02, instance 1, to which a
--- connection is opened.
+-- The Connection Manager, instance 1; and the message router, instance 1, to which a connection is opened.
 abbrev pub connection_manager : List ℕ
-connection_manager = 0x20 ∷ 0x06 ∷ 0x24 ∷ 1 ∷ []
+connection_manager = 0x20 ∷ CONNECTION_MANAGER ∷ 0x24 ∷ 1 ∷ []
 
 abbrev pub message_router : List ℕ
-message_router = 0x20 ∷ 0x02 ∷ 0x24 ∷ 1 ∷ []
+message_router = 0x20 ∷ MESSAGE_ROUTER ∷ 0x24 ∷ 1 ∷ []
 
 -- A request to the Connection Manager.
 abbrev pub manager_request : ManagerService → List ℕ → List ℕ

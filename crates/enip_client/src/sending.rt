@@ -13,7 +13,8 @@ ghost use Rattle.enip_client.specs.Frames.{asked_by, message_router};
 use crate::wants::Wants;
 use arrayvec::ArrayVec;
 use cip_bytes::protocol::{
-    Command, LARGEST_SIZE, LARGEST_SMALL_SIZE, ManagerService, UNCONNECTED_ROOM,
+    CONNECTION_MANAGER, Command, LARGEST_SIZE, LARGEST_SMALL_SIZE, MESSAGE_ROUTER, ManagerService,
+    UNCONNECTED_ROOM,
 };
 use cip_message::{CloseRequest, LargeParameters, OpenRequest, Parameters, Transport};
 use enip_wire::{Header, write_rr_body, write_unit_body};
@@ -37,11 +38,11 @@ pub type Sent = ArrayVec<u8, LONGEST_SENT>;
 /// Protocol version 1 and no option flags, the data of RegisterSession.
 const PROTOCOL: [u8; 4] = [1, 0, 0, 0];
 
-/// The path of the Connection Manager, class 0x06, instance 1.
-const CONNECTION_MANAGER: [u8; 4] = [0x20, 0x06, 0x24, 1];
+/// The path of the Connection Manager, instance 1.
+const MANAGER_PATH: [u8; 4] = [0x20, CONNECTION_MANAGER as u8, 0x24, 1];
 
-/// The path of the message router, class 0x02, instance 1, to which a connection is opened.
-const MESSAGE_ROUTER: [u8; 4] = [0x20, 0x02, 0x24, 1];
+/// The path of the message router, instance 1, to which a connection is opened.
+const ROUTER_PATH: [u8; 4] = [0x20, MESSAGE_ROUTER as u8, 0x24, 1];
 
 const PRIORITY_AND_TICK_TIME: u8 = 0x0a;
 
@@ -197,7 +198,7 @@ fn asked<P>(wants: &Wants, o_to_t_parameters: P, t_to_o_parameters: P) -> OpenRe
         transport: Transport {
             bits: SERVER_CLASS_3,
         },
-        path: &MESSAGE_ROUTER,
+        path: &ROUTER_PATH,
     }
 }
 
@@ -219,7 +220,7 @@ pub(crate) fn close_request(wants: &Wants) -> ManagerRequest
         connection_serial: wants.connection_serial,
         originator_vendor: wants.originator_vendor,
         originator_serial: wants.originator_serial,
-        path: &MESSAGE_ROUTER,
+        path: &ROUTER_PATH,
     };
     let _ = asked.write(&mut request);
     request
@@ -232,7 +233,7 @@ fn begin_manager_request(service: ManagerService) -> ManagerRequest
 {
     let mut request = ManagerRequest::new();
     let _ = request.try_extend_from_slice(&[service.number(), 2]);
-    let _ = request.try_extend_from_slice(&CONNECTION_MANAGER);
+    let _ = request.try_extend_from_slice(&MANAGER_PATH);
     request
 }
 

@@ -5,6 +5,7 @@ use Rattle.hex.specs.Hex.{encode_lower}
 use Rattle.cip_class3.specs.OriginatorRule.{refused_number}
 use Rattle.cip_class3.specs.declared.originator.Stage.{Stage}
 use Rattle.cip_class3.specs.declared.originator.Stage.TheVariants as stages
+use Rattle.cip_bytes.specs.declared.protocol.TheConstants.{COUNTER}
 use Rattle.cip_objects.specs.Contents.{Contents, bytes_at, udint_at}
 use Rattle.enip_bench.specs.Events.{Event, Submit, Resend, Reach, Back, Other, Shut, GiveUp}
 use Rattle.enip_bench.specs.Telling.{Telling, Sends, Refuses, Resends, Reaches, Accepts, Ignores, Impossible, Done}
@@ -47,7 +48,7 @@ outcome event telling = words event ++ told_words event telling
 -- an attribute of the counter, 0 where it is no number of four bytes
 abbrev pub counter_number : Contents → ℕ → ℕ
 counter_number contents attribute =
-    if nat_le 4 (length (bytes_at contents 100 1 attribute)) then udint_at contents 100 1 attribute else 0
+    if nat_le 4 (length (bytes_at contents COUNTER 1 attribute)) then udint_at contents COUNTER 1 attribute else 0
 
 -- the line of the counter
 abbrev pub counter_line : ℕ → ℕ → ℕ → List ℕ

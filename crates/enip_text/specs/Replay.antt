@@ -2,6 +2,7 @@
 use Rattle.std.specs.Prelude.{◌≡◌, ℕ, zero, suc, true, List, [], ◌++◌, Option, Ok, Err, codes}
 use Rattle.std.specs.Option.{option_map_or}
 use Rattle.std.specs.Io.KnownBytes.{Appends, Keeps}
+use Rattle.cip_bytes.specs.declared.protocol.TheConstants.{ASSEMBLY}
 use Rattle.cip_objects.specs.Contents.{Contents, value_at}
 use Rattle.enip_adapter.specs.Calls.{AdapterState}
 use Rattle.enip_bench.specs.CountingOpening.{ARefusal, opening_between}
@@ -59,7 +60,7 @@ pub data IsRun (text : List ℕ) (old new : CountingWorld) (before after : Optio
 -- The line of the assembly of this instance, if there is one.
 abbrev pub assembly_printed : Contents → ℕ → List ℕ
 assembly_printed contents instance =
-    option_map_or (λ bytes. ended (assembly_line instance bytes)) (value_at contents 4 instance 3) []
+    option_map_or (λ bytes. ended (assembly_line instance bytes)) (value_at contents ASSEMBLY instance 3) []
 
 -- The lines of the assemblies of instances up to this one, by rising instance.
 unfoldable pub assemblies_printed : Contents → ℕ → List ℕ

@@ -5,13 +5,11 @@ ghost use Rattle.enip_text.specs.Outcome.{counter_number};
 
 use crate::digits::Digits;
 use byteorder::{ByteOrder, LittleEndian};
+use cip_bytes::protocol::COUNTER;
 use cip_class3::Stage;
 use cip_objects::Objects;
 use enip_bench::{Event, Step};
 use std::fmt;
-
-/// The class of the counter. (Ours.)
-const COUNTER: u16 = 0x64;
 
 /// The words of an event's line, a request's digits left out.
 #[derive(Clone, Copy)]

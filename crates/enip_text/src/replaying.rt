@@ -15,6 +15,7 @@ use crate::fault::Fault;
 use crate::input_lines::{TakeLines, read_lines};
 use crate::outcome::{AssemblyData, Counter, Outcome, Standing};
 use crate::script::{event_of, is_skipped};
+use cip_bytes::protocol::ASSEMBLY;
 use cip_objects::Objects;
 use enip_adapter::Adapter;
 use enip_bench::{Bench, BenchFault, Event};
@@ -23,9 +24,7 @@ use std::alloc::Global;
 use std::io::{self, BufWriter, Write};
 use thiserror::Error;
 
-/// The class of the assemblies, and the attribute that is their data. (Volume 1, Assembly.)
-const ASSEMBLY: u16 = 0x04;
-
+/// The attribute of an assembly that is its data. (Volume 1, Assembly.)
 const DATA: u16 = 3;
 
 /// The greatest instance that an assembly can have. (Volume 1, Assembly.)

@@ -14,12 +14,9 @@ use crate::reply::{AnswerFrame, write_reply};
 use crate::shared::{Listen, Shared};
 use arrayvec::ArrayVec;
 use byteorder::{BigEndian, ByteOrder, LittleEndian};
-use cip_bytes::protocol::EncapsulationStatus;
+use cip_bytes::protocol::{EncapsulationStatus, IDENTITY};
 use cip_objects::{Objects, ReplyBuf};
 use enip_wire::Header;
-
-/// The class of the Identity object. (Volume 1, class codes.)
-const IDENTITY: u16 = 0x01;
 
 /// The attributes that ListIdentity shows: vendor, device type, product code, revision, status, serial number, product
 /// name, state.
@@ -153,7 +150,7 @@ fn append_identity(objects: &Objects, value: &mut ReplyBuf, item: &mut Item)
 /// Appends an attribute of the Identity object, if there is one of this number.
 fn append_attribute(objects: &Objects, attribute: u16, value: &mut ReplyBuf, item: &mut Item)
     requires { array_vec_len item.old + LONGEST_ATTRIBUTE ≤ ITEM_SIZE }
-    ensures text { item.new.items ≡ item.old.items ++ bytes_at objects.now 1 1 attribute }
+    ensures text { item.new.items ≡ item.old.items ++ bytes_at objects.now IDENTITY 1 attribute }
     ensures size { array_vec_len item.new ≤ array_vec_len item.old + LONGEST_ATTRIBUTE }
 {
     objects.read_attribute(IDENTITY, 1, attribute, value);

@@ -13,16 +13,15 @@ ghost use Rattle.enip_adapter.specs.Destinations.{destination, is_path_of_manage
 use crate::peer::Session;
 use crate::reply::{AnswerFrame, refuse, write_reply};
 use crate::shared::Shared;
-use cip_bytes::protocol::{EncapsulationStatus, ManagerService, UNCONNECTED_ROOM};
+use cip_bytes::protocol::{
+    CONNECTION_MANAGER, EncapsulationStatus, ManagerService, UNCONNECTED_ROOM,
+};
 use cip_message::{Path, RequestView, read_path};
 use cip_objects::{ReplyBuf, Router};
 use enip_wire::{FrameView, Header, rr_body, rr_front};
 
-/// The class of the Connection Manager. (Volume 1, class codes.)
-const CONNECTION_MANAGER: u16 = 0x06;
-
 /// Where a request goes.
-#[derive(Clone, Copy, Debug)]
+#[derive(Clone, Copy)]
 enum Destination<'a> {
     /// To the Connection Manager: a service, and its data.
     Manager(ManagerService, &'a [u8]),
@@ -39,7 +38,6 @@ impl<'a> Destination<'a> {
             return Destination::Objects;
         };
         match ManagerService::of(request.service) {
-            // class 0x06, instance 1 (objects)
             Some(service) if is_to_manager(request.path) => {
                 Destination::Manager(service, request.data)
             }

@@ -2,7 +2,7 @@ use Rattle.std.proofs.Common.{ap, ◌∙◌}
 use Rattle.byteorder.specs.Endian.{little_bytes}
 use Rattle.cip_objects.specs.Contents.{with_value}
 use Rattle.cip_objects.specs.Counter.{counter_values}
-use Rattle.cip_objects.specs.Tables.{COUNTER}
+use Rattle.cip_bytes.specs.declared.protocol.TheConstants.{COUNTER}
 use Rattle.cip_objects.proofs.Writes.{value_written}
 use Rattle.cip_objects.proofs.objects.Objects.set_value.Goals as goal
 
