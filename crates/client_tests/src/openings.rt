@@ -99,7 +99,8 @@ fn registered<A: Abort>(
 #[test]
 fn openings_by_size(rt: HostRuntime) -> Result<(), Fail> {
     for (o_to_t, t_to_o, service, parameters) in &SIZES {
-        let texts: [&[u8]; 4] = [&[*service], NAMED, parameters, ROUTER];
+        let service = [*service];
+        let texts: [&[u8]; 4] = [&service, NAMED, parameters, ROUTER];
         let message = joined(rt.alloc(), &texts)?;
         let wanted = frame(rt.alloc(), &message)?;
         let mut client = registered(&rt, rt.alloc(), *o_to_t, *t_to_o)?;
