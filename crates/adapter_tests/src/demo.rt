@@ -4,7 +4,7 @@
 //! next.
 
 use cip_objects::{AssemblyConfig, Config, CounterConfig, Objects};
-use enip_adapter::{Adapter, Fed, Limits, Listen, Peer, ServeFault, Served, serve};
+use enip_adapter::{Adapter, Fed, LONGEST_READ, Limits, Listen, Peer, ServeFault, Served, serve};
 use enip_wire::{MemorySink, MemorySource, Sink, Source};
 use std::alloc::Global;
 use std::process::Abort;
@@ -138,7 +138,9 @@ pub fn check_serve<A: Abort>(
 ) {
     assert!(rt; reader.reads() < u64::MAX && reader.failures() < u64::MAX);
     assert!(rt; writer.failures() < u64::MAX);
-    assert_eq!(rt; serve(adapter, peer, reader, writer), told);
+    // What the buffer holds before counts for nothing.
+    let mut buffer = [0xee; LONGEST_READ];
+    assert_eq!(rt; serve(adapter, peer, reader, writer, &mut buffer), told);
     assert_eq!(rt; writer.written(), written);
 }
 

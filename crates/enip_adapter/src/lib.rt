@@ -21,6 +21,6 @@ mod silence;
 pub use adapter::{Adapter, Fed, Full, Limits};
 pub use peer::Peer;
 pub use reply::LONGEST_ANSWER;
-pub use serving::{ServeFault, Served, serve};
+pub use serving::{LONGEST_READ, ServeFault, Served, serve};
 pub use shared::Listen;
 pub use silence::Silence;

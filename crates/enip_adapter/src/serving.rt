@@ -15,7 +15,7 @@ use enip_wire::{Failed, Sink, Source, write_all};
 use thiserror::Error;
 
 /// The most bytes of a read (ours).
-const LONGEST_READ: usize = 4_096;
+pub const LONGEST_READ: usize = 4_096;
 
 /// What a call of `serve` came to.
 #[derive(Clone, Copy, Debug, PartialEq, Eq)]
@@ -53,6 +53,8 @@ impl ServeFault {
 ///
 /// After `Write` and `Closed` the rest of what was read is not fed. The peer is not ended.
 ///
+/// What is read goes into `buffer`; what it holds before counts for nothing, so that none is cleared for a read.
+///
 /// # Errors
 ///
 /// `ServeFault::Read` where the read failed, `ServeFault::Write` where a write failed.
@@ -62,6 +64,7 @@ pub fn serve<R: Source, W: Sink>(
     peer: &Peer,
     reader: &mut R,
     writer: &mut W,
+    buffer: &mut [u8; LONGEST_READ],
 ) -> Result<Served, ServeFault>
     requires reads { R.reads reader.old < u64.MAX }
     requires read_failures { R.failures reader.old < u64.MAX }
@@ -82,8 +85,7 @@ pub fn serve<R: Source, W: Sink>(
     if !adapter.is_served(peer) {
         return Ok(Served::Closed);
     }
-    let mut buffer = [0; LONGEST_READ];
-    let Ok(size) = reader.read(&mut buffer) else {
+    let Ok(size) = reader.read(buffer) else {
         return Err(ServeFault::Read);
     };
     // A read of no byte is the end of the stream (a peer that closed its side).

@@ -4,7 +4,7 @@ ghost use Rattle.std.specs.Prelude.{IfErr};
 ghost use Rattle.enip_text.specs.Statuses.{IsOfDevices};
 
 use crate::socket::{SocketSink, SocketSource};
-use enip_adapter::{Adapter, Peer, Served, serve};
+use enip_adapter::{Adapter, LONGEST_READ, Peer, Served, serve};
 use enip_text::Fault;
 use enip_wire::{Sink, Source};
 use std::net::{TcpListener, TcpStream};
@@ -59,6 +59,7 @@ fn serve_stream<C: Clock>(
 ) {
     let mut source = SocketSource::new(stream, clock, start);
     let mut sink = SocketSink::new(stream);
+    let mut buffer = [0; LONGEST_READ];
     for _ in 0..u64::MAX {
         if source.reads() >= u64::MAX {
             return;
@@ -69,7 +70,7 @@ fn serve_stream<C: Clock>(
         if sink.failures() >= u64::MAX {
             return;
         }
-        match serve(adapter, peer, &mut source, &mut sink) {
+        match serve(adapter, peer, &mut source, &mut sink, &mut buffer) {
             Ok(Served::More) => {}
             _ => return,
         }
