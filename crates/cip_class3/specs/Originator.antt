@@ -1,5 +1,6 @@
 -- What a contract sees of an `Originator`.
 use Rattle.std.specs.Prelude.{◌≡◌, ℕ, ◌≤◌, List, length, take, drop}
+use Rattle.std.specs.Box.{boxed_slice_items}
 use Rattle.cip_bytes.specs.declared.protocol.TheConstants.{LARGEST_SIZE, SMALLEST_O_TO_T_SIZE, SMALLEST_T_TO_O_SIZE}
 use Rattle.cip_class3.specs.Item.{item}
 use Rattle.cip_class3.specs.OriginatorRule.{OriginatorState, Phase, Idle, Waiting, GivenUp}
@@ -18,7 +19,7 @@ originator_state originator = record {
   o_to_t_size = originator.o_to_t_size;
   t_to_o_size = originator.t_to_o_size;
   next = originator.next;
-  phase = phase_of originator.progress originator.block.items;
+  phase = phase_of originator.progress (boxed_slice_items originator.block);
   tries = originator.tries;
 }
 
@@ -39,5 +40,5 @@ pub record IsOriginator (originator : Inside) : Type 0 where
   pub o_to_t_to : originator.o_to_t_size ≤ LARGEST_SIZE
   pub t_to_o_from : SMALLEST_T_TO_O_SIZE ≤ originator.t_to_o_size
   pub t_to_o_to : originator.t_to_o_size ≤ LARGEST_SIZE
-  pub block : length originator.block.items ≡ originator.o_to_t_size
-  pub item : HoldsItem originator.progress originator.block.items
+  pub block : length (boxed_slice_items originator.block) ≡ originator.o_to_t_size
+  pub item : HoldsItem originator.progress (boxed_slice_items originator.block)

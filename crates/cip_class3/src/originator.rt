@@ -16,6 +16,7 @@ use cip_bytes::protocol::{
 };
 use cip_message::reply_service;
 use std::alloc::{AllocError, Global};
+use std::boxed::BoxedSlice;
 use std::marker::Model;
 use thiserror::Error;
 
@@ -93,7 +94,7 @@ pub struct Originator {
     tries: u16,
     progress: Progress,
     /// The item of the request that waits, at the front of as many bytes as the O->T size.
-    block: Vec<u8>,
+    block: BoxedSlice<u8>,
 }
 
 impl Model for Originator {
@@ -140,7 +141,7 @@ impl Originator {
             next: first,
             tries: 0,
             progress: Progress::Idle,
-            block: vec![in alloc; 0; o_to_t_size as usize]?,
+            block: vec![in alloc; 0; o_to_t_size as usize]?.into_boxed_slice(),
         })
     }
 
@@ -163,7 +164,7 @@ impl Originator {
         }
         let sequence_count = self.next;
         let length = SEQUENCE_COUNT_SIZE + request.len();
-        write_item(&mut self.block, sequence_count, request);
+        write_item(self.block.as_mut_slice(), sequence_count, request);
         self.progress = Progress::Waiting {
             sequence_count,
             length,
@@ -171,7 +172,7 @@ impl Originator {
         // After count 65,535 comes count 0 (the originator's end).
         self.next = sequence_count.wrapping_add(1);
         self.tries += 1;
-        Ok(&self.block[..length])
+        Ok(&self.block.as_slice()[..length])
     }
 
     /// The item of the request that waits, again.
@@ -181,7 +182,7 @@ impl Originator {
         ensures within { IfSome result (λ lent. length lent.now ≤ LARGEST_SIZE) }
     {
         match self.progress {
-            Progress::Waiting { length, .. } => Some(&self.block[..length]),
+            Progress::Waiting { length, .. } => Some(&self.block.as_slice()[..length]),
             _ => None,
         }
     }

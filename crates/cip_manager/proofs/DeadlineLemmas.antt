@@ -1,11 +1,14 @@
 -- Connections whose deadlines are not before a moment.
-use Rattle.std.proofs.Common.{◌≡◌, ℕ, zero, suc, ◌<◌, ◌≤◌, List, [], ◌∷◌, ◌++◌, cond, set, refl, ap, ◌∙◌, arith}
+use Rattle.std.proofs.Common.{◌≡◌, ℕ, zero, suc, ◌<◌, ◌≤◌, List, [], ◌∷◌, ◌++◌, cond, set, get_or, length, refl, ap, subst, ◌∙◌, arith}
 use Rattle.std.specs.Prelude.{filter}
 use Rattle.std.specs.List.{remove}
 use Rattle.std.proofs.lemmas.Bool.{lt-ltb}
-use Rattle.std.proofs.lemmas.List.Elements.{All-cons, All-head, All-tail, All-push, All-set, All-weaker}
+use Rattle.std.proofs.lemmas.List.Elements.{All-cons, All-head, All-tail, All-push, All-set, All-weaker, All-get_or}
+use Rattle.cip_class3.specs.declared.target.Received.{Received}
+use Rattle.cip_class3.specs.declared.target.Received.TheVariants.{Dropped, Repeated, Executed}
+use Rattle.cip_class3.specs.TargetRule.{TargetState}
 use Rattle.cip_manager.specs.declared.connection.Connection.{Connection}
-use Rattle.cip_manager.specs.Connection.{is_open_at}
+use Rattle.cip_manager.specs.Connection.{is_open_at, moment_after, after_item}
 use Rattle.cip_manager.specs.Table.{AreOpenUntil}
 
 abbrev EndsFrom : ℕ → Connection → Type 0
@@ -44,3 +47,16 @@ AreOpenUntil-remove moment (c ∷ cs) zero until = All-tail (EndsFrom moment) c 
 AreOpenUntil-remove moment (c ∷ cs) (suc i) until =
     All-cons (EndsFrom moment) c (remove cs i) (All-head (EndsFrom moment) c cs until)
     (AreOpenUntil-remove moment cs i (All-tail (EndsFrom moment) c cs until))
+
+-- with one that received an item in its own place, until a moment that its deadline would not be before, were it answered
+pub AreOpenUntil-received : (earlier moment now : ℕ) (connections : List Connection) (i : ℕ) (old : Connection) (received : Received) (target : TargetState)
+    → i < length connections → get_or connections i old ≡ old → earlier ≤ moment → earlier ≤ moment_after now old.timeout
+    → AreOpenUntil moment connections → AreOpenUntil earlier (set connections i (after_item now received target old))
+AreOpenUntil-received earlier moment now connections i old received target within here h k until =
+    let before : moment ≤ old.deadline = subst (EndsFrom moment) here (All-get_or (EndsFrom moment) connections i old within until) in
+    AreOpenUntil-set earlier moment connections i (after_item now received target old) h (go before received) until
+  where
+    go : moment ≤ old.deadline → (r : Received) → earlier ≤ (after_item now r target old).deadline
+    go before Dropped = omega (arith, h, before)
+    go before Repeated = k
+    go before Executed = k

@@ -6,7 +6,7 @@ use Rattle.cip_class3.specs.Item.{sequence_count_of}
 use Rattle.cip_class3.specs.TargetRule.{TargetState, Kept, TargetStep, step_of, target_step, after_execution, is_of_size, is_held}
 use Rattle.cip_manager.specs.declared.connection.Connection.{Connection}
 use Rattle.cip_manager.specs.Connection.{is_named, is_answered, after_item, deadline_at_item}
-use Rattle.cip_manager.specs.Items.{with_first, Reply, turn_of_found, item_turn, is_taken_by, is_taken, IsAt}
+use Rattle.cip_manager.specs.Items.{with_first, Reply, turn_of_found, item_turn, is_taken_by, is_taken}
 
 with_first-same : {X : Type 0} → (test : X → Bool) (x : X) (xs : List X) → find test xs ≡ Some x → with_first test x xs ≡ xs
 with_first-same test x [] e = refl
@@ -40,22 +40,6 @@ module _ {M : Type 0} (after : M → ℕ → List ℕ → M) (answer : M → ℕ
         | false ↦ record { answered = refl; same = λ e. refl; still = λ e. refl }
       ]
 
-  -- what answers is held
-  pub answered-held : (target : TargetState) (router : M) (bytes : List ℕ)
-      → is_answered (target_step after answer target router bytes).received ≡ true → is_some (target_step after answer target router bytes).target.held ≡ true
-  answered-held target router bytes e = go (is_of_size target bytes) (is_held target.held (sequence_count_of bytes)) refl e
-    where
-      holds : (held : Option Kept) (sequence_count : ℕ) → is_held held sequence_count ≡ true → is_some held ≡ true
-      holds None sequence_count f = cc
-      holds (Some kept) sequence_count f = refl
-
-      go : (sized same : Bool) → is_held target.held (sequence_count_of bytes) ≡ same
-          → is_answered (cond sized (cond same (step_of Repeated target router) (after_execution after answer target router bytes)) (step_of Dropped target router)).received ≡ true
-          → is_some (cond sized (cond same (step_of Repeated target router) (after_execution after answer target router bytes)) (step_of Dropped target router)).target.held ≡ true
-      go true true f answered = holds target.held (sequence_count_of bytes) f
-      go true false f answered = refl
-      go false same f answered = cc
-
   -- an item is answered exactly if it is taken
   pub answered_item : (cs : List Connection) (now session id : ℕ) (bytes : List ℕ) (router : M)
       → is_some (item_turn after answer cs now session id bytes router).reply ≡ is_taken cs session id bytes
@@ -70,7 +54,7 @@ module _ {M : Type 0} (after : M → ℕ → List ℕ → M) (answer : M → ℕ
       go (Some c) = option (is_answered (target_step after answer c.target router bytes).received) _ ∙ (target_step-says c.target router bytes).answered
 
   -- and where nothing answers it, nothing is changed
-  unanswered_item : (cs : List Connection) (now session id : ℕ) (bytes : List ℕ) (router : M)
+  pub unanswered_item : (cs : List Connection) (now session id : ℕ) (bytes : List ℕ) (router : M)
       → (item_turn after answer cs now session id bytes router).reply ≡ None
       → ((item_turn after answer cs now session id bytes router).connections ≡ cs) × ((item_turn after answer cs now session id bytes router).router ≡ router)
   unanswered_item cs now session id bytes router = go (find (is_named session id) cs) refl
@@ -93,10 +77,3 @@ module _ {M : Type 0} (after : M → ℕ → List ℕ → M) (answer : M → ℕ
           let not_answered : is_answered step.received ≡ false = dropped (is_answered step.received) _ e in
           let not_of_size : is_of_size c.target bytes ≡ false = sym says.answered ∙ not_answered in
           (ap (λ x. with_first (is_named session id) x cs) (same c step not_answered (says.same not_of_size)) ∙ with_first-same (is_named session id) c cs f, says.still not_of_size)
-
-  -- the same of a place that is none
-  pub unanswered_place : (cs : List Connection) (now session id : ℕ) (bytes : List ℕ) (router : M) (left : List Connection) (moved : M)
-      → IsAt None (item_turn after answer cs now session id bytes router) left moved → (left ≡ cs) × (moved ≡ router)
-  unanswered_place cs now session id bytes router left moved at =
-      let unchanged = unanswered_item cs now session id bytes router at.reply in
-      (at.connections ∙ unchanged.0, at.router ∙ unchanged.1)

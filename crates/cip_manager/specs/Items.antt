@@ -1,6 +1,5 @@
 -- Items that come on connections (Volume 1, Connection Manager and transport class 3).
-use Rattle.std.specs.Prelude.{◌≡◌, ℕ, ◌<◌, Bool, false, if◌then◌else◌, List, [], ◌∷◌, length, slice_index_or, find}
-use Rattle.std.specs.Prelude.{Option, Some, None, IsSome, MatchOption}
+use Rattle.std.specs.Prelude.{ℕ, Bool, false, if◌then◌else◌, List, [], ◌∷◌, find, Option, Some, None}
 use Rattle.std.specs.Option.{option_map}
 use Rattle.cip_class3.specs.declared.target.Received.{Received}
 use Rattle.cip_class3.specs.Item.{item}
@@ -42,6 +41,10 @@ pub record ConnectionTurn (M : Type 0) : Type 0 where
 abbrev pub connection_turn : {M : Type 0} → Received → Connection → M → ConnectionTurn M
 connection_turn received connection router = record { received = received; connection = connection; router = router }
 
+-- what answers what an item did at its connection
+abbrev pub answer_of : {M : Type 0} → ConnectionTurn M → Option Reply
+answer_of turn = if is_answered turn.received then Some (reply_of turn.connection) else None
+
 -- what an item leaves: the connections and the router, and what answers it
 pub record ItemTurn (M : Type 0) : Type 0 where
   pub connections : List Connection
@@ -64,7 +67,7 @@ module _ {M : Type 0} (after : M → ℕ → List ℕ → M) (answer : M → ℕ
       record {
         connections = with_first (is_named session id) turn.connection connections;
         router = turn.router;
-        reply = (if is_answered turn.received then Some (reply_of turn.connection) else None);
+        reply = answer_of turn;
       }
 
   -- An item of a session at a moment goes to that session's connection with that ID. Where there is none, and where
@@ -80,15 +83,3 @@ is_taken_by (Some connection) bytes = is_of_size connection.target bytes
 
 abbrev pub is_taken : List Connection → ℕ → ℕ → List ℕ → Bool
 is_taken connections session id bytes = is_taken_by (find (is_named session id) connections) bytes
-
--- the connection at that place has executed a request, and what it keeps of it answers
-pub record AnswersAt {M : Type 0} (place : ℕ) (turn : ItemTurn M) (left : List Connection) : Type 0 where
-  pub within : place < length left
-  pub answered : IsSome turn.reply
-  pub reply : (d : Connection) → turn.reply ≡ held_reply (slice_index_or left place d)
-
--- the connection at that place answers, or none does
-pub record IsAt {M : Type 0} (place : Option ℕ) (turn : ItemTurn M) (left : List Connection) (moved : M) : Type 0 where
-  pub connections : left ≡ turn.connections
-  pub router : moved ≡ turn.router
-  pub reply : MatchOption place (turn.reply ≡ None) (λ i. AnswersAt i turn left)

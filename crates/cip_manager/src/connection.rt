@@ -1,9 +1,11 @@
 //! One open connection (Volume 1, Connection Manager).
-ghost use Rattle.std.specs.Prelude.{◌≡◌, ◌+◌, ◌≤◌, length, IfSome};
+ghost use Rattle.std.specs.Prelude.{◌≡◌, ◌+◌, ◌≤◌, length, IfSome, None, if◌then◌else◌};
 ghost use Rattle.std.specs.Option.{option_map};
+ghost use Rattle.std.specs.Borrow.{sem};
+ghost use Rattle.std.specs.Io.BufRead.{Rests};
 ghost use Rattle.cip_manager.specs.Opening.{CanBeOpened, new_connection};
-ghost use Rattle.cip_manager.specs.Items.{view as reply_in, held_reply, connection_turn, turn_of_connection};
-ghost use Rattle.cip_manager.specs.Connection.{timeout_of, moment_after, is_of_session_with};
+ghost use Rattle.cip_manager.specs.Items.{view as reply_in, held_reply, connection_turn, turn_of_connection, answer_of};
+ghost use Rattle.cip_manager.specs.Connection.{timeout_of, moment_after, is_of_session_with, is_answered};
 
 use crate::manager::KeptAnswer;
 use crate::opening::Opening;
@@ -58,6 +60,8 @@ pub struct Connection {
 }
 
 impl Connection {
+    ghost use Rattle.cip_manager.specs.contracts.connection.Connection.{the_row};
+
     /// The connection that an opening asks for, which holds nothing yet.
     pub fn new(id: u32, now: u64, session: u32, asked: &Opening) -> Connection
         requires { CanBeOpened asked.now }
@@ -75,6 +79,14 @@ impl Connection {
         }
     }
 
+    /// The deadline that an item at a moment moves it to.
+    #[inline(always)]
+    pub fn deadline_from(&self, now: u64) -> u64
+        ensures { result ≡ moment_after now self.now.timeout }
+    {
+        moment_after(now, self.timeout)
+    }
+
     /// Whether a Forward_Close of a session with this triad means it.
     pub fn is_closed_by(&self, session: u32, triad: Triad) -> bool
         ensures { result ≡ is_of_session_with session triad self.now }
@@ -90,17 +102,39 @@ impl Connection {
     {
         let received = self.target.receive(router, item);
         if received != Received::Dropped {
-            self.deadline = moment_after(now, self.timeout);
+            self.deadline = self.deadline_from(now);
         }
         received
     }
 
-    /// What answers the connection's last request, where one was executed.
+    /// Gives an item to the target, at a moment, and lends what answers it: nothing where it is dropped.
     #[inline(always)]
-    pub fn answer(&self) -> Option<KeptAnswer<'_>>
-        ensures reply { option_map reply_in result ≡ held_reply self.now }
+    pub fn serve<R: Router>(
+        &mut self,
+        now: u64,
+        item: &[u8],
+        router: &mut R,
+    ) -> Option<KeptAnswer<'_>>
+        ensures* state { sem 𝓛 (Rests the_row self.entry (λ last. last
+            ≡ (turn_of_connection R.after R.answer self.old now item.now router.old).connection)) }
+        ensures answer { option_map reply_in result
+            ≡ answer_of (turn_of_connection R.after R.answer self.old now item.now router.old) }
+        ensures router { router.new ≡ (turn_of_connection R.after R.answer self.old now item.now router.old).router }
         ensures fits { IfSome result (λ answer. length answer.reply.now + SEQUENCE_COUNT_SIZE ≤ LARGEST_SIZE) }
     {
+        let received = self.receive(now, item, router);
+        self.answer_to(received)
+    }
+
+    /// What answers an item that the connection received: nothing where it was dropped, else what is kept.
+    #[inline(always)]
+    pub fn answer_to(&self, received: Received) -> Option<KeptAnswer<'_>>
+        ensures reply { option_map reply_in result ≡ (if is_answered received then held_reply self.now else None) }
+        ensures fits { IfSome result (λ answer. length answer.reply.now + SEQUENCE_COUNT_SIZE ≤ LARGEST_SIZE) }
+    {
+        if received == Received::Dropped {
+            return None;
+        }
         let kept = self.target.kept()?;
         Some(KeptAnswer {
             id: self.t_to_o_id,

@@ -16,6 +16,7 @@ mod manager;
 mod opening;
 mod reply;
 mod search;
+mod slots;
 mod table;
 
 pub use index::Steps;

@@ -187,8 +187,7 @@ impl Manager {
         // With its count the reply has no more bytes than the largest size.
         ensures fits { IfSome result (λ answer. length answer.reply.now + SEQUENCE_COUNT_SIZE ≤ LARGEST_SIZE) }
     {
-        let place = self.table.receive(now, session, id, item, router)?;
-        self.table.answer(place)
+        self.table.receive(now, session, id, item, router)
     }
 
     /// Whether a connection with an O->T ID is open, whichever session opened it. Each comparison of an ID with it adds

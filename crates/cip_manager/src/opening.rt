@@ -173,5 +173,8 @@ fn key_refusal(device: &Device, key: Option<Key>) -> Option<ExtendedStatus>
 fn is_message_router(path: &Path) -> bool
     ensures { result ≡ is_message_router path.now }
 {
-    path.class == MESSAGE_ROUTER && path.instance == 1 && path.attribute.is_none() && path.member.is_none()
+    path.class == MESSAGE_ROUTER
+        && path.instance == 1
+        && path.attribute.is_none()
+        && path.member.is_none()
 }

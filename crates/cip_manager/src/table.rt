@@ -3,10 +3,12 @@ ghost use Rattle.std.specs.Prelude.{◌≡◌, ◌≤◌, ◌+◌, ◌-◌, ◌<
 ghost use Rattle.std.specs.Prelude.{IfOk, IfSome, IfNone};
 ghost use Rattle.std.specs.Option.{option_map};
 ghost use Rattle.std.specs.List.{list_any, remove};
+ghost use Rattle.std.specs.Borrow.{sem};
+ghost use Rattle.std.specs.Io.BufRead.{Rests};
 ghost use Rattle.cip_manager.specs.declared.connection.Connection.{Connection as OpenConnection};
 ghost use Rattle.cip_manager.specs.Connection.{has_id, is_open_at};
 ghost use Rattle.cip_manager.specs.Index.{binary_digits};
-ghost use Rattle.cip_manager.specs.Items.{view as reply_in, held_reply, item_turn, IsAt};
+ghost use Rattle.cip_manager.specs.Items.{view as reply_in, item_turn};
 ghost use Rattle.cip_manager.specs.Table.{is_in, no_entry, AreBelow, AreOpenUntil};
 
 use crate::connection::Connection;
@@ -14,10 +16,9 @@ use crate::group::Group;
 use crate::index::{Index, Steps};
 use crate::manager::KeptAnswer;
 use crate::search::place_of;
+use crate::slots::Slots;
 use cip_bytes::protocol::{LARGEST_SIZE, SEQUENCE_COUNT_SIZE};
-use cip_class3::Received;
 use cip_objects::Router;
-use slab::Slab;
 use std::alloc::{AllocError, Global};
 use std::marker::Model;
 
@@ -28,7 +29,7 @@ pub struct Table {
     // No open connection's deadline is before this moment.
     earliest: u64,
     index: Index,
-    connections: Slab<Connection>,
+    connections: Slots,
 }
 
 impl Model for Table {
@@ -45,6 +46,8 @@ impl Model for Table {
 }
 
 impl Table {
+    ghost use Rattle.cip_manager.specs.contracts.table.Table.{the_row};
+
     /// A table with no connection. All its memory is taken here.
     pub fn new(alloc: Global, places: u16) -> Result<Table, AllocError>
         requires from { 1 ≤ places }
@@ -55,7 +58,7 @@ impl Table {
             places,
             earliest: u64::MAX,
             index: Index::new(),
-            connections: Slab::with_capacity(alloc, usize::from(places))?,
+            connections: Slots::new(alloc, places)?,
         })
     }
 
@@ -109,7 +112,7 @@ impl Table {
     {
         let id = connection.o_to_t_id;
         self.earliest = self.earliest.min(connection.deadline);
-        let key = self.connections.insert_reserved(connection);
+        let key = self.connections.insert(connection);
         self.index.push(id, key);
     }
 
@@ -140,8 +143,8 @@ impl Table {
         self.end_overdue(now);
     }
 
-    /// Gives an item to the connection that a session and an O->T ID name, at a moment: the place of that
-    /// connection, if it answers.
+    /// Gives an item to the connection that a session and an O->T ID name, at a moment, and lends what answers it, from
+    /// that connection.
     #[inline(always)]
     pub fn receive<R: Router>(
         &mut self,
@@ -150,35 +153,30 @@ impl Table {
         id: u32,
         item: &[u8],
         router: &mut R,
-    ) -> Option<usize>
-        ensures at { IsAt result
-            (item_turn R.after R.answer self.old.connections now session id item.now router.old)
-            self.new.connections router.new }
-        ensures places { self.new.places ≡ self.old.places }
-        ensures silent { IfNone result ((self.new ≡ self.old) × (router.new ≡ router.old)) }
+    ) -> Option<KeptAnswer<'_>>
+        ensures* state { sem 𝓛 (Rests the_row self.entry (λ last.
+            (last ≡ record self.old {
+              connections =
+                  (item_turn R.after R.answer self.old.connections now session id item.now router.old).connections;
+            })
+            × IfNone result (last ≡ self.old))) }
+        ensures silent { IfNone result (router.new ≡ router.old) }
+        ensures answer { option_map reply_in result
+            ≡ (item_turn R.after R.answer self.old.connections now session id item.now router.old).reply }
+        ensures router { router.new
+            ≡ (item_turn R.after R.answer self.old.connections now session id item.now router.old).router }
+        ensures fits { IfSome result (λ answer. length answer.reply.now + SEQUENCE_COUNT_SIZE ≤ LARGEST_SIZE) }
     {
-        let place = place_of(&self.index, id, &mut Steps::default())?;
-        let connection = &mut self.connections[self.index.key(place)];
+        let Some(place) = place_of(&self.index, id, &mut Steps::default()) else {
+            return None;
+        };
+        let key = self.index.key(place);
+        let connection = self.connections.at(key);
         if connection.session != session {
             return None;
         }
-        let received = connection.receive(now, item, router);
-        self.earliest = self.earliest.min(connection.deadline);
-        match received {
-            Received::Dropped => None,
-            Received::Repeated | Received::Executed => Some(place),
-        }
-    }
-
-    /// What answers the last request of the connection at a place, where one was executed.
-    #[inline(always)]
-    pub fn answer(&self, place: usize) -> Option<KeptAnswer<'_>>
-        requires { place < length self.now.connections }
-        ensures reply { (d : OpenConnection) →
-            option_map reply_in result ≡ held_reply (slice_index_or self.now.connections place d) }
-        ensures fits { IfSome result (λ answer. length answer.reply.now + SEQUENCE_COUNT_SIZE ≤ LARGEST_SIZE) }
-    {
-        self.at(place).answer()
+        self.earliest = self.earliest.min(connection.deadline_from(now));
+        self.connections.serve(key, now, item, router)
     }
 
     /// The connection at a place.
@@ -187,7 +185,7 @@ impl Table {
         requires { place < length self.now.connections }
         ensures { (d : OpenConnection) → result.now ≡ slice_index_or self.now.connections place d }
     {
-        &self.connections[self.index.key(place)]
+        self.connections.at(self.index.key(place))
     }
 
     /// Ends the connections whose deadline is at or before a moment, and finds the earliest deadline of the others.

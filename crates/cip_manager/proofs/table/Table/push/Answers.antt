@@ -7,8 +7,8 @@ use Rattle.cip_manager.proofs.DeadlineLemmas.{AreOpenUntil-push}
 use Rattle.cip_manager.proofs.SlotLemmas.{leaves-place, ids-below, Shows-push}
 use Rattle.cip_manager.proofs.table.Table.push.Goals as goal
 
-pub insert_reserved-key-requires : goal.insert_reserved-key-requires
-insert_reserved-key-requires c =
+pub insert-key-requires : goal.insert-key-requires
+insert-key-requires c =
     let left = leaves-place c.self.inside.connections c.self.inside.index c.args.self.now.connections c.args.self.now.places c.self.invariant.named (ap (λ t. t.connections) c.self.view_is) c.requires.place in
     omega (arith, left, ap (λ t. t.places) c.self.view_is, c.self.invariant.others, c.self.invariant.room)
 
@@ -25,7 +25,7 @@ push-requires-clause-above c =
 -- the new entry names the new connection
 pub invariant_of-self : goal.invariant_of-self
 invariant_of-self c =
-    let put = c.insert_reserved-key in
+    let put = c.insert-key in
     let shows = Shows-push c.self.inside.connections put.new.self put.result (Some c.args.connection) put.ensures.updates c.self.inside.index c.args.connection put.ensures.was_vacant refl c.self.invariant.named in
     let longer = ap length c.push.ensures ∙ length_push c.self.inside.index (record { id = c.args.connection.o_to_t_id; key = put.result }) in
     let left = leaves-place c.self.inside.connections c.self.inside.index c.args.self.now.connections c.args.self.now.places c.self.invariant.named (ap (λ t. t.connections) c.self.view_is) c.requires.place in
@@ -44,7 +44,7 @@ invariant_of-self c =
 
 pub returns-clause-pushed : goal.returns-clause-pushed
 returns-clause-pushed c =
-    let put = c.insert_reserved-key in
+    let put = c.insert-key in
     let shows = Shows-push c.self.inside.connections put.new.self put.result (Some c.args.connection) put.ensures.updates c.self.inside.index c.args.connection put.ensures.was_vacant refl c.self.invariant.named in
     let after = ap (listed put.new.self) c.push.ensures ∙ (shows.connections ∙ ap (λ t. t.connections ++ c.args.connection ∷ []) c.self.view_is) in
     λ j. record { places = ap (λ t. t.places) c.self.view_is j; connections = after j }
