@@ -87,16 +87,16 @@ pub record Come (asked : Asked) (old new : Ends) (r : Result Step AskFault) : Ty
   pub more : IsAwaited r → (rest ≡ []) × Hears (begins_at asked old) old.client.held fed new.client.held exchange
 
 -- a read gave so many bytes
-pub size_read : (count : ℕ) (into : List ℕ) → count ≤ 4096 → length into ≡ 4096 → length (take count into) ≡ count
-size_read count into within size = length-take-le count into (omega arith)
+pub size_read : (size : ℕ) (into : List ℕ) → size ≤ 4096 → length into ≡ 4096 → length (take size into) ≡ size
+size_read size into within room = length-take-le size into (omega arith)
 
 -- a further piece was read and heard
-pub come_on : (asked : Asked) (step : Step) (old mid new : Ends) (piece : List ℕ) (count : ℕ) (r : Result Step AskFault)
+pub come_on : (asked : Asked) (step : Step) (old mid new : Ends) (piece : List ℕ) (size : ℕ) (r : Result Step AskFault)
     → Come asked old mid (Ok step) → is_awaiting (stand_of step) ≡ true → Consumes mid.left new.left piece
-    → length piece ≡ count → 0 < count → count ≤ 4096
+    → length piece ≡ size → 0 < size → size ≤ 4096
     → (IsPartial mid.client.held → (sent : List Frame) → IsHeardPiece asked step piece (held_in mid) (held_in new) r sent)
     → Come asked old new r
-come_on asked step old mid new piece count r c waits consumed size some few pieces =
+come_on asked step old mid new piece size r c waits consumed all some few pieces =
     let sent : List Frame = c.came.frames in
     let p : IsHeardPiece asked step piece (held_in mid) (held_in new) r sent = pieces (c.more waits).1.partial sent in
     let h : Hears (begins_at asked old) old.client.held c.fed mid.client.held (now_held asked step (held_in mid) sent)

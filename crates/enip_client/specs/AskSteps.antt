@@ -188,8 +188,8 @@ pub record IsHeardPiece (asked : Asked) (step : Step) (piece : List ℕ) (old ne
 
 -- What a read came to.
 abbrev pub IsRead : Option (List ℕ) → Option (List ℕ) → ℕ → ℕ → List ℕ → Result ℕ AskFault → Type 0
-IsRead before after reads_before reads_after into (Ok count) =
-    Consumes before after (take count into) × (0 < count) × (reads_after ≡ suc reads_before)
+IsRead before after reads_before reads_after into (Ok size) =
+    Consumes before after (take size into) × (0 < size) × (reads_after ≡ suc reads_before)
 IsRead before after reads_before reads_after into (Err ask_faults.Ended) = Consumes before after [] × IsAtEnd after
 IsRead before after reads_before reads_after into (Err ask_faults.Read) = Consumes before after []
 IsRead before after reads_before reads_after into (Err ask_faults.Spent) =

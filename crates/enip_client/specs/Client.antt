@@ -61,7 +61,7 @@ news_in (heards.Accepted bytes) = Accepted bytes.now
 news_in (heards.Refused status extended) = Refused status extended
 news_in heards.Closed = Closed
 
--- What was found in the bytes of a frame: a reply stands from one place to another.
+-- What was found in the bytes of a frame: a reply stands from one index to another.
 abbrev pub news_at : List ℕ → Found → News
 news_at frame founds.Nothing = Nothing
 news_at frame founds.Registered = Registered
@@ -71,15 +71,15 @@ news_at frame (founds.Accepted from to) = Accepted (slice_range frame from to)
 news_at frame (founds.Refused status extended) = Refused status extended
 news_at frame founds.Closed = Closed
 
--- The places are within so many bytes.
+-- The indices are within so many bytes.
 abbrev pub IsWithin : ℕ → Found → Type 0
-IsWithin count founds.Nothing = ⊤
-IsWithin count founds.Registered = ⊤
-IsWithin count founds.Opened = ⊤
-IsWithin count (founds.Reply from to) = (from ≤ to) × (to ≤ count)
-IsWithin count (founds.Accepted from to) = (from ≤ to) × (to ≤ count)
-IsWithin count (founds.Refused status extended) = ⊤
-IsWithin count founds.Closed = ⊤
+IsWithin size founds.Nothing = ⊤
+IsWithin size founds.Registered = ⊤
+IsWithin size founds.Opened = ⊤
+IsWithin size (founds.Reply from to) = (from ≤ to) × (to ≤ size)
+IsWithin size (founds.Accepted from to) = (from ≤ to) × (to ≤ size)
+IsWithin size (founds.Refused status extended) = ⊤
+IsWithin size founds.Closed = ⊤
 
 -- What was found in a frame, and the client after it, are the turn's.
 pub record IsHeard (f : Frame) (s : State) (found : Found) (turned : Turned) : Type 0 where
@@ -87,10 +87,10 @@ pub record IsHeard (f : Frame) (s : State) (found : Found) (turned : Turned) : T
   pub news : news_at (frame f) found ≡ turned.news
   pub within : IsWithin (length (frame f)) found
 
--- The bytes stand in a text from a place on.
+-- The bytes stand in a text from an index on.
 abbrev pub StandsAt : ℕ → List ℕ → List ℕ → Type 0
-StandsAt place bytes text = (place + length bytes ≤ length text)
-    × (slice_range text place (place + length bytes) ≡ bytes)
+StandsAt index bytes text = (index + length bytes ≤ length text)
+    × (slice_range text index (index + length bytes) ≡ bytes)
 
 -- The code's answer, apart from where it lies.
 abbrev pub answer_of : RepliedTo → Answer

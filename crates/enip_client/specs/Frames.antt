@@ -18,9 +18,9 @@ use Rattle.enip_client.specs.declared.wants.Wants.{Wants}
 
 -- The header of a frame with so many bytes of data: no status, no options, and a number as its context.
 abbrev pub sent_header : Command → ℕ → ℕ → ℕ → Header
-sent_header command session number count = record {
+sent_header command session number size = record {
   command = command_number command;
-  length = count;
+  length = size;
   session = session;
   status = 0;
   context = le 8 number;

@@ -50,8 +50,8 @@ pub fn ask<R: Source, W: Sink>(
     let mut step = Step::Registering;
     let mut buffer = [0; LONGEST_READ];
     while step.awaits() {
-        let count = read(reader, &mut buffer)?;
-        step = hear_piece(client, asked, step, &buffer[..count], writer, reply)?;
+        let size = read(reader, &mut buffer)?;
+        step = hear_piece(client, asked, step, &buffer[..size], writer, reply)?;
     }
     Ok(())
 }
@@ -65,8 +65,8 @@ fn read<R: Source>(reader: &mut R, into: &mut [u8; LONGEST_READ]) -> Result<usiz
     requires { R.failures reader.old < u64.MAX }
     ensures bytes { IsRead (R.left reader.old) (R.left reader.new) (R.reads reader.old) (R.reads reader.new)
         into.new result }
-    ensures count { IfOk result (λ count. count ≤ LONGEST_READ) }
-    ensures size { length into.new ≡ LONGEST_READ }
+    ensures within { IfOk result (λ size. size ≤ LONGEST_READ) }
+    ensures room { length into.new ≡ LONGEST_READ }
     ensures counted { IfOk result (λ _. R.reads reader.old < u64.MAX) }
     ensures failures { R.failures reader.new ≡ R.failures reader.old + read_faults result }
 {
@@ -76,7 +76,7 @@ fn read<R: Source>(reader: &mut R, into: &mut [u8; LONGEST_READ]) -> Result<usiz
     match reader.read(into) {
         // a read of no byte is the end of the stream
         Ok(0) => Err(AskFault::Ended),
-        Ok(count) => Ok(count),
+        Ok(size) => Ok(size),
         Err(_) => Err(AskFault::Read),
     }
 }

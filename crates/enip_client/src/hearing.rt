@@ -48,7 +48,7 @@ pub enum Heard<'a> {
     Closed,
 }
 
-/// What was found in a frame, whose reply stands from one place to another among the frame's bytes.
+/// What was found in a frame, whose reply stands from one index to another among the frame's bytes.
 #[derive(Clone, Copy, Debug)]
 pub(crate) enum Found {
     Nothing,
@@ -278,7 +278,7 @@ impl State {
 /// The reply that the data of a SendRRData have to a request of this service.
 fn answer_to(service: u8, body: &[u8]) -> Option<Answer<'_>>
     ensures answer { option_map answer_of result ≡ answer_to service body.now }
-    ensures place { IfSome result (λ answer. StandsAt 16 answer.bytes.now body.now) }
+    ensures stands { IfSome result (λ answer. StandsAt 16 answer.bytes.now body.now) }
 {
     let Ok(bytes) = rr_body(body) else {
         return None;

@@ -64,14 +64,14 @@ const LONGEST_MANAGER_REQUEST: usize = 50;
 pub(crate) type ManagerRequest = ArrayVec<u8, LONGEST_MANAGER_REQUEST>;
 
 /// Writes the header of a frame with so many bytes of data.
-fn begin_frame(command: Command, session: u32, number: u64, count: usize, sent: &mut Sent)
-    requires { count ≤ LONGEST_DATA }
-    ensures header { sent.new.items ≡ header_spelling (sent_header command session number count) }
+fn begin_frame(command: Command, session: u32, number: u64, size: usize, sent: &mut Sent)
+    requires { size ≤ LONGEST_DATA }
+    ensures header { sent.new.items ≡ header_spelling (sent_header command session number size) }
     ensures size { array_vec_len sent.new ≡ 24 }
 {
     let header = Header {
         command: command.number(),
-        length: count as u16,
+        length: size as u16,
         session,
         status: 0,
         context: number.to_le_bytes(),
@@ -106,8 +106,8 @@ pub fn write_request(session: u32, number: u64, request: &[u8], sent: &mut Sent)
     requires { length request.now ≤ UNCONNECTED_ROOM }
     ensures { sent.new.items ≡ frame (request_frame session number request.now) }
 {
-    let count = UNCONNECTED_HEAD + request.len();
-    begin_frame(Command::SendRRData, session, number, count, sent);
+    let size = UNCONNECTED_HEAD + request.len();
+    begin_frame(Command::SendRRData, session, number, size, sent);
     let _ = write_rr_body(sent, request);
 }
 

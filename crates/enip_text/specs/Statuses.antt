@@ -10,8 +10,8 @@ use Rattle.enip_text.specs.declared.asking.AskingStop.{AskingStop}
 use Rattle.enip_text.specs.declared.asking.AskingStop.TheVariants as asking
 use Rattle.enip_text.specs.declared.replaying.ReplayStop.{ReplayStop}
 use Rattle.enip_text.specs.declared.replaying.ReplayStop.TheVariants as replays
-use Rattle.enip_text.specs.declared.showing.Stop.{Stop}
-use Rattle.enip_text.specs.declared.showing.Stop.TheVariants.{Program}
+use Rattle.enip_text.specs.declared.showing.ShowingStop.{ShowingStop}
+use Rattle.enip_text.specs.declared.showing.ShowingStop.TheVariants.{Program}
 
 -- The exit status of a program that ends so.
 abbrev pub exit_status : Fault → ℕ
@@ -24,15 +24,15 @@ abbrev pub replied_status : Replied → ℕ
 replied_status replied.Done = 0
 replied_status replied.Refused = 6
 
-abbrev pub stop_status : AskingStop → ℕ
-stop_status asking.Hex = 2
-stop_status (asking.Client fault) = 7
-stop_status (asking.Program fault) = exit_status fault
+abbrev pub asking_stop_status : AskingStop → ℕ
+asking_stop_status asking.Hex = 2
+asking_stop_status (asking.Client fault) = 7
+asking_stop_status (asking.Program fault) = exit_status fault
 
 -- The exit status of a program that asked: that of what was told, or of why nothing was.
 abbrev pub asking_status : Result Replied AskingStop → ℕ
 asking_status (Ok replied) = replied_status replied
-asking_status (Err stop) = stop_status stop
+asking_status (Err stop) = asking_stop_status stop
 
 -- The exit status of a replay that ends early.
 abbrev pub replay_stop_status : ReplayStop → ℕ
@@ -61,6 +61,6 @@ fault_of_kind OutOfMemory = Memory
 fault_of_kind kind = Device
 
 -- A line is shown no further, or else a device or memory failed.
-abbrev pub IsStopOfDevices : Stop → Type 0
+abbrev pub IsStopOfDevices : ShowingStop → Type 0
 IsStopOfDevices (Program fault) = IsOfDevices fault
 IsStopOfDevices _ = ⊤

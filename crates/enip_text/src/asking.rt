@@ -4,7 +4,7 @@ ghost use Rattle.std.specs.Prelude.{◌≡◌, ◌<◌, None, IfOk, IfErr};
 ghost use Rattle.cip_message.specs.PathWriting.{short};
 ghost use Rattle.enip_text.specs.Asking.{IsRequested, IsReplyTold, IsUntold, IsOfDevice, IsOfExchange};
 ghost use Rattle.enip_text.specs.Digits.{bytes_spelled};
-ghost use Rattle.enip_text.specs.Statuses.{asking_status, replied_status, stop_status};
+ghost use Rattle.enip_text.specs.Statuses.{asking_status, replied_status, asking_stop_status};
 
 use crate::digits::{decode, print_digits};
 use crate::fault::Fault;
@@ -117,7 +117,7 @@ pub enum AskingStop {
 impl AskingStop {
     /// The exit status of the program.
     pub fn exit_status(self) -> u8
-        ensures { result ≡ stop_status self }
+        ensures { result ≡ asking_stop_status self }
     {
         match self {
             AskingStop::Hex => 2,

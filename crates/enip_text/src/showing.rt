@@ -54,7 +54,7 @@ fn run<R: Read + Drop, W: Write + Drop>(alloc: Global, input: R, output: W) -> R
 
 /// Why a line is shown no further.
 #[derive(Clone, Copy, Debug, PartialEq, Eq, Error)]
-enum Stop {
+enum ShowingStop {
     /// It is not hexadecimal.
     #[error("hex")]
     Hex,
@@ -78,53 +78,53 @@ enum Stop {
     Program(Fault),
 }
 
-impl From<Fault> for Stop {
-    ghost use Rattle.enip_text.specs.declared.showing.Stop.TheVariants.{Program};
+impl From<Fault> for ShowingStop {
+    ghost use Rattle.enip_text.specs.declared.showing.ShowingStop.TheVariants.{Program};
 
     ghost from_gives = { λ fault stop. stop ≡ Program fault };
 
-    fn from(fault: Fault) -> Stop {
-        Stop::Program(fault)
+    fn from(fault: Fault) -> ShowingStop {
+        ShowingStop::Program(fault)
     }
 }
 
-impl From<io::Error> for Stop {
+impl From<io::Error> for ShowingStop {
     ghost from_gives = { λ _ stop. IsStopOfDevices stop };
 
-    fn from(error: io::Error) -> Stop {
-        Stop::Program(Fault::from(error))
+    fn from(error: io::Error) -> ShowingStop {
+        ShowingStop::Program(Fault::from(error))
     }
 }
 
-impl From<CpfFault> for Stop {
+impl From<CpfFault> for ShowingStop {
     ghost from_gives = { λ _ stop. IsStopOfDevices stop };
 
-    fn from(fault: CpfFault) -> Stop {
-        Stop::Cpf(fault)
+    fn from(fault: CpfFault) -> ShowingStop {
+        ShowingStop::Cpf(fault)
     }
 }
 
-impl From<RequestFault> for Stop {
+impl From<RequestFault> for ShowingStop {
     ghost from_gives = { λ _ stop. IsStopOfDevices stop };
 
-    fn from(fault: RequestFault) -> Stop {
-        Stop::Request(fault)
+    fn from(fault: RequestFault) -> ShowingStop {
+        ShowingStop::Request(fault)
     }
 }
 
-impl From<PathFault> for Stop {
+impl From<PathFault> for ShowingStop {
     ghost from_gives = { λ _ stop. IsStopOfDevices stop };
 
-    fn from(fault: PathFault) -> Stop {
-        Stop::Path(fault)
+    fn from(fault: PathFault) -> ShowingStop {
+        ShowingStop::Path(fault)
     }
 }
 
-impl From<ReplyFault> for Stop {
+impl From<ReplyFault> for ShowingStop {
     ghost from_gives = { λ _ stop. IsStopOfDevices stop };
 
-    fn from(fault: ReplyFault) -> Stop {
-        Stop::Reply(fault)
+    fn from(fault: ReplyFault) -> ShowingStop {
+        ShowingStop::Reply(fault)
     }
 }
 
@@ -139,17 +139,17 @@ struct Printer<W: Write + Drop> {
 
 impl<W: Write + Drop> Printer<W> {
     /// Shows a line up to its first fault.
-    fn show_line(&mut self, text: &[u8]) -> Result<(), Stop>
+    fn show_line(&mut self, text: &[u8]) -> Result<(), ShowingStop>
         ensures { IfErr result IsStopOfDevices }
     {
         if !decode(text, &mut self.digits, &mut self.bytes)? {
-            return Err(Stop::Hex);
+            return Err(ShowingStop::Hex);
         }
         self.reader.clear();
         let taken = self.reader.push(self.bytes.as_slice());
         match self.reader.state() {
             Held::Frame(frame) if taken == self.bytes.len() => show_frame(&mut self.output, frame),
-            _ => Err(Stop::Header),
+            _ => Err(ShowingStop::Header),
         }
     }
 
@@ -159,7 +159,7 @@ impl<W: Write + Drop> Printer<W> {
     {
         match self.show_line(text) {
             Ok(()) => Ok(()),
-            Err(Stop::Program(fault)) => Err(fault),
+            Err(ShowingStop::Program(fault)) => Err(fault),
             Err(stop) => {
                 writeln!(self.output, "fault {stop}")?;
                 Ok(())
@@ -182,7 +182,7 @@ impl<W: Write + Drop> TakeLines for Printer<W> {
 }
 
 /// Shows a frame: its header, and what it carries of the router's messages.
-fn show_frame<W: Write>(output: &mut W, frame: FrameView<'_>) -> Result<(), Stop>
+fn show_frame<W: Write>(output: &mut W, frame: FrameView<'_>) -> Result<(), ShowingStop>
     ensures { IfErr result IsStopOfDevices }
 {
     print_header(output, &frame.header)?;
@@ -213,7 +213,7 @@ fn print_header<W: Write>(output: &mut W, header: &Header) -> io::Result<()> {
 }
 
 /// Prints the type and the length of each item of a body, which is known to have its items.
-fn print_items<W: Write>(output: &mut W, body: &[u8]) -> Result<(), Stop>
+fn print_items<W: Write>(output: &mut W, body: &[u8]) -> Result<(), ShowingStop>
     ensures { IfErr result IsStopOfDevices }
 {
     let Some(items) = body.get(BEFORE_ITEMS..) else {
@@ -232,18 +232,18 @@ fn print_items<W: Write>(output: &mut W, body: &[u8]) -> Result<(), Stop>
 
 /// Shows the data of a connected item: the sequence count, and the message behind it. (Volume 1, transport
 /// class 3.)
-fn show_counted<W: Write>(output: &mut W, item: &[u8]) -> Result<(), Stop>
+fn show_counted<W: Write>(output: &mut W, item: &[u8]) -> Result<(), ShowingStop>
     ensures { IfErr result IsStopOfDevices }
 {
     let [low, high, message @ ..] = item else {
-        return Err(Stop::from(RequestFault::Short));
+        return Err(ShowingStop::from(RequestFault::Short));
     };
     writeln!(output, "count {}", u16::from_le_bytes([*low, *high]))?;
     show_message(output, message)
 }
 
 /// Shows a message of the router: a reply where bit 7 of its first byte is set, else a request.
-fn show_message<W: Write>(output: &mut W, message: &[u8]) -> Result<(), Stop>
+fn show_message<W: Write>(output: &mut W, message: &[u8]) -> Result<(), ShowingStop>
     ensures { IfErr result IsStopOfDevices }
 {
     match message {
@@ -253,7 +253,7 @@ fn show_message<W: Write>(output: &mut W, message: &[u8]) -> Result<(), Stop>
 }
 
 /// Shows a request and where it goes.
-fn show_request<W: Write>(output: &mut W, message: &[u8]) -> Result<(), Stop>
+fn show_request<W: Write>(output: &mut W, message: &[u8]) -> Result<(), ShowingStop>
     ensures { IfErr result IsStopOfDevices }
 {
     let request = RequestView::read(message)?;
@@ -273,7 +273,7 @@ fn show_request<W: Write>(output: &mut W, message: &[u8]) -> Result<(), Stop>
 }
 
 /// Shows a reply, whose additional status words are printed as numbers of four digits.
-fn show_reply<W: Write>(output: &mut W, message: &[u8]) -> Result<(), Stop>
+fn show_reply<W: Write>(output: &mut W, message: &[u8]) -> Result<(), ShowingStop>
     ensures { IfErr result IsStopOfDevices }
 {
     let reply = ReplyView::read(message)?;

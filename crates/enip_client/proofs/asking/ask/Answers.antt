@@ -46,15 +46,15 @@ loop-asked-init g c =
           (subst (Appends (g.W.Sink.written c.args.writer.now) (g.W.Sink.written c.send.new.writer)) l.2 c.in_ok-send.ensures.written);
     }
 
-pub returns-in_err-count-clause-asked : goal.returns-in_err-count-clause-asked
-returns-in_err-count-clause-asked g c =
-    let p = err_from_is_err_and c.from_residual-in_err-count.result c.from_residual-in_err-count.ensures.1 in
+pub returns-in_err-size-clause-asked : goal.returns-in_err-size-clause-asked
+returns-in_err-size-clause-asked g c =
+    let p = err_from_is_err_and c.from_residual-in_err-size.result c.from_residual-in_err-size.ensures.1 in
     rw (p.1, p.2)
     (asked_read (record { request = c.args.request; connected = c.args.connected }) c.loop-asked.step
     (ends c.args.client.now (g.R.Source.left c.args.reader.now) (g.R.Source.reads c.args.reader.now) (g.W.Sink.written c.args.writer.now) c.args.reply.now.items)
     (ends c.loop-asked.client (g.R.Source.left c.loop-asked.reader) (g.R.Source.reads c.loop-asked.reader) (g.W.Sink.written c.loop-asked.writer) c.loop-asked.reply.items)
-    (g.R.Source.left c.read.new.reader) (g.R.Source.reads c.read.new.reader) c.read.new.into c.in_err-count.field-0.0
-    c.loop-asked.invariant.so_far (sym c.loop-asked-test.ensures) c.in_err-count.ensures.bytes)
+    (g.R.Source.left c.read.new.reader) (g.R.Source.reads c.read.new.reader) c.read.new.into c.in_err-size.field-0.0
+    c.loop-asked.invariant.so_far (sym c.loop-asked-test.ensures) c.in_err-size.ensures.bytes)
 
 pub returns-in_err-step-clause-asked : goal.returns-in_err-step-clause-asked
 returns-in_err-step-clause-asked g c =
@@ -67,25 +67,25 @@ returns-in_err-step-clause-asked g c =
     (ends c.args.client.now (g.R.Source.left c.args.reader.now) (g.R.Source.reads c.args.reader.now) (g.W.Sink.written c.args.writer.now) c.args.reply.now.items)
     (ends c.loop-asked.client (g.R.Source.left c.loop-asked.reader) (g.R.Source.reads c.loop-asked.reader) (g.W.Sink.written c.loop-asked.writer) c.loop-asked.reply.items)
     (ends c.hear_piece.new.client (g.R.Source.left c.read.new.reader) (g.R.Source.reads c.read.new.reader) (g.W.Sink.written c.hear_piece.new.writer) c.hear_piece.new.reply.items)
-    (take c.in_ok-count.count c.read.new.into) c.in_ok-count.count (Err c.in_err-step.field-0.0) c.loop-asked.invariant.so_far
-    (sym c.loop-asked-test.ensures) c.in_ok-count.ensures.bytes.0
-    (size_read c.in_ok-count.count c.read.new.into c.in_ok-count.ensures.count c.in_ok-count.ensures.size)
-    c.in_ok-count.ensures.bytes.1 c.in_ok-count.ensures.count
+    (take c.in_ok-size.size c.read.new.into) c.in_ok-size.size (Err c.in_err-step.field-0.0) c.loop-asked.invariant.so_far
+    (sym c.loop-asked-test.ensures) c.in_ok-size.ensures.bytes.0
+    (size_read c.in_ok-size.size c.read.new.into c.in_ok-size.ensures.within c.in_ok-size.ensures.room)
+    c.in_ok-size.ensures.bytes.1 c.in_ok-size.ensures.within
     c.in_err-step.ensures.heard))
 
 pub loop-asked-preserved : goal.loop-asked-preserved
 loop-asked-preserved g c = record {
-  read_failures = omega (arith, c.in_ok-count.ensures.failures, c.loop-asked.invariant.read_failures);
+  read_failures = omega (arith, c.in_ok-size.ensures.failures, c.loop-asked.invariant.read_failures);
   write_failures = omega (arith, c.in_ok-step.ensures.failures, c.loop-asked.invariant.write_failures);
   healthy = healthy_step c.hear_piece.new.client.state c.in_ok-step.step c.in_ok-step.ensures.healthy;
   so_far = come_on (record { request = c.args.request; connected = c.args.connected }) c.loop-asked.step
       (ends c.args.client.now (g.R.Source.left c.args.reader.now) (g.R.Source.reads c.args.reader.now) (g.W.Sink.written c.args.writer.now) c.args.reply.now.items)
       (ends c.loop-asked.client (g.R.Source.left c.loop-asked.reader) (g.R.Source.reads c.loop-asked.reader) (g.W.Sink.written c.loop-asked.writer) c.loop-asked.reply.items)
       (ends c.hear_piece.new.client (g.R.Source.left c.read.new.reader) (g.R.Source.reads c.read.new.reader) (g.W.Sink.written c.hear_piece.new.writer) c.hear_piece.new.reply.items)
-      (take c.in_ok-count.count c.read.new.into) c.in_ok-count.count (Ok c.in_ok-step.step) c.loop-asked.invariant.so_far
-      (sym c.loop-asked-test.ensures) c.in_ok-count.ensures.bytes.0
-      (size_read c.in_ok-count.count c.read.new.into c.in_ok-count.ensures.count c.in_ok-count.ensures.size)
-      c.in_ok-count.ensures.bytes.1 c.in_ok-count.ensures.count
+      (take c.in_ok-size.size c.read.new.into) c.in_ok-size.size (Ok c.in_ok-step.step) c.loop-asked.invariant.so_far
+      (sym c.loop-asked-test.ensures) c.in_ok-size.ensures.bytes.0
+      (size_read c.in_ok-size.size c.read.new.into c.in_ok-size.ensures.within c.in_ok-size.ensures.room)
+      c.in_ok-size.ensures.bytes.1 c.in_ok-size.ensures.within
       c.in_ok-step.ensures.heard;
 }
 

@@ -10,5 +10,5 @@ pub returns : goal.returns
 returns c =
     reply_heard c.args.self.now (frame_of c.args.frame) (answer_of c.in-Some.field-0)
     (answer_to c.args.service c.args.frame.body.now)
-    (sym c.answer_to.ensures.answer ∙ ap (option_map answer_of) c.in-Some.is) c.in-Some.ensures.place
+    (sym c.answer_to.ensures.answer ∙ ap (option_map answer_of) c.in-Some.is) c.in-Some.ensures.stands
     (omega (arith, c.ranges.frame))
