@@ -74,6 +74,13 @@ fn frame(alloc: Global, message: &[u8]) -> Result<Vec<u8>, Fail> {
     joined(alloc, &texts)
 }
 
+/// The frame with the opening of this service and these parameters.
+fn opening(alloc: Global, service: u8, parameters: &[u8]) -> Result<Vec<u8>, Fail> {
+    let texts: [&[u8]; 4] = [&[service], NAMED, parameters, ROUTER];
+    let message = joined(alloc, &texts)?;
+    frame(alloc, &message)
+}
+
 /// A registered client that wants these sizes.
 fn registered<A: Abort>(
     rt: &A,
@@ -99,10 +106,7 @@ fn registered<A: Abort>(
 #[test]
 fn openings_by_size(rt: HostRuntime) -> Result<(), Fail> {
     for (o_to_t, t_to_o, service, parameters) in &SIZES {
-        let service = [*service];
-        let texts: [&[u8]; 4] = [&service, NAMED, parameters, ROUTER];
-        let message = joined(rt.alloc(), &texts)?;
-        let wanted = frame(rt.alloc(), &message)?;
+        let wanted = opening(rt.alloc(), *service, parameters)?;
         let mut client = registered(&rt, rt.alloc(), *o_to_t, *t_to_o)?;
         assert_eq!(rt; client.open(), Ok(wanted.as_slice()));
     }

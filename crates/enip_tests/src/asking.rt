@@ -83,22 +83,21 @@ fn push_all(answers: &mut Vec<u8>, texts: &[&[u8]]) -> Result<(), Fail> {
 }
 
 /// What stands around the numbers of a SendRRData: its length, its context, and the count of its reply.
-const REPLY: [&[u8]; 3] = [
-    b"\x6f\0",
-    b"\0\x01\0\0\0\0\0\0\0",
-    b"\0\0\0\0\0\0\0\0\0\0\0\0\0\0\0\0\0\x02\0\0\0\0\0\xb2\0",
-];
+const REPLY_COMMAND: &[u8] = b"\x6f\0";
+
+const REPLY_SESSION: &[u8] = b"\0\x01\0\0\0\0\0\0\0";
+
+const REPLY_PACKET: &[u8] = b"\0\0\0\0\0\0\0\0\0\0\0\0\0\0\0\0\0\x02\0\0\0\0\0\xb2\0";
 
 fn push_reply(answers: &mut Vec<u8>, context: u8, reply: &[u8]) -> Result<(), Fail> {
     let count = u8::try_from(reply.len()).ok().ok_or("a short reply")?;
     let length = count.checked_add(16).ok_or("a short reply")?;
-    let [front, session, packet] = REPLY;
     let texts: [&[u8]; 7] = [
-        front,
+        REPLY_COMMAND,
         &[length],
-        session,
+        REPLY_SESSION,
         &[context],
-        packet,
+        REPLY_PACKET,
         &[count, 0],
         reply,
     ];
@@ -106,17 +105,16 @@ fn push_reply(answers: &mut Vec<u8>, context: u8, reply: &[u8]) -> Result<(), Fa
 }
 
 /// What stands around the numbers of a SendUnitData: its length, and the count of its item.
-const ITEM: [&[u8]; 2] = [
-    b"\x70\0",
+const ITEM_COMMAND: &[u8] = b"\x70\0";
+
+const ITEM_PACKET: &[u8] =
     b"\0\x01\0\0\0\0\0\0\0\0\0\0\0\0\0\0\0\0\0\0\0\0\0\0\0\0\0\x02\0\xa1\0\x04\0\
-        \x44\x33\x22\x11\xb1\0",
-];
+    \x44\x33\x22\x11\xb1\0";
 
 fn push_item(answers: &mut Vec<u8>, item: &[u8]) -> Result<(), Fail> {
     let count = u8::try_from(item.len()).ok().ok_or("a short item")?;
     let length = count.checked_add(20).ok_or("a short item")?;
-    let [front, packet] = ITEM;
-    let texts: [&[u8]; 5] = [front, &[length], packet, &[count, 0], item];
+    let texts: [&[u8]; 5] = [ITEM_COMMAND, &[length], ITEM_PACKET, &[count, 0], item];
     push_all(answers, &texts)
 }
 
@@ -579,21 +577,28 @@ fn zeros(alloc: Global, count: usize) -> Result<String, Fail> {
 }
 
 /// A device registers a session and opens a connection where one is asked for, and answers no more.
-fn check_length<A: Abort>(
+fn first_answers(connected: bool) -> &'static [Answer<'static>] {
+    if connected {
+        &[Answer::Bytes(REGISTERED), Answer::Reply(2, OPENED)]
+    } else {
+        &[Answer::Bytes(REGISTERED)]
+    }
+}
+
+/// It is asked with so many digits of data.
+fn check_length<'a, A: Abort>(
     rt: &A,
     alloc: Global,
-    digits: &str,
+    digits: &'a str,
     connected: bool,
     status: u8,
-    errors: &str,
+    errors: &'a str,
 ) -> Result<(), Fail> {
-    let both = [Answer::Bytes(REGISTERED), Answer::Reply(2, OPENED)];
-    let answers: &[Answer<'_>] = if connected { &both } else { &both[..1] };
     let row = Asked {
         name: "a request of the longest length, or a longer one",
         question: Question { digits, ..ADD },
         connected,
-        answers,
+        answers: first_answers(connected),
         room: 1_000,
         status,
         output: "",
