@@ -54,7 +54,7 @@ pub const CONNECTION_MANAGER: u16 = 0x06;
 pub const COUNTER: u16 = 0x64;
 
 /// What a frame asks for. (Volume 2, encapsulation commands.)
-#[derive(Clone, Copy)]
+#[derive(Clone, Copy, Debug, PartialEq, Eq)]
 pub enum Command {
     Nop = 0x0000,
     ListServices = 0x0004,
@@ -115,7 +115,7 @@ impl fmt::Display for Command {
 }
 
 /// A service of the Connection Manager. (Volume 1, Connection Manager services.)
-#[derive(Clone, Copy)]
+#[derive(Clone, Copy, Debug, PartialEq, Eq)]
 pub enum ManagerService {
     ForwardClose = 0x4e,
     ForwardOpen = 0x54,
@@ -161,7 +161,7 @@ impl fmt::Display for ManagerService {
 }
 
 /// The status in the header of an answer. (Volume 2, encapsulation status.)
-#[derive(Clone, Copy)]
+#[derive(Clone, Copy, Debug, PartialEq, Eq)]
 pub enum EncapsulationStatus {
     Success = 0x0000,
     UnsupportedCommand = 0x0001,
@@ -195,7 +195,7 @@ impl fmt::Display for EncapsulationStatus {
 }
 
 /// The general status of a router reply. (Volume 1, general status codes.)
-#[derive(Clone, Copy)]
+#[derive(Clone, Copy, Debug, PartialEq, Eq)]
 pub enum GeneralStatus {
     /// The service was done.
     Success = 0x00,
@@ -263,7 +263,7 @@ impl fmt::Display for GeneralStatus {
 
 /// Why a connection was refused: the additional word behind the general status "connection failure".
 /// (Volume 1, Connection Manager extended status codes.)
-#[derive(Clone, Copy)]
+#[derive(Clone, Copy, Debug, PartialEq, Eq)]
 pub enum ExtendedStatus {
     /// An open connection has the same connection serial, originator vendor and originator serial.
     DoubleOpen = 0x0100,
