@@ -7,46 +7,114 @@ ghost use Rattle.enip_wire.specs.Devices.{failures_in};
 
 use enip_wire::{Failed, MemorySink, Sink, Source, write_all};
 use std::io::Read;
+use std::process::Abort;
 use std::test::*;
 
 /// Ten bytes to read.
 const BYTES: [u8; 10] = [0, 1, 2, 3, 4, 5, 6, 7, 8, 9];
 
+/// Writes a front of the room, and compares the whole room then.
+fn check_room<A: Abort>(rt: &A, room: &mut [u8], front: &[u8], wanted: &[u8]) {
+    let mut sink = MemorySink::new(room);
+    assert_eq!(rt; sink.write(front), Ok(front.len()));
+    assert_eq!(rt; &*room, wanted);
+}
+
 /// The slice behind a sink: what lies behind the bytes that were written is as it was.
 #[test]
-fn the_rest_of_the_slice_stays(rt: HostRuntime) -> Result<(), Fail> {
+fn the_rest_of_the_slice_stays(rt: HostRuntime) {
     let mut room = [0xff; 6];
-    let mut sink = MemorySink::new(&mut room);
-    assert_eq!(rt; sink.write(&BYTES[..4]), Ok(4));
-    assert_eq!(rt; room.as_slice(), [0, 1, 2, 3, 0xff, 0xff].as_slice());
-    Ok(())
+    check_room(&rt, &mut room, &BYTES[..4], &[0, 1, 2, 3, 0xff, 0xff]);
+}
+
+/// A text that is written, what is told, what the sink has then, and how many of its writes have failed.
+#[derive(Clone, Copy)]
+struct Text<'a> {
+    text: &'a [u8],
+    told: Result<(), Failed>,
+    written: &'a [u8],
+    failures: u64,
+}
+
+/// A sink: its room, the most that a write takes, and after how many one fails; and texts that are written to it.
+struct Written<'a> {
+    room: usize,
+    largest: usize,
+    failing: Option<u64>,
+    texts: &'a [Text<'a>],
+}
+
+static WRITTEN: [Written<'static>; 3] = [
+    // All is written, and then nothing.
+    Written {
+        room: 10,
+        largest: 3,
+        failing: None,
+        texts: &[
+            Text {
+                text: &BYTES,
+                told: Ok(()),
+                written: &BYTES,
+                failures: 0,
+            },
+            Text {
+                text: &[],
+                told: Ok(()),
+                written: &BYTES,
+                failures: 0,
+            },
+        ],
+    },
+    // A front is written: the third write fails, or the room ends.
+    Written {
+        room: 10,
+        largest: 3,
+        failing: Some(2),
+        texts: &[Text {
+            text: &BYTES,
+            told: Err(Failed),
+            written: &[0, 1, 2, 3, 4, 5],
+            failures: 1,
+        }],
+    },
+    Written {
+        room: 7,
+        largest: usize::MAX,
+        failing: None,
+        texts: &[Text {
+            text: &BYTES,
+            told: Err(Failed),
+            written: &[0, 1, 2, 3, 4, 5, 6],
+            failures: 1,
+        }],
+    },
+];
+
+fn check_text<A: Abort>(rt: &A, sink: &mut MemorySink<'_>, row: Text<'_>) {
+    assert!(rt; sink.failures() < u64::MAX);
+    assert_eq!(rt; write_all(sink, row.text), row.told);
+    assert_eq!(rt; sink.written(), row.written);
+    assert_eq!(rt; sink.failures(), row.failures);
+}
+
+fn check_written<A: Abort>(rt: &A, room: &mut [u8], row: &Written<'_>) {
+    assert!(rt; 0 < row.largest);
+    let mut sink = MemorySink::new(room).with_largest_count(row.largest);
+    if let Some(writes) = row.failing {
+        sink = sink.with_failure_after(writes);
+    }
+    for text in row.texts {
+        check_text(rt, &mut sink, *text);
+    }
 }
 
 #[test]
-fn all_is_written(rt: HostRuntime) -> Result<(), Fail> {
-    let mut room = [0; 10];
-    let mut sink = MemorySink::new(&mut room).with_largest_count(3);
-    assert_eq!(rt; write_all(&mut sink, &BYTES), Ok(()));
-    assert_eq!(rt; sink.written(), BYTES.as_slice());
-    assert_eq!(rt; write_all(&mut sink, &[]), Ok(()));
-    assert_eq!(rt; sink.failures(), 0);
-    Ok(())
-}
-
-#[test]
-fn a_front_is_written(rt: HostRuntime) -> Result<(), Fail> {
-    let mut room = [0; 10];
-    let mut sink = MemorySink::new(&mut room)
-        .with_largest_count(3)
-        .with_failure_after(2);
-    assert_eq!(rt; write_all(&mut sink, &BYTES), Err(Failed));
-    assert_eq!(rt; sink.written(), [0, 1, 2, 3, 4, 5].as_slice());
-    assert_eq!(rt; sink.failures(), 1);
-    let mut room = [0; 7];
-    let mut sink = MemorySink::new(&mut room);
-    assert_eq!(rt; write_all(&mut sink, &BYTES), Err(Failed));
-    assert_eq!(rt; sink.written(), [0, 1, 2, 3, 4, 5, 6].as_slice());
-    Ok(())
+fn texts_are_written(rt: HostRuntime) {
+    for row in &WRITTEN {
+        let mut room = [0; 10];
+        assert!(rt; row.room <= room.len());
+        check_written(&rt, &mut room[..row.room], row);
+    }
 }
 
 /// Reads once, and writes what was read: what a caller of any source and any sink knows.
@@ -114,8 +182,22 @@ impl<R: Read> Source for Over<R> {
     }
 }
 
+/// Passes on what one read gives, and compares what is told and all that was written so far.
+fn check_passed<A: Abort>(
+    rt: &A,
+    source: &mut Over<&[u8]>,
+    sink: &mut MemorySink<'_>,
+    count: usize,
+    written: &[u8],
+) {
+    assert!(rt; source.reads < u64::MAX && source.failures < u64::MAX);
+    assert!(rt; sink.failures() < u64::MAX);
+    assert_eq!(rt; pass_on(source, sink), Ok(count));
+    assert_eq!(rt; sink.written(), written);
+}
+
 #[test]
-fn passed_on_from_any_reader(rt: HostRuntime) -> Result<(), Fail> {
+fn passed_on_from_any_reader(rt: HostRuntime) {
     let mut source = Over {
         reader: BYTES.as_slice(),
         moment: 0,
@@ -124,12 +206,11 @@ fn passed_on_from_any_reader(rt: HostRuntime) -> Result<(), Fail> {
     };
     let mut room = [0; 16];
     let mut sink = MemorySink::new(&mut room).with_largest_count(3);
-    assert_eq!(rt; pass_on(&mut source, &mut sink), Ok(10));
-    assert_eq!(rt; sink.written(), BYTES.as_slice());
-    assert_eq!(rt; pass_on(&mut source, &mut sink), Ok(0));
+    for count in [10, 0] {
+        check_passed(&rt, &mut source, &mut sink, count, &BYTES);
+    }
     assert_eq!(rt;
         (source.reads(), source.moment(), source.failures()),
         (2, 1, 0)
     );
-    Ok(())
 }

@@ -2,8 +2,10 @@
 
 use arrayvec::ArrayVec;
 use enip_wire::{
-    Full, ItemView, cpf_items, rr_body, unit_body, write_items, write_rr_body, write_unit_body,
+    Full, ItemView, Items, cpf_items, rr_body, unit_body, write_items, write_rr_body,
+    write_unit_body,
 };
+use std::process::Abort;
 use std::test::*;
 
 /// A SendRRData with the request of the vendor.
@@ -26,23 +28,91 @@ const UNIT: [u8; 22] = [
     0xb1, 0x00, 0x02, 0x00, 0x07, 0x09,
 ];
 
+/// Two items: two bytes of type 12, and none of type 0x8000.
+const TEXT: [u8; 12] = [
+    0x02, 0x00, 0x0c, 0x00, 0x02, 0x00, 0x01, 0x02, 0x00, 0x80, 0x00, 0x00,
+];
+
+/// Writes the body of a SendRRData, and compares what is told.
+fn check_rr_body<A: Abort>(
+    rt: &A,
+    out: &mut ArrayVec<u8, 24>,
+    data: &[u8],
+    told: Result<(), Full>,
+) {
+    assert!(rt; data.len() < 0x1_0000);
+    assert_eq!(rt; write_rr_body(out, data), told);
+}
+
+/// The same of a SendUnitData.
+fn check_unit_body<A: Abort>(
+    rt: &A,
+    out: &mut ArrayVec<u8, 22>,
+    id: u32,
+    data: &[u8],
+    told: Result<(), Full>,
+) {
+    assert!(rt; data.len() < 0x1_0000);
+    assert_eq!(rt; write_unit_body(out, id, data), told);
+}
+
+/// What was written, and what is read of it.
+fn check_rr_text<A: Abort>(rt: &A, got: &[u8], text: &[u8], data: &[u8]) {
+    assert_eq!(rt; got, text);
+    assert_eq!(rt; rr_body(got), Ok(data));
+}
+
+fn check_unit_text<A: Abort>(rt: &A, got: &[u8], text: &[u8], id: u32, data: &[u8]) {
+    assert_eq!(rt; got, text);
+    assert_eq!(rt; unit_body(got), Ok((id, data)));
+}
+
+/// Each body fills its room, and then no other has any.
 #[test]
 fn bodies_are_written(rt: HostRuntime) {
     let mut out: ArrayVec<u8, 24> = ArrayVec::new();
-    assert_eq!(rt; write_rr_body(&mut out, &ROW[16..]), Ok(()));
-    assert_eq!(rt; out.as_slice(), ROW.as_slice());
-    assert_eq!(rt; write_rr_body(&mut out, &[]), Err(Full));
-    assert_eq!(rt; rr_body(out.as_slice()), Ok(&ROW[16..]));
+    for (data, told) in [(&ROW[16..], Ok(())), (&[], Err(Full))] {
+        check_rr_body(&rt, &mut out, data, told);
+        check_rr_text(&rt, out.as_slice(), &ROW, &ROW[16..]);
+    }
     let mut out: ArrayVec<u8, 22> = ArrayVec::new();
-    assert_eq!(rt; write_unit_body(&mut out, 0x0102_0304, &[7, 9]), Ok(()));
-    assert_eq!(rt; out.as_slice(), UNIT.as_slice());
-    assert_eq!(rt; write_unit_body(&mut out, 1, &[]), Err(Full));
-    assert_eq!(rt;
-        unit_body(out.as_slice()),
-        Ok((0x0102_0304, [7, 9].as_slice()))
-    );
+    for (id, data, told) in [(0x0102_0304, &UNIT[20..], Ok(())), (1, &[], Err(Full))] {
+        check_unit_body(&rt, &mut out, id, data, told);
+        check_unit_text(&rt, out.as_slice(), &UNIT, 0x0102_0304, &[7, 9]);
+    }
 }
 
+/// Writes two items, and compares what is told.
+fn check_items<A: Abort>(
+    rt: &A,
+    out: &mut ArrayVec<u8, 13>,
+    list: [ItemView<'_>; 2],
+    told: Result<(), Full>,
+) {
+    assert!(rt; list[0].bytes.len() < 0x1_0000 && list[1].bytes.len() < 0x1_0000);
+    assert_eq!(rt; write_items(out, &list), told);
+}
+
+fn check_no_items<A: Abort>(rt: &A, out: &mut ArrayVec<u8, 13>, told: Result<(), Full>) {
+    assert_eq!(rt; write_items(out, &[]), told);
+}
+
+fn check_item<A: Abort>(rt: &A, items: &mut Items<'_>, kind: u16, bytes: &[u8]) {
+    let item = items.next().expect(rt, "an item");
+    assert_eq!(rt; (item.kind, item.bytes), (kind, bytes));
+}
+
+/// What was written, and the items that are read of it.
+fn check_items_text<A: Abort>(rt: &A, got: &[u8], text: &[u8], list: &[ItemView<'_>]) {
+    assert_eq!(rt; got, text);
+    let mut items = cpf_items(got).expect(rt, "items");
+    for item in list {
+        check_item(rt, &mut items, item.kind, item.bytes);
+    }
+    assert!(rt; items.next().is_none());
+}
+
+/// The items fill their room but for a byte, and then not even the count of none has any.
 #[test]
 fn items_are_written(rt: HostRuntime) {
     let list = [
@@ -56,16 +126,7 @@ fn items_are_written(rt: HostRuntime) {
         },
     ];
     let mut out: ArrayVec<u8, 13> = ArrayVec::new();
-    assert_eq!(rt; write_items(&mut out, &list), Ok(()));
-    assert_eq!(rt;
-        out.as_slice(),
-        [2, 0, 0x0c, 0, 2, 0, 1, 2, 0, 0x80, 0, 0].as_slice()
-    );
-    assert_eq!(rt; write_items(&mut out, &[]), Err(Full));
-    let mut read = cpf_items(out.as_slice()).expect(&rt, "items");
-    let first = read.next().expect(&rt, "the first item");
-    assert_eq!(rt; (first.kind, first.bytes), (0x0c, [1, 2].as_slice()));
-    let second = read.next().expect(&rt, "the second item");
-    assert_eq!(rt; (second.kind, second.bytes.len()), (0x8000, 0));
-    assert!(rt; read.next().is_none());
+    check_items(&rt, &mut out, list, Ok(()));
+    check_no_items(&rt, &mut out, Err(Full));
+    check_items_text(&rt, out.as_slice(), &TEXT, &list);
 }

@@ -4,42 +4,40 @@ ghost use Rattle.std.specs.Prelude.{◌≡◌, ◌<◌, ◌≤◌, length};
 ghost use Rattle.enip_wire.specs.Stream.{taken_of, sight_of, joined_of, cleared};
 
 use enip_wire::{FrameReader, FrameView, Header, Held};
+use std::process::Abort;
 use std::test::*;
 
-/// A RegisterSession.
-const REGISTER: [u8; 28] = [
-    // RegisterSession with four bytes of data, no session, status 0.
-    0x65, 0x00, 0x04, 0x00, 0x00, 0x00, 0x00, 0x00, 0x00, 0x00, 0x00, 0x00,
-    // The context, and the options.
-    0x01, 0x02, 0x03, 0x04, 0x05, 0x06, 0x07, 0x08, 0x00, 0x00, 0x00, 0x00,
-    // Version 1 and no flags.
-    0x01, 0x00, 0x00, 0x00,
-];
+/// A RegisterSession with four bytes of data: version 1 and no flags.
+const REGISTER: &[u8] = b"\x65\0\x04\0\0\0\0\0\0\0\0\0\x01\x02\x03\x04\x05\x06\x07\x08\0\0\0\0\
+    \x01\0\0\0";
 
-/// A RegisterSession, and behind it a NOP with two bytes of data.
-const TWO_FRAMES: [u8; 54] = [
-    // RegisterSession with four bytes of data, no session, status 0.
-    0x65, 0x00, 0x04, 0x00, 0x00, 0x00, 0x00, 0x00, 0x00, 0x00, 0x00, 0x00,
-    // Its context, and its options.
-    0x01, 0x02, 0x03, 0x04, 0x05, 0x06, 0x07, 0x08, 0x00, 0x00, 0x00, 0x00,
-    // Version 1 and no flags.
-    0x01, 0x00, 0x00, 0x00,
-    // NOP with two bytes of data, session 7, status 0.
-    0x00, 0x00, 0x02, 0x00, 0x07, 0x00, 0x00, 0x00, 0x00, 0x00, 0x00, 0x00,
-    // Its context, and its options.
-    0x09, 0x09, 0x09, 0x09, 0x09, 0x09, 0x09, 0x09, 0x00, 0x00, 0x00, 0x00,
-    // Its data.
-    0xaa, 0xbb,
-];
+/// A NOP with two bytes of data, of session 7.
+const NOP: &[u8] = b"\0\0\x02\0\x07\0\0\0\0\0\0\0\x09\x09\x09\x09\x09\x09\x09\x09\0\0\0\0\
+    \xaa\xbb";
 
-/// Whether the RegisterSession is held.
-fn shows_register(reader: &FrameReader) -> bool {
-    is_register(reader.state())
+/// The RegisterSession, and behind it the NOP.
+const TWO_FRAMES: &[u8] = b"\x65\0\x04\0\0\0\0\0\0\0\0\0\x01\x02\x03\x04\x05\x06\x07\x08\0\0\0\0\
+    \x01\0\0\0\
+    \0\0\x02\0\x07\0\0\0\0\0\0\0\x09\x09\x09\x09\x09\x09\x09\x09\0\0\0\0\
+    \xaa\xbb";
+
+/// A header with a length of 65,512, and two bytes behind it.
+const TOO_LONG: &[u8] = b"\0\0\xe8\xff\0\0\0\0\0\0\0\0\0\0\0\0\0\0\0\0\0\0\0\0\0\0";
+
+/// What a reader shows.
+#[derive(Clone, Copy, Debug, PartialEq, Eq)]
+enum Shown {
+    More,
+    Register,
+    Nop,
+    TooLong,
+    /// None of these.
+    Other,
 }
 
-/// Whether this is the RegisterSession.
-fn is_register(held: Held<'_>) -> bool {
-    let header = Header {
+/// Which of the frames above it is.
+fn frame_shown(frame: FrameView<'_>) -> Shown {
+    let register = Header {
         command: 0x65,
         length: 4,
         session: 0,
@@ -47,106 +45,128 @@ fn is_register(held: Held<'_>) -> bool {
         context: [1, 2, 3, 4, 5, 6, 7, 8],
         options: 0,
     };
-    match held {
-        Held::Frame(frame) => frame.header == header && frame.body == [1, 0, 0, 0].as_slice(),
-        _ => false,
+    let nop = Header {
+        command: 0,
+        length: 2,
+        session: 7,
+        status: 0,
+        context: [9; 8],
+        options: 0,
+    };
+    if frame.header == register && frame.body == [1, 0, 0, 0].as_slice() {
+        Shown::Register
+    } else if frame.header == nop && frame.body == [0xaa, 0xbb].as_slice() {
+        Shown::Nop
+    } else {
+        Shown::Other
     }
 }
 
+/// Which of all these it is.
+fn shown_by(held: Held<'_>) -> Shown {
+    match held {
+        Held::More => Shown::More,
+        Held::TooLong(header) if header.length == 65_512 => Shown::TooLong,
+        Held::TooLong(_) => Shown::Other,
+        Held::Frame(frame) => frame_shown(frame),
+    }
+}
+
+/// A call of a reader.
+#[derive(Clone, Copy)]
+enum Call<'a> {
+    /// A piece, and how many bytes of it are taken.
+    Push(&'a [u8], usize),
+    /// The same, and what is lent of it.
+    Next(&'a [u8], usize, Shown),
+    Clear,
+}
+
+/// A call, and what is held after it.
+type Step<'a> = (Call<'a>, Shown);
+
+fn check_call<A: Abort>(rt: &A, reader: &mut FrameReader, name: &str, call: Call<'_>) {
+    match call {
+        Call::Push(piece, taken) => assert_eq!(rt; reader.push(piece), taken, "{name}"),
+        Call::Next(piece, taken, lent) => {
+            let (count, held) = reader.next(piece);
+            assert_eq!(rt; (count, shown_by(held)), (taken, lent), "{name}");
+        }
+        Call::Clear => reader.clear(),
+    }
+}
+
+fn check<A: Abort>(rt: &A, reader: &mut FrameReader, name: &str, steps: &[Step<'_>]) {
+    for (call, held) in steps {
+        check_call(rt, reader, name, *call);
+        assert_eq!(rt; shown_by(reader.state()), *held, "{name}");
+    }
+}
+
+/// Nothing is taken past a frame until it is cleared.
+const PUSHED: [Step<'static>; 4] = [
+    (Call::Push(TWO_FRAMES, 28), Shown::Register),
+    (Call::Push(NOP, 0), Shown::Register),
+    (Call::Clear, Shown::More),
+    (Call::Push(NOP, 26), Shown::Nop),
+];
+
+/// A whole frame is read in place: it is not held, and to clear what holds nothing does no harm.
+const IN_PLACE: [Step<'static>; 3] = [
+    (Call::Next(TWO_FRAMES, 28, Shown::Register), Shown::More),
+    (Call::Clear, Shown::More),
+    (Call::Next(NOP, 26, Shown::Nop), Shown::More),
+];
+
+/// No byte is taken past a header that is too long.
+const PUSHED_TOO_LONG: [Step<'static>; 4] = [
+    (Call::Push(TOO_LONG, 24), Shown::TooLong),
+    (Call::Push(b"\0\0", 0), Shown::TooLong),
+    (Call::Clear, Shown::More),
+    (Call::Push(REGISTER, 28), Shown::Register),
+];
+
+/// Such a header is held, since nothing is read in its place.
+const HELD_TOO_LONG: [Step<'static>; 4] = [
+    (Call::Next(TOO_LONG, 24, Shown::TooLong), Shown::TooLong),
+    (Call::Next(REGISTER, 0, Shown::TooLong), Shown::TooLong),
+    (Call::Clear, Shown::More),
+    (Call::Next(REGISTER, 28, Shown::Register), Shown::More),
+];
+
+static CALLS: [(&str, &[Step<'static>]); 4] = [
+    ("two frames in one piece", &PUSHED),
+    ("a whole frame in place", &IN_PLACE),
+    ("a header that is too long", &PUSHED_TOO_LONG),
+    ("such a header is held", &HELD_TOO_LONG),
+];
+
 #[test]
-fn two_frames_in_one_piece(rt: HostRuntime) -> Result<(), Fail> {
-    let mut reader = FrameReader::new(rt.alloc())?;
-    assert_eq!(rt; reader.push(&TWO_FRAMES), 28);
-    assert!(rt; shows_register(&reader));
-    // Nothing is taken past a frame until it is cleared.
-    assert_eq!(rt; reader.push(&TWO_FRAMES[28..]), 0);
-    assert!(rt; shows_register(&reader));
-    reader.clear();
-    assert!(rt; matches!(reader.state(), Held::More));
-    assert_eq!(rt; reader.push(&TWO_FRAMES[28..]), 26);
-    let Held::Frame(FrameView { header, body }) = reader.state() else {
-        return Err("no frame".into());
-    };
-    assert_eq!(rt; (header.command, header.length, header.session), (0, 2, 7));
-    assert_eq!(rt; body, [0xaa, 0xbb].as_slice());
+fn calls_of_a_reader(rt: HostRuntime) -> Result<(), Fail> {
+    for (name, steps) in &CALLS {
+        let mut reader = FrameReader::new(rt.alloc())?;
+        check(&rt, &mut reader, name, steps);
+    }
     Ok(())
 }
 
-#[test]
-fn a_header_that_is_too_long(rt: HostRuntime) -> Result<(), Fail> {
-    let mut reader = FrameReader::new(rt.alloc())?;
-    // A length of 65,512.
-    let mut bytes = [0; 26];
-    bytes[2] = 0xe8;
-    bytes[3] = 0xff;
-    assert_eq!(rt; reader.push(&bytes), 24);
-    let Held::TooLong(header) = reader.state() else {
-        return Err("not too long".into());
-    };
-    assert_eq!(rt; header.length, 65_512);
-    assert_eq!(rt; reader.push(&bytes[24..]), 0);
-    reader.clear();
-    assert_eq!(rt; reader.push(&REGISTER), 28);
-    assert!(rt; shows_register(&reader));
-    Ok(())
-}
-
-#[test]
-fn a_whole_frame_is_read_in_place(rt: HostRuntime) -> Result<(), Fail> {
-    let mut reader = FrameReader::new(rt.alloc())?;
-    let (taken, held) = reader.next(&TWO_FRAMES);
-    assert_eq!(rt; taken, 28);
-    assert!(rt; is_register(held));
-    // It is not held, and to clear what holds nothing does no harm.
-    assert!(rt; matches!(reader.state(), Held::More));
-    reader.clear();
-    let (taken, held) = reader.next(&TWO_FRAMES[28..]);
-    assert_eq!(rt; taken, 26);
-    let Held::Frame(FrameView { header, body }) = held else {
-        return Err("no frame".into());
-    };
-    assert_eq!(rt; (header.command, header.length, header.session), (0, 2, 7));
-    assert_eq!(rt; body, [0xaa, 0xbb].as_slice());
-    assert!(rt; matches!(reader.state(), Held::More));
-    Ok(())
-}
-
+/// A frame that came in two pieces is held, and nothing is taken until it is cleared.
 #[test]
 fn a_cut_frame_is_held_until_clear(rt: HostRuntime) -> Result<(), Fail> {
     let mut reader = FrameReader::new(rt.alloc())?;
     for place in 1..REGISTER.len() {
-        reader.clear();
-        let (taken, held) = reader.next(&REGISTER[..place]);
-        assert_eq!(rt; taken, place);
-        assert!(rt; matches!(held, Held::More), "cut at {place}");
-        let (taken, held) = reader.next(&TWO_FRAMES[place..]);
-        assert_eq!(rt; taken, 28 - place);
-        assert!(rt; is_register(held), "cut at {place}");
-        // Nothing is taken until it is cleared.
-        let (taken, held) = reader.next(&TWO_FRAMES[28..]);
-        assert_eq!(rt; taken, 0);
-        assert!(rt; is_register(held), "cut at {place}");
+        let (front, rest) = (&TWO_FRAMES[..place], &TWO_FRAMES[place..]);
+        let steps = [
+            (Call::Next(front, place, Shown::More), Shown::More),
+            (
+                Call::Next(rest, 28 - place, Shown::Register),
+                Shown::Register,
+            ),
+            (Call::Next(NOP, 0, Shown::Register), Shown::Register),
+            (Call::Clear, Shown::More),
+        ];
+        check(&rt, &mut reader, "a frame that is cut", &steps);
     }
-    Ok(())
-}
-
-#[test]
-fn a_too_long_header_is_held(rt: HostRuntime) -> Result<(), Fail> {
-    let mut reader = FrameReader::new(rt.alloc())?;
-    // A length of 65,512.
-    let mut bytes = [0; 26];
-    bytes[2] = 0xe8;
-    bytes[3] = 0xff;
-    let (taken, held) = reader.next(&bytes);
-    assert_eq!(rt; taken, 24);
-    assert!(rt; matches!(held, Held::TooLong(Header { length: 65_512, .. })));
-    let (taken, held) = reader.next(&REGISTER);
-    assert_eq!(rt; taken, 0);
-    assert!(rt; matches!(held, Held::TooLong(_)));
-    reader.clear();
-    let (taken, held) = reader.next(&REGISTER);
-    assert_eq!(rt; taken, 28);
-    assert!(rt; is_register(held));
     Ok(())
 }
 
@@ -186,7 +206,7 @@ fn counted_beside_the_reader(rt: HostRuntime) -> Result<(), Fail> {
         reader: FrameReader::new(rt.alloc())?,
         shown: 0,
     };
-    assert_eq!(rt; counting.feed(&TWO_FRAMES), 28);
+    assert_eq!(rt; counting.feed(TWO_FRAMES), 28);
     assert_eq!(rt; counting.shown, 1);
     assert!(rt; matches!(counting.reader.state(), Held::More));
     Ok(())
