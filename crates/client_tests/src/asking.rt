@@ -4,24 +4,15 @@ ghost use Rattle.std.specs.Prelude.{None};
 
 use crate::stands::{
     ADD, ADD_SENT, ADDED, CLOSE, CLOSED, GET, GET_SENT, GOT, IS_5, OPEN, OPENED, REGISTER,
-    REGISTERED, Stand, UNREGISTER, VENDOR, made, standing,
+    REGISTERED, Stand, UNREGISTER, VENDOR, joined, made, standing,
 };
 use cip_class3::Refused;
 use cip_objects::ReplyBuf;
 use enip_client::{AskFault, Client, ClientFault, ask};
-use enip_wire::{Failed, MemorySink, MemorySource, Source};
+use enip_wire::{Failed, MemorySink, MemorySource, Sink, Source};
 use std::alloc::Global;
 use std::process::Abort;
 use std::test::Fail;
-
-/// The frames joined.
-fn joined(alloc: Global, frames: &[&[u8]]) -> Result<Vec<u8>, Fail> {
-    let mut bytes = Vec::new(alloc);
-    for frame in frames {
-        bytes.extend_from_slice(frame)?;
-    }
-    Ok(bytes)
-}
 
 /// A reader at its end, with the reads that it has counted.
 #[derive(Drop)]
@@ -184,6 +175,25 @@ static EXCHANGES: [Exchange<'static>; 10] = [
     },
 ];
 
+/// What the exchange replies and sends.
+fn check_texts<A: Abort>(rt: &A, row: &Exchange<'_>, reply: &[u8], written: &[u8], sent: &[u8]) {
+    assert_eq!(rt; reply, row.reply, "{}", row.name);
+    assert_eq!(rt; Some(written), sent.get(..row.count), "{}", row.name);
+}
+
+/// Asks over any devices. Its contract says nothing, so that whoever calls it carries no state on.
+fn asked<A: Abort, R: Source, W: Sink>(
+    rt: &A,
+    client: &mut Client,
+    reader: &mut R,
+    writer: &mut W,
+    row: &Exchange<'_>,
+    reply: &mut ReplyBuf,
+) -> Result<(), AskFault> {
+    assert!(rt; reader.failures() < u64::MAX && writer.failures() < u64::MAX);
+    ask(client, reader, writer, row.request, row.connected, reply)
+}
+
 /// The exchange tells, replies and sends what the row says.
 fn check_devices<A: Abort>(
     rt: &A,
@@ -201,22 +211,9 @@ fn check_devices<A: Abort>(
         .with_largest_count(row.largest_write)
         .with_failure_after(row.writes);
     let mut reply = ReplyBuf::new();
-    let told = ask(
-        client,
-        &mut reader,
-        &mut writer,
-        row.request,
-        row.connected,
-        &mut reply,
-    );
+    let told = asked(rt, client, &mut reader, &mut writer, row, &mut reply);
     assert_eq!(rt; told, row.told, "{}", row.name);
-    assert_eq!(rt; reply.as_slice(), row.reply, "{}", row.name);
-    assert_eq!(rt;
-        Some(writer.written()),
-        sent.get(..row.count),
-        "{}",
-        row.name
-    );
+    check_texts(rt, row, reply.as_slice(), writer.written(), sent);
 }
 
 fn check_exchange<A: Abort>(rt: &A, alloc: Global, row: &Exchange<'_>) -> Result<(), Fail> {

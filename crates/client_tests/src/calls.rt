@@ -2,10 +2,11 @@
 
 use crate::stands::{
     ADD, ADD_SENT, ADD_SENT_NEXT, ADDED, CLOSE, CLOSED, GET, GET_SENT_THIRD, GOT, IS_5, OPEN,
-    OPENED, REGISTER, REGISTERED, Stand, UNREGISTER, WANTS, made, opened, standing, with_bytes,
+    OPENED, REGISTER, REGISTERED, Stand, UNREGISTER, WANTS, hear, made, opened, standing,
+    with_bytes,
 };
 use cip_class3::{Refused, Stage};
-use enip_client::{Client, ClientFault, Heard, SubmitFault};
+use enip_client::{Client, ClientFault, Heard, Hearing, SubmitFault};
 use std::alloc::Global;
 use std::process::Abort;
 use std::test::Fail;
@@ -63,6 +64,20 @@ fn check_request<A: Abort>(
     }
 }
 
+/// What was heard of a piece, and how many bytes of it were taken.
+fn check_heard<A: Abort>(
+    rt: &A,
+    name: &str,
+    position: usize,
+    hearing: Hearing<'_>,
+    taken: Option<usize>,
+    told: Heard<'_>,
+) {
+    let taken = taken.unwrap_or(hearing.taken);
+    assert_eq!(rt; hearing.taken, taken, "{name}, {position}");
+    assert_eq!(rt; hearing.heard, told, "{name}, {position}");
+}
+
 /// The same of a piece that is heard.
 fn check_hearing<A: Abort>(
     rt: &A,
@@ -76,13 +91,7 @@ fn check_hearing<A: Abort>(
         Step::Take(piece, taken, told) => (piece, Some(taken), told),
         _ => return,
     };
-    let hearing = client.feed(piece);
-    assert_eq!(rt;
-        hearing.taken,
-        taken.unwrap_or(hearing.taken),
-        "{name}, {position}"
-    );
-    assert_eq!(rt; hearing.heard, told, "{name}, {position}");
+    check_heard(rt, name, position, hear(client, piece), taken, told);
 }
 
 /// Makes these calls in turn, and compares what each answers.
@@ -299,17 +308,22 @@ fn check_session_in_pieces<A: Abort>(rt: &A, client: &mut Client) {
     check(rt, client, "in pieces", &steps);
 }
 
+/// A client, made again where a growth of it is refused.
+fn made_again<A: Abort>(rt: &A, alloc: Global) -> Result<Client, Fail> {
+    match Client::new(alloc, &WANTS) {
+        Ok(client) => Ok(client),
+        Err(fault) => {
+            assert_eq!(rt; fault, ClientFault::Memory);
+            made(alloc)
+        }
+    }
+}
+
 /// A session with all that needs room. `new` takes all memory, so this ends well whichever growth is refused, each in
 /// turn by `rt try --test --fail-alloc N -- calls::only_new_takes_memory`.
 #[test]
 fn only_new_takes_memory(rt: HostRuntime) -> Result<(), Fail> {
-    let mut client = match Client::new(rt.alloc(), &WANTS) {
-        Ok(client) => client,
-        Err(fault) => {
-            assert_eq!(rt; fault, ClientFault::Memory);
-            made(rt.alloc())?
-        }
-    };
+    let mut client = made_again(&rt, rt.alloc())?;
     check_session_in_pieces(&rt, &mut client);
     Ok(())
 }
@@ -431,9 +445,15 @@ fn lasts<A: Abort>(rt: &A, client: &mut Client, fault: ClientFault) {
 fn check_faulty<A: Abort>(rt: &A, alloc: Global, row: &Faulty<'_>) -> Result<(), Fail> {
     let changed = with_bytes(alloc, row.frame, row.changes)?;
     let mut client = standing(alloc, row.stand)?;
-    let hearing = client.feed(&changed);
-    assert_eq!(rt; hearing.heard, Heard::Nothing);
-    assert_eq!(rt; hearing.taken, changed.len());
+    let hearing = hear(&mut client, &changed);
+    check_heard(
+        rt,
+        "a fault",
+        0,
+        hearing,
+        Some(changed.len()),
+        Heard::Nothing,
+    );
     lasts(rt, &mut client, row.fault);
     Ok(())
 }

@@ -1,6 +1,6 @@
 //! Which opening a client sends by the sizes that it wants, and what it makes of the answers to a large one.
 
-use crate::stands::{REGISTERED, WANTS};
+use crate::stands::{REGISTERED, WANTS, hear, joined};
 use enip_client::{Client, ClientFault, Heard, Wants};
 use std::alloc::Global;
 use std::process::Abort;
@@ -51,16 +51,34 @@ static SIZES: [(u16, u16, u8, &[u8]); 6] = [
 const NAMED: &[u8] =
     b"\x02\x20\x06\x24\x01\x0a\x0e\0\0\0\0\x44\x33\x22\x11\x01\0\x42\0\x78\x56\x34\x12";
 
-/// A SendRRData frame of session 1 and context 2, with this message.
+/// The path of the message router, in words and bytes.
+const ROUTER: &[u8] = b"\x02\x20\x02\x24\x01";
+
+/// What stands around the lengths of a SendRRData frame of session 1 and context 2, and in front of its message.
+const COMMAND: &[u8] = b"\x6f\0";
+
+const BEHIND_LENGTH: &[u8] = b"\x01\0\0\0\0\0\0\0\x02\0\0\0\0\0\0\0\0\0\0\0\
+    \0\0\0\0\0\0\x02\0\0\0\0\0\xb2\0";
+
+/// The frame with this message.
 fn frame(alloc: Global, message: &[u8]) -> Result<Vec<u8>, Fail> {
     let length = u16::try_from(message.len()).ok().ok_or("a message")?;
-    let mut bytes = Vec::from_slice(alloc, b"\x6f\0")?;
-    bytes.extend_from_slice(&(length.saturating_add(16)).to_le_bytes())?;
-    bytes.extend_from_slice(b"\x01\0\0\0\0\0\0\0\x02\0\0\0\0\0\0\0\0\0\0\0")?;
-    bytes.extend_from_slice(b"\0\0\0\0\0\0\x02\0\0\0\0\0\xb2\0")?;
-    bytes.extend_from_slice(&length.to_le_bytes())?;
-    bytes.extend_from_slice(message)?;
-    Ok(bytes)
+    let whole = length.saturating_add(16).to_le_bytes();
+    let texts: [&[u8]; 5] = [
+        COMMAND,
+        &whole,
+        BEHIND_LENGTH,
+        &length.to_le_bytes(),
+        message,
+    ];
+    joined(alloc, &texts)
+}
+
+/// The frame with the opening of this service and these parameters.
+fn opening(alloc: Global, service: u8, parameters: &[u8]) -> Result<Vec<u8>, Fail> {
+    let texts: [&[u8]; 4] = [&[service], NAMED, parameters, ROUTER];
+    let message = joined(alloc, &texts)?;
+    frame(alloc, &message)
 }
 
 /// A registered client that wants these sizes.
@@ -81,18 +99,14 @@ fn registered<A: Abort>(
         return Err(Fail::from("the client is not made"));
     };
     let _ = client.register();
-    let _ = client.feed(REGISTERED);
+    let _ = hear(&mut client, REGISTERED);
     Ok(client)
 }
 
 #[test]
 fn openings_by_size(rt: HostRuntime) -> Result<(), Fail> {
     for (o_to_t, t_to_o, service, parameters) in &SIZES {
-        let mut message = Vec::from_slice(rt.alloc(), &[*service])?;
-        message.extend_from_slice(NAMED)?;
-        message.extend_from_slice(parameters)?;
-        message.extend_from_slice(b"\x02\x20\x02\x24\x01")?;
-        let wanted = frame(rt.alloc(), &message)?;
+        let wanted = opening(rt.alloc(), *service, parameters)?;
         let mut client = registered(&rt, rt.alloc(), *o_to_t, *t_to_o)?;
         assert_eq!(rt; client.open(), Ok(wanted.as_slice()));
     }

@@ -1,6 +1,6 @@
 //! Frames that a client sends and hears, and clients that stand somewhere between them. (Volume 2, encapsulation.)
 
-use enip_client::{Client, Wants};
+use enip_client::{Client, Hearing, Wants};
 use std::alloc::Global;
 use std::test::Fail;
 
@@ -84,7 +84,7 @@ pub(super) fn made(alloc: Global) -> Result<Client, Fail> {
 pub(super) fn registered(alloc: Global) -> Result<Client, Fail> {
     let mut client = made(alloc)?;
     let _ = client.register();
-    let _ = client.feed(REGISTERED);
+    let _ = hear(&mut client, REGISTERED);
     Ok(client)
 }
 
@@ -92,8 +92,22 @@ pub(super) fn registered(alloc: Global) -> Result<Client, Fail> {
 pub(super) fn opened(alloc: Global) -> Result<Client, Fail> {
     let mut client = registered(alloc)?;
     let _ = client.open();
-    let _ = client.feed(OPENED);
+    let _ = hear(&mut client, OPENED);
     Ok(client)
+}
+
+/// Has a client hear a piece. Its contract says nothing, so that whoever calls it carries no state on.
+pub(super) fn hear<'a>(client: &'a mut Client, piece: &'a [u8]) -> Hearing<'a> {
+    client.feed(piece)
+}
+
+/// The texts, one behind the other.
+pub(super) fn joined(alloc: Global, texts: &[&[u8]]) -> Result<Vec<u8>, Fail> {
+    let mut bytes = Vec::new(alloc);
+    for text in texts {
+        bytes.extend_from_slice(text)?;
+    }
+    Ok(bytes)
 }
 
 /// The bytes with others at some places.
