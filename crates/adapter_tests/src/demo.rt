@@ -4,7 +4,7 @@
 //! next.
 
 use cip_objects::{AssemblyConfig, Config, CounterConfig, Objects};
-use enip_adapter::{Adapter, Limits, Listen, Peer, ServeFault, Served, serve};
+use enip_adapter::{Adapter, Fed, Limits, Listen, Peer, ServeFault, Served, serve};
 use enip_wire::{MemorySink, MemorySource, Sink, Source};
 use std::alloc::Global;
 use std::process::Abort;
@@ -104,11 +104,16 @@ pub fn adapter_with_peer(alloc: Global) -> Result<(Adapter, Peer), Fail> {
     Ok((adapter, peer))
 }
 
-/// The same, and connection 1 is opened at moment 0.
+/// Feeds a piece at moment 0. Its contract says nothing, so that whoever calls it carries no state on.
+pub fn feed<'a>(adapter: &'a mut Adapter, peer: &Peer, piece: &[u8]) -> Fed<'a> {
+    adapter.feed(0, peer, piece)
+}
+
+/// The same adapter and peer, and connection 1 is opened at moment 0.
 pub fn demo_with_connection(alloc: Global) -> Result<(Adapter, Peer), Fail> {
     let (mut adapter, peer) = adapter_with_peer(alloc)?;
-    let _ = adapter.feed(0, &peer, REGISTER);
-    let _ = adapter.feed(0, &peer, OPEN);
+    let _ = feed(&mut adapter, &peer, REGISTER);
+    let _ = feed(&mut adapter, &peer, OPEN);
     Ok((adapter, peer))
 }
 

@@ -1,6 +1,6 @@
 //! Large connections: one of 4,002 bytes each way is opened and used without any memory.
 
-use crate::demo::{LIMITS, LISTEN, REGISTER, config};
+use crate::demo::{LIMITS, LISTEN, REGISTER, config, feed};
 use cip_objects::{AssemblyConfig, Objects};
 use enip_adapter::{Adapter, Peer};
 use std::alloc::{AllocError, Global};
@@ -72,13 +72,13 @@ fn objects(alloc: Global) -> Result<Objects, Fail> {
 /// Each frame has the answer that stands behind it.
 fn check<A: Abort>(rt: &A, adapter: &mut Adapter, peer: &Peer, rows: &[(&[u8], &[u8])]) {
     for (asked, answered) in rows {
-        assert_eq!(rt; adapter.feed(0, peer, asked).answer, Some(*answered));
+        assert_eq!(rt; feed(adapter, peer, asked).answer, Some(*answered));
     }
 }
 
 /// The data of assembly 101 are read whole on the connection.
 fn check_data<A: Abort>(rt: &A, adapter: &mut Adapter, peer: &Peer) {
-    let data = adapter.feed(0, peer, GET_CONNECTED).answer.unwrap_or(&[]);
+    let data = feed(adapter, peer, GET_CONNECTED).answer.unwrap_or(&[]);
     assert!(rt; data.starts_with(FRONT));
     assert_eq!(rt; data.len(), 24 + 20 + 2 + 4 + 3_900);
     assert!(rt; data[50..].iter().all(|byte| *byte == 0));
@@ -86,7 +86,7 @@ fn check_data<A: Abort>(rt: &A, adapter: &mut Adapter, peer: &Peer) {
 
 /// A session with a large connection.
 fn check_session<A: Abort>(rt: &A, adapter: &mut Adapter, peer: &Peer) {
-    assert!(rt; adapter.feed(0, peer, REGISTER).answer.is_some());
+    assert!(rt; feed(adapter, peer, REGISTER).answer.is_some());
     let before: [(&[u8], &[u8]); 3] = [(TOO_LARGE, REFUSED), (EMPTY, TOO_SHORT), (OPEN, OPENED)];
     check(rt, adapter, peer, &before);
     check_data(rt, adapter, peer);

@@ -2,7 +2,7 @@
 
 use crate::demo::{
     ADD, ADDED, LIMITS, LISTEN, LONG, OPEN, REFUSED, REGISTER, REGISTERED, check_free, check_serve,
-    check_value, demo,
+    check_value, demo, feed,
 };
 use enip_adapter::{Adapter, Peer, Served};
 use enip_wire::{MemorySink, MemorySource};
@@ -39,7 +39,7 @@ fn check_registered<A: Abort>(rt: &A, adapter: &mut Adapter, peer: &Peer) {
 
 /// A connection is opened.
 fn check_opened<A: Abort>(rt: &A, adapter: &mut Adapter, peer: &Peer) {
-    assert!(rt; adapter.feed(0, peer, OPEN).answer.is_some());
+    assert!(rt; feed(adapter, peer, OPEN).answer.is_some());
 }
 
 /// A piece has this answer.
@@ -50,7 +50,7 @@ fn check_answer<A: Abort>(
     piece: &[u8],
     answer: Option<&[u8]>,
 ) {
-    assert_eq!(rt; adapter.feed(0, peer, piece).answer, answer);
+    assert_eq!(rt; feed(adapter, peer, piece).answer, answer);
 }
 
 /// A request in two pieces, and its repeat in one.
@@ -67,7 +67,7 @@ fn check_requests<A: Abort>(rt: &A, adapter: &mut Adapter, peer: &Peer) {
 
 /// A header that is too long closes.
 fn check_closed<A: Abort>(rt: &A, adapter: &mut Adapter, peer: &Peer) {
-    let fed = adapter.feed(0, peer, LONG);
+    let fed = feed(adapter, peer, LONG);
     assert_eq!(rt; (fed.answer, fed.close), (Some(REFUSED), true));
 }
 
