@@ -3,9 +3,9 @@
 use cip_class3::Refused;
 use cip_objects::{AssemblyConfig, Config, CounterConfig, Objects};
 use enip_adapter::{Adapter, Limits, Listen};
-use enip_bench::{Bench, Event, Step};
+use enip_bench::{Bench, Event, Seen, Step};
 use enip_client::{Client, Wants};
-use std::alloc::Global;
+use std::alloc::{AllocError, Global};
 use std::test::Fail;
 
 /// Adds 5 or 7 to the counter, and what is replied where it stood at 0 or 5.
@@ -92,10 +92,24 @@ pub(super) fn bench(alloc: Global, limit: u32) -> Result<Bench, Fail> {
     )
 }
 
+/// What is seen. Its contract says nothing, nor do those of the next two, so that whoever calls them carries no state on.
+pub(super) fn look(bench: &Bench) -> Seen<'_> {
+    bench.seen()
+}
+
+/// Does an event.
+pub(super) fn done<'a>(bench: &'a mut Bench, event: &Event) -> Result<Step<'a>, AllocError> {
+    bench.step(event)
+}
+
+/// Does these events in one call.
+pub(super) fn all_done(bench: &mut Bench, events: &[Event]) -> Result<(), (usize, AllocError)> {
+    bench.run(events)
+}
+
 /// An attribute of the counter: 1 its value, 3 its additions.
 pub(super) fn counter(bench: &Bench, attribute: u16) -> Result<u32, Fail> {
-    let bytes = bench
-        .seen()
+    let bytes = look(bench)
         .objects
         .attribute(0x64, 1, attribute)
         .ok_or("the counter has it")?;
@@ -137,7 +151,7 @@ pub(super) fn compare(
 ) -> Result<(), Fail> {
     for (row, step) in rows {
         let event = row.event(alloc)?;
-        if bench.step(&event)? != *step {
+        if done(bench, &event)? != *step {
             return Err(Fail::from("another step is told"));
         }
     }

@@ -1,6 +1,8 @@
 //! Growths of memory that are refused, and what stands then.
 
-use crate::demo::{ADD_5, ADD_7, CLEAR, LIMITS, LISTEN, Row, WANTS, bench, counter, demo};
+use crate::demo::{
+    ADD_5, ADD_7, CLEAR, LIMITS, LISTEN, Row, WANTS, all_done, bench, counter, demo, look,
+};
 use cip_class3::Stage;
 use enip_adapter::Adapter;
 use enip_bench::{Bench, BenchFault, Event};
@@ -52,21 +54,21 @@ const ACCEPTED_BEFORE: [usize; 12] = [0, 0, 0, 0, 0, 0, 1, 1, 1, 1, 2, 2];
 
 /// Whether what is seen is that before this event.
 fn is_as_before(bench: &Bench, position: usize) -> bool {
-    let seen = bench.seen();
+    let seen = look(bench);
     BACK_BEFORE.get(position) == Some(&seen.back.len())
         && ACCEPTED_BEFORE.get(position) == Some(&seen.accepted.len())
 }
 
 /// Does the events, in two runs where a growth is refused in the first.
 fn run_all(bench: &mut Bench, events: &[Event]) -> Result<(), Fail> {
-    let Err((position, _)) = bench.run(events) else {
+    let Err((position, _)) = all_done(bench, events) else {
         return Ok(());
     };
     if !is_as_before(bench, position) {
         return Err(Fail::from("the events before it stand, and no other"));
     }
     let rest = events.get(position..).ok_or("it is one of them")?;
-    match bench.run(rest) {
+    match all_done(bench, rest) {
         Ok(()) => Ok(()),
         Err(_) => Err(Fail::from("the rest is done")),
     }
@@ -97,7 +99,7 @@ fn events_before_a_refused_growth(rt: HostRuntime) -> Result<(), Fail> {
     run_all(&mut bench, events.as_slice())?;
     assert_eq!(rt; counter(&bench, 1)?, 7);
     assert_eq!(rt; counter(&bench, 3)?, 2);
-    let seen = bench.seen();
+    let seen = look(&bench);
     assert_eq!(rt; seen.stage, Stage::Idle);
     assert_eq!(rt; seen.back.len(), 3);
     assert_eq!(rt; seen.accepted.len(), 2);

@@ -1,6 +1,8 @@
 //! A connection of 4,002 bytes each way.
 
-use crate::demo::{CLEAR, EXACTLY_ONCE, LIMITS, LISTEN, WANTS, compare, config, counter};
+use crate::demo::{
+    CLEAR, EXACTLY_ONCE, LIMITS, LISTEN, WANTS, compare, config, counter, done, look,
+};
 use cip_class3::{Refused, Stage};
 use cip_objects::{AssemblyConfig, Objects};
 use enip_adapter::Adapter;
@@ -42,8 +44,9 @@ fn large_bench(alloc: Global) -> Result<Bench, Fail> {
 fn check_exactly_once<A: Abort>(rt: &A, bench: &Bench) -> Result<(), Fail> {
     assert_eq!(rt; counter(bench, 1)?, 12);
     assert_eq!(rt; counter(bench, 3)?, 2);
-    assert_eq!(rt; bench.seen().stage, Stage::Idle);
-    assert_eq!(rt; bench.seen().back.len(), 3);
+    let seen = look(bench);
+    assert_eq!(rt; seen.stage, Stage::Idle);
+    assert_eq!(rt; seen.back.len(), 3);
     Ok(())
 }
 
@@ -65,7 +68,7 @@ fn filled(alloc: Global, front: &[u8], byte: u8, length: usize) -> Result<Vec<u8
 
 /// Does an event, and compares what is told of it.
 fn does(bench: &mut Bench, event: Event, step: Step<'_>) -> Result<(), Fail> {
-    if bench.step(&event)? == step {
+    if done(bench, &event)? == step {
         Ok(())
     } else {
         Err(Fail::from("another step is told"))

@@ -1,8 +1,8 @@
 //! The laws at the objects, and runs of many events. (Volume 1, transport class 3.)
 
-use crate::demo::{ADD_1, EXACTLY_ONCE, IS_12, Row, bench, counter};
+use crate::demo::{ADD_1, EXACTLY_ONCE, IS_12, Row, all_done, bench, counter, look};
 use cip_objects::Objects;
-use enip_bench::{Bench, Event, Step, laws};
+use enip_bench::{Accepted, Bench, Event, Step, laws};
 use std::alloc::Global;
 use std::process::Abort;
 use std::test::Fail;
@@ -32,7 +32,7 @@ fn run_rows(alloc: Global, bench: &mut Bench, rows: &[(Row, Step<'_>)]) -> Resul
 
 /// Does these events in one call.
 fn run(bench: &mut Bench, events: &[Event]) -> Result<(), Fail> {
-    match bench.run(events) {
+    match all_done(bench, events) {
         Ok(()) => Ok(()),
         Err(_) => Err(Fail::from("there is memory")),
     }
@@ -48,15 +48,26 @@ struct Wanted<'a> {
     last_reply: &'a [u8],
 }
 
-fn check_seen<A: Abort>(rt: &A, bench: &Bench, wanted: &Wanted<'_>) -> Result<(), Fail> {
+/// The counter's value and its additions.
+fn check_counter<A: Abort>(rt: &A, bench: &Bench, wanted: &Wanted<'_>) -> Result<(), Fail> {
     assert_eq!(rt; counter(bench, 1)?, wanted.value);
     assert_eq!(rt; counter(bench, 3)?, wanted.additions);
-    let seen = bench.seen();
+    Ok(())
+}
+
+/// The reply that was accepted last.
+fn check_last<A: Abort>(rt: &A, last: &Accepted, wanted: &Wanted<'_>) {
+    assert_eq!(rt; last.number, wanted.last_number);
+    assert_eq!(rt; last.reply.as_slice(), wanted.last_reply);
+}
+
+fn check_seen<A: Abort>(rt: &A, bench: &Bench, wanted: &Wanted<'_>) -> Result<(), Fail> {
+    check_counter(rt, bench, wanted)?;
+    let seen = look(bench);
     assert_eq!(rt; seen.back.len(), wanted.back);
     assert_eq!(rt; seen.accepted.len(), wanted.accepted);
     let last = seen.accepted.last().ok_or("replies were accepted")?;
-    assert_eq!(rt; last.number, wanted.last_number);
-    assert_eq!(rt; last.reply.as_slice(), wanted.last_reply);
+    check_last(rt, last, wanted);
     Ok(())
 }
 
@@ -98,7 +109,7 @@ fn add_twice(alloc: Global, bench: &mut Bench, number: usize) -> Result<(), Fail
 fn add_many(alloc: Global, bench: &mut Bench, count: usize) -> Result<(), Fail> {
     for number in 0..count {
         add_twice(alloc, bench, number)?;
-        if bench.seen().accepted.len() != number + 1 {
+        if look(bench).accepted.len() != number + 1 {
             return Err(Fail::from("the reply is accepted once"));
         }
     }
