@@ -1,18 +1,30 @@
-// Preloaded into the program by tests/memory: refuses one growth of memory, the one whose number the
-// environment gives as REFUSE, from 1, and then leaves a file of the name REFUSED.
+// Preloaded into the program by tests/memory. Refuses one growth of memory, the one whose number the environment gives
+// as REFUSE, from 1, and then leaves a file of the name REFUSED. Counts all growths in the file COUNTED, 8 bytes.
 #define _GNU_SOURCE
 #include <dlfcn.h>
 #include <fcntl.h>
 #include <stdlib.h>
+#include <sys/mman.h>
+#include <unistd.h>
 
-static unsigned long seen, refused;
+static unsigned long own, refused, *seen;
+
+// The count lies in the file itself, so that it stands however the program ends.
+static unsigned long *count(void) {
+    const char *name = getenv("COUNTED");
+    int file = name ? open(name, O_CREAT | O_RDWR, 0600) : -1;
+    if (file < 0 || ftruncate(file, sizeof own)) return &own;
+    void *shared = mmap(0, sizeof own, PROT_READ | PROT_WRITE, MAP_SHARED, file, 0);
+    return shared == MAP_FAILED ? &own : shared;
+}
 
 static int refuses(void) {
-    if (!refused) {
+    if (!seen) {
         const char *number = getenv("REFUSE");
         refused = number ? strtoul(number, 0, 10) : 0;
+        seen = count();
     }
-    if (++seen != refused) return 0;
+    if (++*seen != refused) return 0;
     const char *mark = getenv("REFUSED");
     if (mark) open(mark, O_CREAT | O_WRONLY, 0600);
     return 1;

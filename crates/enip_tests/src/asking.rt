@@ -4,10 +4,11 @@ use crate::demo::demo_adapter;
 use crate::streams::BrokenWriter;
 use cip_message::Path;
 use enip_adapter::{Adapter, Peer};
-use enip_client::{Client, ClientFault, Heard};
-use enip_text::{Question, WANTS, ask_over, end_asking};
-use enip_wire::{MemorySink, MemorySource};
+use enip_client::{Client, Heard};
+use enip_text::{AskingStop, Question, Replied, WANTS, ask_over, end_asking};
+use enip_wire::{MemorySink, MemorySource, Sink, Source};
 use std::alloc::Global;
+use std::io::Write;
 use std::process::Abort;
 use std::test::Fail;
 
@@ -64,305 +65,595 @@ const ADD: Question<'static> = Question {
     digits: "05 000000",
 };
 
-/// What a run printed, its exit status, and what it sent.
-struct Ran {
-    status: u8,
-    output: Vec<u8>,
-    errors: Vec<u8>,
-    sent: Vec<u8>,
+/// What a device answers: these bytes, a SendRRData of session 1 with a context and a reply of the router, or a
+/// SendUnitData of session 1, T->O ID 0x11223344, with a count and a reply.
+#[derive(Clone, Copy)]
+enum Answer<'a> {
+    Bytes(&'a [u8]),
+    Reply(u8, &'a [u8]),
+    Item(&'a [u8]),
 }
 
-impl Drop for Ran {
-    fn drop(self) {
-        let Ran {
-            status: _,
-            output: _,
-            errors: _,
-            sent: _,
-        } = self;
+/// Appends these texts.
+fn push_all(answers: &mut Vec<u8>, texts: &[&[u8]]) -> Result<(), Fail> {
+    for text in texts {
+        answers.extend_from_slice(text)?;
     }
+    Ok(())
 }
 
-/// Asks over memory, of a device that answers with these bytes and takes so many.
-fn run(
-    alloc: Global,
-    question: &Question<'_>,
-    connected: bool,
-    answers: &[u8],
-    room: usize,
-) -> Result<Ran, Fail> {
-    let mut output = Vec::new(alloc);
-    let mut errors = Vec::new(alloc);
-    let mut taken = vec![in alloc; 0u8; room]?;
-    let mut source = MemorySource::new(answers, &[]).with_largest_count(7);
-    let mut sink = MemorySink::new(taken.as_mut_slice());
-    let told = match question.request(alloc) {
-        Ok(request) => ask_over(
-            alloc,
-            &mut source,
-            &mut sink,
-            request.as_slice(),
-            connected,
-            &mut output,
-        ),
-        Err(stop) => Err(stop),
-    };
-    let sent = Vec::from_slice(alloc, sink.written())?;
-    let status = end_asking(told, &mut errors);
-    Ok(Ran {
-        status,
-        output,
-        errors,
-        sent,
-    })
-}
+/// What stands around the numbers of a SendRRData: its length, its context, and the count of its reply.
+const REPLY_COMMAND: &[u8] = b"\x6f\0";
 
-/// Appends a SendRRData of session 1 with a reply of the router.
+const REPLY_SESSION: &[u8] = b"\0\x01\0\0\0\0\0\0\0";
+
+const REPLY_PACKET: &[u8] = b"\0\0\0\0\0\0\0\0\0\0\0\0\0\0\0\0\0\x02\0\0\0\0\0\xb2\0";
+
 fn push_reply(answers: &mut Vec<u8>, context: u8, reply: &[u8]) -> Result<(), Fail> {
     let count = u8::try_from(reply.len()).ok().ok_or("a short reply")?;
     let length = count.checked_add(16).ok_or("a short reply")?;
-    answers.extend_from_slice(&[0x6f, 0, length, 0, 1, 0, 0, 0, 0, 0, 0, 0])?;
-    answers.extend_from_slice(&[context, 0, 0, 0, 0, 0, 0, 0, 0, 0, 0, 0])?;
-    answers.extend_from_slice(&[0, 0, 0, 0, 0, 0, 2, 0, 0, 0, 0, 0, 0xb2, 0, count, 0])?;
-    answers.extend_from_slice(reply)?;
-    Ok(())
+    let texts: [&[u8]; 7] = [
+        REPLY_COMMAND,
+        &[length],
+        REPLY_SESSION,
+        &[context],
+        REPLY_PACKET,
+        &[count, 0],
+        reply,
+    ];
+    push_all(answers, &texts)
 }
 
-/// Appends a SendUnitData of session 1, T->O ID 0x11223344, with a count and a reply of the router.
+/// What stands around the numbers of a SendUnitData: its length, and the count of its item.
+const ITEM_COMMAND: &[u8] = b"\x70\0";
+
+const ITEM_PACKET: &[u8] =
+    b"\0\x01\0\0\0\0\0\0\0\0\0\0\0\0\0\0\0\0\0\0\0\0\0\0\0\0\0\x02\0\xa1\0\x04\0\
+    \x44\x33\x22\x11\xb1\0";
+
 fn push_item(answers: &mut Vec<u8>, item: &[u8]) -> Result<(), Fail> {
     let count = u8::try_from(item.len()).ok().ok_or("a short item")?;
     let length = count.checked_add(20).ok_or("a short item")?;
-    answers.extend_from_slice(&[0x70, 0, length, 0, 1, 0, 0, 0, 0, 0, 0, 0])?;
-    answers.extend_from_slice(&[0, 0, 0, 0, 0, 0, 0, 0, 0, 0, 0, 0])?;
-    answers.extend_from_slice(&[0, 0, 0, 0, 0, 0, 2, 0, 0xa1, 0, 4, 0])?;
-    answers.extend_from_slice(&[0x44, 0x33, 0x22, 0x11, 0xb1, 0, count, 0])?;
-    answers.extend_from_slice(item)?;
-    Ok(())
+    let texts: [&[u8]; 5] = [ITEM_COMMAND, &[length], ITEM_PACKET, &[count, 0], item];
+    push_all(answers, &texts)
 }
 
-#[test]
-fn replies_without_a_connection(rt: HostRuntime) -> Result<(), Fail> {
-    let rows: [(&[u8], u8, &str, &str); 8] = [
-        (b"\x8e\0\0\0\x34\x12", 0, "3412\n", ""),
-        (b"\x8e\0\0\0", 0, "ok\n", ""),
-        (b"\x8e\0\x05\0", 6, "refused 0x05\n", ""),
-        (b"\x8e\0\x01\x01\x15\x03", 6, "refused 0x01 0x0315\n", ""),
-        (b"\x8e\0\x01\x02\0\0\x15\x03", 6, "refused 0x01\n", ""),
-        // data behind a status, or behind a word
-        (b"\x8e\0\x0a\0\x01\0", 6, "refused 0x0a\n", ""),
-        (b"\x8e\0\0\x01\x01\0\xab", 0, "ab\n", ""),
-        // of another shape: the additional words go past the end
-        (b"\x8e\0\0\x01", 7, "", "fault 6\n"),
-    ];
-    for (place, (reply, status, output, errors)) in rows.into_iter().enumerate() {
-        let mut answers = Vec::from_slice(rt.alloc(), REGISTERED)?;
-        push_reply(&mut answers, 2, reply)?;
-        let ran = run(rt.alloc(), &VENDOR, false, answers.as_slice(), 1_000)?;
-        assert_eq!(rt; ran.status, status, "{place}");
-        assert_eq!(rt; ran.output.as_slice(), output.as_bytes(), "{place}");
-        assert_eq!(rt; ran.errors.as_slice(), errors.as_bytes(), "{place}");
-    }
-    Ok(())
-}
-
-#[test]
-fn replies_on_a_connection(rt: HostRuntime) -> Result<(), Fail> {
-    let rows: [(&[u8], u8, &str, &str); 5] = [
-        (b"\x01\0\xb2\0\0\0\x05\0\0\0", 0, "05000000\n", ""),
-        (b"\x01\0\xb2\0\0\0", 0, "ok\n", ""),
-        (b"\x01\0\xb2\0\x20\0", 6, "refused 0x20\n", ""),
-        (
-            b"\x01\0\xb2\0\x01\x01\x09\x01",
-            6,
-            "refused 0x01 0x0109\n",
-            "",
-        ),
-        (b"\x01\0\xb2\0\0\x05", 7, "", "fault 6\n"),
-    ];
-    for (place, (item, status, output, errors)) in rows.into_iter().enumerate() {
-        let mut answers = Vec::from_slice(rt.alloc(), REGISTERED)?;
-        push_reply(&mut answers, 2, OPENED)?;
-        push_item(&mut answers, item)?;
-        push_reply(&mut answers, 3, CLOSED)?;
-        let ran = run(rt.alloc(), &ADD, true, answers.as_slice(), 1_000)?;
-        assert_eq!(rt; ran.status, status, "{place}");
-        assert_eq!(rt; ran.output.as_slice(), output.as_bytes(), "{place}");
-        assert_eq!(rt; ran.errors.as_slice(), errors.as_bytes(), "{place}");
-        let mut sent = Vec::from_slice(rt.alloc(), REGISTER)?;
-        sent.extend_from_slice(OPEN)?;
-        sent.extend_from_slice(ADD_SENT)?;
-        sent.extend_from_slice(CLOSE)?;
-        sent.extend_from_slice(UNREGISTER)?;
-        assert_eq!(rt; ran.sent.as_slice(), sent.as_slice(), "{place}");
-    }
-    Ok(())
-}
-
-#[test]
-fn frames_of_a_get(rt: HostRuntime) -> Result<(), Fail> {
-    let mut answers = Vec::from_slice(rt.alloc(), REGISTERED)?;
-    push_reply(&mut answers, 2, b"\x8e\0\0\0\x34\x12")?;
-    let ran = run(rt.alloc(), &VENDOR, false, answers.as_slice(), 1_000)?;
-    let mut sent = Vec::from_slice(rt.alloc(), REGISTER)?;
-    sent.extend_from_slice(GET_SENT)?;
-    sent.extend_from_slice(UNREGISTER)?;
-    assert_eq!(rt; ran.sent.as_slice(), sent.as_slice());
-    Ok(())
-}
-
-#[test]
-fn connections_that_are_refused(rt: HostRuntime) -> Result<(), Fail> {
-    // Forward_Open, as there is one with these numbers, or no place; then Forward_Close, as there is none.
-    let rows: [(&[u8], &[u8], &str); 3] = [
-        (
-            b"\xd4\0\x01\x01\0\x01\x01\0\x42\0\x78\x56\x34\x12\0\0",
-            b"",
-            "refused 0x01 0x0100\n",
-        ),
-        (b"\xd4\0\x08\0", b"", "refused 0x08\n"),
-        (
-            OPENED,
-            b"\xce\0\x01\x01\x07\x01\x01\0\x42\0\x78\x56\x34\x12\0\0",
-            "refused 0x01 0x0107\n",
-        ),
-    ];
-    for (place, (opened, closed, output)) in rows.into_iter().enumerate() {
-        let mut answers = Vec::from_slice(rt.alloc(), REGISTERED)?;
-        push_reply(&mut answers, 2, opened)?;
-        push_item(&mut answers, b"\x01\0\xb2\0\0\0\x05\0\0\0")?;
-        push_reply(&mut answers, 3, closed)?;
-        let ran = run(rt.alloc(), &ADD, true, answers.as_slice(), 1_000)?;
-        assert_eq!(rt; ran.status, 6, "{place}");
-        assert_eq!(rt; ran.output.as_slice(), output.as_bytes(), "{place}");
-        assert_eq!(rt; ran.errors.as_slice(), b"".as_slice(), "{place}");
-    }
-    Ok(())
-}
-
-#[test]
-fn exchanges_that_fail(rt: HostRuntime) -> Result<(), Fail> {
-    let rows: [(&[u8], usize, u8, &str); 8] = [
-        // the input ends: at once, within a frame, and in place of the reply
-        (b"", 1_000, 5, "device\n"),
-        (b"\x65\0\x04", 1_000, 5, "device\n"),
-        (REGISTERED, 1_000, 5, "device\n"),
-        // the device takes no byte, or not all
-        (REGISTERED, 0, 5, "device\n"),
-        (REGISTERED, 40, 5, "device\n"),
-        // an encapsulation status, a frame that is too long, and a session with 0 bytes of data
-        (
-            b"\x65\0\x04\0\0\0\0\0\x69\0\0\0\x01\0\0\0\0\0\0\0\0\0\0\0\x01\0\0\0",
-            1_000,
-            7,
-            "fault 2\n",
-        ),
-        (
-            b"\x65\0\xe8\xff\0\0\0\0\0\0\0\0\x01\0\0\0\0\0\0\0\0\0\0\0",
-            1_000,
-            7,
-            "fault 4\n",
-        ),
-        (
-            b"\x65\0\0\0\x01\0\0\0\0\0\0\0\x01\0\0\0\0\0\0\0\0\0\0\0",
-            1_000,
-            7,
-            "fault 6\n",
-        ),
-    ];
-    for (place, (answers, room, status, errors)) in rows.into_iter().enumerate() {
-        for connected in [false, true] {
-            let ran = run(rt.alloc(), &ADD, connected, answers, room)?;
-            assert_eq!(rt; ran.status, status, "{place}");
-            assert_eq!(rt; ran.output.as_slice(), b"".as_slice(), "{place}");
-            assert_eq!(rt; ran.errors.as_slice(), errors.as_bytes(), "{place}");
+/// The answers, one behind the other.
+fn bytes_of(alloc: Global, answers: &[Answer<'_>]) -> Result<Vec<u8>, Fail> {
+    let mut bytes = Vec::new(alloc);
+    for answer in answers {
+        match *answer {
+            Answer::Bytes(text) => bytes.extend_from_slice(text)?,
+            Answer::Reply(context, reply) => push_reply(&mut bytes, context, reply)?,
+            Answer::Item(item) => push_item(&mut bytes, item)?,
         }
     }
+    Ok(bytes)
+}
+
+/// Asks over any devices. Its contract says nothing, so that whoever calls it carries no state on.
+fn asked_over<R: Source, W: Sink, O: Write + Drop>(
+    alloc: Global,
+    reader: &mut R,
+    writer: &mut W,
+    request: &[u8],
+    connected: bool,
+    output: O,
+) -> Result<Result<Replied, AskingStop>, Fail> {
+    if reader.failures() == u64::MAX || writer.failures() == u64::MAX {
+        return Err(Fail::from("devices that can fail once more"));
+    }
+    Ok(ask_over(alloc, reader, writer, request, connected, output))
+}
+
+/// The same of a question, and its exit status.
+fn run<R: Source, W: Sink>(
+    alloc: Global,
+    question: &Question<'_>,
+    connected: bool,
+    reader: &mut R,
+    writer: &mut W,
+    output: &mut Vec<u8>,
+    errors: &mut Vec<u8>,
+) -> Result<u8, Fail> {
+    let told = match question.request(alloc) {
+        Ok(request) => {
+            let request = request.as_slice();
+            asked_over(alloc, reader, writer, request, connected, output)?
+        }
+        Err(stop) => Err(stop),
+    };
+    Ok(end_asking(told, errors))
+}
+
+/// What is asked of a device, what it answers, how many bytes it takes, and what comes of it; what is sent is not
+/// looked at where it is `None`.
+#[derive(Clone, Copy)]
+struct Asked<'a> {
+    name: &'static str,
+    question: Question<'a>,
+    connected: bool,
+    answers: &'a [Answer<'a>],
+    room: usize,
+    status: u8,
+    output: &'a str,
+    errors: &'a str,
+    sent: Option<&'a [&'a [u8]]>,
+}
+
+/// What was printed and sent.
+fn check_texts<A: Abort>(
+    rt: &A,
+    alloc: Global,
+    row: &Asked<'_>,
+    output: &[u8],
+    errors: &[u8],
+    sent: &[u8],
+) -> Result<(), Fail> {
+    assert_eq!(rt; output, row.output.as_bytes(), "{}", row.name);
+    assert_eq!(rt; errors, row.errors.as_bytes(), "{}", row.name);
+    if let Some(texts) = row.sent {
+        let mut wanted = Vec::new(alloc);
+        push_all(&mut wanted, texts)?;
+        assert_eq!(rt; sent, wanted.as_slice(), "{}", row.name);
+    }
     Ok(())
 }
 
-#[test]
-fn a_reader_that_fails(rt: HostRuntime) -> Result<(), Fail> {
-    let mut output = Vec::new(rt.alloc());
-    let mut errors = Vec::new(rt.alloc());
-    let mut taken = [0; 100];
-    let mut source = MemorySource::new(REGISTERED, &[]).with_failure_after(1);
-    let mut sink = MemorySink::new(&mut taken);
-    let request = b"\x0e\x03\x20\x01\x24\x01\x30\x01";
-    let told = ask_over(
-        rt.alloc(),
+/// Asks over memory, of a device that gives at most 7 bytes a read.
+fn check_asked<A: Abort>(rt: &A, alloc: Global, row: &Asked<'_>) -> Result<(), Fail> {
+    let answers = bytes_of(alloc, row.answers)?;
+    let mut taken = vec![in alloc; 0u8; row.room]?;
+    let mut source = MemorySource::new(answers.as_slice(), &[]).with_largest_count(7);
+    let mut sink = MemorySink::new(taken.as_mut_slice());
+    let mut output = Vec::new(alloc);
+    let mut errors = Vec::new(alloc);
+    let status = run(
+        alloc,
+        &row.question,
+        row.connected,
         &mut source,
         &mut sink,
-        request,
-        false,
         &mut output,
-    );
-    assert_eq!(rt; end_asking(told, &mut errors), 5);
-    assert_eq!(rt; output.len(), 0);
-    assert_eq!(rt; errors.as_slice(), b"device\n".as_slice());
-    Ok(())
+        &mut errors,
+    )?;
+    assert_eq!(rt; status, row.status, "{}", row.name);
+    check_texts(
+        rt,
+        alloc,
+        row,
+        output.as_slice(),
+        errors.as_slice(),
+        sink.written(),
+    )
 }
 
-#[test]
-fn a_reply_that_can_not_be_printed(rt: HostRuntime) -> Result<(), Fail> {
-    let mut written = Vec::new(rt.alloc());
-    let mut errors = Vec::new(rt.alloc());
-    let mut taken = [0; 100];
-    let mut answers = Vec::from_slice(rt.alloc(), REGISTERED)?;
-    push_reply(&mut answers, 2, b"\x8e\0\0\0\x34\x12")?;
-    let mut source = MemorySource::new(answers.as_slice(), &[]);
-    let mut sink = MemorySink::new(&mut taken);
-    let request = b"\x0e\x03\x20\x01\x24\x01\x30\x01";
-    let output = BrokenWriter {
-        text: &mut written,
-        room: 2,
-    };
-    let told = ask_over(rt.alloc(), &mut source, &mut sink, request, false, output);
-    assert_eq!(rt; end_asking(told, &mut errors), 5);
-    assert_eq!(rt; written.as_slice(), b"34".as_slice());
-    assert_eq!(rt; errors.as_slice(), b"device\n".as_slice());
-    Ok(())
-}
+/// The vendor's get without a connection, which is answered.
+const GET: Asked<'static> = Asked {
+    name: "the frames of a get",
+    question: VENDOR,
+    connected: false,
+    answers: &[
+        Answer::Bytes(REGISTERED),
+        Answer::Reply(2, b"\x8e\0\0\0\x34\x12"),
+    ],
+    room: 1_000,
+    status: 0,
+    output: "3412\n",
+    errors: "",
+    sent: Some(&[REGISTER, GET_SENT, UNREGISTER]),
+};
 
-/// A request has at most 504 bytes, on a connection at most 498: 6 of them stand before the data.
+/// The counter's Add on a connection, which is answered.
+const CALL: Asked<'static> = Asked {
+    name: "the value after an addition",
+    question: ADD,
+    connected: true,
+    answers: &[
+        Answer::Bytes(REGISTERED),
+        Answer::Reply(2, OPENED),
+        Answer::Item(b"\x01\0\xb2\0\0\0\x05\0\0\0"),
+        Answer::Reply(3, CLOSED),
+    ],
+    room: 1_000,
+    status: 0,
+    output: "05000000\n",
+    errors: "",
+    sent: Some(&[REGISTER, OPEN, ADD_SENT, CLOSE, UNREGISTER]),
+};
+
+/// Replies without a connection.
+static REPLIES: [Asked<'static>; 8] = [
+    GET,
+    Asked {
+        name: "no data",
+        answers: &[Answer::Bytes(REGISTERED), Answer::Reply(2, b"\x8e\0\0\0")],
+        output: "ok\n",
+        sent: None,
+        ..GET
+    },
+    Asked {
+        name: "a status",
+        answers: &[Answer::Bytes(REGISTERED), Answer::Reply(2, b"\x8e\0\x05\0")],
+        status: 6,
+        output: "refused 0x05\n",
+        sent: None,
+        ..GET
+    },
+    Asked {
+        name: "a status with a word",
+        answers: &[
+            Answer::Bytes(REGISTERED),
+            Answer::Reply(2, b"\x8e\0\x01\x01\x15\x03"),
+        ],
+        status: 6,
+        output: "refused 0x01 0x0315\n",
+        sent: None,
+        ..GET
+    },
+    Asked {
+        name: "two words, the first of them 0",
+        answers: &[
+            Answer::Bytes(REGISTERED),
+            Answer::Reply(2, b"\x8e\0\x01\x02\0\0\x15\x03"),
+        ],
+        status: 6,
+        output: "refused 0x01\n",
+        sent: None,
+        ..GET
+    },
+    Asked {
+        name: "data behind a status",
+        answers: &[
+            Answer::Bytes(REGISTERED),
+            Answer::Reply(2, b"\x8e\0\x0a\0\x01\0"),
+        ],
+        status: 6,
+        output: "refused 0x0a\n",
+        sent: None,
+        ..GET
+    },
+    Asked {
+        name: "data behind a word",
+        answers: &[
+            Answer::Bytes(REGISTERED),
+            Answer::Reply(2, b"\x8e\0\0\x01\x01\0\xab"),
+        ],
+        output: "ab\n",
+        sent: None,
+        ..GET
+    },
+    Asked {
+        name: "additional words that go past the end",
+        answers: &[Answer::Bytes(REGISTERED), Answer::Reply(2, b"\x8e\0\0\x01")],
+        status: 7,
+        output: "",
+        errors: "fault 6\n",
+        sent: None,
+        ..GET
+    },
+];
+
+/// Replies on a connection.
+static ITEMS: [Asked<'static>; 5] = [
+    CALL,
+    Asked {
+        name: "no data",
+        answers: &[
+            Answer::Bytes(REGISTERED),
+            Answer::Reply(2, OPENED),
+            Answer::Item(b"\x01\0\xb2\0\0\0"),
+            Answer::Reply(3, CLOSED),
+        ],
+        output: "ok\n",
+        ..CALL
+    },
+    Asked {
+        name: "a status",
+        answers: &[
+            Answer::Bytes(REGISTERED),
+            Answer::Reply(2, OPENED),
+            Answer::Item(b"\x01\0\xb2\0\x20\0"),
+            Answer::Reply(3, CLOSED),
+        ],
+        status: 6,
+        output: "refused 0x20\n",
+        ..CALL
+    },
+    Asked {
+        name: "a status with a word",
+        answers: &[
+            Answer::Bytes(REGISTERED),
+            Answer::Reply(2, OPENED),
+            Answer::Item(b"\x01\0\xb2\0\x01\x01\x09\x01"),
+            Answer::Reply(3, CLOSED),
+        ],
+        status: 6,
+        output: "refused 0x01 0x0109\n",
+        ..CALL
+    },
+    Asked {
+        name: "words that go past the end",
+        answers: &[
+            Answer::Bytes(REGISTERED),
+            Answer::Reply(2, OPENED),
+            Answer::Item(b"\x01\0\xb2\0\0\x05"),
+            Answer::Reply(3, CLOSED),
+        ],
+        status: 7,
+        output: "",
+        errors: "fault 6\n",
+        ..CALL
+    },
+];
+
+/// Connections that are refused at their opening or at their close.
+static REFUSED: [Asked<'static>; 3] = [
+    Asked {
+        name: "there is one with these numbers",
+        answers: &[
+            Answer::Bytes(REGISTERED),
+            Answer::Reply(2, b"\xd4\0\x01\x01\0\x01\x01\0\x42\0\x78\x56\x34\x12\0\0"),
+            Answer::Item(b"\x01\0\xb2\0\0\0\x05\0\0\0"),
+            Answer::Reply(3, b""),
+        ],
+        status: 6,
+        output: "refused 0x01 0x0100\n",
+        sent: None,
+        ..CALL
+    },
+    Asked {
+        name: "there is no place",
+        answers: &[
+            Answer::Bytes(REGISTERED),
+            Answer::Reply(2, b"\xd4\0\x08\0"),
+            Answer::Item(b"\x01\0\xb2\0\0\0\x05\0\0\0"),
+            Answer::Reply(3, b""),
+        ],
+        status: 6,
+        output: "refused 0x08\n",
+        sent: None,
+        ..CALL
+    },
+    Asked {
+        name: "there is none to be closed",
+        answers: &[
+            Answer::Bytes(REGISTERED),
+            Answer::Reply(2, OPENED),
+            Answer::Item(b"\x01\0\xb2\0\0\0\x05\0\0\0"),
+            Answer::Reply(3, b"\xce\0\x01\x01\x07\x01\x01\0\x42\0\x78\x56\x34\x12\0\0"),
+        ],
+        status: 6,
+        output: "refused 0x01 0x0107\n",
+        sent: None,
+        ..CALL
+    },
+];
+
+/// Exchanges that fail, with and without a connection.
+static FAILING: [Asked<'static>; 8] = [
+    Asked {
+        name: "the input ends at once",
+        answers: &[Answer::Bytes(b"")],
+        status: 5,
+        output: "",
+        errors: "device\n",
+        sent: None,
+        ..CALL
+    },
+    Asked {
+        name: "the input ends within a frame",
+        answers: &[Answer::Bytes(b"\x65\0\x04")],
+        status: 5,
+        output: "",
+        errors: "device\n",
+        sent: None,
+        ..CALL
+    },
+    Asked {
+        name: "the input ends in place of the reply",
+        answers: &[Answer::Bytes(REGISTERED)],
+        status: 5,
+        output: "",
+        errors: "device\n",
+        sent: None,
+        ..CALL
+    },
+    Asked {
+        name: "the device takes no byte",
+        answers: &[Answer::Bytes(REGISTERED)],
+        room: 0,
+        status: 5,
+        output: "",
+        errors: "device\n",
+        sent: None,
+        ..CALL
+    },
+    Asked {
+        name: "the device does not take all",
+        answers: &[Answer::Bytes(REGISTERED)],
+        room: 40,
+        status: 5,
+        output: "",
+        errors: "device\n",
+        sent: None,
+        ..CALL
+    },
+    Asked {
+        name: "an encapsulation status",
+        answers: &[Answer::Bytes(
+            b"\x65\0\x04\0\0\0\0\0\x69\0\0\0\x01\0\0\0\0\0\0\0\0\0\0\0\x01\0\0\0",
+        )],
+        status: 7,
+        output: "",
+        errors: "fault 2\n",
+        sent: None,
+        ..CALL
+    },
+    Asked {
+        name: "a frame that is too long",
+        answers: &[Answer::Bytes(b"\x65\0\xe8\xff\0\0\0\0\0\0\0\0\x01\0\0\0\0\0\0\0\0\0\0\0")],
+        status: 7,
+        output: "",
+        errors: "fault 4\n",
+        sent: None,
+        ..CALL
+    },
+    Asked {
+        name: "a session with no data",
+        answers: &[Answer::Bytes(b"\x65\0\0\0\x01\0\0\0\0\0\0\0\x01\0\0\0\0\0\0\0\0\0\0\0")],
+        status: 7,
+        output: "",
+        errors: "fault 6\n",
+        sent: None,
+        ..CALL
+    },
+];
+
+/// Data that are no digits: nothing is sent.
+const NO_DIGITS: [&str; 4] = ["0g", "012", "0x01", "-"];
+
+/// So many bytes of data, with and without a connection: a request has at most 504 bytes, on a connection at most 498,
+/// and 6 of them stand before the data.
+const LENGTHS: [(usize, bool, u8, &str); 4] = [
+    (498, false, 5, "device\n"),
+    (499, false, 7, "fault 7\n"),
+    (492, true, 5, "device\n"),
+    (493, true, 7, "fault 7\n"),
+];
+
 #[test]
-fn requests_that_are_too_long(rt: HostRuntime) -> Result<(), Fail> {
-    let rows = [
-        (498, false, 5, "device\n"),
-        (499, false, 7, "fault 7\n"),
-        (492, true, 5, "device\n"),
-        (493, true, 7, "fault 7\n"),
-    ];
-    for (count, connected, status, errors) in rows {
-        let mut digits = String::new(rt.alloc());
-        for _ in 0..count {
-            digits.push_str("00")?;
+fn exchanges_over_memory(rt: HostRuntime) -> Result<(), Fail> {
+    for rows in [
+        REPLIES.as_slice(),
+        ITEMS.as_slice(),
+        REFUSED.as_slice(),
+        FAILING.as_slice(),
+    ] {
+        for row in rows {
+            check_asked(&rt, rt.alloc(), row)?;
         }
-        let question = Question {
-            digits: digits.as_str(),
-            ..ADD
+    }
+    Ok(())
+}
+
+#[test]
+fn exchanges_that_fail_without_a_connection(rt: HostRuntime) -> Result<(), Fail> {
+    for row in &FAILING {
+        let row = Asked {
+            connected: false,
+            ..*row
         };
-        let mut answers = Vec::from_slice(rt.alloc(), REGISTERED)?;
-        if connected {
-            push_reply(&mut answers, 2, OPENED)?;
-        }
-        let ran = run(rt.alloc(), &question, connected, answers.as_slice(), 1_000)?;
-        assert_eq!(rt; ran.status, status, "{count}");
-        assert_eq!(rt; ran.output.as_slice(), b"".as_slice(), "{count}");
-        assert_eq!(rt; ran.errors.as_slice(), errors.as_bytes(), "{count}");
+        check_asked(&rt, rt.alloc(), &row)?;
     }
     Ok(())
 }
 
 #[test]
 fn data_that_are_no_digits(rt: HostRuntime) -> Result<(), Fail> {
-    for digits in ["0g", "012", "0x01", "-"] {
-        let question = Question { digits, ..ADD };
-        let ran = run(rt.alloc(), &question, false, REGISTERED, 1_000)?;
-        assert_eq!(rt; ran.status, 2, "{digits}");
-        assert_eq!(rt; ran.output.as_slice(), b"".as_slice(), "{digits}");
-        assert_eq!(rt; ran.errors.as_slice(), b"hex\n".as_slice(), "{digits}");
-        assert_eq!(rt; ran.sent.as_slice(), b"".as_slice(), "{digits}");
+    for digits in NO_DIGITS {
+        let row = Asked {
+            name: digits,
+            question: Question { digits, ..ADD },
+            answers: &[Answer::Bytes(REGISTERED)],
+            status: 2,
+            output: "",
+            errors: "hex\n",
+            sent: Some(&[]),
+            ..GET
+        };
+        check_asked(&rt, rt.alloc(), &row)?;
     }
+    Ok(())
+}
+
+/// The digits of so many bytes 0.
+fn zeros(alloc: Global, count: usize) -> Result<String, Fail> {
+    let mut digits = String::new(alloc);
+    for _ in 0..count {
+        digits.push_str("00")?;
+    }
+    Ok(digits)
+}
+
+/// A device registers a session and opens a connection where one is asked for, and answers no more.
+fn first_answers(connected: bool) -> &'static [Answer<'static>] {
+    if connected {
+        &[Answer::Bytes(REGISTERED), Answer::Reply(2, OPENED)]
+    } else {
+        &[Answer::Bytes(REGISTERED)]
+    }
+}
+
+/// It is asked with so many digits of data.
+fn check_length<'a, A: Abort>(
+    rt: &A,
+    alloc: Global,
+    digits: &'a str,
+    connected: bool,
+    status: u8,
+    errors: &'a str,
+) -> Result<(), Fail> {
+    let row = Asked {
+        name: "a request of the longest length, or a longer one",
+        question: Question { digits, ..ADD },
+        connected,
+        answers: first_answers(connected),
+        room: 1_000,
+        status,
+        output: "",
+        errors,
+        sent: None,
+    };
+    check_asked(rt, alloc, &row)
+}
+
+#[test]
+fn requests_that_are_too_long(rt: HostRuntime) -> Result<(), Fail> {
+    for (count, connected, status, errors) in LENGTHS {
+        let digits = zeros(rt.alloc(), count)?;
+        check_length(&rt, rt.alloc(), digits.as_str(), connected, status, errors)?;
+    }
+    Ok(())
+}
+
+/// The vendor's get over this device, printed here: the status is 5, and `device` is told.
+fn check_device_fails<A: Abort, R: Source, O: Write + Drop>(
+    rt: &A,
+    alloc: Global,
+    reader: &mut R,
+    output: O,
+) -> Result<(), Fail> {
+    let mut errors = Vec::new(alloc);
+    let mut taken = [0; 100];
+    let mut sink = MemorySink::new(&mut taken);
+    let request = b"\x0e\x03\x20\x01\x24\x01\x30\x01";
+    let told = asked_over(alloc, reader, &mut sink, request, false, output)?;
+    assert_eq!(rt; end_asking(told, &mut errors), 5);
+    assert_eq!(rt; errors.as_slice(), b"device\n".as_slice());
+    Ok(())
+}
+
+#[test]
+fn a_reader_that_fails(rt: HostRuntime) -> Result<(), Fail> {
+    let mut output = Vec::new(rt.alloc());
+    let mut source = MemorySource::new(REGISTERED, &[]).with_failure_after(1);
+    check_device_fails(&rt, rt.alloc(), &mut source, &mut output)?;
+    assert_eq!(rt; output.len(), 0);
+    Ok(())
+}
+
+#[test]
+fn a_reply_that_can_not_be_printed(rt: HostRuntime) -> Result<(), Fail> {
+    let mut written = Vec::new(rt.alloc());
+    let answers = bytes_of(rt.alloc(), GET.answers)?;
+    let mut source = MemorySource::new(answers.as_slice(), &[]);
+    let output = BrokenWriter {
+        text: &mut written,
+        room: 2,
+    };
+    check_device_fails(&rt, rt.alloc(), &mut source, output)?;
+    assert_eq!(rt; written.as_slice(), b"34".as_slice());
     Ok(())
 }
 
@@ -428,37 +719,32 @@ const SERVICES: [(&[u8], &[u8]); 8] = [
     (b"\x33\x02\x20\x64\x24\x01", b"\xb3\0\0\0\x64\0\0\0"),
 ];
 
-/// What the adapter answers to a frame of the client.
-fn pass(
-    alloc: Global,
-    adapter: &mut Adapter,
-    peer: &Peer,
-    frame: Result<&[u8], ClientFault>,
-) -> Result<Vec<u8>, Fail> {
-    let frame = frame.ok().ok_or("a frame")?;
-    let answer = adapter.feed(0, peer, frame).answer.ok_or("an answer")?;
-    Ok(Vec::from_slice(alloc, answer)?)
-}
-
-/// What a client sends.
+/// What a client does.
 #[derive(Clone, Copy)]
 enum Sent<'a> {
     Registers,
     Opens,
     Asks(&'a [u8]),
     Submits(&'a [u8]),
+    Resends,
     Closes,
 }
 
 /// Its frame.
-fn lent<'a>(client: &'a mut Client, sent: Sent<'_>) -> Result<&'a [u8], ClientFault> {
+fn lent<'a>(client: &'a mut Client, sent: Sent<'_>) -> Option<&'a [u8]> {
     match sent {
-        Sent::Registers => client.register(),
-        Sent::Opens => client.open(),
-        Sent::Asks(request) => client.unconnected(request),
-        Sent::Submits(request) => client.submit(request).map_err(|_| ClientFault::State),
-        Sent::Closes => client.close(),
+        Sent::Registers => client.register().ok(),
+        Sent::Opens => client.open().ok(),
+        Sent::Asks(request) => client.unconnected(request).ok(),
+        Sent::Submits(request) => client.submit(request).ok(),
+        Sent::Resends => client.resend(),
+        Sent::Closes => client.close().ok(),
     }
+}
+
+/// What the adapter answers to a frame of the client.
+fn pass<'a>(adapter: &'a mut Adapter, peer: &Peer, frame: &[u8]) -> Option<&'a [u8]> {
+    adapter.feed(0, peer, frame).answer
 }
 
 /// What the client hears of an answer.
@@ -469,7 +755,6 @@ fn check_heard<A: Abort>(rt: &A, client: &mut Client, answer: &[u8], heard: Hear
 /// A client and the adapter that it is a peer of.
 #[derive(Drop)]
 struct Ends {
-    alloc: Global,
     adapter: Adapter,
     peer: Peer,
     client: Client,
@@ -482,10 +767,34 @@ fn exchange<A: Abort>(
     sent: Sent<'_>,
     heard: Heard<'_>,
 ) -> Result<(), Fail> {
-    let frame = lent(&mut ends.client, sent);
-    let answer = pass(ends.alloc, &mut ends.adapter, &ends.peer, frame)?;
-    check_heard(rt, &mut ends.client, answer.as_slice(), heard);
+    let frame = lent(&mut ends.client, sent).ok_or("a frame")?;
+    let answer = pass(&mut ends.adapter, &ends.peer, frame).ok_or("an answer")?;
+    check_heard(rt, &mut ends.client, answer, heard);
     Ok(())
+}
+
+/// The client sends this, and what is answered is lost.
+fn loses(ends: &mut Ends, sent: Sent<'_>) -> Result<(), Fail> {
+    let frame = lent(&mut ends.client, sent).ok_or("a frame")?;
+    let _ = pass(&mut ends.adapter, &ends.peer, frame).ok_or("an answer")?;
+    Ok(())
+}
+
+/// A request on the connection is answered, or the answer is lost and the request sent again.
+fn submits<A: Abort>(
+    rt: &A,
+    ends: &mut Ends,
+    request: &[u8],
+    reply: &[u8],
+    lost: bool,
+) -> Result<(), Fail> {
+    let heard = Heard::Accepted(reply);
+    if lost {
+        loses(ends, Sent::Submits(request))?;
+        exchange(rt, ends, Sent::Resends, heard)
+    } else {
+        exchange(rt, ends, Sent::Submits(request), heard)
+    }
 }
 
 /// The session ends, and the adapter closes.
@@ -501,31 +810,43 @@ fn both_ends(alloc: Global) -> Result<Ends, Fail> {
     let peer = adapter.begin().ok().ok_or("a peer")?;
     let client = Client::new(alloc, &WANTS).ok().ok_or("a client")?;
     Ok(Ends {
-        alloc,
         adapter,
         peer,
         client,
     })
 }
 
+/// A session in which each service is asked for so often without a connection, and then on one, also with a lost answer.
+fn session<A: Abort>(rt: &A, ends: &mut Ends, rounds: usize) -> Result<(), Fail> {
+    exchange(rt, ends, Sent::Registers, Heard::Registered)?;
+    for _ in 0..rounds {
+        for (request, reply) in SERVICES {
+            exchange(rt, ends, Sent::Asks(request), Heard::Reply(reply))?;
+        }
+    }
+    exchange(rt, ends, Sent::Opens, Heard::Opened)?;
+    for round in 0..rounds {
+        for (request, reply) in SERVICES {
+            submits(rt, ends, request, reply, round % 2 == 1)?;
+        }
+    }
+    exchange(rt, ends, Sent::Closes, Heard::Closed)?;
+    check_left(rt, ends)
+}
+
 #[test]
 fn a_client_and_an_adapter(rt: HostRuntime) -> Result<(), Fail> {
     let mut ends = both_ends(rt.alloc())?;
-    exchange(&rt, &mut ends, Sent::Registers, Heard::Registered)?;
-    for (request, reply) in SERVICES {
-        exchange(&rt, &mut ends, Sent::Asks(request), Heard::Reply(reply))?;
-    }
-    exchange(&rt, &mut ends, Sent::Opens, Heard::Opened)?;
-    for (request, reply) in SERVICES {
-        exchange(
-            &rt,
-            &mut ends,
-            Sent::Submits(request),
-            Heard::Accepted(reply),
-        )?;
-    }
-    exchange(&rt, &mut ends, Sent::Closes, Heard::Closed)?;
-    check_left(&rt, &mut ends)?;
+    session(&rt, &mut ends, 1)?;
+    assert_eq!(rt; ends.adapter.free(), (3, 16));
+    Ok(())
+}
+
+/// No request takes memory: this has as many growths as the test before it. (`tests/memory` counts both.)
+#[test]
+fn a_client_for_a_thousand_rounds(rt: HostRuntime) -> Result<(), Fail> {
+    let mut ends = both_ends(rt.alloc())?;
+    session(&rt, &mut ends, 1_000)?;
     assert_eq!(rt; ends.adapter.free(), (3, 16));
     Ok(())
 }
