@@ -46,8 +46,9 @@ impl Triad {
 pub struct Connection {
     /// The session that opened it.
     pub session: u32,
-    /// The ID of items to the target, which was drawn for it.
-    pub o_to_t_id: u32,
+    // The ID of items to the target, which was drawn for it. Nothing reads it but definitions: what is looked for by an
+    // ID is found in the index, which counts each comparison.
+    o_to_t_id: u32,
     /// The ID of items to the originator, which asked for it.
     pub t_to_o_id: u32,
     pub triad: Triad,

@@ -254,7 +254,8 @@ impl Manager {
         }
         let id = self.next_id as u32;
         self.next_id += 1;
-        self.table.push(Connection::new(id, now, session, asked));
+        self.table
+            .push(id, Connection::new(id, now, session, asked));
         write_open_success(service, id, asked, reply);
     }
 

@@ -103,14 +103,14 @@ impl Table {
     }
 
     /// Opens a connection behind the others. Its ID is above theirs.
-    pub fn push(&mut self, connection: Connection)
+    pub fn push(&mut self, id: u32, connection: Connection)
         requires place { length self.old.connections < self.old.places }
+        requires id { id ≡ connection.o_to_t_id }
         requires above { AreBelow connection.o_to_t_id self.old.connections }
         ensures pushed { self.new
             ≡ record self.old { connections = self.old.connections ++ connection ∷ [] } }
         ensures below { AreBelow (connection.o_to_t_id + 1) self.new.connections }
     {
-        let id = connection.o_to_t_id;
         self.earliest = self.earliest.min(connection.deadline);
         let key = self.connections.insert(connection);
         self.index.push(id, key);

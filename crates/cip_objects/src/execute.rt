@@ -130,7 +130,7 @@ fn set_status(status: GeneralStatus, reply: &mut ReplyBuf)
 }
 
 impl Router for Objects {
-    ghost use Rattle.cip_objects.specs.ExecutionLaws.{exec_too_large, exec_begins, exec_within};
+    ghost use Rattle.cip_objects.specs.ExecutionLaws.{exec_too_large};
 
     ghost after = { λ m room text. (exec m room text).after };
 
@@ -146,8 +146,4 @@ impl Router for Objects {
     }
 
     ghost too_large = { λ m room text h e. exec_too_large m room text e };
-
-    ghost begins = { λ m room text h g. exec_begins m room text };
-
-    ghost within = { λ m room text h g. exec_within m room text h };
 }

@@ -4,6 +4,9 @@ ghost use Rattle.cip_objects.specs.Laws.{too_large_law, refused_law, any_room_la
 ghost use Rattle.cip_objects.specs.Laws.{get_after_set_law, set_leaves_others_law, unsettable_law};
 ghost use Rattle.cip_objects.specs.Lists.{list_law};
 ghost use Rattle.cip_objects.specs.Members.{member_after_set_law, set_member_leaves_others_law, whole_law};
+ghost use Rattle.cip_objects.specs.Router.{RepliesInForm};
+ghost use Rattle.cip_objects.specs.Contents.{Contents};
+ghost use Rattle.cip_objects.specs.Execution.{exec};
 ghost use Rattle.cip_objects.specs.Run.{counter_law};
 
 /// A reply that is too large goes with the map as it was.
@@ -15,6 +18,11 @@ pub fn too_large_changes_nothing()
 /// the map as it was.
 pub fn refused_changes_nothing()
     ensures { refused_law }
+{}
+
+/// Replies have the head of one, with the service that answers the request's, and are no longer than the room.
+pub fn replies_are_in_form()
+    ensures { RepliesInForm (λ (m : Contents) room text. (exec m room text).answer) }
 {}
 
 /// With room for 8 bytes or more, the map after a request doesn't depend on the room.

@@ -1,6 +1,6 @@
 //! What executes a router request: the trait that the ends of a connection are written over.
 ghost use Rattle.std.specs.Prelude.{◌≡◌, ℕ, List, ◌≤◌, length};
-ghost use Rattle.cip_objects.specs.Router.{general_status, IsReplyTo, REPLY_TOO_LARGE};
+ghost use Rattle.cip_objects.specs.Router.{general_status, REPLY_TOO_LARGE};
 
 use arrayvec::ArrayVec;
 use cip_bytes::protocol::REPLY_LIMIT;
@@ -12,7 +12,8 @@ pub type ReplyBuf = ArrayVec<u8, REPLY_LIMIT>;
 ///
 /// A router names its whole meaning by two functions of its state, of the room and of the request: `after`,
 /// the state that it is left in, and `answer`, the reply. So a contract over a router says what was executed,
-/// and how often, without a word on what is behind it.
+/// and how often, without a word on what is behind it. It keeps one law; what an originator asks of replies beyond it,
+/// that they have the form of one (`RepliesInForm`), is a premise where it is needed.
 pub trait Router {
     ghost after: { Self → ℕ → List ℕ → Self };
 
@@ -32,12 +33,4 @@ pub trait Router {
     // A reply that says "reply data too large" goes with an unchanged state.
     ghost too_large: { (router : Self) (room : ℕ) (request : List ℕ) →
         8 ≤ room → general_status (answer router room request) ≡ REPLY_TOO_LARGE → after router room request ≡ router };
-
-    // Each reply has the head of one, and its service is the request's with bit 7 set.
-    ghost begins: { (router : Self) (room : ℕ) (request : List ℕ) →
-        8 ≤ room → 2 ≤ length request → IsReplyTo request (answer router room request) };
-
-    // No reply is longer than the room.
-    ghost within: { (router : Self) (room : ℕ) (request : List ℕ) →
-        8 ≤ room → 2 ≤ length request → length (answer router room request) ≤ room };
 }
