@@ -67,18 +67,6 @@ pub enum Command {
 }
 
 impl Command {
-    /// The commands that are served.
-    const ALL: [Command; 8] = [
-        Command::Nop,
-        Command::ListServices,
-        Command::ListIdentity,
-        Command::ListInterfaces,
-        Command::RegisterSession,
-        Command::UnRegisterSession,
-        Command::SendRRData,
-        Command::SendUnitData,
-    ];
-
     /// The command as the header has it.
     #[inline(always)]
     pub fn number(self) -> u16
@@ -92,10 +80,18 @@ impl Command {
     pub fn of(number: u16) -> Option<Command>
         ensures { result ≡ command_of number }
     {
-        Command::ALL
-            .iter()
-            .copied()
-            .find(|command| command.number() == number)
+        // A match, since every frame comes here. Each number is proved to be the one above.
+        match number {
+            0x0000 => Some(Command::Nop),
+            0x0004 => Some(Command::ListServices),
+            0x0063 => Some(Command::ListIdentity),
+            0x0064 => Some(Command::ListInterfaces),
+            0x0065 => Some(Command::RegisterSession),
+            0x0066 => Some(Command::UnRegisterSession),
+            0x006f => Some(Command::SendRRData),
+            0x0070 => Some(Command::SendUnitData),
+            _ => None,
+        }
     }
 }
 
@@ -123,13 +119,6 @@ pub enum ManagerService {
 }
 
 impl ManagerService {
-    /// The services that there are.
-    const ALL: [ManagerService; 3] = [
-        ManagerService::ForwardClose,
-        ManagerService::ForwardOpen,
-        ManagerService::LargeForwardOpen,
-    ];
-
     /// The service as a request has it.
     #[inline(always)]
     pub fn number(self) -> u8
@@ -143,10 +132,12 @@ impl ManagerService {
     pub fn of(number: u8) -> Option<ManagerService>
         ensures { result ≡ manager_service_of number }
     {
-        ManagerService::ALL
-            .iter()
-            .copied()
-            .find(|service| service.number() == number)
+        match number {
+            0x4e => Some(ManagerService::ForwardClose),
+            0x54 => Some(ManagerService::ForwardOpen),
+            0x5b => Some(ManagerService::LargeForwardOpen),
+            _ => None,
+        }
     }
 }
 
