@@ -1,7 +1,7 @@
 //! The numbers of the standard that more than one layer names, each once: classes, commands, services, statuses,
 //! sizes.
 //!
-//! A number stands beside its words, which are those that are printed.
+//! A number stands in its enum, and its words in the enum's `Display`.
 
 ghost use Rattle.std.specs.Prelude.{◌≡◌};
 ghost use Rattle.cip_bytes.specs.Protocol.{command_number, command_of, manager_service_number, manager_service_of};
@@ -80,16 +80,16 @@ impl Command {
     pub fn of(number: u16) -> Option<Command>
         ensures { result ≡ command_of number }
     {
-        // A match, since every frame comes here. Each number is proved to be the one above.
+        // No search: every frame comes here.
         match number {
-            0x0000 => Some(Command::Nop),
-            0x0004 => Some(Command::ListServices),
-            0x0063 => Some(Command::ListIdentity),
-            0x0064 => Some(Command::ListInterfaces),
-            0x0065 => Some(Command::RegisterSession),
-            0x0066 => Some(Command::UnRegisterSession),
-            0x006f => Some(Command::SendRRData),
-            0x0070 => Some(Command::SendUnitData),
+            it if it == Command::Nop as u16 => Some(Command::Nop),
+            it if it == Command::ListServices as u16 => Some(Command::ListServices),
+            it if it == Command::ListIdentity as u16 => Some(Command::ListIdentity),
+            it if it == Command::ListInterfaces as u16 => Some(Command::ListInterfaces),
+            it if it == Command::RegisterSession as u16 => Some(Command::RegisterSession),
+            it if it == Command::UnRegisterSession as u16 => Some(Command::UnRegisterSession),
+            it if it == Command::SendRRData as u16 => Some(Command::SendRRData),
+            it if it == Command::SendUnitData as u16 => Some(Command::SendUnitData),
             _ => None,
         }
     }
@@ -133,9 +133,11 @@ impl ManagerService {
         ensures { result ≡ manager_service_of number }
     {
         match number {
-            0x4e => Some(ManagerService::ForwardClose),
-            0x54 => Some(ManagerService::ForwardOpen),
-            0x5b => Some(ManagerService::LargeForwardOpen),
+            it if it == ManagerService::ForwardClose as u8 => Some(ManagerService::ForwardClose),
+            it if it == ManagerService::ForwardOpen as u8 => Some(ManagerService::ForwardOpen),
+            it if it == ManagerService::LargeForwardOpen as u8 => {
+                Some(ManagerService::LargeForwardOpen)
+            }
             _ => None,
         }
     }
