@@ -24,3 +24,5 @@ mod message;
 mod objects;
 #[cfg(test)]
 mod router_laws;
+#[cfg(test)]
+mod words;
