@@ -80,6 +80,7 @@ impl Target {
     }
 
     /// Executes the item's request where its count is another than the held one.
+    #[inline(always)]
     pub fn receive<R: Router>(&mut self, router: &mut R, item: &[u8]) -> Received
         ensures rule { step_of result self.new router.new
             ≡ target_step R.after R.answer self.old router.old item.now }
@@ -111,6 +112,7 @@ impl Target {
     }
 
     /// The held count and reply: what answers the connection's last request. `None` before the first execution.
+    #[inline(always)]
     pub fn kept(&self) -> Option<Kept<'_>>
         ensures held { option_map kept_of result ≡ self.now.held }
         // With its count the reply has no more bytes than the T->O size.

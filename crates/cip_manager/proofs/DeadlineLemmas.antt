@@ -1,14 +1,16 @@
 -- Connections whose deadlines are not before a moment.
-use Rattle.std.proofs.Common.{◌≡◌, ℕ, zero, suc, ◌<◌, ◌≤◌, List, [], ◌∷◌, ◌++◌, cond, set, get_or, length, refl, ap, subst, ◌∙◌, arith}
-use Rattle.std.specs.Prelude.{filter}
-use Rattle.std.specs.List.{remove}
-use Rattle.std.proofs.lemmas.Bool.{lt-ltb}
+use Rattle.std.proofs.Common.{◌≡◌, ℕ, zero, suc, ◌+◌, ◌<◌, ◌≤◌, ◌⊎◌, inl, inr, List, [], ◌∷◌, ◌++◌, cond, set, get_or, take, length, Option, Some, None, refl, ap, subst, sym, ◌∙◌, arith}
+use Rattle.std.specs.Prelude.{filter, min, unwrap_or}
+use Rattle.std.specs.List.{remove, Any}
+use Rattle.std.specs.Option.{MatchOption}
+use Rattle.std.proofs.lemmas.Bool.{lt-ltb, cases_lt}
+use Rattle.std.proofs.lemmas.List.{take_more}
 use Rattle.std.proofs.lemmas.List.Elements.{All-cons, All-head, All-tail, All-push, All-set, All-weaker, All-get_or}
 use Rattle.cip_class3.specs.declared.target.Received.{Received}
 use Rattle.cip_class3.specs.declared.target.Received.TheVariants.{Dropped, Repeated, Executed}
 use Rattle.cip_class3.specs.TargetRule.{TargetState}
 use Rattle.cip_manager.specs.declared.connection.Connection.{Connection}
-use Rattle.cip_manager.specs.Connection.{is_open_at, moment_after, after_item}
+use Rattle.cip_manager.specs.Connection.{is_open_at, moment_after, after_item, earliest_deadline}
 use Rattle.cip_manager.specs.Table.{AreOpenUntil}
 
 abbrev EndsFrom : ℕ → Connection → Type 0
@@ -60,3 +62,51 @@ AreOpenUntil-received earlier moment now connections i old received target withi
     go before Dropped = omega (arith, h, before)
     go before Repeated = k
     go before Executed = k
+
+-- the earliest, with one more behind them
+pub earliest_deadline-push : (connections : List Connection) (last : Connection)
+    → earliest_deadline (connections ++ last ∷ []) ≡ Some (min last.deadline (unwrap_or (earliest_deadline connections) last.deadline))
+earliest_deadline-push [] last = refl
+earliest_deadline-push (c ∷ cs) last =
+    ap (λ e. Some (min c.deadline (unwrap_or e c.deadline))) (earliest_deadline-push cs last)
+    ∙ ap Some (turned (earliest_deadline cs))
+  where
+    turned : (e : Option ℕ) → min c.deadline (min last.deadline (unwrap_or e last.deadline)) ≡ min last.deadline (min c.deadline (unwrap_or e c.deadline))
+    turned None = omega arith
+    turned (Some m) = omega arith
+
+-- the earliest of those up to a place, by the earliest of those before it
+pub earliest_deadline-more : (connections : List Connection) (i : ℕ) (here : Connection) (before : Option ℕ) (moment : ℕ)
+    → i < length connections → here ≡ get_or connections i here → before ≡ earliest_deadline (take i connections)
+    → moment ≡ min here.deadline (unwrap_or before here.deadline) → Some moment ≡ earliest_deadline (take (i + 1) connections)
+earliest_deadline-more connections i here before moment within there is said =
+    ap Some (said ∙ ap (λ e. min here.deadline (unwrap_or e here.deadline)) is)
+    ∙ sym (earliest_deadline-push (take i connections) here)
+    ∙ ap (λ c. earliest_deadline (take i connections ++ c ∷ [])) there
+    ∙ ap earliest_deadline (sym (take_more connections i here within))
+
+-- none of these ends before the earliest deadline, or before any moment where there is none of them
+pub AreOpenUntil-earliest : (moment : ℕ) (connections : List Connection) → AreOpenUntil (unwrap_or (earliest_deadline connections) moment) connections
+AreOpenUntil-earliest moment [] = λ k d h. omega (arith, h)
+AreOpenUntil-earliest moment (c ∷ cs) =
+    let m = min c.deadline (unwrap_or (earliest_deadline cs) c.deadline) in
+    All-cons (EndsFrom m) c cs (omega arith)
+    (AreOpenUntil-earlier m (unwrap_or (earliest_deadline cs) c.deadline) cs (omega arith) (AreOpenUntil-earliest c.deadline cs))
+
+abbrev EndsAt : ℕ → Connection → Type 0
+EndsAt moment connection = connection.deadline ≡ moment
+
+-- the earliest deadline is that of one of these
+pub earliest_deadline-of : (connections : List Connection)
+    → MatchOption (earliest_deadline connections) (connections ≡ []) (λ moment. Any (EndsAt moment) connections × AreOpenUntil moment connections)
+earliest_deadline-of [] = refl
+earliest_deadline-of (c ∷ cs) = (first (earliest_deadline cs) (earliest_deadline-of cs), AreOpenUntil-earliest 0 (c ∷ cs))
+  where
+    either : (moment : ℕ) → Any (EndsAt moment) cs → (moment < c.deadline) ⊎ (c.deadline ≤ moment) → Any (EndsAt (min c.deadline moment)) (c ∷ cs)
+    either moment (k, x, within, there, ends) (inl before) = (suc k, x, omega (arith, within), there, omega (arith, ends, before))
+    either moment later (inr from) = (zero, c, omega arith, refl, omega (arith, from))
+
+    first : (behind : Option ℕ) → MatchOption behind (cs ≡ []) (λ moment. Any (EndsAt moment) cs × AreOpenUntil moment cs)
+        → Any (EndsAt (min c.deadline (unwrap_or behind c.deadline))) (c ∷ cs)
+    first None none = (zero, c, omega arith, refl, omega arith)
+    first (Some moment) one = either moment one.0 (cases_lt moment c.deadline)

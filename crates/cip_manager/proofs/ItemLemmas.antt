@@ -3,7 +3,7 @@ use Rattle.std.proofs.Common.{◌≡◌, ℕ, List, [], ◌∷◌, Bool, true, f
 use Rattle.std.specs.Prelude.{find, is_some}
 use Rattle.cip_class3.specs.declared.target.Received.TheVariants.{Dropped, Repeated}
 use Rattle.cip_class3.specs.Item.{sequence_count_of}
-use Rattle.cip_class3.specs.TargetRule.{TargetState, Kept, TargetStep, step_of, target_step, after_execution, is_of_size, is_held}
+use Rattle.cip_class3.specs.TargetRule.{TargetState, TargetStep, step_of, target_step, after_execution, is_of_size, is_held}
 use Rattle.cip_manager.specs.declared.connection.Connection.{Connection}
 use Rattle.cip_manager.specs.Connection.{is_named, is_answered, after_item, deadline_at_item}
 use Rattle.cip_manager.specs.Items.{with_first, Reply, turn_of_found, item_turn, is_taken_by, is_taken}

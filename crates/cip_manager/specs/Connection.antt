@@ -4,6 +4,7 @@
 -- direction, the triad of connection serial, originator vendor and originator serial, its time-out, its deadline,
 -- and the target's end, which has both sizes and the count and reply that are held.
 use Rattle.std.specs.Prelude.{ℕ, ◌+◌, ◌-◌, ◌*◌, ◌^◌, min, max, nat_lt, Bool, true, false, ◌&&◌, ◌==◌, if◌then◌else◌}
+use Rattle.std.specs.Prelude.{List, [], ◌∷◌, Option, Some, None, unwrap_or}
 use Rattle.cip_class3.specs.declared.target.Received.{Received}
 use Rattle.cip_class3.specs.declared.target.Received.TheVariants.{Dropped, Repeated, Executed}
 use Rattle.cip_class3.specs.TargetRule.{TargetState}
@@ -29,6 +30,12 @@ deadline_at_item now timeout = moment_after now timeout
 -- the connection is open at this moment: its deadline is still to come
 abbrev pub is_open_at : ℕ → Connection → Bool
 is_open_at now connection = nat_lt now connection.deadline
+
+-- the earliest of the deadlines: none where no connection is open
+abbrev pub earliest_deadline : List Connection → Option ℕ
+earliest_deadline [] = None
+earliest_deadline (connection ∷ others) =
+    Some (min connection.deadline (unwrap_or (earliest_deadline others) connection.deadline))
 
 -- two triads are the same
 abbrev pub is_same_triad : Triad → Triad → Bool

@@ -1,12 +1,14 @@
 //! What follows for every list of calls of the manager, over any router.
 //!
 //! The functions do nothing: each one's clauses are the law.
-ghost use Rattle.std.specs.Prelude.{◌≡◌, ℕ, ◌≤◌, ◌^◌, true, List, Some, filter, find, AllPairs};
-ghost use Rattle.std.specs.List.{list_all, AllByRecursion};
+ghost use Rattle.std.specs.Prelude.{◌≡◌, ℕ, ◌≤◌, ◌^◌, true, List, [], Some, filter, find, AllPairs};
+ghost use Rattle.std.specs.List.{list_all, AllByRecursion, Any};
+ghost use Rattle.std.specs.Option.{MatchOption};
 ghost use Rattle.cip_message.specs.declared.key.Device.{Device};
 ghost use Rattle.cip_manager.specs.declared.connection.Connection.{Connection};
-ghost use Rattle.cip_manager.specs.Connection.{is_named};
+ghost use Rattle.cip_manager.specs.Connection.{is_named, earliest_deadline};
 ghost use Rattle.cip_manager.specs.Manager.{no_connection};
+ghost use Rattle.cip_manager.specs.Table.{AreOpenUntil};
 ghost use Rattle.cip_manager.specs.Runs.{ManagerCall, State, state_after, ids_drawn, CountsFrom, IsOfOther, of_session};
 ghost use Rattle.cip_manager.specs.Runs.{is_open_after_all, is_spared, AreApart};
 
@@ -41,4 +43,11 @@ pub fn connections_differ<R: Router>()
     ensures { (places first_id : ℕ) (device : Device) (router : R) (calls : List ManagerCall) →
         AllPairs AreApart (state_after R.after R.answer
         (record { manager = no_connection places first_id device; router = router }) calls).manager.connections }
+{}
+
+/// The earliest deadline is that of a connection, and none of them ends before it. There is none exactly where there is
+/// no connection.
+pub fn earliest_is_a_deadline()
+    ensures { (connections : List Connection) → MatchOption (earliest_deadline connections) (connections ≡ [])
+        (λ moment. Any (λ connection. connection.deadline ≡ moment) connections × AreOpenUntil moment connections) }
 {}

@@ -3,7 +3,8 @@
 //!
 //! A `Manager` has room for all its connections from `new` on: no later call takes memory. It has no clock and
 //! no sessions of its own: each call is handed the moment, in microseconds, and the handle of the session that
-//! it comes from. `connected` ends nothing by itself; who calls it calls `expire` first, with the same moment.
+//! it comes from. `connected` ends nothing by itself; who calls it calls `expire` first, with the same moment. `deadline`
+//! is the next moment at which `expire` ends a connection.
 //!
 //! Left out: connections of class 0 and 1, null and listen-only opens, multicast, and routes through ports.
 #![tactic(auto)]

@@ -6,7 +6,7 @@ ghost use Rattle.std.specs.Borrow.{sem};
 ghost use Rattle.std.specs.Io.BufRead.{Rests};
 ghost use Rattle.cip_manager.specs.Items.{view as reply_in, item_turn, is_taken};
 ghost use Rattle.cip_manager.specs.Check.{first_failure};
-ghost use Rattle.cip_manager.specs.Connection.{has_id};
+ghost use Rattle.cip_manager.specs.Connection.{has_id, earliest_deadline};
 ghost use Rattle.cip_manager.specs.Index.{binary_digits};
 ghost use Rattle.cip_manager.specs.Opening.{CanBeOpened, room_checks};
 
@@ -98,6 +98,7 @@ impl Manager {
 
     /// Forward_Open: opens the connection that the data of a session's request ask for, at a moment, and leaves
     /// the whole router reply in `reply`.
+    #[inline(never)]
     pub fn open(&mut self, now: u64, session: u32, data: &[u8], reply: &mut ReplyBuf)
         ensures turn { turn self.new reply.new.items ≡ open_turn self.old now session «data».now }
 
@@ -117,6 +118,7 @@ impl Manager {
     }
 
     /// Large_Forward_Open: the same as `open`, for data with parameters of 32 bits.
+    #[inline(never)]
     pub fn open_large(&mut self, now: u64, session: u32, data: &[u8], reply: &mut ReplyBuf)
         ensures turn { turn self.new reply.new.items ≡ open_large_turn self.old now session «data».now }
 
@@ -143,6 +145,7 @@ impl Manager {
 
     /// Forward_Close: ends the connection that the data of a session's request name, where that session has it,
     /// and leaves the whole router reply in `reply`.
+    #[inline(never)]
     pub fn close(&mut self, session: u32, data: &[u8], reply: &mut ReplyBuf)
         ensures turn { turn self.new reply.new.items ≡ close_turn self.old session «data».now }
 
@@ -200,6 +203,14 @@ impl Manager {
         ensures rises { steps.old.count ≤ steps.new.count }
     {
         self.table.find(id, steps)
+    }
+
+    /// The earliest moment, in microseconds, at which `expire` ends a connection: the earliest deadline of an open one.
+    /// `None` where no connection is open.
+    pub fn deadline(&self) -> Option<u64>
+        ensures { result ≡ earliest_deadline self.now.connections }
+    {
+        self.table.deadline()
     }
 
     /// Ends the connections whose deadline is at or before the moment.

@@ -1,15 +1,15 @@
 //! The open connections, in the order in which they were opened.
-ghost use Rattle.std.specs.Prelude.{◌≡◌, ◌≤◌, ◌+◌, ◌-◌, ◌<◌, ◌^◌, ℕ, not, filter, [], ◌∷◌, ◌++◌, length, slice_index_or};
-ghost use Rattle.std.specs.Prelude.{IfOk, IfSome, IfNone};
+ghost use Rattle.std.specs.Prelude.{◌≡◌, ◌≤◌, ◌+◌, ◌-◌, ◌<◌, ℕ, not, filter, [], ◌∷◌, ◌++◌, length, slice_index_or};
+ghost use Rattle.std.specs.Prelude.{IfOk, IfSome, IfNone, min, unwrap_or};
 ghost use Rattle.std.specs.Option.{option_map};
 ghost use Rattle.std.specs.List.{list_any, remove};
 ghost use Rattle.std.specs.Borrow.{sem};
 ghost use Rattle.std.specs.Io.BufRead.{Rests};
 ghost use Rattle.cip_manager.specs.declared.connection.Connection.{Connection as OpenConnection};
-ghost use Rattle.cip_manager.specs.Connection.{has_id, is_open_at};
+ghost use Rattle.cip_manager.specs.Connection.{has_id, is_open_at, earliest_deadline};
 ghost use Rattle.cip_manager.specs.Index.{binary_digits};
 ghost use Rattle.cip_manager.specs.Items.{view as reply_in, item_turn};
-ghost use Rattle.cip_manager.specs.Table.{is_in, no_entry, AreBelow, AreOpenUntil};
+ghost use Rattle.cip_manager.specs.Table.{is_in, no_entry, AreBelow};
 
 use crate::connection::Connection;
 use crate::group::Group;
@@ -143,6 +143,17 @@ impl Table {
         self.end_overdue(now);
     }
 
+    /// The earliest of the deadlines, in microseconds: `None` where no connection is open.
+    pub fn deadline(&self) -> Option<u64>
+        ensures { result ≡ earliest_deadline self.now.connections }
+    {
+        let mut earliest = None;
+        for place in 0..self.len() {
+            earliest = Some(earlier(self.at(place).deadline, earliest));
+        }
+        earliest
+    }
+
     /// Gives an item to the connection that a session and an O->T ID name, at a moment, and lends what answers it, from
     /// that connection.
     #[inline(always)]
@@ -196,19 +207,7 @@ impl Table {
         ensures below { (n : ℕ) → AreBelow n self.old.connections → AreBelow n self.new.connections }
     {
         self.end(&Group::Overdue(now));
-        self.earliest = self.earliest_deadline();
-    }
-
-    /// The earliest of the deadlines, or the greatest moment where there is none.
-    fn earliest_deadline(&self) -> u64
-        ensures until { AreOpenUntil result self.now.connections }
-        ensures latest { (n : ℕ) → n < 2 ^ 64 → AreOpenUntil n self.now.connections → n ≤ result }
-    {
-        let mut earliest = u64::MAX;
-        for place in 0..self.len() {
-            earliest = earliest.min(self.at(place).deadline);
-        }
-        earliest
+        self.earliest = self.deadline().unwrap_or(u64::MAX);
     }
 
     /// Ends the connection at a place.
@@ -219,4 +218,11 @@ impl Table {
         let key = self.index.remove(place);
         self.connections.remove(key);
     }
+}
+
+/// The earlier of a deadline and another one, if there is another.
+fn earlier(deadline: u64, other: Option<u64>) -> u64
+    ensures { result ≡ min deadline (unwrap_or other deadline) }
+{
+    deadline.min(other.unwrap_or(deadline))
 }

@@ -2,6 +2,7 @@
 use Rattle.std.specs.Prelude.{if◌then◌else◌}
 use Rattle.std.proofs.Common.{◌≡◌, ℕ, zero, suc, ◌<◌, eqb, Bool, true, false, cond, List, [], ◌∷◌, length, map, get_or}
 use Rattle.std.proofs.Common.{Option, Some, None, option_map, refl, sym, ap, ◌∙◌, arith, subst}
+use Rattle.std.specs.Box.{boxed_slice_items, boxed_slice_len}
 use Rattle.std.proofs.lemmas.Bool.Decides.{nat_tests}
 use Rattle.std.proofs.lemmas.List.{length-map}
 use Rattle.cip_objects.specs.declared.class.Class.TheVariants as classes
@@ -25,7 +26,7 @@ use Rattle.cip_objects.proofs.Writes.{first_above}
 
 -- the objects hold these contents
 abbrev Shows : Inside → Contents → Type 0
-Shows o m = contents_of o.identity o.assemblies.items (counter_values o.counter) ≡ m
+Shows o m = contents_of o.identity (boxed_slice_items o.assemblies) (counter_values o.counter) ≡ m
 
 abbrev IsFirstBlock : List Block → ℕ → ℕ → Type 0
 IsFirstBlock bs i k = IsFirst (λ b. b.instance) bs i k
@@ -76,12 +77,12 @@ pub record IsFound (shapes : List Shape) (instance place : ℕ) : Type 0 where
   pub number : instance ≡ number_at shapes place
   pub there : IsPlace shapes place
 
-pub found : (o : Inside) (m : Contents) (i k : ℕ) → Shows o m → IsFirstBlock o.assemblies.items i k
+pub found : (o : Inside) (m : Contents) (i k : ℕ) → Shows o m → IsFirstBlock (boxed_slice_items o.assemblies) i k
     → IsFound m.shapes i k
 found o m i k is f =
-    let all = shapes-contents o.identity o.assemblies.items (counter_values o.counter) m is in
+    let all = shapes-contents o.identity (boxed_slice_items o.assemblies) (counter_values o.counter) m is in
     let first : IsFirstShape m.shapes i k =
-    subst (λ ss. IsFirstShape ss i k) (sym all) (first_shape o.assemblies.items i k f) in
+    subst (λ ss. IsFirstShape ss i k) (sym all) (first_shape (boxed_slice_items o.assemblies) i k f) in
     let number = number_here m.shapes i k first in
     record {
       number = sym number;
@@ -90,22 +91,23 @@ found o m i k is f =
 
 -- what stands at a place is the first of its number
 pub first_at_place : (o : Inside) (m : Contents) (k : ℕ) → Shows o m → IsPlace m.shapes k
-    → IsFirstBlock o.assemblies.items (number_at m.shapes k) k
+    → IsFirstBlock (boxed_slice_items o.assemblies) (number_at m.shapes k) k
 first_at_place o m k is p =
-    let all = shapes-contents o.identity o.assemblies.items (counter_values o.counter) m is in
-    first_block o.assemblies.items (number_at m.shapes k) k
+    let all = shapes-contents o.identity (boxed_slice_items o.assemblies) (counter_values o.counter) m is in
+    first_block (boxed_slice_items o.assemblies) (number_at m.shapes k) k
     (subst (λ ss. IsFirstShape ss (number_at m.shapes k) k) all p)
 
 -- and is no farther than the assemblies go
-pub place_within : (o : Inside) (m : Contents) (k : ℕ) → Shows o m → IsPlace m.shapes k → k < o.assemblies.len
-place_within o m k is p = omega (arith, o.assemblies.ok.0, (first_at_place o m k is p).within)
+pub place_within : (o : Inside) (m : Contents) (k : ℕ) → Shows o m → IsPlace m.shapes k
+    → k < boxed_slice_len o.assemblies
+place_within o m k is p = omega (arith, o.assemblies.items.ok.0, (first_at_place o m k is p).within)
 
 -- the value of an attribute of the assembly at a place
-pub place_value : (o : Inside) (m : Contents) (k attribute : ℕ) (b : Block) → Shows o m → NoneIsClass o.assemblies.items
-    → IsPlace m.shapes k → value_at m ASSEMBLY (number_at m.shapes k) attribute
-    ≡ attribute_in attribute (block_attributes (get_or o.assemblies.items k b))
+pub place_value : (o : Inside) (m : Contents) (k attribute : ℕ) (b : Block) → Shows o m
+    → NoneIsClass (boxed_slice_items o.assemblies) → IsPlace m.shapes k
+    → value_at m ASSEMBLY (number_at m.shapes k) attribute ≡ attribute_in attribute (block_attributes (get_or (boxed_slice_items o.assemblies) k b))
 place_value o m k attribute b is h p =
-    let bs = o.assemblies.items in
+    let bs = boxed_slice_items o.assemblies in
     let i = number_at m.shapes k in
     let f = first_at_place o m k is p in
     let of_class = attribute_in attribute (class_attributes 2 (greatest_of bs) (length bs)) in
@@ -122,20 +124,21 @@ unfolding services_of
 services_at_number shapes class instance e n = rw (e, eqb-other instance 0 n) refl
 
 pub services_found : (o : Inside) (m : Contents) (class i k : ℕ) → Shows o m → class ≡ 4 → (i ≡ 0 → ⊥)
-    → IsFirstBlock o.assemblies.items i k → services_of m.shapes class i ≡ Some assembly_services
+    → IsFirstBlock (boxed_slice_items o.assemblies) i k → services_of m.shapes class i ≡ Some assembly_services
 services_found o m class i k is e n f =
-    let bs = o.assemblies.items in
+    let bs = boxed_slice_items o.assemblies in
     services_at_number m.shapes class i e n
     ∙ ap (option_map (λ _. assembly_services))
     (shape_at-contents o.identity bs (counter_values o.counter) m i is
     ∙ ap (option_map shape_of) (first_at bs i k no_block f))
 
 pub services_missing : (o : Inside) (m : Contents) (class i : ℕ) → Shows o m → class ≡ 4 → (i ≡ 0 → ⊥)
-    → block_at i o.assemblies.items ≡ None → services_of m.shapes class i ≡ None
+    → block_at i (boxed_slice_items o.assemblies) ≡ None → services_of m.shapes class i ≡ None
 services_missing o m class i is e n none =
     services_at_number m.shapes class i e n
     ∙ ap (option_map (λ _. assembly_services))
-    (shape_at-contents o.identity o.assemblies.items (counter_values o.counter) m i is ∙ ap (option_map shape_of) none)
+    (shape_at-contents o.identity (boxed_slice_items o.assemblies) (counter_values o.counter) m i is
+    ∙ ap (option_map shape_of) none)
 
 -- no assembly has the instance of a class itself
 pub none_at_class : (d : IdentityValues) (bs : List Block) (c : CounterValues) (m : Contents) → contents_of d bs c ≡ m

@@ -1,9 +1,10 @@
 -- What each assembly keeps: the data have the size that the members have together.
-use Rattle.std.specs.Prelude.{◌≡◌, ◌≤◌, vec_len, sum}
+use Rattle.std.specs.Prelude.{◌≡◌, ◌≤◌, sum}
+use Rattle.std.specs.Box.{boxed_slice_items, boxed_slice_len}
 use Rattle.cip_objects.specs.Limits.{LONGEST_DATA}
 use Rattle.cip_objects.specs.declared.assembly.Assembly.TheInside.{Inside}
 
 pub record IsWhole (a : Inside) : Type 0 where
-  pub size : vec_len a.content ≡ sum a.members.items
-  pub small : vec_len a.content ≤ LONGEST_DATA
-  pub few : vec_len a.members ≤ 64
+  pub size : boxed_slice_len a.content ≡ sum (boxed_slice_items a.members)
+  pub small : boxed_slice_len a.content ≤ LONGEST_DATA
+  pub few : boxed_slice_len a.members ≤ 64

@@ -8,6 +8,7 @@ ghost use Rattle.cip_objects.specs.Value.{value_bytes, IsShort};
 
 use crate::value::Value;
 use std::alloc::{AllocError, Global};
+use std::boxed::BoxedSlice;
 use std::marker::Model;
 
 /// The most bytes of an assembly's data (ours).
@@ -25,7 +26,7 @@ pub(crate) struct Span {
     pub(crate) size: usize,
 }
 
-/// An instance of the Assembly object.
+/// An instance of the Assembly object. Its members and its data are as long from `new` on: a boxed slice does not grow.
 #[derive(Debug, Drop)]
 pub(crate) struct Assembly {
     /// The instance number, 1 to 65,535.
@@ -33,13 +34,13 @@ pub(crate) struct Assembly {
     /// Whether the data can be set.
     settable: bool,
     /// The sizes of the members in bytes, in the order in which they lie.
-    members: Vec<u16>,
+    members: BoxedSlice<u16>,
     /// The data: the members, one after another.
-    content: Vec<u8>,
+    content: BoxedSlice<u8>,
 }
 
 impl Model for Assembly {
-    ghost use Rattle.std.specs.Prelude.{vec_len};
+    ghost use Rattle.std.specs.Box.{boxed_slice_items};
     ghost use Rattle.cip_objects.specs.Entries.{Block};
 
     ghost Value = { Block };
@@ -47,8 +48,8 @@ impl Model for Assembly {
     ghost view = { λ a. record {
       instance = a.instance;
       settable = a.settable;
-      members = a.members.items;
-      content = a.content.items;
+      members = boxed_slice_items a.members;
+      content = boxed_slice_items a.content;
     } };
 
     ghost use Rattle.cip_objects.specs.Assembly.{IsWhole};
@@ -77,8 +78,8 @@ impl Assembly {
         Ok(Assembly {
             instance,
             settable,
-            members: Vec::from_slice(alloc, members)?,
-            content: Vec::from_elem(alloc, 0, total(members))?,
+            members: BoxedSlice::from_slice(alloc, members)?,
+            content: vec![in alloc; 0; total(members)]?.into_boxed_slice(),
         })
     }
 

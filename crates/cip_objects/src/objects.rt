@@ -1,6 +1,7 @@
 //! The objects: what a caller sees as one map, held as typed structs.
 ghost use Rattle.std.specs.Prelude.{◌≡◌, ◌≤◌, ◌+◌, length, option_map, is_some, sum, map, Some, IfSome};
 ghost use Rattle.std.specs.Prelude.{IfOk, IfErr, MatchOption};
+ghost use Rattle.std.specs.Box.{boxed_slice_items};
 ghost use Rattle.std.specs.List.{All};
 ghost use Rattle.cip_objects.specs.Configuration.{fault_of, contents_of_config, block_of};
 ghost use Rattle.byteorder.specs.Endian.{little_bytes};
@@ -27,19 +28,22 @@ use arrayvec::ArrayVec;
 use cip_bytes::protocol::{ASSEMBLY, CONNECTION_MANAGER, COUNTER, IDENTITY, REPLY_LIMIT};
 use cip_message::Device;
 use std::alloc::{AllocError, Global};
+use std::boxed::BoxedSlice;
 use std::marker::Model;
 
 /// The objects of a device: Identity, the assemblies and the counter.
 ///
 /// A caller sees them as the object map, from class, instance and attribute to bytes, beside the constant tables.
+/// No call after `new` takes memory: no part of it is of a type that can grow.
 #[derive(Debug, Drop)]
 pub struct Objects {
     identity: Identity,
-    assemblies: Vec<Assembly>,
+    assemblies: BoxedSlice<Assembly>,
     counter: Counter,
 }
 
 impl Model for Objects {
+    ghost use Rattle.std.specs.Box.{boxed_slice_items};
     ghost use Rattle.cip_objects.specs.Contents.{Contents, contents_code};
 
     ghost Value = { Contents };
@@ -50,7 +54,7 @@ impl Model for Objects {
     ghost use Rattle.cip_objects.specs.Counter.{counter_values};
     ghost use Rattle.cip_objects.specs.Objects.{AreObjects};
 
-    ghost view = { λ o. contents_of o.identity o.assemblies.items (counter_values o.counter) };
+    ghost view = { λ o. contents_of o.identity (boxed_slice_items o.assemblies) (counter_values o.counter) };
 
     ghost invariant = { λ o. AreObjects o };
 }
@@ -281,14 +285,17 @@ fn name_of(text: &[u8]) -> ArrayVec<u8, NAME_LIMIT>
 }
 
 /// The assemblies of a configuration.
-fn assemblies_of(alloc: Global, configs: &[AssemblyConfig]) -> Result<Vec<Assembly>, AllocError>
+fn assemblies_of(
+    alloc: Global,
+    configs: &[AssemblyConfig],
+) -> Result<BoxedSlice<Assembly>, AllocError>
     requires few { All (λ a. length a.members.items ≤ MEMBER_LIMIT) configs.now }
     requires small { All (λ a. sum a.members.items ≤ DATA_LIMIT) configs.now }
-    ensures { IfOk result (λ v. v.items ≡ map block_of configs.now) }
+    ensures { IfOk result (λ blocks. boxed_slice_items blocks ≡ map block_of configs.now) }
 {
     let mut assemblies = Vec::with_capacity(alloc, configs.len())?;
     for config in configs {
         assemblies.push(Assembly::new(alloc, config.instance, config.settable, &config.members)?)?;
     }
-    Ok(assemblies)
+    Ok(assemblies.into_boxed_slice())
 }

@@ -1,7 +1,8 @@
 //! The services that read (Volume 1, common services).
-ghost use Rattle.std.specs.Prelude.{◌≡◌, ◌≤◌, ◌+◌, ◌++◌, length, IfOk};
+ghost use Rattle.std.specs.Prelude.{◌≡◌, ◌≤◌, ◌+◌, [], ◌∷◌, ◌++◌, length, IfOk};
 ghost use Rattle.std.specs.List.{flat_map};
-ghost use Rattle.cip_bytes.specs.Numbers.{words_of};
+ghost use Rattle.cip_bytes.specs.Numbers.{le, words_of};
+ghost use Rattle.cip_bytes.specs.Protocol.{general_status_number};
 ghost use Rattle.cip_objects.specs.Destination.{IsThere, IsAssembly, bytes_to, path_to, span_left};
 ghost use Rattle.cip_objects.specs.Destination.{IsInside};
 ghost use Rattle.cip_objects.specs.ReadServices.{get_attribute_single, get_attributes_all, get_attribute_list};
@@ -179,20 +180,15 @@ impl Objects {
             result reply.new.items }
         ensures there { IfOk result (λ there. there ≡ is_there self.now (path_to self.now.shapes subject) attribute) }
     {
-        append(&attribute.to_le_bytes(), room, reply)?;
         match self.value(subject.destination, attribute) {
             Some(value) => {
-                append(&[GeneralStatus::Success.number(), 0], room, reply)?;
+                append_head(attribute, GeneralStatus::Success, room, reply)?;
                 value.append(room, reply)?;
                 Ok(true)
             }
+            // an unknown one has a status of its own, attribute not supported (common services)
             None => {
-                // its status, attribute not supported, in two bytes (common services)
-                append(
-                    &[GeneralStatus::AttributeNotSupported.number(), 0],
-                    room,
-                    reply,
-                )?;
+                append_head(attribute, GeneralStatus::AttributeNotSupported, room, reply)?;
                 Ok(false)
             }
         }
@@ -232,4 +228,20 @@ impl Objects {
         exactly(0, data)?;
         Ok(&self.assembly(place).content()[span.offset..span.offset + span.size])
     }
+}
+
+/// Appends what stands in front of the value of an attribute of a list: its number, and its status.
+#[inline(always)]
+fn append_head(
+    attribute: u16,
+    status: GeneralStatus,
+    room: usize,
+    reply: &mut ReplyBuf,
+) -> Result<(), Refusal>
+    requires { room ≤ REPLY_LIMIT }
+    ensures { Writes room
+        (reply.old.items ++ (le 2 attribute ++ general_status_number status ∷ 0 ∷ [])) result reply.new.items }
+{
+    let [least, most] = attribute.to_le_bytes();
+    append(&[least, most, status.number(), 0], room, reply)
 }

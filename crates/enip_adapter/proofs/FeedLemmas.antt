@@ -82,7 +82,7 @@ closed_found limit next_handle shared places handle i piece bytes d e closed =
     (drops_closed limit next_handle shared places handle piece bytes (get_or places i d).session.closed closed)
 
 -- a peer that is held and open is served
-served_turn : (s : State) (peer : ℕ) (serve : Session → Served) (session : Session)
+pub served_turn : (s : State) (peer : ℕ) (serve : Session → Served) (session : Session)
     → session_of s peer ≡ Some session → session.closed ≡ false
     → serve_found s peer serve (session_of s peer)
     ≡ turned (record s {

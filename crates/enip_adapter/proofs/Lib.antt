@@ -16,3 +16,4 @@ pub mod IdentityLemmas
 pub mod WaitLemmas
 pub mod ServeLemmas
 pub mod DeedLemmas
+pub mod DiscoveryLemmas

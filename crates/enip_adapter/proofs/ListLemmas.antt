@@ -87,6 +87,17 @@ first_with-behind {X} number n (z ∷ zs) ys e = go (eqb (number z) n) (λ f. fi
     go true rest f = cc
     go false rest f = rest f
 
+-- Where no item has the number, none is changed.
+pub with_first-none : {X : Type 0} → (number : X → ℕ) (n : ℕ) (new : X) (xs : List X) → first_with number n xs ≡ None
+    → with_first number n new xs ≡ xs
+with_first-none number n new [] e = refl
+with_first-none {X} number n new (y ∷ ys) e = go (eqb (number y) n) (λ f. with_first-none number n new ys f) e
+  where
+    go : (b : Bool) → (first_with number n ys ≡ None → with_first number n new ys ≡ ys)
+        → cond b (Some y) (first_with number n ys) ≡ None → cond b (new ∷ ys) (y ∷ with_first number n new ys) ≡ y ∷ ys
+    go true rest f = cc
+    go false rest f = ap (λ r. y ∷ r) (rest f)
+
 -- An item in the place of itself.
 pub with_first-same : {X : Type 0} → (number : X → ℕ) (n : ℕ) (x : X) (xs : List X) → first_with number n xs ≡ Some x
     → with_first number n x xs ≡ xs

@@ -9,6 +9,7 @@ pub mod SendRRData
 pub mod SendUnitData
 pub mod Commands
 pub mod Turn
+pub mod Discovery
 pub mod Calls
 pub mod Adapter
 pub mod Runs

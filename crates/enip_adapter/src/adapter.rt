@@ -4,8 +4,12 @@ ghost use Rattle.std.specs.Prelude.{◌≡◌, ◌<◌, ◌≤◌, ◌-◌, leng
 ghost use Rattle.std.specs.Prelude.{IfOk, IfSome, is_some, is_none};
 ghost use Rattle.std.specs.Borrow.{sem};
 ghost use Rattle.std.specs.Io.BufRead.{Rests};
+ghost use Rattle.std.specs.Option.{option_map};
+ghost use Rattle.cip_manager.specs.Connection.{earliest_deadline};
 ghost use Rattle.enip_adapter.specs.Adapter.{full_number};
+ghost use Rattle.enip_adapter.specs.Discovery.{discovered};
 
+use crate::commands::DiscoveryRoom;
 use crate::peer::Peer;
 use crate::places::Places;
 use crate::reply::{AnswerFrame, LONGEST_ANSWER, Reaction, Reply};
@@ -210,6 +214,25 @@ impl Adapter {
         ensures { self.new ≡ after_call self.old (Call.Ticks now) }
     {
         self.shared.advance(now);
+    }
+
+    /// The earliest moment, in microseconds, at which a connection ends if no item comes on it: the earliest deadline of
+    /// an open one. `None` where no connection is open.
+    pub fn deadline(&self) -> Option<u64>
+        ensures { result ≡ earliest_deadline self.now.state.shared.manager.connections }
+    {
+        self.shared.manager.deadline()
+    }
+
+    /// What answers a datagram of UDP, written in `room`: to one whole frame with ListIdentity, ListServices or
+    /// ListInterfaces, and no byte behind it, the same bytes as over TCP. `None` for any other datagram.
+    ///
+    /// It begins no peer and no session, and changes nothing of the adapter.
+    pub fn discover<'a>(&self, datagram: &[u8], room: &'a mut DiscoveryRoom) -> Option<&'a [u8]>
+        ensures answer { option_map (λ bytes. bytes.now) result ≡ discovered self.now.state.shared datagram.now }
+        ensures fits { IfSome result (λ bytes. length bytes.now ≤ LONGEST_ANSWER) }
+    {
+        room.discover(&self.shared, datagram)
     }
 
     /// The objects, as they are now.

@@ -1,5 +1,6 @@
 //! What a whole frame does. (Volume 2, encapsulation commands.)
 
+mod discovery;
 mod items;
 mod lists;
 mod requests;
@@ -17,6 +18,7 @@ use crate::shared::Shared;
 use crate::silence::Silence;
 use cip_bytes::protocol::{Command, EncapsulationStatus};
 use cip_objects::ReplyBuf;
+pub use discovery::DiscoveryRoom;
 use enip_wire::{FrameView, Header};
 use items::send_unit_data;
 use lists::{list_identity, list_interfaces, list_services};
@@ -40,7 +42,7 @@ pub(crate) fn serve(
         ≡ (command_served shared.old session.old (frame_of frame.entry)).reaction.answer }
     ensures close { result.close ≡ (command_served shared.old session.old (frame_of frame.entry)).reaction.close }
 {
-    let asked = &frame.header;
+    let asked = frame.header;
     // options that are not 0: discarded (a frame)
     if asked.options != 0 {
         return Reaction::silent(Silence::Options);
@@ -65,9 +67,10 @@ pub(crate) fn serve(
 }
 
 /// Refuses a header whose length is too long, and closes the connection.
-pub(crate) fn refuse_long(header: &Header, answer: &mut AnswerFrame) -> Reaction
+#[inline(always)]
+pub(crate) fn refuse_long(header: Header, answer: &mut AnswerFrame) -> Reaction
     ensures reaction { result ≡ record { reply = Reply.Written; close = true } }
-    ensures answer { answer.new.items ≡ reply header.now header.now.session InvalidLength [] }
+    ensures answer { answer.new.items ≡ reply header header.session InvalidLength [] }
 {
     refuse(header, EncapsulationStatus::InvalidLength, answer);
     Reaction {

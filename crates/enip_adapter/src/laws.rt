@@ -1,7 +1,7 @@
 //! What holds for every list of calls of the adapter. Each law is the contract of a function that does nothing, over
 //! the same definitions as the contracts of the calls.
 
-ghost use Rattle.std.specs.Prelude.{ℕ, List, [], ◌∷◌, ◌++◌, ◌≡◌, ◌≤◌, ◌||◌, not, false, Some, filter};
+ghost use Rattle.std.specs.Prelude.{ℕ, List, [], ◌∷◌, ◌++◌, ◌≡◌, ◌≤◌, ◌||◌, not, true, false, Some, filter};
 ghost use Rattle.std.specs.List.{flat_map, concat, list_any, AllByRecursion};
 ghost use Rattle.cip_manager.specs.Runs.{of_session};
 ghost use Rattle.enip_wire.specs.Stream.{Cut};
@@ -10,8 +10,10 @@ ghost use Rattle.enip_adapter.specs.declared.adapter.Limits.{Limits};
 ghost use Rattle.enip_adapter.specs.declared.peer.Session.{Session};
 ghost use Rattle.enip_adapter.specs.declared.shared.Listen.{Listen};
 ghost use Rattle.enip_adapter.specs.Adapter.{new_adapter};
+ghost use Rattle.enip_adapter.specs.Discovery.{discovered};
 ghost use Rattle.enip_adapter.specs.Turn.{Event, Answer, answers, after, session_of};
-ghost use Rattle.enip_adapter.specs.Calls.Call.{Feeds};
+ghost use Rattle.enip_adapter.specs.Turn.Said.{Sends};
+ghost use Rattle.enip_adapter.specs.Calls.Call.{Feeds, Ticks};
 ghost use Rattle.enip_adapter.specs.Calls.{AdapterState, Call, call_meaning, after_call, call_answer, bytes_held};
 ghost use Rattle.enip_adapter.specs.Runs.{after_calls, call_answers, events_of_calls, answers_by_call, said_in};
 ghost use Rattle.enip_adapter.specs.Runs.{IsForOther, moments_of_calls, is_open_at_all};
@@ -134,4 +136,16 @@ pub fn cuts_change_nothing()
     ensures some { (objects : Contents) (listen : Listen) (limits : Limits) (calls : List Call) (now peer : ℕ)
         (pieces : List (List ℕ)) → (answers : List Answer) × ((last : AdapterState) ×
         Pours now peer (after_calls (new_adapter objects listen limits) calls) pieces answers last) }
+{}
+
+/// Discovery is as over TCP. What answers a datagram is what any peer gets that sends the same bytes, registered or not,
+/// at any moment, where it is served and none of its bytes are held. That peer is not closed by it, and the adapter is
+/// then where the moment alone would have brought it.
+pub fn discovery_is_as_over_tcp()
+    ensures answer { (a : AdapterState) (now peer : ℕ) (datagram bytes : List ℕ) → is_peer_served a peer ≡ true →
+        bytes_held a.held peer ≡ [] → discovered a.state.shared datagram ≡ Some bytes →
+        call_answer a (Feeds now peer datagram) ≡ record { said = Sends bytes; close = false } }
+    ensures adapter { (a : AdapterState) (now peer : ℕ) (datagram bytes : List ℕ) → is_peer_served a peer ≡ true →
+        bytes_held a.held peer ≡ [] → discovered a.state.shared datagram ≡ Some bytes →
+        after_call a (Feeds now peer datagram) ≡ after_call a (Ticks now) }
 {}

@@ -2,7 +2,8 @@
 //!
 //! An `Adapter` has no socket and no clock. `begin` and `end` tell it of TCP connections; `feed` hands it bytes of a
 //! peer's stream at a moment, in microseconds, and lends the answer, or says why there is none; `tick` tells it of a
-//! moment alone. `serve` does so over a reader and a writer.
+//! moment alone, and `deadline` is the next one at which a connection ends. `serve` does so over a reader and a writer.
+//! `discover` answers a datagram, of which nothing stays.
 //!
 //! What it answers is a function of the peers' whole frames and of the moments: the turn of `specs/Turn.antt`, over one
 //! definition for each command. Its calls after `Adapter::new` take no memory.
@@ -19,6 +20,7 @@ mod shared;
 mod silence;
 
 pub use adapter::{Adapter, Fed, Full, Limits};
+pub use commands::DiscoveryRoom;
 pub use peer::Peer;
 pub use reply::LONGEST_ANSWER;
 pub use serving::{LONGEST_READ, ServeFault, Served, serve};

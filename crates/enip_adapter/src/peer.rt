@@ -93,7 +93,7 @@ impl Place {
                 self.reader.clear();
                 reaction
             }
-            Held::TooLong(header) => refuse_long(&header, answer),
+            Held::TooLong(header) => refuse_long(header, answer),
         };
         self.session.closed = reaction.close;
         if reaction.close {

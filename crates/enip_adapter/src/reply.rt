@@ -160,8 +160,8 @@ pub(crate) fn write_reply(
 }
 
 /// Refuses a frame: no data, and the session field of what asked.
-pub(crate) fn refuse(asked: &Header, status: EncapsulationStatus, answer: &mut AnswerFrame)
-    ensures { answer.new.items ≡ reply asked.now asked.now.session status [] }
+pub(crate) fn refuse(asked: Header, status: EncapsulationStatus, answer: &mut AnswerFrame)
+    ensures { answer.new.items ≡ reply asked asked.session status [] }
 {
-    write_reply(asked, asked.session, status, &[], &[], answer);
+    write_reply(&asked, asked.session, status, &[], &[], answer);
 }

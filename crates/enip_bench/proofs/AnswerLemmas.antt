@@ -93,8 +93,8 @@ module _ {M : Type 0} (after : M → ℕ → List ℕ → M) (answer : M → ℕ
       ((tracked_sound o_to_t_size events).back.logged position own e)
 
   -- what both worlds send back at a position
-  back_same : (first o_to_t_size t_to_o_size : ℕ) (router : M) (events : List Event) (position : ℕ) → first < 2 ^ 16 →
-      10 ≤ t_to_o_size →
+  pub back_same : (first o_to_t_size t_to_o_size : ℕ) (router : M) (events : List Event) (position : ℕ) →
+      first < 2 ^ 16 → 10 ≤ t_to_o_size →
       slice_get (items_after after answer first o_to_t_size t_to_o_size router events).back position
       ≡ option_map (λ n. item (count_of first n)
       (reply_to after answer t_to_o_size (numbers_after o_to_t_size events).submits router

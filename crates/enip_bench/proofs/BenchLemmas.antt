@@ -177,7 +177,7 @@ taken_more events position event lt is =
 pub runs_more : (old : CountingWorld) (events : List EventInCode) (position : ℕ) (event : EventInCode) (world next : World)
     (told : Told) → RunsTo old events position world → position < length events →
     event ≡ slice_index_or events position event → IsTold (world_in world) (event_in event) (world_in next) told →
-    next.submits ≤ length next.sent.items → RunsTo old events (position + 1) next
+    next.submits ≤ length next.sent.frames → RunsTo old events (position + 1) next
 runs_more old events position event world next told runs lt is done counted = record {
   run = done.world ∙ (ap (λ w. counting_step w (event_in event)) runs.run
       ∙ (sym (run_joined old (take position (events_in events)) (event_in event ∷ []))

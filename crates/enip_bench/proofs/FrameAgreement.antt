@@ -29,7 +29,7 @@ shown-seen wire a c world agrees =
       stage = stage;
     } in x)) agrees.adapter_shows.objects (ap (λ o. stage_of o.phase) agrees.client_shows.originator)
 
-world-seen : (wire : Wire) (world : CountingWorld) (item_world : ItemWorld Contents) → Shows wire world item_world →
+pub world-seen : (wire : Wire) (world : CountingWorld) (item_world : ItemWorld Contents) → Shows wire world item_world →
     counting_seen world ≡ in_frames wire.peer wire.wants.t_to_o_id (items_seen item_world)
 world-seen wire world item_world shows =
     ap counting_seen shows.is ∙ shown-seen wire shows.ends_at shows.starts_at item_world shows.agrees

@@ -4,7 +4,7 @@ use Rattle.std.proofs.lemmas.Bool.{and_parts}
 use Rattle.std.proofs.lemmas.Option.{same_Some}
 use Rattle.cip_class3.specs.Deliveries.{answer_to}
 use Rattle.cip_class3.specs.Item.{item}
-use Rattle.cip_class3.specs.OriginatorRule.{OriginatorState, submit_refusal, waiting_item, with_next_request, after_item, accepted_reply, after_give_up}
+use Rattle.cip_class3.specs.OriginatorRule.{OriginatorState, form_refusal, submit_refusal, waiting_item, with_next_request, after_item, accepted_reply, after_give_up}
 use Rattle.cip_class3.specs.TargetRule.{TargetStep, target_step}
 use Rattle.cip_class3.specs.declared.originator.Refused.{Refused}
 use Rattle.cip_objects.specs.Contents.{Contents}
@@ -25,7 +25,7 @@ use Rattle.enip_bench.specs.ObjectsRun.{after_exec, exec_answer}
 use Rattle.enip_bench.proofs.AdapterShows.{Wire, IsWire, AdapterShows, IsReached, frame_out, frame_back, reached-open, reached-shut, asked-other, shut}
 use Rattle.enip_bench.proofs.ClientShows.{ClientShows, with_originator, shows-originator, item-out, submits-allowed, resends-waiting, gives-up, IsHeardItem, heard-item}
 use Rattle.enip_bench.proofs.PositionLemmas.{Each, delivered, delivery-map, map-push, map-with_any}
-use Rattle.enip_bench.proofs.SmallLemmas.{IsShort, IsSmallOriginator, IsSmallTarget, each-any, submitted-short, small-submit, small-item, small-give_up, small-step, answer-short}
+use Rattle.enip_bench.proofs.SmallLemmas.{IsShort, IsSmallOriginator, IsSmallTarget, each-any, allowed-formed, submitted-short, small-submit, small-item, small-give_up, small-step, answer-short}
 
 -- the counting world with these ends, and the item world's items in their frames
 abbrev pub shown : Wire → AdapterState → ClientState → ItemWorld Contents → CountingWorld
@@ -62,13 +62,12 @@ pub record Shows (wire : Wire) (counting : CountingWorld) (world : ItemWorld Con
   pub is : counting ≡ shown wire ends_at starts_at world
   pub agrees : Agrees wire ends_at starts_at world
 
-at_submit : (wire : Wire) (a : AdapterState) (c : ClientState) (world : ItemWorld Contents) (request : List ℕ)
-    (why : Option Refused) → submit_refusal world.originator request ≡ why → Agrees wire a c world →
-    Shows wire (counting.after_submit (submitted c.state request why) (shown wire a c world))
-    (items.after_submit why world request)
-at_submit wire a c world request (Some why) e agrees =
-    record { ends_at = a; starts_at = c; is = refl; agrees = agrees }
-at_submit wire a c world request None e agrees =
+-- a request is taken, for which its form is enough
+pub at_taken : (wire : Wire) (a : AdapterState) (c : ClientState) (world : ItemWorld Contents) (request : List ℕ) →
+    form_refusal world.originator.o_to_t_size request ≡ None → Agrees wire a c world →
+    Shows wire (counting.after_submit (submitted c.state request None) (shown wire a c world))
+    (items.after_submit None world request)
+at_taken wire a c world request e agrees =
     let o : OriginatorState = world.originator in
     let next : List ℕ = item o.next request in
     let shows : ClientShows wire c o = agrees.client_shows in
@@ -100,6 +99,15 @@ at_submit wire a c world request None e agrees =
         };
       };
     }
+
+at_submit : (wire : Wire) (a : AdapterState) (c : ClientState) (world : ItemWorld Contents) (request : List ℕ)
+    (why : Option Refused) → submit_refusal world.originator request ≡ why → Agrees wire a c world →
+    Shows wire (counting.after_submit (submitted c.state request why) (shown wire a c world))
+    (items.after_submit why world request)
+at_submit wire a c world request (Some why) e agrees =
+    record { ends_at = a; starts_at = c; is = refl; agrees = agrees }
+at_submit wire a c world request None e agrees =
+    at_taken wire a c world request (allowed-formed world.originator request e) agrees
 
 at_resend : (wire : Wire) (a : AdapterState) (c : ClientState) (world : ItemWorld Contents) → Agrees wire a c world →
     Shows wire (counting_step (shown wire a c world) Resend) (with_waiting_item_sent world)

@@ -8,9 +8,13 @@ pub mod ClientShows
 pub mod CountLemmas
 pub mod FeedLemmas
 pub mod FrameAgreement
+pub mod FrameBoundLemmas
+pub mod FrameOnceLemmas
 pub mod FrameSteps
+pub mod FramesLemmas
 pub mod HeldLemmas
 pub mod Image
+pub mod JustOpenedLemmas
 pub mod LogLemmas
 pub mod NamedLemmas
 pub mod OnceLemmas

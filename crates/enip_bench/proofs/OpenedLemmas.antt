@@ -1,15 +1,13 @@
 -- The counting world at its opening shows the item world at its.
-use Rattle.std.proofs.Common.{◌≡◌, ℕ, zero, suc, ◌+◌, ◌*◌, ◌<◌, ◌^◌, true, false, not, ◌&&◌, cond, eqb, ltb, ltb-true, Some, None, List, [], ◌∷◌, length, Result, Ok, refl, ap, ap₂, sym, ◌∙◌, subst, arith}
-use Rattle.std.proofs.lemmas.Bool.{eq-eqb, ne_eqb, and_parts}
-use Rattle.std.proofs.lemmas.Bool.Decides.{nat_tests}
+use Rattle.std.proofs.Common.{◌≡◌, ℕ, ◌+◌, ◌*◌, ◌<◌, ◌^◌, true, false, cond, eqb, Some, None, [], ◌∷◌, Ok, refl, ap, ap₂, sym, subst, arith}
+use Rattle.std.proofs.lemmas.Bool.{eq-eqb, ne_eqb}
 use Rattle.std.proofs.lemmas.Nat.{mul-lt, pow_pos}
 use Rattle.cip_bytes.proofs.Bytes.{le4_again}
 use Rattle.cip_class3.specs.TargetRule.{TargetState, target_at_opening}
 use Rattle.cip_class3.specs.OriginatorRule.{originator_at_opening}
 use Rattle.cip_manager.specs.declared.opening.Opening.{Opening}
-use Rattle.cip_manager.specs.Check.{demand, first_failure}
 use Rattle.cip_manager.specs.Connection.{timeout_of}
-use Rattle.cip_manager.specs.Opening.{opening_check, opening_checks, new_connection}
+use Rattle.cip_manager.specs.Opening.{opening_check, new_connection}
 use Rattle.cip_manager.specs.Manager.{ManagerState}
 use Rattle.cip_objects.specs.Contents.{Contents}
 use Rattle.enip_wire.specs.Frames.{Frame, frame}
@@ -35,8 +33,6 @@ use Rattle.cip_bytes.specs.declared.protocol.Command.TheVariants.{RegisterSessio
 use Rattle.enip_bench.proofs.FeedLemmas.{IsReady, is_framed, no_bytes}
 use Rattle.enip_bench.proofs.FrameSteps.{Agrees, Shows}
 use Rattle.enip_bench.proofs.OpeningLemmas.{asked, decided, opened}
-use Rattle.enip_bench.proofs.PositionLemmas.{Each}
-use Rattle.std.proofs.lemmas.Option.{same_Some}
 use Rattle.enip_bench.proofs.OpeningParts.{single, register-served}
 use Rattle.cip_manager.proofs.CheckLemmas.{PassesChecks, passes_checks}
 

@@ -10,7 +10,6 @@ use Rattle.cip_message.specs.Request.{request_of}
 use Rattle.cip_message.proofs.Opens.{same_open}
 use Rattle.cip_manager.specs.declared.opening.Direction.{Direction}
 use Rattle.cip_manager.specs.declared.opening.Opening.{Opening}
-use Rattle.cip_manager.specs.Check.{demand, first_failure}
 use Rattle.cip_manager.specs.Opening.{direction_of, large_direction_of, opening_with, open_in, opening_in}
 use Rattle.enip_wire.specs.Frames.{Frame, frame, IsFrame}
 use Rattle.enip_adapter.specs.declared.adapter.Full.TheVariants.{Places, Handles}

@@ -36,16 +36,22 @@ each-any None xs each one = each
 each-any (Some x) xs each one = each-push IsShort xs x each (one x refl)
 
 -- an item that is submitted
-pub submitted-short : (originator : OriginatorState) (request : List ℕ) → IsSmallOriginator originator →
-    submit_refusal originator request ≡ None → IsShort (item originator.next request)
-submitted-short originator request small e =
+-- what is not refused has the form of a request
+pub allowed-formed : (originator : OriginatorState) (request : List ℕ) → submit_refusal originator request ≡ None →
+    form_refusal originator.o_to_t_size request ≡ None
+allowed-formed originator request e =
     let is : IsAllowed originator.tries (is_waiting originator.phase) (form_refusal originator.o_to_t_size request) =
     first_refusal-none originator.tries (is_waiting originator.phase) (form_refusal originator.o_to_t_size request) e in
-    let form : IsOfForm originator.o_to_t_size request = has_form originator.o_to_t_size request is.formed in
+    is.formed
+
+pub submitted-short : (originator : OriginatorState) (request : List ℕ) → IsSmallOriginator originator →
+    form_refusal originator.o_to_t_size request ≡ None → IsShort (item originator.next request)
+submitted-short originator request small e =
+    let form : IsOfForm originator.o_to_t_size request = has_form originator.o_to_t_size request e in
     omega (arith, form.fits, small.o_to_t_to)
 
 pub small-submit : (originator : OriginatorState) (request : List ℕ) → IsSmallOriginator originator →
-    submit_refusal originator request ≡ None → IsSmallOriginator (with_next_request originator request)
+    form_refusal originator.o_to_t_size request ≡ None → IsSmallOriginator (with_next_request originator request)
 small-submit originator request small e = record {
   o_to_t_to = small.o_to_t_to;
   waiting = λ bytes f. subst IsShort (same_Some (item originator.next request) bytes f)

@@ -3,9 +3,13 @@ pub mod CountingOpening
 pub mod CountingWorld
 pub mod Events
 pub mod Executions
+pub mod FrameBound
 pub mod FrameLaw
+pub mod FrameOnce
 pub mod FrameRows
+pub mod Frames
 pub mod ItemWorld
+pub mod JustOpened
 pub mod NumberedWorld
 pub mod ObjectsRun
 pub mod Reached

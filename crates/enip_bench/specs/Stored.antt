@@ -1,6 +1,5 @@
 -- How the code stands for the counting world, its events and what is told of them.
 use Rattle.std.specs.Prelude.{◌≡◌, ◌<◌, ◌≤◌, ℕ, ⊤, Bool, if◌then◌else◌, map, take, length, Option, Some, None, List, [], ◌∷◌, Result, Ok, Err}
-use Rattle.bytes.specs.Filled.{Filled}
 use Rattle.cip_objects.specs.Contents.{Contents}
 use Rattle.enip_adapter.specs.Calls.{AdapterState, after_call}
 use Rattle.enip_adapter.specs.Calls.Call.{Begins_peer}
@@ -24,9 +23,6 @@ use Rattle.enip_bench.specs.declared.event.Step.TheVariants as steps
 use Rattle.enip_bench.specs.declared.world.Accepted.{Accepted}
 use Rattle.enip_bench.specs.declared.world.World.{World}
 
-abbrev pub frames_in : List Filled → List (List ℕ)
-frames_in frames = map (λ frame. frame.items) frames
-
 abbrev pub acceptance_in : Accepted → ℕ × List ℕ
 acceptance_in accepted = (accepted.number, accepted.reply.items)
 
@@ -39,8 +35,8 @@ world_in world = record {
   client = world.client;
   peer = world.peer;
   second = world.second;
-  sent = frames_in world.sent.items;
-  back = frames_in world.back.items;
+  sent = world.sent.frames;
+  back = world.back.frames;
   last_reached = world.last_reached;
   last_back = world.last_back;
   submits = world.submits;
@@ -123,7 +119,7 @@ IsOpening opened (Err faults.Memory) = ⊤
 -- it came of an opening, and each request that was taken was sent
 pub record IsOfOpening (world : World) : Type 0 where
   pub reached : IsReached (world_in world)
-  pub counted : world.submits ≤ length world.sent.items
+  pub counted : world.submits ≤ length world.sent.frames
 
 -- the world after an event; for want of memory the event is not done
 abbrev pub after_step : {A E : Type 0} → CountingWorld → Event → Result A E → CountingWorld
@@ -143,7 +139,7 @@ NamesAnEvent events (Err error) = error.0 < length events
 abbrev pub seen_in : SeenInCode → Seen Contents
 seen_in seen = record {
   router = seen.objects.now;
-  back = frames_in seen.back.now;
+  back = seen.back.now.frames;
   accepted = acceptances_in seen.accepted.now;
   stage = seen.stage;
 }

@@ -6,9 +6,9 @@ ghost use Rattle.std.specs.Io.BufRead.{Rests};
 ghost use Rattle.enip_bench.specs.Stored.{acceptances_in, last_reply};
 
 use crate::event::{Event, Step};
+use crate::frames::Frames;
 use crate::opening::{begin, open, register};
 use crate::world::{Accepted, World, feed_silently};
-use bytes::BytesMut;
 use cip_class3::Stage;
 use cip_objects::Objects;
 use enip_adapter::Adapter;
@@ -44,14 +44,14 @@ pub struct Seen<'a> {
     /// The adapter's objects.
     pub objects: &'a Objects,
     /// Every frame that was sent back, by position.
-    pub back: &'a [BytesMut],
+    pub back: &'a Frames,
     /// Each reply that the client accepted, in order.
     pub accepted: &'a [Accepted],
     /// Where the client stands.
     pub stage: Stage,
 }
 
-/// How many frames each direction has room for from the start.
+/// How many frames each direction has places for from the start.
 const FIRST_ROOM: usize = 16;
 
 /// An adapter and a client with an open connection, and a second session at the adapter.
@@ -100,8 +100,8 @@ impl Bench {
     {
         let mut adapter = adapter;
         let mut client = client;
-        let sent = Vec::with_capacity(alloc, FIRST_ROOM)?;
-        let back = Vec::with_capacity(alloc, FIRST_ROOM)?;
+        let sent = Frames::with_places(alloc, FIRST_ROOM)?;
+        let back = Frames::with_places(alloc, FIRST_ROOM)?;
         let accepted = Vec::with_capacity(alloc, FIRST_ROOM)?;
         let peer = begin(&mut adapter)?;
         register(&mut adapter, &mut client, &peer)?;

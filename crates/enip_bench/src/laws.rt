@@ -6,7 +6,12 @@
 
 ghost use Rattle.cip_objects.specs.Router.{RepliesInForm};
 ghost use Rattle.enip_bench.specs.Bound.{bound_law, refusals_law, raised_law};
+ghost use Rattle.enip_bench.specs.FrameBound.{raised_in_frames};
 ghost use Rattle.enip_bench.specs.FrameLaw.{frame_law};
+ghost use Rattle.enip_bench.specs.FrameOnce.{accepted_in_frames, accepted_order_in_frames, answers_in_frames};
+ghost use Rattle.enip_bench.specs.FrameOnce.{same_frames, once_in_frames, requests_in_frames, first_in_frames};
+ghost use Rattle.enip_bench.specs.FrameOnce.{unchanged_in_frames};
+ghost use Rattle.enip_bench.specs.JustOpened.{opening_law};
 ghost use Rattle.enip_bench.specs.ObjectsRun.{run_law};
 ghost use Rattle.enip_bench.specs.WorldLaws.{agreement_law, once_law, order_law, window_law, arrival_law};
 ghost use Rattle.enip_bench.specs.WorldLaws.{accepted_law, accepted_order_law, answer_law, same_bytes_law};
@@ -74,4 +79,40 @@ pub fn log_is_a_run()
 /// own executed, of any bytes, and the connection ends by time.
 pub fn frames_agree()
     ensures { frame_law }
+{}
+
+/// Over whole frames, a reply that the client accepts is that of the only execution of its request, and at most one is
+/// accepted for each request.
+pub fn frames_accepted_once()
+    ensures reply { accepted_in_frames }
+    ensures order { accepted_order_in_frames }
+{}
+
+/// Every frame sent back answers a request with its count and the reply of its only execution, so with the same bytes
+/// each time.
+pub fn frames_answered_alike()
+    ensures reply { answers_in_frames }
+    ensures same_bytes { same_frames }
+{}
+
+/// Over whole frames, each request is executed at most once: when the first frame of it reaches the open adapter. No
+/// frame that is sent again changes the objects.
+pub fn frames_executed_once()
+    ensures once { once_in_frames }
+    ensures sent { requests_in_frames }
+    ensures first { first_in_frames }
+    ensures unchanged { unchanged_in_frames }
+{}
+
+/// Over whole frames, the bound can't be raised. After the same events a client that took one more request would send a
+/// frame that the adapter answers with the first request's reply, which it had kept, and the client would accept that.
+pub fn frames_bound_cannot_be_raised()
+    ensures { raised_in_frames }
+{}
+
+/// After the opening of a new adapter and a new client the connection is open at both ends, with the same IDs and
+/// sizes. Nothing is held at the target, no request was executed, and the client's next count is the first that it
+/// wants.
+pub fn ends_just_opened()
+    ensures { opening_law }
 {}

@@ -9,10 +9,12 @@
 
 mod bench;
 mod event;
+mod frames;
 pub mod laws;
 mod opening;
 mod world;
 
 pub use bench::{Bench, BenchFault, Seen};
 pub use event::{Event, Step};
+pub use frames::Frames;
 pub use world::Accepted;

@@ -1,17 +1,18 @@
 //! The two ends, what lies between them, and what each event does.
 
-ghost use Rattle.std.specs.Prelude.{ℕ, ◌≡◌, ◌<◌, ◌≤◌, ◌+◌, [], ◌∷◌, ◌++◌, length, IfOk, OnOk, vec_len, vec_capacity};
+ghost use Rattle.std.specs.Prelude.{ℕ, ◌≡◌, ◌≤◌, [], length};
 ghost use Rattle.std.specs.Option.{option_map};
 ghost use Rattle.enip_bench.specs.CountingWorld.{reply_heard};
 ghost use Rattle.enip_bench.specs.Events.{Submit, Resend, Reach, Back, Other, Shut, GiveUp, delivery, is_unconnected_request};
 ghost use Rattle.enip_bench.specs.Reached.{IsReached};
-ghost use Rattle.enip_bench.specs.Stored.{frames_in, world_in, event_in, IsStepped, IsTold};
+ghost use Rattle.enip_bench.specs.Stored.{world_in, event_in, IsStepped, IsTold};
 ghost use Rattle.enip_bench.specs.Stored.{IsRoomFor, reply_put};
 ghost use Rattle.enip_adapter.specs.Calls.{after_call};
 ghost use Rattle.enip_adapter.specs.Calls.Call.{Feeds};
 ghost use Rattle.enip_client.specs.Client.{fed};
 
 use crate::event::{Event, Told};
+use crate::frames::Frames;
 use bytes::BytesMut;
 use cip_bytes::protocol::{SMALLEST_REQUEST, UNCONNECTED_ROOM};
 use enip_adapter::{Adapter, LONGEST_ANSWER, Peer};
@@ -36,9 +37,9 @@ pub(crate) struct World {
     pub(crate) peer: Peer,
     pub(crate) second: Peer,
     /// The frames that were sent, by position.
-    pub(crate) sent: Vec<BytesMut>,
+    pub(crate) sent: Frames,
     /// The frames that were sent back, by position.
-    pub(crate) back: Vec<BytesMut>,
+    pub(crate) back: Frames,
     /// The position that was delivered last in each direction.
     pub(crate) last_reached: Option<usize>,
     pub(crate) last_back: Option<usize>,
@@ -51,9 +52,9 @@ impl World {
     /// Does an event, or nothing for want of memory.
     pub(crate) fn step(&mut self, event: &Event) -> Result<Told, AllocError>
         requires reached { IsReached (world_in self.old) }
-        requires counted { self.old.submits ≤ length self.old.sent.items }
+        requires counted { self.old.submits ≤ length self.old.sent.frames }
         ensures stepped { IsStepped (world_in self.old) (event_in event.now) (world_in self.new) result }
-        ensures counted { self.new.submits ≤ length self.new.sent.items }
+        ensures counted { self.new.submits ≤ length self.new.sent.frames }
     {
         match event {
             Event::Submit(request) => self.submit(request),
@@ -69,19 +70,19 @@ impl World {
     /// The client is given a request, and its frame is sent.
     fn submit(&mut self, request: &[u8]) -> Result<Told, AllocError>
         requires reached { IsReached (world_in self.old) }
-        requires counted { self.old.submits ≤ length self.old.sent.items }
+        requires counted { self.old.submits ≤ length self.old.sent.frames }
         ensures stepped { IsStepped (world_in self.old) (Submit request.now) (world_in self.new) result }
-        ensures counted { self.new.submits ≤ length self.new.sent.items }
+        ensures counted { self.new.submits ≤ length self.new.sent.frames }
     {
-        let mut room = make_room(self.alloc, &mut self.sent, LONGEST_SENT)?;
-        match self.client.submit(request) {
-            Ok(frame) => room.extend_reserved(frame),
+        self.sent.make_room(LONGEST_SENT)?;
+        let frame = match self.client.submit(request) {
+            Ok(frame) => frame,
             Err(SubmitFault::Refused(why)) => return Ok(Told::Refused(why)),
             // an open connection has no fault
             Err(SubmitFault::Client(_)) => unreachable!(),
-        }
+        };
         let told = Told::Sent(self.submits, self.sent.len());
-        put(self.alloc, &mut self.sent, room);
+        self.sent.push(frame);
         self.submits += 1;
         Ok(told)
     }
@@ -90,15 +91,14 @@ impl World {
     fn resend(&mut self) -> Result<Told, AllocError>
         ensures stepped { IsStepped (world_in self.old) Resend (world_in self.new) result }
         ensures counted { self.new.submits ≡ self.old.submits }
-        ensures sent { length self.old.sent.items ≤ length self.new.sent.items }
+        ensures sent { length self.old.sent.frames ≤ length self.new.sent.frames }
     {
-        let mut room = make_room(self.alloc, &mut self.sent, LONGEST_SENT)?;
+        self.sent.make_room(LONGEST_SENT)?;
         let Some(frame) = self.client.resend() else {
             return Ok(Told::Resent(None));
         };
-        room.extend_reserved(frame);
         let position = self.sent.len();
-        put(self.alloc, &mut self.sent, room);
+        self.sent.push(frame);
         Ok(Told::Resent(Some(position)))
     }
 
@@ -111,14 +111,13 @@ impl World {
         let Some(frame) = delivered(self.last_reached, &self.sent, position) else {
             return Ok(Told::Impossible);
         };
-        let mut room = make_room(self.alloc, &mut self.back, LONGEST_ANSWER)?;
+        self.back.make_room(LONGEST_ANSWER)?;
         self.last_reached = Some(position);
         let Some(answer) = self.adapter.feed(0, &self.peer, frame).answer else {
             return Ok(Told::Reached(None));
         };
-        room.extend_reserved(answer);
         let position = self.back.len();
-        put(self.alloc, &mut self.back, room);
+        self.back.push(answer);
         Ok(Told::Reached(Some(position)))
     }
 
@@ -201,50 +200,14 @@ pub(crate) fn feed_silently(adapter: &mut Adapter, peer: &Peer, frame: &[u8])
     adapter.feed(0, peer, frame);
 }
 
-/// Room for one more frame of at most `size` bytes.
-///
-/// # Errors
-///
-/// `AllocError` where memory is refused.
-fn make_room(alloc: Global, frames: &mut Vec<BytesMut>, size: usize) -> Result<BytesMut, AllocError>
-    ensures kept { frames.new.items ≡ frames.old.items }
-    ensures place { OnOk result (vec_len frames.new < vec_capacity frames.new) }
-    ensures empty { IfOk result (λ room. room.items ≡ []) }
-    ensures room { IfOk result (λ room. size ≤ room.spare) }
-{
-    frames.reserve(1)?;
-    BytesMut::with_capacity(alloc, size)
-}
-
-/// Puts a frame behind the others, in a room of its own size: most are far shorter than the longest. Where there is no
-/// memory for that room, it stays where it is.
-fn put(alloc: Global, frames: &mut Vec<BytesMut>, frame: BytesMut)
-    requires place { vec_len frames.old < vec_capacity frames.old }
-    ensures put { frames_in frames.new.items ≡ frames_in frames.old.items ++ frame.items ∷ [] }
-    ensures longer { length frames.new.items ≡ length frames.old.items + 1 }
-{
-    frames.push_reserved(fitted(alloc, frame));
-}
-
-/// The frame in a room of its own size, where there is memory for one.
-fn fitted(alloc: Global, frame: BytesMut) -> BytesMut
-    ensures { result.items ≡ frame.items }
-{
-    let Ok(mut room) = BytesMut::with_capacity(alloc, frame.len()) else {
-        return frame;
-    };
-    room.extend_reserved(frame.as_slice());
-    room
-}
-
 /// What a delivery brings: the frame at this position, where it was sent and none behind it was delivered.
-fn delivered(last: Option<usize>, frames: &[BytesMut], position: usize) -> Option<&[u8]>
-    ensures { option_map (λ (frame : _). frame.now) result ≡ delivery last (frames_in frames.now) position }
+fn delivered(last: Option<usize>, frames: &Frames, position: usize) -> Option<&[u8]>
+    ensures { option_map (λ (frame : _). frame.now) result ≡ delivery last frames.now.frames position }
 {
     if last.is_some_and(|last| position < last) {
         return None;
     }
-    Some(frames.get(position)?.as_slice())
+    frames.get(position)
 }
 
 /// Whether these are as many bytes as an unconnected request has.

@@ -5,6 +5,7 @@ ghost use Rattle.enip_cmd.specs.Statuses.{exit_status};
 
 use enip_config::Refusal;
 use enip_text::ReplayStop;
+use std::alloc::AllocError;
 use std::io;
 use thiserror::Error;
 
@@ -42,6 +43,17 @@ impl From<enip_text::Fault> for Fault {
 
     fn from(ended: enip_text::Fault) -> Fault {
         Fault::Run(ended)
+    }
+}
+
+impl From<AllocError> for Fault {
+    ghost use Rattle.enip_text.specs.declared.fault.Fault.TheVariants.{Memory};
+    ghost use Rattle.enip_cmd.specs.declared.fault.Fault.TheVariants.{Run};
+
+    ghost from_gives = { λ _ fault. fault ≡ Run Memory };
+
+    fn from(_error: AllocError) -> Fault {
+        Fault::Run(enip_text::Fault::Memory)
     }
 }
 

@@ -1,34 +1,40 @@
 //! `enip`: an EtherNet/IP adapter and client on the command line.
 #![tactic(auto)]
 
+ghost use Rattle.std.specs.Prelude.{◌≡◌, ◌<◌, ◌*◌, ◌-◌, ◌^◌};
+
 pub mod answer;
-pub mod commands;
+mod discovery;
+mod door;
 pub mod fault;
-pub mod file;
+mod readiness;
 pub mod replay;
 pub mod serve;
 pub mod socket;
 #[cfg(test)]
 mod tests;
-pub mod words;
+mod wire;
 
 use cip_message::Path;
 use clap::ArgMatches;
 use clap::error::ErrorKind;
-use commands::{PROGRAM, program};
+use enip_peers::NO_LIMIT;
 use enip_text::{AskingStop, Question, Replied};
+use enip_words::{PROGRAM, Word, program, read_file, words};
 use fault::Fault;
-use file::File;
+use mio::net::UdpSocket;
+use serve::{Serving, Sockets, serve_connections};
 use socket::{SocketSink, SocketSource};
-use std::convert::AsStr;
-use std::io::Read;
+use std::io;
 use std::net::{TcpListener, TcpStream};
 use std::process::ExitCode;
 use std::time::Instant;
-use words::{Word, words};
 
 /// The exit status where the words are refused.
 const WORDS_REFUSED: u8 = 2;
+
+/// The microseconds of a second.
+const SECOND: u64 = 1_000_000;
 
 /// Services of all objects. (Volume 1, common services.)
 const GET_ATTRIBUTE_SINGLE: u8 = 0x0e;
@@ -51,7 +57,7 @@ fn run(rt: &HostRuntime, words: &[Word], matches: &ArgMatches<'_>) -> Result<u8,
 
 /// `enip answer`.
 fn run_answer(rt: &HostRuntime, words: &[Word], matches: &ArgMatches<'_>) -> Result<u8, Fault> {
-    let config = read_file(rt, words, matches.get_str("CONFIG").unwrap_or(""))?;
+    let config = read_file(rt.alloc(), words, matches.get_str("CONFIG").unwrap_or(""))?;
     Ok(answer::answer_bytes(
         rt.alloc(),
         config.as_slice(),
@@ -63,8 +69,8 @@ fn run_answer(rt: &HostRuntime, words: &[Word], matches: &ArgMatches<'_>) -> Res
 
 /// `enip replay`.
 fn run_replay(rt: &HostRuntime, words: &[Word], matches: &ArgMatches<'_>) -> Result<u8, Fault> {
-    let config = read_file(rt, words, matches.get_str("CONFIG").unwrap_or(""))?;
-    let script = read_file(rt, words, matches.get_str("SCRIPT").unwrap_or(""))?;
+    let config = read_file(rt.alloc(), words, matches.get_str("CONFIG").unwrap_or(""))?;
+    let script = read_file(rt.alloc(), words, matches.get_str("SCRIPT").unwrap_or(""))?;
     Ok(replay::replay_bytes(
         rt.alloc(),
         config.as_slice(),
@@ -78,28 +84,44 @@ fn run_replay(rt: &HostRuntime, words: &[Word], matches: &ArgMatches<'_>) -> Res
 fn run_serve(rt: &HostRuntime, words: &[Word], matches: &ArgMatches<'_>) -> Result<u8, Fault> {
     // all that come, where it is not said: more than can come
     let count = matches.get_one::<u16>("count").map_or(u64::MAX, u64::from);
-    let config = read_file(rt, words, matches.get_str("CONFIG").unwrap_or(""))?;
+    let Some(seconds) = matches.get_one("idle") else {
+        return Ok(WORDS_REFUSED);
+    };
+    let silence = silence_of(seconds);
+    let config = read_file(rt.alloc(), words, matches.get_str("CONFIG").unwrap_or(""))?;
+    let adapter = enip_config::adapter_from(rt.alloc(), config.as_slice())?;
     let address = matches.get_str("ADDRESS").unwrap_or("");
-    serve_at(rt, config.as_slice(), address, count)
-}
-
-/// The bytes of the file that a word names. The file's name need not be text.
-fn read_file(rt: &HostRuntime, words: &[Word], text: &str) -> Result<Vec<u8>, Fault> {
-    let word = words.iter().find(|word| word.as_str() == text);
-    let name = word.map_or(text.as_bytes(), |word| word.bytes.as_slice());
-    let mut bytes = Vec::new(rt.alloc());
-    File::open(name)?.read_to_end(&mut bytes)?;
-    Ok(bytes)
-}
-
-/// Serves the device of a configuration at an address, for so many connections.
-fn serve_at(rt: &HostRuntime, config: &[u8], address: &str, count: u64) -> Result<u8, Fault> {
-    let mut adapter = enip_config::adapter_from(rt.alloc(), config)?;
-    let listener = TcpListener::bind(rt, address)?;
-    let bound = listener.local_addr()?;
-    eprintln!(rt; "listening on {bound}")?;
-    serve::serve_connections(rt, &listener, &mut adapter, count)?;
+    let sockets = bind_at(rt, address, matches.get_flag("discovery"))?;
+    let listening = sockets.listener.local_addr()?;
+    eprintln!(rt; "listening on {listening}")?;
+    serve_connections(rt, rt.alloc(), sockets, adapter, Serving { count, silence })?;
     Ok(0)
+}
+
+/// How long a peer may be silent, in microseconds, where so many seconds are said.
+fn silence_of(seconds: u16) -> u64
+    ensures limit { 0 < seconds → result ≡ seconds * 1_000_000 }
+    ensures no_limit { seconds ≡ 0 → result ≡ 2 ^ 64 - 1 }
+{
+    match seconds {
+        0 => NO_LIMIT,
+        _ => u64::from(seconds) * SECOND,
+    }
+}
+
+/// The sockets of a device at an address, with one for datagrams where they are to be heard.
+fn bind_at(rt: &HostRuntime, address: &str, discovery: bool) -> io::Result<Sockets> {
+    let listener = TcpListener::bind(rt, address)?;
+    listener.set_nonblocking(true)?;
+    let bound = listener.local_addr()?;
+    let mut datagrams = None;
+    if discovery {
+        datagrams = Some(UdpSocket::bind(rt, bound)?);
+    }
+    Ok(Sockets {
+        listener: mio::net::TcpListener::from_std(listener),
+        datagrams,
+    })
 }
 
 /// `enip get`, `enip set` and `enip call`: asks with a service.

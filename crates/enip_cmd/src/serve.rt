@@ -1,78 +1,267 @@
-//! `enip serve`: the adapter on a socket, one connection after another.
+//! `enip serve`: the adapter's peers on the sockets of the machine.
+//!
+//! In a round the system is asked which sockets may be ready, then one datagram is answered, each peer that may be ready
+//! has one turn, and one connection is taken. All of it has one moment, in microseconds since the beginning.
 
-ghost use Rattle.std.specs.Prelude.{IfErr};
+ghost use Rattle.std.specs.Prelude.{◌≡◌, ◌≤◌, ◌<◌, ◌⊎◌, ◌↔◌, Some, IfSome, IsSomeAnd, IfErr, IsTrue};
 ghost use Rattle.enip_text.specs.Statuses.{IsOfDevices};
 
-use crate::socket::{SocketSink, SocketSource};
-use enip_adapter::{Adapter, LONGEST_READ, Peer, Served, serve};
+use crate::discovery::Discovery;
+use crate::door::Door;
+use crate::wire::TcpWire;
+use enip_adapter::Adapter;
+use enip_peers::Peers;
 use enip_text::Fault;
-use enip_wire::{Sink, Source};
-use std::net::{TcpListener, TcpStream};
+use mio::net::{TcpListener, TcpStream, UdpSocket};
+use mio::{Events, Interest, Poll, Token};
+use std::alloc::Global;
+use std::net::Net;
 use std::rt::Clock;
-use std::time::Instant;
+use std::time::{Duration, Instant};
 
-/// How many connections in a row may fail to be accepted.
-const FAILED_ACCEPTS: u32 = 64;
+/// The tokens of the sockets that are no peer's. A peer's is its place, which is less.
+const LISTENER: usize = 64;
 
-/// Serves so many connections, one after another. One that fails does not end the others.
-pub(crate) fn serve_connections<C: Clock>(
-    clock: &C,
-    listener: &TcpListener,
-    adapter: &mut Adapter,
-    count: u64,
+const DATAGRAMS: usize = 65;
+
+/// How many sockets the system reports at once.
+const REPORTS: usize = 32;
+
+/// For how many rounds a connection waits while all places are taken and a peer may be at its end.
+const ROUNDS_HELD: u32 = 16;
+
+/// The sockets of a device, whose calls never wait.
+#[derive(Drop)]
+pub(crate) struct Sockets {
+    /// Where connections come in.
+    pub(crate) listener: TcpListener,
+    /// Where datagrams come in, if they are heard.
+    pub(crate) datagrams: Option<UdpSocket>,
+}
+
+/// How a device is served.
+#[derive(Clone, Copy, Debug)]
+pub(crate) struct Serving {
+    /// How many connections are taken.
+    pub(crate) count: u64,
+    /// How long a peer may be silent, in microseconds.
+    pub(crate) silence: u64,
+}
+
+/// Serves the connections that come, until so many as are taken were taken and are over. One that fails ends alone.
+pub(crate) fn serve_connections<R: Clock + Net>(
+    rt: &R,
+    alloc: Global,
+    sockets: Sockets,
+    adapter: Adapter,
+    serving: Serving,
 ) -> Result<(), Fault>
     ensures { IfErr result IsOfDevices }
 {
-    let start = Instant::now(clock)?;
-    for _ in 0..count {
-        let stream = accept(listener)?;
-        // The answers are small.
-        let _ = stream.set_nodelay(true);
-        let Ok(peer) = adapter.begin() else {
-            return Err(Fault::Device);
-        };
-        serve_stream(clock, start, &stream, adapter, &peer);
-        adapter.end(peer);
+    let start = Instant::now(rt)?;
+    let mut server = Server::new(rt, alloc, sockets, adapter, serving)?;
+    let mut now = 0;
+    for _ in 0..u64::MAX {
+        if server.is_done() {
+            break;
+        }
+        server.wait(now)?;
+        now = moment(rt, start)?;
+        server.round(now);
     }
     Ok(())
 }
 
-/// The next connection. One that was gone before it was accepted is passed over.
-fn accept(listener: &TcpListener) -> Result<TcpStream, Fault>
+/// The microseconds since a start.
+fn moment<C: Clock>(clock: &C, start: Instant) -> Result<u64, Fault>
     ensures { IfErr result IsOfDevices }
 {
-    for _ in 0..FAILED_ACCEPTS {
-        if let Ok((stream, _)) = listener.accept() {
-            return Ok(stream);
-        }
-    }
-    Err(Fault::Device)
+    let elapsed = start.elapsed(clock)?;
+    Ok(u64::try_from(elapsed.as_micros()).unwrap_or(u64::MAX))
 }
 
-/// Serves a peer over its stream to its end, or until the adapter closes it or a device fails.
-fn serve_stream<C: Clock>(
-    clock: &C,
-    start: Instant,
-    stream: &TcpStream,
-    adapter: &mut Adapter,
-    peer: &Peer,
-) {
-    let mut source = SocketSource::new(stream, clock, start);
-    let mut sink = SocketSink::new(stream);
-    let mut buffer = [0; LONGEST_READ];
-    for _ in 0..u64::MAX {
-        if source.reads() >= u64::MAX {
+/// The earlier one of two moments that there may be.
+fn earlier(first: Option<u64>, second: Option<u64>) -> Option<u64>
+    ensures first { IfSome first (λ moment. IsSomeAnd result (λ m. m ≤ moment)) }
+    ensures second { IfSome second (λ moment. IsSomeAnd result (λ m. m ≤ moment)) }
+    ensures either { IfSome result (λ m. (first ≡ Some m) ⊎ (second ≡ Some m)) }
+{
+    match (first, second) {
+        (Some(first), Some(second)) => Some(first.min(second)),
+        (Some(moment), None) | (None, Some(moment)) => Some(moment),
+        (None, None) => None,
+    }
+}
+
+/// The peers and the sockets of a device that is served.
+#[derive(Drop)]
+struct Server {
+    poll: Poll,
+    events: Events,
+    /// Where connections come in, while they are taken.
+    door: Option<Door>,
+    discovery: Option<Discovery>,
+    peers: Peers<TcpWire>,
+    /// How many connections are taken.
+    count: u64,
+    /// How many were taken.
+    taken: u64,
+    /// How many of these are over.
+    ended: u64,
+    /// For how many rounds the next connection has waited for a place.
+    held: u32,
+}
+
+impl Server {
+    /// A device's peers, of which there are none yet, and its sockets, which the system reports from now on.
+    fn new<N: Net>(
+        net: &N,
+        alloc: Global,
+        sockets: Sockets,
+        adapter: Adapter,
+        serving: Serving,
+    ) -> Result<Server, Fault>
+        ensures { IfErr result IsOfDevices }
+    {
+        let Sockets {
+            mut listener,
+            datagrams,
+        } = sockets;
+        let poll = Poll::new(net)?;
+        let registry = poll.registry();
+        registry.register(&mut listener, Token(LISTENER), Interest::READABLE)?;
+        let mut discovery = None;
+        if let Some(mut socket) = datagrams {
+            registry.register(&mut socket, Token(DATAGRAMS), Interest::READABLE)?;
+            discovery = Some(Discovery::new(alloc, socket)?);
+        }
+        Ok(Server {
+            poll,
+            events: Events::with_capacity(alloc, REPORTS)?,
+            door: Some(Door::new(listener)),
+            discovery,
+            peers: Peers::new(alloc, adapter, serving.silence)?,
+            count: serving.count,
+            taken: 0,
+            ended: 0,
+            held: 0,
+        })
+    }
+
+    /// Whether all connections that are taken were taken and are over.
+    fn is_done(&self) -> bool
+        ensures { IsTrue result ↔ (self.now.count ≤ self.now.ended) }
+    {
+        self.ended >= self.count
+    }
+
+    /// Waits until a socket may be ready or something is to be done without one. `now` is the moment of the last round.
+    fn wait(&mut self, now: u64) -> Result<(), Fault>
+        ensures { IfErr result IsOfDevices }
+    {
+        let timeout = self.timeout(now);
+        self.poll.poll(&mut self.events, timeout)?;
+        for event in &self.events {
+            match event.token().0 {
+                LISTENER => {
+                    if let Some(door) = &mut self.door {
+                        door.report();
+                    }
+                }
+                DATAGRAMS => {
+                    if let Some(discovery) = &mut self.discovery {
+                        discovery.report();
+                    }
+                }
+                place => self.peers.wake(place),
+            }
+        }
+        Ok(())
+    }
+
+    /// How long the next wait may last. `None` is without a limit.
+    fn timeout(&self, now: u64) -> Option<Duration> {
+        if self.peers.is_any_ready() {
+            return Some(Duration::ZERO);
+        }
+        let mut next = self.peers.next_moment();
+        if let Some(door) = &self.door {
+            next = earlier(next, door.readiness().next_moment());
+        }
+        if let Some(discovery) = &self.discovery {
+            next = earlier(next, discovery.readiness().next_moment());
+        }
+        match next {
+            Some(moment) => Some(Duration::from_micros(moment.saturating_sub(now))),
+            None => None,
+        }
+    }
+
+    /// One round: a datagram, a turn for each peer that may be ready, and a connection.
+    fn round(&mut self, now: u64) {
+        if let Some(discovery) = &mut self.discovery {
+            discovery.answer_one(&self.peers, now);
+        }
+        let ended = self.peers.round(now);
+        if ended > 0 {
+            self.ended = self.ended.saturating_add(ended as u64);
+            if let Some(door) = &mut self.door {
+                door.relieve();
+            }
+        }
+        self.admit(now);
+    }
+
+    /// Takes the next connection, where there is one. It is closed at once where there is no place for it.
+    fn admit(&mut self, now: u64) {
+        if self.is_held() {
             return;
         }
-        if source.failures() >= u64::MAX {
+        let Some(door) = &mut self.door else {
             return;
-        }
-        if sink.failures() >= u64::MAX {
+        };
+        let Some(stream) = door.next_connection(now) else {
             return;
+        };
+        self.taken = self.taken.saturating_add(1);
+        if self.taken >= self.count {
+            self.door = None;
         }
-        match serve(adapter, peer, &mut source, &mut sink, &mut buffer) {
-            Ok(Served::More) => {}
-            _ => return,
+        if !self.seat(now, stream) {
+            self.ended = self.ended.saturating_add(1);
         }
+    }
+
+    /// Whether the next connection waits for the next round: all places are taken, but a peer may be at its end.
+    fn is_held(&mut self) -> bool
+        ensures counted { IsTrue result → self.old.held < self.new.held }
+        ensures limit { IsTrue result → self.new.held ≤ 16 }
+    {
+        if self.held < ROUNDS_HELD
+            && self.peers.first_free().is_none()
+            && self.peers.is_any_ready()
+        {
+            self.held += 1;
+            return true;
+        }
+        self.held = 0;
+        false
+    }
+
+    /// Gives a connection the first free place. Answers whether there was one, and a session handle for it.
+    fn seat(&mut self, now: u64, stream: TcpStream) -> bool {
+        let mut stream = stream;
+        let Some(place) = self.peers.first_free() else {
+            return false;
+        };
+        let interests = Interest::READABLE | Interest::WRITABLE;
+        let registered = self
+            .poll
+            .registry()
+            .register(&mut stream, Token(place), interests);
+        if registered.is_err() {
+            return false;
+        }
+        self.peers.come(now, TcpWire::new(stream)).is_ok()
     }
 }

@@ -1,4 +1,4 @@
-//! A connection of TCP as a source and a sink of bytes.
+//! A client's connection of TCP as a source and a sink of bytes, whose calls wait.
 
 ghost use Rattle.std.specs.Prelude.{◌≡◌, ◌≤◌, length, None, IfSome};
 

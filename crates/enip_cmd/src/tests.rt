@@ -1,102 +1,82 @@
 //! Worked rows through `answer`, `replay` and `show`, a configuration and a script that are no text, the program's words,
 //! and a connection on a socket.
 
-mod table;
+mod rows;
 
 use super::answer::{answer, answer_bytes};
-use super::commands::program;
 use super::replay::{replay, replay_bytes};
-use super::serve::serve_connections;
+use super::serve::{Serving, Sockets, serve_connections};
 use clap::error::ErrorKind;
 use enip_config::adapter_from;
+use enip_peers::NO_LIMIT;
 use enip_text::show;
+use enip_words::program;
+use rows::{DEMO, ROWS};
 use std::alloc::Global;
 use std::io::{Read, Write};
 use std::net::{Shutdown, TcpListener, TcpStream};
-use std::process::Abort;
 use std::test::Fail;
-use table::{
-    CONFIGURATIONS, CONNECTIONS, DEMO, FRAME_FAULTS, LINES, MESSAGE_FAULTS, OBJECTS, PLACES,
-    REPLAYS, Row, SHOWN,
-};
 
-/// Asserts what `answer` does with each row.
-fn check_answers<A: Abort>(rt: &A, alloc: Global, rows: &[Row]) {
-    for row in rows {
-        let mut output = Vec::new(alloc);
-        let mut errors = Vec::new(alloc);
-        let config = row.config.unwrap_or(DEMO);
-        let input = row.input.as_bytes();
-        let status = answer(alloc, config, input, &mut output, &mut errors);
-        assert_eq!(rt; status, row.status, "{}", row.name);
-        assert_eq!(rt; output.as_slice(), row.output.as_bytes(), "{}", row.name);
-        assert_eq!(rt; errors.as_slice(), row.errors.as_bytes(), "{}", row.name);
+/// A worked row: which command runs, and what is given and has to come.
+#[derive(Drop)]
+struct Row<'a> {
+    kind: &'a str,
+    name: &'a str,
+    config: &'a str,
+    input: &'a str,
+    output: &'a str,
+    status: u8,
+    errors: &'a str,
+}
+
+impl<'a> Row<'a> {
+    /// Cuts the text of a row, what stands behind its `== `.
+    fn of(text: &'a str) -> Option<Self> {
+        let (kind, text) = text.split_once(": ")?;
+        let (name, text) = text.split_once("\n-- config\n")?;
+        let (config, text) = text.split_once("\n-- input\n")?;
+        let (input, text) = text.split_once("\n-- output\n")?;
+        let (output, text) = text.split_once("\n-- errors ")?;
+        let (status, errors) = text.split_once("\n")?;
+        Some(Self {
+            kind,
+            name,
+            config: if config.is_empty() { DEMO } else { config },
+            input,
+            output,
+            status: status.parse().ok()?,
+            errors,
+        })
+    }
+
+    /// Runs the command of the row, and answers its exit status.
+    fn run(&self, alloc: Global, output: &mut Vec<u8, Global>, errors: &mut Vec<u8, Global>) -> u8 {
+        let input = self.input.as_bytes();
+        if self.kind == "answer" {
+            answer(alloc, self.config, input, output, errors)
+        } else if self.kind == "replay" {
+            replay(alloc, self.config, self.input, output, errors)
+        } else {
+            show(alloc, input, output, errors)
+        }
     }
 }
 
 #[test]
-fn lines_of_answer(rt: HostRuntime) {
-    check_answers(&rt, rt.alloc(), &LINES);
-}
-
-#[test]
-fn requests_to_the_objects(rt: HostRuntime) {
-    check_answers(&rt, rt.alloc(), &OBJECTS);
-}
-
-#[test]
-fn refused_configurations(rt: HostRuntime) {
-    check_answers(&rt, rt.alloc(), &CONFIGURATIONS);
-}
-
-#[test]
-fn connections(rt: HostRuntime) {
-    check_answers(&rt, rt.alloc(), &CONNECTIONS);
-}
-
-#[test]
-fn places_and_moments(rt: HostRuntime) {
-    check_answers(&rt, rt.alloc(), &PLACES);
-}
-
-#[test]
-fn rows_of_replay(rt: HostRuntime) {
-    for row in &REPLAYS {
+fn worked_rows(rt: HostRuntime) -> Result<(), Fail> {
+    let mut count: u32 = 0;
+    for text in ROWS.split("\n== ").skip(1) {
+        let row = Row::of(text).ok_or("a row")?;
         let mut output = Vec::new(rt.alloc());
         let mut errors = Vec::new(rt.alloc());
-        let config = row.config.unwrap_or(DEMO);
-        let status = replay(rt.alloc(), config, row.input, &mut output, &mut errors);
+        let status = row.run(rt.alloc(), &mut output, &mut errors);
         assert_eq!(rt; status, row.status, "{}", row.name);
         assert_eq!(rt; output.as_slice(), row.output.as_bytes(), "{}", row.name);
         assert_eq!(rt; errors.as_slice(), row.errors.as_bytes(), "{}", row.name);
+        count = count.saturating_add(1);
     }
-}
-
-/// Asserts what `show` prints for each row.
-fn check_shows<A: Abort>(rt: &A, alloc: Global, rows: &[Row]) {
-    for row in rows {
-        let mut output = Vec::new(alloc);
-        let mut errors = Vec::new(alloc);
-        let status = show(alloc, row.input.as_bytes(), &mut output, &mut errors);
-        assert_eq!(rt; status, row.status, "{}", row.name);
-        assert_eq!(rt; output.as_slice(), row.output.as_bytes(), "{}", row.name);
-        assert_eq!(rt; errors.as_slice(), row.errors.as_bytes(), "{}", row.name);
-    }
-}
-
-#[test]
-fn shown_frames(rt: HostRuntime) {
-    check_shows(&rt, rt.alloc(), &SHOWN);
-}
-
-#[test]
-fn frames_with_a_fault(rt: HostRuntime) {
-    check_shows(&rt, rt.alloc(), &FRAME_FAULTS);
-}
-
-#[test]
-fn messages_with_a_fault(rt: HostRuntime) {
-    check_shows(&rt, rt.alloc(), &MESSAGE_FAULTS);
+    assert_eq!(rt; count, 129);
+    Ok(())
 }
 
 #[test]
@@ -134,7 +114,7 @@ fn scripts_and_configurations_that_are_no_text(rt: HostRuntime) {
 
 #[test]
 fn on_a_socket(rt: HostRuntime) -> Result<(), Fail> {
-    let mut adapter = adapter_from(rt.alloc(), DEMO.as_bytes())
+    let adapter = adapter_from(rt.alloc(), DEMO.as_bytes())
         .ok()
         .ok_or("an adapter")?;
     let listener = TcpListener::bind(&rt, "127.0.0.1:0")?;
@@ -145,19 +125,27 @@ fn on_a_socket(rt: HostRuntime) -> Result<(), Fail> {
     peer.write_all(register.as_slice())?;
     peer.write_all(&register[..13])?;
     peer.shutdown(Shutdown::Write)?;
-    assert!(rt; serve_connections(&rt, &listener, &mut adapter, 1).is_ok());
+    listener.set_nonblocking(true)?;
+    let sockets = Sockets {
+        listener: mio::net::TcpListener::from_std(listener),
+        datagrams: None,
+    };
+    let serving = Serving {
+        count: 1,
+        silence: NO_LIMIT,
+    };
+    assert!(rt; serve_connections(&rt, rt.alloc(), sockets, adapter, serving).is_ok());
     let mut answer = Vec::new(rt.alloc());
     peer.read_to_end(&mut answer)?;
     let registered =
         b"\x65\0\x04\0\x01\0\0\0\0\0\0\0\x01\x02\x03\x04\x05\x06\x07\x08\0\0\0\0\x01\0\0\0";
     assert_eq!(rt; answer.as_slice(), registered.as_slice());
-    assert_eq!(rt; adapter.free(), (4, 16));
     Ok(())
 }
 
 #[test]
 fn numbers_out_of_range(rt: HostRuntime) -> Result<(), Fail> {
-    let rows: [(&[&str], bool); 16] = [
+    let rows: [(&[&str], bool); 20] = [
         (
             &["enip", "get", "h:1", "65535", "4294967295", "65535"],
             true,
@@ -180,6 +168,10 @@ fn numbers_out_of_range(rt: HostRuntime) -> Result<(), Fail> {
         (&["enip", "serve", "c", "h:1", "--count", "0"], false),
         (&["enip", "serve", "c", "h:1", "--count", "65536"], false),
         (&["enip", "serve", "c", "h:1", "--count", "x"], false),
+        (&["enip", "serve", "c", "h:1", "--idle", "0"], true),
+        (&["enip", "serve", "c", "h:1", "--idle", "3600"], true),
+        (&["enip", "serve", "c", "h:1", "--idle", "3601"], false),
+        (&["enip", "serve", "c", "h:1", "--idle", "x"], false),
     ];
     for (place, (words, taken)) in rows.into_iter().enumerate() {
         let command = program(rt.alloc()).ok().ok_or("the program")?;

@@ -1,20 +1,21 @@
-//! Tests of `enip_text` and `enip_config` together: what the program `enip` can't show, as readers and writers that fail,
-//! and a client beside an adapter. What it shows stands in `tests/rows`.
+//! Tests of the libraries: what the program `enip` can't show, as devices that fail, growths that are refused, steps of a
+//! search and very long runs. What it shows stands in `tests/rows`.
 //!
-//! They are a crate of their own, above those that they test, so that no crate is proved twice.
+//! They are run with checks and not proved (`tests/tried`): a proof of a test says that it is safe and returns, which no
+//! promise stands on. Those that have to be proved are in `proved_tests`.
 #![tactic(auto)]
 
 #[cfg(test)]
-mod answering;
+mod adapter;
 #[cfg(test)]
-mod asking;
+mod bench;
 #[cfg(test)]
-mod configuration;
+mod cip;
 #[cfg(test)]
-mod demo;
+mod client;
 #[cfg(test)]
-mod replaying;
+mod peers;
 #[cfg(test)]
-mod showing;
+mod text;
 #[cfg(test)]
-mod streams;
+mod wire;

@@ -8,12 +8,12 @@ use Rattle.enip_text.specs.declared.number.Number.{Number}
 use Rattle.enip_text.specs.declared.lines.Line.{Line}
 use Rattle.enip_text.specs.declared.lines.Line.TheVariants.{Nothing, Piece, End, Now}
 
--- The place of a peer among the nine, from 0, and its digit.
-abbrev pub place : Number → ℕ
-place number = number.place
+-- The index of a peer among the nine, from 0, and its digit.
+abbrev pub index_of : Number → ℕ
+index_of number = number.index
 
 abbrev pub digit : Number → ℕ
-digit number = 49 + place number
+digit number = 49 + index_of number
 
 -- A line is empty, or a remark.
 abbrev pub IsSkipped : List ℕ → Type 0

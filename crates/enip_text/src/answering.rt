@@ -80,12 +80,12 @@ impl<W: Write + Drop> Desk<W> {
 
     /// Ends the peer of a number, if there is one.
     fn end(&mut self, number: Number) {
-        let seat = self.seats[number.place()];
+        let seat = self.seats[number.index()];
         match seat {
             Seat::Free => {}
             Seat::Taken(peer) | Seat::Closed(peer) => self.adapter.end(peer),
         }
-        self.seats[number.place()] = Seat::Free;
+        self.seats[number.index()] = Seat::Free;
     }
 
     /// Takes the piece that digits spell, and says whether it has a byte or more.
@@ -121,7 +121,7 @@ impl<W: Write + Drop> Desk<W> {
     fn feed(&mut self, number: Number) -> Result<(), Fault>
         ensures { IfErr result IsOfDevices }
     {
-        let seat = self.seats[number.place()];
+        let seat = self.seats[number.index()];
         let peer = match seat {
             Seat::Closed(_) => return Ok(()),
             Seat::Taken(peer) => peer,
@@ -130,7 +130,7 @@ impl<W: Write + Drop> Desk<W> {
                 Err(full) => return print_full(&mut self.output, number, full),
             },
         };
-        self.seats[number.place()] = Seat::Taken(peer);
+        self.seats[number.index()] = Seat::Taken(peer);
         let mut rest = self.piece.as_slice();
         // Each turn takes a byte or more, or closes.
         for _ in 0..self.piece.len() {
@@ -142,7 +142,7 @@ impl<W: Write + Drop> Desk<W> {
                 print_answer(&mut self.output, &mut self.text, number, frame)?;
             }
             if fed.close {
-                self.seats[number.place()] = Seat::Closed(peer);
+                self.seats[number.index()] = Seat::Closed(peer);
                 return print_closed(&mut self.output, number);
             }
             rest = &rest[fed.taken..];

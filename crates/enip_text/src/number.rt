@@ -5,13 +5,13 @@ ghost use Rattle.std.specs.Prelude.{◌<◌};
 /// One of the nine peers of an input, known by a digit from 1 to 9.
 #[derive(Clone, Copy, Debug, PartialEq, Eq)]
 pub struct Number {
-    place: usize,
-    ghost in_range: { place < 9 },
+    index: usize,
+    ghost in_range: { index < 9 },
 }
 
 impl Number {
     ghost use Rattle.std.specs.Prelude.{◌≡◌, ◌⊎◌, ◌≤◌, IfSome, None};
-    ghost use Rattle.enip_text.specs.Lines.{place, digit};
+    ghost use Rattle.enip_text.specs.Lines.{index_of, digit};
 
     /// The peer of a digit.
     pub(crate) fn of(code: u8) -> Option<Number>
@@ -20,18 +20,18 @@ impl Number {
     {
         match code {
             b'1'..=b'9' => Some(Number {
-                place: (code - b'1') as usize,
+                index: (code - b'1') as usize,
             }),
             _ => None,
         }
     }
 
-    /// Its place among the nine, from 0.
-    pub fn place(self) -> usize
-        ensures value { result ≡ place self }
+    /// Its index among the nine, from 0.
+    pub fn index(self) -> usize
+        ensures value { result ≡ index_of self }
         ensures to { result < 9 }
     {
-        self.place
+        self.index
     }
 
     /// Its digit.
@@ -40,6 +40,6 @@ impl Number {
         ensures from { 49 ≤ result }
         ensures to { result ≤ 57 }
     {
-        b'1' + self.place as u8
+        b'1' + self.index as u8
     }
 }

@@ -16,7 +16,7 @@ use crate::input_lines::{TakeLines, read_lines};
 use crate::outcome::{AssemblyData, Counter, Outcome, Standing};
 use crate::script::{event_of, is_skipped};
 use cip_bytes::protocol::ASSEMBLY;
-use cip_objects::Objects;
+use cip_objects::{Objects, ReplyBuf};
 use enip_adapter::Adapter;
 use enip_bench::{Bench, BenchFault, Event};
 use enip_client::Client;
@@ -223,21 +223,27 @@ fn print_assemblies<W: Write>(output: &mut W, objects: &Objects) -> Result<(), F
         (assemblies_printed objects.now LAST_INSTANCE)) }
     ensures refused { IfErr result IsOfDevices }
 {
+    let mut data = ReplyBuf::new();
     for instance in 1..LAST_INSTANCE + 1 {
-        print_assembly(output, objects, instance)?;
+        print_assembly(output, objects, instance, &mut data)?;
     }
     Ok(())
 }
 
-/// Prints the data of the assembly of an instance, if there is one.
-fn print_assembly<W: Write>(output: &mut W, objects: &Objects, instance: u32) -> Result<(), Fault>
+/// Prints the data of the assembly of an instance, if there is one; they are read into `data`.
+fn print_assembly<W: Write>(
+    output: &mut W,
+    objects: &Objects,
+    instance: u32,
+    data: &mut ReplyBuf,
+) -> Result<(), Fault>
     ensures printed { OnOk result (Appends (W.contents output.old) (W.contents output.new)
         (assembly_printed objects.now instance)) }
     ensures refused { IfErr result IsOfDevices }
 {
-    let Some(data) = objects.attribute(ASSEMBLY, instance, DATA) else {
+    if !objects.read_attribute(ASSEMBLY, instance, DATA, data) {
         return Ok(());
-    };
+    }
     let data = data.as_slice();
     writeln!(output, "{}", AssemblyData { instance, data })?;
     Ok(())

@@ -15,7 +15,7 @@ source moments largest failing =
       moments = moments;
       moment = 0;
       reads = 0;
-      calls = record { largest_count = largest; before_failure = failing; failures = 0 };
+      calls = record { largest_size = largest; before_failure = failing; failures = 0 };
     }
 
 -- what reads into so many bytes give, one after the other
@@ -43,8 +43,8 @@ four_reads : after (8 ∷ 8 ∷ 8 ∷ 8 ∷ []) (source [] 100 None)
 four_reads = refl
 
 -- at most four bytes a read
-largest_count : given (8 ∷ 8 ∷ 8 ∷ 8 ∷ []) (source [] 4 None) ≡ Some 4 ∷ Some 4 ∷ Some 2 ∷ Some 0 ∷ []
-largest_count = refl
+largest_size : given (8 ∷ 8 ∷ 8 ∷ 8 ∷ []) (source [] 4 None) ≡ Some 4 ∷ Some 4 ∷ Some 2 ∷ Some 0 ∷ []
+largest_size = refl
 
 -- the second read fails: it moves no byte, and none fails after it
 second_fails : given (8 ∷ 8 ∷ 8 ∷ 8 ∷ 8 ∷ []) (source [] 4 (Some 1)) ≡ Some 4 ∷ None ∷ Some 4 ∷ Some 2 ∷ Some 0 ∷ []
@@ -54,11 +54,11 @@ no_failure_yet : (after (8 ∷ []) (source [] 4 (Some 1))).calls.failures ≡ 0
 no_failure_yet = refl
 
 one_failure : after (8 ∷ 8 ∷ []) (source [] 4 (Some 1))
-    ≡ record (source [] 4 None) { left = drop 4 ten; reads = 2; calls = record { largest_count = 4; before_failure = None; failures = 1 } }
+    ≡ record (source [] 4 None) { left = drop 4 ten; reads = 2; calls = record { largest_size = 4; before_failure = None; failures = 1 } }
 one_failure = refl
 
 one_failure_only : after (8 ∷ 8 ∷ 8 ∷ 8 ∷ 8 ∷ []) (source [] 4 (Some 1))
-    ≡ record (source [] 4 None) { left = []; reads = 5; calls = record { largest_count = 4; before_failure = None; failures = 1 } }
+    ≡ record (source [] 4 None) { left = []; reads = 5; calls = record { largest_size = 4; before_failure = None; failures = 1 } }
 one_failure_only = refl
 
 -- the first read fails
@@ -66,7 +66,7 @@ first_fails : given (8 ∷ []) (source (7 ∷ []) 100 (Some 0)) ≡ None ∷ []
 first_fails = refl
 
 first_failed : after (8 ∷ []) (source (7 ∷ []) 100 (Some 0))
-    ≡ record (source (7 ∷ []) 100 None) { reads = 1; calls = record { largest_count = 100; before_failure = None; failures = 1 } }
+    ≡ record (source (7 ∷ []) 100 None) { reads = 1; calls = record { largest_size = 100; before_failure = None; failures = 1 } }
 first_failed = refl
 
 -- a moment a read: 0 of the first
@@ -123,7 +123,7 @@ two_reads = refl
 -- a sink with room for six bytes: the most that each write takes, and after how many one fails
 abbrev sink : ℕ → Option ℕ → SinkState
 sink largest failing =
-    record { written = []; room = 6; calls = record { largest_count = largest; before_failure = failing; failures = 0 } }
+    record { written = []; room = 6; calls = record { largest_size = largest; before_failure = failing; failures = 0 } }
 
 -- how many of these bytes writes take, one after the other
 abbrev taken : List (List ℕ) → SinkState → List (Option ℕ)
@@ -146,7 +146,7 @@ until_full-none_failed : (after_writes (take 3 until_full) (sink 4 None)).calls.
 until_full-none_failed = refl
 
 until_full-written : after_writes until_full (sink 4 None)
-    ≡ record { written = take 6 ten; room = 0; calls = record { largest_count = 4; before_failure = None; failures = 2 } }
+    ≡ record { written = take 6 ten; room = 0; calls = record { largest_size = 4; before_failure = None; failures = 2 } }
 until_full-written = refl
 
 -- the second write fails
@@ -157,7 +157,7 @@ pairs-taken : taken pairs (sink 100 (Some 1)) ≡ Some 2 ∷ None ∷ Some 2 ∷
 pairs-taken = refl
 
 pairs-failed : after_writes (take 2 pairs) (sink 100 (Some 1))
-    ≡ record { written = 0 ∷ 1 ∷ []; room = 4; calls = record { largest_count = 100; before_failure = None; failures = 1 } }
+    ≡ record { written = 0 ∷ 1 ∷ []; room = 4; calls = record { largest_size = 100; before_failure = None; failures = 1 } }
 pairs-failed = refl
 
 pairs-written : (after_writes pairs (sink 100 (Some 1))).written ≡ 0 ∷ 1 ∷ 2 ∷ 3 ∷ []

@@ -108,7 +108,7 @@ Fronts n text (Err Interface) = ⊥
 Fronts n text (Err Address) = ⊥
 Fronts n text (Err Data) = ⊥
 
-after-short : (n : ℕ) (text : List ℕ) → length text < size_at text → after (suc n) text ≡ Err Short
+pub after-short : (n : ℕ) (text : List ℕ) → length text < size_at text → after (suc n) text ≡ Err Short
 after-short n text short = grind (arith, nat_tests)
 
 pub after-long : (n : ℕ) (text : List ℕ) → size_at text ≤ length text

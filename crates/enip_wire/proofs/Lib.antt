@@ -12,3 +12,5 @@ pub mod DeviceRows
 pub mod Rows
 pub mod RunningLemmas
 pub mod SightLemmas
+pub mod FirstLemmas
+pub mod TwoLemmas

@@ -1,16 +1,20 @@
 -- What a reader holds after a frame was read in place, or gathered.
 use Rattle.std.proofs.Common.{◌≡◌, ℕ, List, [], ◌∷◌, ◌++◌, take, refl, sym, ap, ◌∙◌}
-use Rattle.enip_wire.specs.declared.reader.FrameView.{FrameView}
-use Rattle.enip_wire.specs.declared.reader.Held.{Held}
-use Rattle.enip_wire.specs.declared.reader.Held.TheVariants.{More, Frame as Whole, TooLong}
-use Rattle.enip_wire.specs.Stream.{Sight, taken_of, sight, sight_of, left_after, left_of, cleared}
+use Rattle.std.specs.Prelude.{Option, Some, None, IfNone}
+use Rattle.enip_wire.specs.Frames.{Frame}
+use Rattle.enip_wire.specs.Stream.{Sight, taken_of, sight_of, left_after, left_of, cleared}
 use Rattle.enip_wire.specs.Stream.Sight.{Nothing_yet, A_frame, A_long_header}
 
+-- what holds of no value, where there is none
+pub of_none : {A P : Type 0} (o : Option A) → ((x : A) → o ≡ Some x → ⊥) → IfNone o P → P
+of_none None none p = p
+of_none (Some x) none p = absurd (none x refl)
+
 -- what is no frame is held
-pub no_frame : (held bytes : List ℕ) (h : Held) → ((x : FrameView) → h ≡ Whole x → ⊥) → left_after held bytes (sight h) ≡ bytes
-no_frame held bytes More none = refl
-no_frame held bytes (Whole view) none = absurd (none view refl)
-no_frame held bytes (TooLong header) none = refl
+pub no_frame : (held bytes : List ℕ) (s : Sight) → ((f : Frame) → s ≡ A_frame f → ⊥) → left_after held bytes s ≡ bytes
+no_frame held bytes Nothing_yet none = refl
+no_frame held bytes (A_frame f) none = absurd (none f refl)
+no_frame held bytes (A_long_header h) none = refl
 
 -- a frame of which a byte was held is held
 pub some_held : (held bytes : List ℕ) (s : Sight) → (held ≡ [] → ⊥) → left_after held bytes s ≡ bytes

@@ -36,7 +36,7 @@ none-long bytes over f more ok e =
     omega (arith, says, over.over, ok.within)
 
 -- What is seen of bytes.
-sight_of-waits : (bytes : List ℕ) → 24 ≤ length bytes → number_at 2 2 bytes ≤ 65511
+pub sight_of-waits : (bytes : List ℕ) → 24 ≤ length bytes → number_at 2 2 bytes ≤ 65511
     → (length bytes ≡ 24 + number_at 2 2 bytes → ⊥)
     → sight_of bytes ≡ Nothing_yet
 sight_of-waits bytes long within differs = grind (arith, nat_tests)

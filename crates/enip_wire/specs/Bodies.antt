@@ -1,10 +1,10 @@
 use Rattle.std.specs.Prelude.{if◌then◌else◌, nat_lt, ◌==◌, ◌&&◌, ℕ, List, [], ◌∷◌, ◌≡◌, ◌≢◌, ◌<◌, ◌≤◌, ◌^◌, ◌++◌, ◌⊎◌}
-use Rattle.std.specs.Prelude.{length, drop, Result, Ok, Err, refl}
+use Rattle.std.specs.Prelude.{length, drop, Option, Some, None, Result, Ok, Err, refl}
 use Rattle.enip_wire.specs.declared.item_list.CpfFault.{CpfFault}
 use Rattle.enip_wire.specs.declared.item_list.CpfFault.TheVariants.{Short, Trailing, Interface, Address, Data}
 use Rattle.cip_bytes.specs.Numbers.{le, number_at}
 use Rattle.cip_bytes.specs.Reading.{◌>>=◌, seen_by}
-use Rattle.enip_wire.specs.Items.{Item, items, AreItems, IsShort, IsTrailing, items_of}
+use Rattle.enip_wire.specs.Items.{Item, items, AreItems, IsShort, IsTrailing, items_of, Two}
 
 -- The null address item, and the connected address item with its connection ID.
 -- (Volume 2, common packet format, address items.)
@@ -99,6 +99,28 @@ unit_items_of (a ∷ others) =
     if (a.kind == 0xa1) && (length a.bytes == 4)
     then seen_by (with_id (number_at 0 4 a.bytes)) (data_of 0xb1 others)
     else Err Address
+
+-- The same of the first two items alone, since further ones say nothing.
+abbrev pub data_in : ℕ → Option Item → Result (List ℕ) CpfFault
+data_in kind None = Err Data
+data_in kind (Some d) = if d.kind == kind then Ok d.bytes else Err Data
+
+abbrev pub rr_in : Option Item → Option Item → Result (List ℕ) CpfFault
+rr_in None second = Err Address
+rr_in (Some a) second = if (a.kind == 0) && (length a.bytes == 0) then data_in 0xb2 second else Err Address
+
+abbrev pub rr_two_of : Two → Result (List ℕ) CpfFault
+rr_two_of two = rr_in two.first two.second
+
+abbrev pub unit_in : Option Item → Option Item → Result (ℕ × List ℕ) CpfFault
+unit_in None second = Err Address
+unit_in (Some a) second =
+    if (a.kind == 0xa1) && (length a.bytes == 4)
+    then seen_by (with_id (number_at 0 4 a.bytes)) (data_in 0xb1 second)
+    else Err Address
+
+abbrev pub unit_two_of : Two → Result (ℕ × List ℕ) CpfFault
+unit_two_of two = unit_in two.first two.second
 
 -- The data of a SendRRData, or its fault; the connection ID and the data of a SendUnitData, or its fault.
 unfoldable pub rr_body_of : List ℕ → Result (List ℕ) CpfFault

@@ -1,8 +1,10 @@
 use Rattle.std.specs.Prelude.{if◌then◌else◌, nat_lt, ◌+◌, ℕ, zero, suc, List, [], ◌∷◌, ◌≡◌, ◌<◌, ◌^◌, ◌++◌, length}
-use Rattle.std.specs.Prelude.{take, drop, Result, Ok, Err, refl}
+use Rattle.std.specs.Prelude.{Bool, true, false, Option, Some, None, take, drop, Result, Ok, Err, refl}
 use Rattle.std.specs.List.{flat_map, AllByRecursion}
 use Rattle.std.specs.Coded.{Coded, code_by, coded×, coded_ℕ, coded_list}
+use Rattle.std.specs.Option.{option_map}
 use Rattle.enip_wire.specs.declared.item_list.ItemView.{ItemView}
+use Rattle.enip_wire.specs.declared.item_list.Pair.{Pair}
 use Rattle.enip_wire.specs.declared.item_list.CpfFault.{CpfFault}
 use Rattle.enip_wire.specs.declared.item_list.CpfFault.TheVariants.{Short, Trailing, Interface, Address, Data}
 use Rattle.cip_bytes.specs.Numbers.{le, number_at}
@@ -97,3 +99,29 @@ items_of text =
     if nat_lt (length text) 2
     then Err Short
     else whole (first_items (number_at 0 2 text) (drop 2 text)) (after (number_at 0 2 text) (drop 2 text))
+
+-- The first two items of a list, where it has so many.
+pub record Two : Type 0 where
+  pub first : Option Item
+  pub second : Option Item
+
+abbrev pub two_of : List Item → Two
+two_of [] = record { first = None; second = None }
+two_of (a ∷ []) = record { first = Some a; second = None }
+two_of (a ∷ (b ∷ further)) = record { first = Some a; second = Some b }
+
+-- The items that a pair lends.
+abbrev pub two_in : Pair → Two
+two_in pair = record { first = option_map item_of pair.first; second = option_map item_of pair.second }
+
+-- The item at the front of a text, if it is to have one, and what follows it.
+pub record Next : Type 0 where
+  pub item : Option Item
+  pub rest : List ℕ
+
+abbrev pub next_of : Bool → List ℕ → Result Next CpfFault
+next_of false text = Ok (record { item = None; rest = text })
+next_of true text =
+    if nat_lt (length text) (size_at text)
+    then Err Short
+    else Ok (record { item = Some (item_at text); rest = drop (size_at text) text })

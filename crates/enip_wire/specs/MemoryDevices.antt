@@ -4,10 +4,10 @@ use Rattle.enip_wire.specs.declared.device.calls.Calls.{Calls}
 
 -- How many bytes a call over memory moves of `most`, by how many calls come before the one that is to fail: none at
 -- all in that one.
-abbrev pub count_before : Option ℕ → ℕ → Option ℕ
-count_before (Some zero) most = None
-count_before (Some (suc calls)) most = Some most
-count_before None most = Some most
+abbrev pub size_before : Option ℕ → ℕ → Option ℕ
+size_before (Some zero) most = None
+size_before (Some (suc calls)) most = Some most
+size_before None most = Some most
 
 -- How many calls come before the one that is to fail, once a call was made.
 abbrev pub calls_left : Option ℕ → Option ℕ
@@ -16,8 +16,8 @@ calls_left (Some (suc calls)) = Some calls
 calls_left None = None
 
 -- How many bytes a call moves of those that are there, or that it fails.
-abbrev pub count_of : Calls → ℕ → Option ℕ
-count_of c there = count_before c.before_failure (min there c.largest_count)
+abbrev pub size_of : Calls → ℕ → Option ℕ
+size_of c there = size_before c.before_failure (min there c.largest_size)
 
 -- The calls that are left once one was answered so.
 abbrev pub answered : Calls → Option ℕ → Calls
@@ -40,7 +40,7 @@ moment_at moments before = slice_index moments (min before (length moments - 1))
 
 -- How many bytes a read into so many gives, or that it fails.
 abbrev pub given_by : SourceState → ℕ → Option ℕ
-given_by s size = count_of s.calls (min size (length s.left))
+given_by s size = size_of s.calls (min size (length s.left))
 
 -- A source after a read that gave so many bytes, or failed.
 abbrev pub after_read : SourceState → Option ℕ → SourceState
@@ -61,7 +61,7 @@ pub record SinkState : Type 0 where
 
 -- How many bytes a write of so many takes, or that it fails: it does where it is full.
 abbrev pub taken_by : SinkState → ℕ → Option ℕ
-taken_by s size = if (s.room == 0) && nat_lt 0 size then None else count_of s.calls (min size s.room)
+taken_by s size = if (s.room == 0) && nat_lt 0 size then None else size_of s.calls (min size s.room)
 
 -- A sink after a write that took so many of these bytes, or failed.
 abbrev pub after_write : SinkState → List ℕ → Option ℕ → SinkState

@@ -81,6 +81,12 @@ left_after (x ∷ xs) bytes (A_frame f) = bytes
 abbrev pub joined_of : List ℕ → List ℕ → List ℕ
 joined_of held piece = held ++ take (taken_of held piece) piece
 
+-- n bytes are taken of a piece where none is held, and a reader has room for them.
+pub record IsTakenFirst (piece : List ℕ) (n : ℕ) : Type 0 where
+  pub takes : Takes [] piece n
+  pub number : n ≡ taken_of [] piece
+  pub bound : n ≤ 65535
+
 -- What a reader of these bytes holds after a piece that may be read in place.
 abbrev pub left_of : List ℕ → List ℕ → List ℕ
 left_of held piece = left_after held (joined_of held piece) (sight_of (joined_of held piece))

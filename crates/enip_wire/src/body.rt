@@ -9,9 +9,11 @@ ghost use Rattle.std.specs.Prelude.{◌≡◌, ◌↔◌, List, ℕ, Ok, Err};
 ghost use Rattle.enip_wire.specs.declared.item_list.CpfFault.{CpfFault};
 ghost use Rattle.cip_bytes.specs.Reading.{seen_by};
 ghost use Rattle.enip_wire.specs.Bodies.{IsRrBody, IsUnitBody, Faulty, IsNull, IsConnected};
-ghost use Rattle.enip_wire.specs.Bodies.{body_items_of, data_of, rr_body_of, unit_body_of};
+ghost use Rattle.enip_wire.specs.Bodies.{body_items_of, data_in, rr_body_of, unit_body_of};
+ghost use Rattle.enip_wire.specs.Items.{item_of, two_of, two_in};
+ghost use Rattle.std.specs.Option.{option_map};
 
-use crate::item_list::{CpfFault, ItemView, Items, cpf_items};
+use crate::item_list::{CpfFault, ItemView, Pair, first_two};
 use byteorder::{ByteOrder, LittleEndian};
 
 /// The types of items. (Volume 2, common packet format.)
@@ -39,6 +41,7 @@ pub(crate) const CONNECTION_ID: usize = 4;
 ///
 /// The first of these: `Short` for the first six bytes, `Interface`, `Short` for the items, `Trailing`,
 /// `Address`, `Data`.
+#[inline(always)]
 pub fn rr_body(text: &[u8]) -> Result<&[u8], CpfFault>
     // What is read is spelled so, and what is spelled so is read.
     ensures spelled { (bytes : List ℕ) → (seen_by (λ lent. lent.now) result ≡ Ok bytes) ↔ IsRrBody text.now bytes }
@@ -50,15 +53,16 @@ pub fn rr_body(text: &[u8]) -> Result<&[u8], CpfFault>
 }
 
 /// The data of a SendRRData.
-#[tactic(auto, unfolding(crate::specs::Bodies::rr_body_of))]
+#[tactic(auto, using(crate::proofs::TwoLemmas::rr_two))]
+#[inline(always)]
 fn read_rr_body(text: &[u8]) -> Result<&[u8], CpfFault>
     ensures { seen_by (λ lent. lent.now) result ≡ rr_body_of text.now }
 {
-    let mut items = body_items(text)?;
-    match items.next() {
+    let items = body_items(text)?;
+    match items.first {
         // The null address has no data (common packet format, address items).
         Some(ItemView { kind, bytes }) if kind == NULL_ADDRESS && bytes.is_empty() => {
-            data(&mut items, UNCONNECTED_DATA)
+            data(items.second, UNCONNECTED_DATA)
         }
         _ => Err(CpfFault::Address),
     }
@@ -71,6 +75,7 @@ fn read_rr_body(text: &[u8]) -> Result<&[u8], CpfFault>
 /// # Errors
 ///
 /// As `rr_body`.
+#[inline(always)]
 pub fn unit_body(text: &[u8]) -> Result<(u32, &[u8]), CpfFault>
     // What is read is spelled so, and what is spelled so is read.
     ensures spelled { (id : ℕ) (bytes : List ℕ) →
@@ -85,25 +90,27 @@ pub fn unit_body(text: &[u8]) -> Result<(u32, &[u8]), CpfFault>
 }
 
 /// The connection ID and the data of a SendUnitData.
-#[tactic(auto, unfolding(crate::specs::Bodies::unit_body_of))]
+#[tactic(auto, using(crate::proofs::TwoLemmas::unit_two))]
+#[inline(always)]
 fn read_unit_body(text: &[u8]) -> Result<(u32, &[u8]), CpfFault>
     ensures { seen_by {B = ℕ × List ℕ} (λ found. (found.0, found.1.now)) result ≡ unit_body_of text.now }
 {
-    let mut items = body_items(text)?;
-    match items.next() {
+    let items = body_items(text)?;
+    match items.first {
         // The connected address is a connection ID (common packet format, address items).
         Some(ItemView { kind, bytes })
             if kind == CONNECTED_ADDRESS && bytes.len() == CONNECTION_ID => {
             let id = LittleEndian::read_u32(bytes);
-            Ok((id, data(&mut items, CONNECTED_DATA)?))
+            Ok((id, data(items.second, CONNECTED_DATA)?))
         }
         _ => Err(CpfFault::Address),
     }
 }
 
-/// The items of a body.
-fn body_items(text: &[u8]) -> Result<Items<'_>, CpfFault>
-    ensures { result ≡ body_items_of text.now }
+/// The first two items of a body.
+#[inline(always)]
+fn body_items(text: &[u8]) -> Result<Pair<'_>, CpfFault>
+    ensures { seen_by two_in result ≡ seen_by two_of (body_items_of text.now) }
 {
     if text.len() < BODY_HEAD {
         return Err(CpfFault::Short);
@@ -112,14 +119,15 @@ fn body_items(text: &[u8]) -> Result<Items<'_>, CpfFault>
     if LittleEndian::read_u32(&text[..INTERFACE]) != 0 {
         return Err(CpfFault::Interface);
     }
-    cpf_items(&text[BODY_HEAD..])
+    first_two(&text[BODY_HEAD..])
 }
 
-/// The data of the next item, which is to have this type.
-fn data<'a>(items: &mut Items<'a>, kind: u16) -> Result<&'a [u8], CpfFault>
-    ensures { seen_by (λ lent. lent.now) result ≡ data_of kind items.old }
+/// The data of an item, which is to have this type.
+#[inline(always)]
+fn data(item: Option<ItemView<'_>>, kind: u16) -> Result<&[u8], CpfFault>
+    ensures { seen_by (λ lent. lent.now) result ≡ data_in kind (option_map item_of item.entry) }
 {
-    match items.next() {
+    match item {
         Some(item) if item.kind == kind => Ok(item.bytes),
         _ => Err(CpfFault::Data),
     }

@@ -8,9 +8,10 @@
 ghost use Rattle.std.specs.Prelude.{◌≡◌, ◌↔◌, ◌≤◌, ◌<◌, drop, length, List, Ok, Err, MatchOption};
 ghost use Rattle.enip_wire.specs.declared.item_list.CpfFault.{CpfFault};
 ghost use Rattle.std.specs.Iterator.{YieldsFirstBy, item_count};
+ghost use Rattle.std.specs.Option.{option_map};
 ghost use Rattle.cip_bytes.specs.Reading.{seen_by};
 ghost use Rattle.enip_wire.specs.Items.{Item, items, AreItems, IsShort, IsTrailing, item_of};
-ghost use Rattle.enip_wire.specs.Items.{item_at, size_at, after, items_of};
+ghost use Rattle.enip_wire.specs.Items.{item_at, size_at, after, items_of, two_of, two_in, next_of};
 
 use byteorder::{ByteOrder, LittleEndian};
 use std::marker::Model;
@@ -63,6 +64,15 @@ pub struct ItemView<'a> {
     pub bytes: &'a [u8],
 }
 
+/// The first two items of a text, lent, where it has so many.
+#[derive(Clone, Copy, Debug)]
+pub(crate) struct Pair<'a> {
+    /// The first item.
+    pub(crate) first: Option<ItemView<'a>>,
+    /// The second.
+    pub(crate) second: Option<ItemView<'a>>,
+}
+
 /// The items of a text, one after the other.
 #[derive(Debug, Drop)]
 pub struct Items<'a> {
@@ -89,6 +99,7 @@ impl<'a> Iterator for Items<'a> {
 
     ghost remaining = { item_count (λ left. left) };
 
+    #[inline(always)]
     fn next(&mut self) -> Option<ItemView<'a>> {
         if self.left == 0 {
             return None;
@@ -105,6 +116,7 @@ impl<'a> Iterator for Items<'a> {
 /// # Errors
 ///
 /// `Short` where the text ends within an item or the count, `Trailing` where bytes follow the last item.
+#[inline(always)]
 pub fn cpf_items(text: &[u8]) -> Result<Items<'_>, CpfFault>
     // What is read is spelled so, and what is spelled so is read.
     ensures spelled { (l : List Item) → (result ≡ Ok l) ↔ (AreItems l × (text.now ≡ items l)) }
@@ -116,6 +128,7 @@ pub fn cpf_items(text: &[u8]) -> Result<Items<'_>, CpfFault>
 }
 
 /// The items of the whole text.
+#[inline(always)]
 fn read_items(text: &[u8]) -> Result<Items<'_>, CpfFault>
     ensures { result ≡ items_of text.now }
 {
@@ -130,6 +143,39 @@ fn read_items(text: &[u8]) -> Result<Items<'_>, CpfFault>
         Ok(Items { left, text })
     } else {
         Err(CpfFault::Trailing)
+    }
+}
+
+/// The first two items of the whole text, each read once, with the faults of `cpf_items`.
+#[inline(always)]
+pub(crate) fn first_two(text: &[u8]) -> Result<Pair<'_>, CpfFault>
+    ensures { seen_by two_in result ≡ seen_by two_of (items_of text.now) }
+{
+    let Some((count, text)) = text.split_first_chunk::<COUNT>() else {
+        return Err(CpfFault::Short);
+    };
+    let count = LittleEndian::read_u16(count);
+    let (first, text) = next_item(0 < count, text)?;
+    let (second, text) = next_item(1 < count, text)?;
+    // Nothing follows the last item (common packet format).
+    match after_items(count.saturating_sub(2), text)? {
+        [] => Ok(Pair { first, second }),
+        _ => Err(CpfFault::Trailing),
+    }
+}
+
+/// The item at the front of a text, if it is to have one, and what follows it.
+#[inline(always)]
+fn next_item(is_there: bool, text: &[u8]) -> Result<(Option<ItemView<'_>>, &[u8]), CpfFault>
+    ensures { seen_by (λ found. record { item = option_map item_of found.0; rest = found.1.now }) result
+        ≡ next_of is_there text.now }
+{
+    if !is_there {
+        return Ok((None, text));
+    }
+    match first_item(text) {
+        Some((item, rest)) => Ok((Some(item), rest)),
+        None => Err(CpfFault::Short),
     }
 }
 
@@ -158,6 +204,7 @@ fn first_item(text: &[u8]) -> Option<(ItemView<'_>, &[u8])>
 }
 
 /// What follows so many items at the front of a text.
+#[inline(always)]
 fn after_items(count: u16, text: &[u8]) -> Result<&[u8], CpfFault>
     ensures { seen_by (λ rest. rest.now) result ≡ after count text.now }
 {

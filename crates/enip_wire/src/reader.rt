@@ -6,10 +6,12 @@
 //!  held     what came since the last frame was cleared, at most one frame
 //! ```
 
-ghost use Rattle.std.specs.Prelude.{◌≡◌, ◌≤◌, ◌<◌, ◌^◌, ◌+◌, ◌++◌, [], take, length, IfOk, slice_index};
+ghost use Rattle.std.specs.Prelude.{◌≡◌, ◌≤◌, ◌<◌, ◌^◌, ◌+◌, ◌++◌, [], take, length, IfOk, IfSome, IfNone, slice_index};
 ghost use Rattle.cip_bytes.specs.Numbers.{number_at, AreBytes};
-ghost use Rattle.enip_wire.specs.Frames.{end_after as end_after_length};
-ghost use Rattle.enip_wire.specs.Stream.{IsFresh, Takes, taken_of, Shows, sight, sight_of, left_of};
+ghost use Rattle.enip_wire.specs.Frames.{Frame, end_after as end_after_length};
+ghost use Rattle.enip_wire.specs.Stream.{IsFresh, Takes, taken_of, Shows, sight, sight_of, left_of, joined_of, frame_of};
+ghost use Rattle.enip_wire.specs.Stream.{IsTakenFirst};
+ghost use Rattle.enip_wire.specs.Stream.Sight.{A_frame};
 ghost use Rattle.std.specs.Borrow.{sem};
 ghost use Rattle.std.specs.Io.BufRead.{Rests};
 
@@ -94,7 +96,7 @@ impl FrameReader {
         ensures fresh { IsFresh self.new }
         ensures bound { length self.new ≤ 65535 }
     {
-        let taken = count(&self.buffer[..self.len], piece);
+        let taken = taken_size(&self.buffer[..self.len], piece);
         copy_behind(&mut self.buffer, self.len, &piece[..taken]);
         self.len += taken;
         taken
@@ -124,9 +126,8 @@ impl FrameReader {
         ensures bound { length self.old + result.0 ≤ 65535 }
     {
         if self.len == 0 {
-            let taken = count(&[], piece);
-            if let Held::Frame(frame) = see(&piece[..taken]) {
-                return (taken, Held::Frame(frame));
+            if let Some(frame) = first_frame(piece) {
+                return (Header::SIZE + frame.body.len(), Held::Frame(frame));
             }
         }
         let taken = self.push(piece);
@@ -149,8 +150,33 @@ impl FrameReader {
     }
 }
 
+/// The frame at the front of a piece, lent, where the piece has all of it.
+#[inline(always)]
+fn first_frame(piece: &[u8]) -> Option<FrameView<'_>>
+    ensures none { IfNone result ((f : Frame) → sight_of (joined_of [] piece.now) ≡ A_frame f → ⊥) }
+    ensures size { IfSome result (λ frame. IsTakenFirst piece.now (24 + length frame.body.now)) }
+    ensures shown { IfSome result (λ frame. Shows (take (24 + length frame.body.now) piece.now) (Held.Frame frame)) }
+    ensures kind { IfSome result (λ frame.
+        A_frame (frame_of frame) ≡ sight_of (take (24 + length frame.body.now) piece.now)) }
+{
+    let (head, rest) = piece.split_first_chunk::<{ Header::SIZE }>()?;
+    let header = Header::read(head);
+    // A length over 65,511 can begin no frame (encapsulation header).
+    if header.length > LONGEST_BODY {
+        return None;
+    }
+    let size = usize::from(header.length);
+    if rest.len() < size {
+        return None;
+    }
+    Some(FrameView {
+        header,
+        body: &rest[..size],
+    })
+}
+
 /// How many bytes of a piece a reader takes that holds these.
-fn count(held: &[u8], piece: &[u8]) -> usize
+fn taken_size(held: &[u8], piece: &[u8]) -> usize
     requires { IsFresh held.now }
     ensures takes { Takes held.now piece.now result }
     ensures number { result ≡ taken_of held.now piece.now }
@@ -207,8 +233,9 @@ fn byte_in(held: &[u8], piece: &[u8], index: usize) -> u8
     }
 }
 
-/// What these bytes are.
-fn see(bytes: &[u8]) -> Held<'_>
+/// What these bytes are: one whole frame, a header whose length is too long, or neither.
+#[inline(never)]
+pub fn see(bytes: &[u8]) -> Held<'_>
     ensures shown { Shows bytes.now result }
     ensures kind { sight result ≡ sight_of bytes.now }
 {

@@ -20,6 +20,7 @@ use enip_wire::{FrameView, Header, unit_body, unit_front};
 const ITEM_FRONT: usize = PACKET_HEAD + SEQUENCE_COUNT_SIZE;
 
 /// SendUnitData: no answer to another session, to a packet that is none, and where no connection answers (ours).
+#[inline(always)]
 pub(super) fn send_unit_data(
     shared: &mut Shared,
     session: Session,
@@ -41,6 +42,7 @@ pub(super) fn send_unit_data(
 }
 
 /// Hands an item to the connection of a session with this O->T ID, and writes what answers it.
+#[inline(always)]
 fn send_item(
     shared: &mut Shared,
     session: Session,

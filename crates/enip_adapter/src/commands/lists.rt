@@ -50,11 +50,12 @@ const SERVICES: [u8; 26] = *b"\x01\x00\x00\x01\x14\x00\x01\x00\x20\x00Communicat
 const INTERFACES: [u8; 2] = [0, 0];
 
 /// ListServices.
-pub(super) fn list_services(asked: &Header, answer: &mut AnswerFrame)
-    ensures { answer.new.items ≡ reply asked.now asked.now.session Success services_text }
+#[inline(always)]
+pub(super) fn list_services(asked: Header, answer: &mut AnswerFrame)
+    ensures { answer.new.items ≡ reply asked asked.session Success services_text }
 {
     write_reply(
-        asked,
+        &asked,
         asked.session,
         EncapsulationStatus::Success,
         &[],
@@ -64,11 +65,12 @@ pub(super) fn list_services(asked: &Header, answer: &mut AnswerFrame)
 }
 
 /// ListInterfaces.
-pub(super) fn list_interfaces(asked: &Header, answer: &mut AnswerFrame)
-    ensures { answer.new.items ≡ reply asked.now asked.now.session Success interfaces_text }
+#[inline(always)]
+pub(super) fn list_interfaces(asked: Header, answer: &mut AnswerFrame)
+    ensures { answer.new.items ≡ reply asked asked.session Success interfaces_text }
 {
     write_reply(
-        asked,
+        &asked,
         asked.session,
         EncapsulationStatus::Success,
         &[],
@@ -80,14 +82,15 @@ pub(super) fn list_interfaces(asked: &Header, answer: &mut AnswerFrame)
 /// ListIdentity: protocol version 1, the socket address, and the attributes of the Identity object.
 ///
 /// Each attribute is read in `value`, whose old content is dropped.
+#[inline(always)]
 pub(super) fn list_identity(
     shared: &Shared,
-    asked: &Header,
+    asked: Header,
     value: &mut ReplyBuf,
     answer: &mut AnswerFrame,
 )
     ensures { answer.new.items
-        ≡ reply asked.now asked.now.session Success (identity_text shared.now.listen shared.now.objects) }
+        ≡ reply asked asked.session Success (identity_text shared.now.listen shared.now.objects) }
 {
     let mut item = Item::new();
     append_socket(shared.listen, &mut item);
@@ -96,13 +99,14 @@ pub(super) fn list_identity(
 }
 
 /// Writes a whole reply to a ListIdentity, with one item.
-fn write_identity(asked: &Header, item: &[u8], answer: &mut AnswerFrame)
+#[inline(always)]
+fn write_identity(asked: Header, item: &[u8], answer: &mut AnswerFrame)
     requires { length item.now ≤ ITEM_SIZE }
-    ensures { answer.new.items ≡ reply asked.now asked.now.session Success (text_of_item item.now) }
+    ensures { answer.new.items ≡ reply asked asked.session Success (text_of_item item.now) }
 {
     let front = item_head(item.len() as u16);
     write_reply(
-        asked,
+        &asked,
         asked.session,
         EncapsulationStatus::Success,
         &front,
@@ -137,6 +141,7 @@ fn append_socket(listen: Listen, item: &mut Item)
 }
 
 /// Appends the attributes of the Identity object.
+#[inline(never)]
 fn append_identity(objects: &Objects, value: &mut ReplyBuf, item: &mut Item)
     requires { array_vec_len item.old ≡ SOCKET_SIZE }
     ensures text { item.new.items ≡ item.old.items ++ identity_bytes objects.now }

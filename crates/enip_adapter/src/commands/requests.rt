@@ -31,6 +31,7 @@ enum Destination<'a> {
 
 impl<'a> Destination<'a> {
     /// Where these bytes go as a request.
+    #[inline(always)]
     fn of(request: &'a [u8]) -> Destination<'a>
         ensures { destination result ≡ destination_of request.now }
     {
@@ -47,6 +48,7 @@ impl<'a> Destination<'a> {
 }
 
 /// Whether these bytes spell the path of the Connection Manager's one instance.
+#[inline(never)]
 fn is_to_manager(path: &[u8]) -> bool
     ensures { result ≡ is_path_of_manager (path_of path.now) }
 {
@@ -64,6 +66,7 @@ fn is_manager(path: Path) -> bool
 }
 
 /// SendRRData.
+#[inline(always)]
 pub(super) fn send_rr_data(
     shared: &mut Shared,
     session: Session,
@@ -76,7 +79,7 @@ pub(super) fn send_rr_data(
 {
     // this peer's registered session: 0x0064 (SendRRData)
     if !session.is_registered_as(frame.header.session) {
-        return refuse(&frame.header, EncapsulationStatus::InvalidSession, answer);
+        return refuse(frame.header, EncapsulationStatus::InvalidSession, answer);
     }
     // a packet with a request of two bytes at least: 0x0003 (SendRRData)
     match rr_body(frame.body) {
@@ -84,11 +87,12 @@ pub(super) fn send_rr_data(
             route(shared, session, request, reply);
             write_rr_reply(&frame.header, reply.as_slice(), answer);
         }
-        _ => refuse(&frame.header, EncapsulationStatus::PoorlyFormedData, answer),
+        _ => refuse(frame.header, EncapsulationStatus::PoorlyFormedData, answer),
     }
 }
 
 /// Hands a request to the Connection Manager or to the objects, and leaves the reply in `reply`.
+#[inline(always)]
 fn route(shared: &mut Shared, session: Session, request: &[u8], reply: &mut ReplyBuf)
     requires { 2 ≤ length request.now }
     ensures shared { shared.new ≡ (routed shared.old session request.now).shared }

@@ -20,6 +20,7 @@ const REGISTER_DATA: usize = 4;
 const PROTOCOL_VERSION: u16 = 1;
 
 /// RegisterSession: its data are the version 2 and the flags 2.
+#[inline(always)]
 pub(super) fn register_session(
     session: &mut Session,
     frame: FrameView<'_>,
@@ -30,7 +31,7 @@ pub(super) fn register_session(
     } }
     ensures answer { Sends answer.new.items ≡ (register_session session.old (frame_of frame.entry)).answer }
 {
-    let asked = &frame.header;
+    let asked = frame.header;
     // four bytes of data: 0x0065 (RegisterSession)
     if frame.body.len() != REGISTER_DATA {
         return refuse(asked, EncapsulationStatus::InvalidLength, answer);
@@ -58,16 +59,16 @@ pub(super) fn register_session(
 
 /// Answers with the version and flags that are served.
 fn answer_version(
-    asked: &Header,
+    asked: Header,
     session: u32,
     status: EncapsulationStatus,
     answer: &mut AnswerFrame,
 )
-    ensures { answer.new.items ≡ reply asked.now session status version_one }
+    ensures { answer.new.items ≡ reply asked session status version_one }
 {
     let mut version = [0; REGISTER_DATA];
     LittleEndian::write_u16(&mut version[0..2], PROTOCOL_VERSION);
-    write_reply(asked, session, status, &[], &version, answer)
+    write_reply(&asked, session, status, &[], &version, answer)
 }
 
 impl Session {
@@ -83,11 +84,11 @@ impl Session {
 }
 
 /// UnRegisterSession: no answer.
-pub(super) fn unregister_session(session: Session, header: &Header) -> Reaction
+pub(super) fn unregister_session(session: Session, header: Header) -> Reaction
     ensures { result ≡ record {
-      reply = Reply.Silent (if is_registered_as session header.now.session then Silence.Unregistered
+      reply = Reply.Silent (if is_registered_as session header.session then Silence.Unregistered
           else Silence.AnotherSession);
-      close = is_registered_as session header.now.session;
+      close = is_registered_as session header.session;
     } }
 {
     // another session than this peer's registered one is dropped (UnRegisterSession; ours)

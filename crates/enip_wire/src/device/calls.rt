@@ -2,7 +2,7 @@
 
 ghost use Rattle.std.specs.Prelude.{◌≡◌, ◌<◌};
 ghost use Rattle.std.specs.Result.{result_ok};
-ghost use Rattle.enip_wire.specs.MemoryDevices.{count_of, answered};
+ghost use Rattle.enip_wire.specs.MemoryDevices.{size_of, answered};
 
 use super::Failed;
 
@@ -10,7 +10,7 @@ use super::Failed;
 #[derive(Clone, Copy, Debug)]
 pub struct Calls {
     /// The most bytes that a call moves.
-    pub largest_count: usize,
+    pub largest_size: usize,
     /// After how many calls one fails, if one does.
     pub before_failure: Option<u64>,
     /// How many failed.
@@ -20,16 +20,16 @@ pub struct Calls {
 impl Calls {
     /// Of calls that move all that they can, and never fail.
     pub const UNBOUNDED: Calls = Calls {
-        largest_count: usize::MAX,
+        largest_size: usize::MAX,
         before_failure: None,
         failures: 0,
     };
 
     /// How many bytes the next call moves of those that are there.
-    pub fn next_count(&mut self, there: usize) -> Result<usize, Failed>
+    pub fn next_size(&mut self, there: usize) -> Result<usize, Failed>
         requires { self.old.failures < u64.MAX }
-        ensures count { result_ok result ≡ count_of self.old there }
-        ensures calls { self.new ≡ answered self.old (count_of self.old there) }
+        ensures count { result_ok result ≡ size_of self.old there }
+        ensures calls { self.new ≡ answered self.old (size_of self.old there) }
     {
         // One call fails, and none after it (ours).
         match self.before_failure {
@@ -41,6 +41,6 @@ impl Calls {
             Some(calls) => self.before_failure = Some(calls - 1),
             None => {}
         }
-        Ok(there.min(self.largest_count))
+        Ok(there.min(self.largest_size))
     }
 }

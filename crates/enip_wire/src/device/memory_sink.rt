@@ -25,7 +25,7 @@ impl<'a> Model for MemorySink<'a> {
 
     ghost view = { λ s. record { written = take s.len s.into.now; room = length s.into.now - s.len; calls = s.calls } };
 
-    ghost invariant = { λ s. (s.len ≤ length s.into.now) × (0 < s.calls.largest_count) };
+    ghost invariant = { λ s. (s.len ≤ length s.into.now) × (0 < s.calls.largest_size) };
 }
 
 impl<'a> MemorySink<'a> {
@@ -41,11 +41,11 @@ impl<'a> MemorySink<'a> {
     }
 
     /// The same sink, each of whose writes takes at most so many bytes.
-    pub fn with_largest_count(mut self, count: usize) -> MemorySink<'a>
-        requires { 0 < count }
-        ensures { result ≡ record self.entry { calls = record self.entry.calls { largest_count = count } } }
+    pub fn with_largest_size(mut self, size: usize) -> MemorySink<'a>
+        requires { 0 < size }
+        ensures { result ≡ record self.entry { calls = record self.entry.calls { largest_size = size } } }
     {
-        self.calls.largest_count = count;
+        self.calls.largest_size = size;
         self
     }
 
@@ -75,7 +75,7 @@ impl Sink for MemorySink<'_> {
 
     ghost failures = { λ s. s.calls.failures };
 
-    /// Writes as the trait says. It takes as many bytes as there is room for, up to the largest count.
+    /// Writes as the trait says. It takes as many bytes as there is room for, up to the largest size.
     ///
     /// # Errors
     ///
@@ -91,7 +91,7 @@ impl Sink for MemorySink<'_> {
     {
         let count = self
             .calls
-            .next_count(from.len().min(self.into.len() - self.len))?;
+            .next_size(from.len().min(self.into.len() - self.len))?;
         // A full slice takes nothing of what there is to write (ours).
         if count == 0 && !from.is_empty() {
             self.calls.failures += 1;

@@ -34,7 +34,7 @@ impl<'a> Model for MemorySource<'a> {
       calls = s.calls;
     } };
 
-    ghost invariant = { λ s. 0 < s.calls.largest_count };
+    ghost invariant = { λ s. 0 < s.calls.largest_size };
 }
 
 impl<'a> MemorySource<'a> {
@@ -59,11 +59,11 @@ impl<'a> MemorySource<'a> {
     }
 
     /// The same source, each of whose reads gives at most so many bytes.
-    pub fn with_largest_count(mut self, count: usize) -> MemorySource<'a>
-        requires { 0 < count }
-        ensures { result ≡ record self.entry { calls = record self.entry.calls { largest_count = count } } }
+    pub fn with_largest_size(mut self, size: usize) -> MemorySource<'a>
+        requires { 0 < size }
+        ensures { result ≡ record self.entry { calls = record self.entry.calls { largest_size = size } } }
     {
-        self.calls.largest_count = count;
+        self.calls.largest_size = size;
         self
     }
 
@@ -90,7 +90,7 @@ impl Source for MemorySource<'_> {
 
     ghost failures = { λ s. s.calls.failures };
 
-    /// Reads as the trait says. It gives as many bytes as the slice holds, up to the largest count and to the end.
+    /// Reads as the trait says. It gives as many bytes as the slice holds, up to the largest size and to the end.
     ///
     /// # Errors
     ///
@@ -109,7 +109,7 @@ impl Source for MemorySource<'_> {
     {
         let moment = moment_of(self.moments, self.reads);
         self.reads += 1;
-        let count = self.calls.next_count(into.len().min(self.left.len()))?;
+        let count = self.calls.next_size(into.len().min(self.left.len()))?;
         into[..count].copy_from_slice(&self.left[..count]);
         self.left = &self.left[count..];
         if count > 0 {

@@ -1,4 +1,5 @@
 use Rattle.std.proofs.Common.{sym, ap, ◌∙◌, option_map, Some}
+use Rattle.std.specs.Box.{boxed_slice_items}
 use Rattle.cip_objects.specs.Counter.{counter_values}
 use Rattle.cip_objects.specs.Destination.{number_at}
 use Rattle.cip_objects.specs.Entries.{shape_of}
@@ -17,8 +18,8 @@ returns-clause-shape c =
     let m = c.args.self.now in
     let n = number_at m.shapes c.args.place in
     let f = first_at_place o m c.args.place c.self.view_is c.requires in
-    shape_at-contents o.identity o.assemblies.items (counter_values o.counter) m n c.self.view_is
-    ∙ ap (option_map shape_of) (first_at o.assemblies.items n c.args.place c.index.result.now f)
+    shape_at-contents o.identity (boxed_slice_items o.assemblies) (counter_values o.counter) m n c.self.view_is
+    ∙ ap (option_map shape_of) (first_at (boxed_slice_items o.assemblies) n c.args.place c.index.result.now f)
     ∙ ap (λ b. Some (shape_of b)) (sym c.index.ensures)
 
 pub returns-clause-content : goal.returns-clause-content
@@ -30,5 +31,5 @@ returns-clause-content c =
     let numbered = c.self.invariant.numbered in
     let b = c.index.result.now in
     ap (λ x. x.content) c.index.ensures
-    ∙ sym (content_read o.identity o.assemblies.items (counter_values o.counter) m n c.args.place b c.self.view_is
-    numbered f)
+    ∙ sym (content_read o.identity (boxed_slice_items o.assemblies) (counter_values o.counter) m n c.args.place b
+    c.self.view_is numbered f)

@@ -1,4 +1,5 @@
 use Rattle.std.proofs.Common.{◌≡◌, None, sym, ap, ◌∙◌, option_map, subst, MatchOption}
+use Rattle.std.specs.Box.{boxed_slice_items}
 use Rattle.cip_objects.specs.Counter.{counter_values}
 use Rattle.cip_objects.specs.Destination.{HasNoValue, LeadTo, services_at}
 use Rattle.cip_objects.specs.Entries.{block_at}
@@ -11,7 +12,7 @@ pub returns-in_ok-position-in-4-default-clause-leads : goal.returns-in_ok-positi
 returns-in_ok-position-in-4-default-clause-leads c =
     let place = c.in_ok-position-in-4-default.field-0 in
     let i = c.args.instance in
-    let first : IsFirst (λ b. b.instance) c.self.inside.assemblies.items i place =
+    let first : IsFirst (λ b. b.instance) (boxed_slice_items c.self.inside.assemblies) i place =
     rw c.deref.ensures.value at c.in_ok-position-in-4-default.ensures in
     let f = found c.self.inside c.args.self.now i place c.self.view_is first in
     record { same_class = c.in-4-default.is-0; same_instance = f.number; there = f.there }
@@ -20,7 +21,7 @@ pub returns-in_ok-position-in-4-default-clause-services : goal.returns-in_ok-pos
 returns-in_ok-position-in-4-default-clause-services c =
     let place = c.in_ok-position-in-4-default.field-0 in
     let i = c.args.instance in
-    let first : IsFirst (λ b. b.instance) c.self.inside.assemblies.items i place =
+    let first : IsFirst (λ b. b.instance) (boxed_slice_items c.self.inside.assemblies) i place =
     rw c.deref.ensures.value at c.in_ok-position-in-4-default.ensures in
     sym (services_found c.self.inside c.args.self.now c.args.class i place c.self.view_is c.in-4-default.is-0
     c.in-4-default.is-1.1 first)
@@ -28,7 +29,7 @@ returns-in_ok-position-in-4-default-clause-services c =
 pub returns-in_err-position-in-4-default-clause-services : goal.returns-in_err-position-in-4-default-clause-services
 returns-in_err-position-in-4-default-clause-services c =
     let i = c.args.instance in
-    let none : block_at i c.self.inside.assemblies.items ≡ None =
+    let none : block_at i (boxed_slice_items c.self.inside.assemblies) ≡ None =
     rw c.deref.ensures.value at c.in_err-position-in-4-default.ensures in
     ap (option_map services_at) c.from_residual.ensures
     ∙ sym (services_missing c.self.inside c.args.self.now c.args.class i c.self.view_is c.in-4-default.is-0
@@ -40,10 +41,10 @@ returns-in_err-position-in-4-default-clause-leads c =
     let m = c.args.self.now in
     let class = c.args.class in
     let i = c.args.instance in
-    let none : block_at i o.assemblies.items ≡ None =
+    let none : block_at i (boxed_slice_items o.assemblies) ≡ None =
     rw c.deref.ensures.value at c.in_err-position-in-4-default.ensures in
     let e : services_of m.shapes class i ≡ None =
     services_missing o m class i c.self.view_is c.in-4-default.is-0 c.in-4-default.is-1.1 none in
     subst (λ r. MatchOption r (HasNoValue m class i) (LeadTo m.shapes class i)) (sym c.from_residual.ensures)
-    (no_value o.identity o.assemblies.items (counter_values o.counter) m class i c.self.view_is
+    (no_value o.identity (boxed_slice_items o.assemblies) (counter_values o.counter) m class i c.self.view_is
     c.self.invariant.numbered e)

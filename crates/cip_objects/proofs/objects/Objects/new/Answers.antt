@@ -1,4 +1,5 @@
 use Rattle.std.proofs.Common.{◌≡◌, sym, ap, ◌∙◌, arith, length, map}
+use Rattle.std.specs.Box.{boxed_slice_items}
 use Rattle.std.proofs.lemmas.List.{length-map}
 use Rattle.cip_objects.specs.Configuration.{contents_of_config, block_of, identity_of, counter_of}
 use Rattle.cip_objects.specs.Counter.{counter_values}
@@ -27,7 +28,9 @@ assemblies_of-requires-clause-small c =
 pub invariant_of-result : goal.invariant_of-result
 invariant_of-result c =
     let s = sound c.args.config.now (sym c.in_default.ensures) in
-    let items : c.in_ok-assemblies_of.field-0.items ≡ map block_of c.args.config.now.assemblies.items = c.in_ok-assemblies_of.ensures ∙ ap (map block_of) c.deref.ensures.value in
+    let blocks = boxed_slice_items c.in_ok-assemblies_of.field-0 in
+    let items : blocks ≡ map block_of c.args.config.now.assemblies.items =
+    c.in_ok-assemblies_of.ensures ∙ ap (map block_of) c.deref.ensures.value in
     record {
       few = omega (arith, s.few, ap length items, length-map c.args.config.now.assemblies.items block_of);
       numbered = rw items s.numbered;
@@ -40,20 +43,28 @@ pub returns-clause-made : goal.returns-clause-made
 unfolding contents_of_config
 returns-clause-made c =
     let config = c.args.config.now in
-    let items : c.in_ok-assemblies_of.field-0.items ≡ map block_of config.assemblies.items = c.in_ok-assemblies_of.ensures ∙ ap (map block_of) c.deref.ensures.value in
+    let blocks = boxed_slice_items c.in_ok-assemblies_of.field-0 in
+    let items : blocks ≡ map block_of config.assemblies.items =
+    c.in_ok-assemblies_of.ensures ∙ ap (map block_of) c.deref.ensures.value in
     let name : c.name_of.result.items ≡ string_bytes config.name = c.name_of.ensures ∙ c.as_bytes.ensures.value in
-    ap (λ k. contents_of (record (identity_of config) { name = c.name_of.result.items }) c.in_ok-assemblies_of.field-0.items (counter_values k)) c.new.ensures.new
-    ∙ ap (λ n. contents_of (record (identity_of config) { name = n }) c.in_ok-assemblies_of.field-0.items (counter_of config)) name
+    ap (λ k. contents_of (record (identity_of config) { name = c.name_of.result.items }) blocks (counter_values k))
+    c.new.ensures.new
+    ∙ ap (λ n. contents_of (record (identity_of config) { name = n }) blocks (counter_of config)) name
     ∙ ap (λ bs. contents_of (identity_of config) bs (counter_of config)) items
 
 pub returns-clause-counter : goal.returns-clause-counter
 returns-clause-counter c =
     let s = sound c.args.config.now (sym c.in_default.ensures) in
-    let items : c.in_ok-assemblies_of.field-0.items ≡ map block_of c.args.config.now.assemblies.items = c.in_ok-assemblies_of.ensures ∙ ap (map block_of) c.deref.ensures.value in
-    rw c.new.ensures.new (new_counts _ c.in_ok-assemblies_of.field-0.items (rw items s.numbered) c.args.config.now.counter.value c.args.config.now.counter.limit s.counter c.new.ensures.limit)
+    let blocks = boxed_slice_items c.in_ok-assemblies_of.field-0 in
+    let items : blocks ≡ map block_of c.args.config.now.assemblies.items =
+    c.in_ok-assemblies_of.ensures ∙ ap (map block_of) c.deref.ensures.value in
+    rw c.new.ensures.new (new_counts _ blocks (rw items s.numbered) c.args.config.now.counter.value
+    c.args.config.now.counter.limit s.counter c.new.ensures.limit)
 
 pub returns-clause-whole : goal.returns-clause-whole
 returns-clause-whole c =
     let s = sound c.args.config.now (sym c.in_default.ensures) in
-    let items : c.in_ok-assemblies_of.field-0.items ≡ map block_of c.args.config.now.assemblies.items = c.in_ok-assemblies_of.ensures ∙ ap (map block_of) c.deref.ensures.value in
-    contents_whole _ c.in_ok-assemblies_of.field-0.items _ (rw items s.numbered) (rw items (whole_blocks c.args.config.now.assemblies.items))
+    let blocks = boxed_slice_items c.in_ok-assemblies_of.field-0 in
+    let items : blocks ≡ map block_of c.args.config.now.assemblies.items =
+    c.in_ok-assemblies_of.ensures ∙ ap (map block_of) c.deref.ensures.value in
+    contents_whole _ blocks _ (rw items s.numbered) (rw items (whole_blocks c.args.config.now.assemblies.items))

@@ -1,4 +1,5 @@
 use Rattle.std.proofs.Common.{ap, ◌∙◌}
+use Rattle.std.specs.Box.{boxed_slice_items}
 use Rattle.byteorder.specs.Endian.{little_bytes}
 use Rattle.cip_objects.specs.Contents.{with_value}
 use Rattle.cip_objects.specs.Counter.{counter_values}
@@ -9,4 +10,6 @@ use Rattle.cip_objects.proofs.objects.Objects.set_value.Goals as goal
 pub returns : goal.returns
 returns c =
     let o = c.self.inside in
-    value_written o.identity o.assemblies.items (counter_values o.counter) c.args.value ∙ ap (λ m. with_value m COUNTER 1 1 (little_bytes 4 c.args.value)) c.self.view_is
+    let blocks = boxed_slice_items o.assemblies in
+    value_written o.identity blocks (counter_values o.counter) c.args.value
+    ∙ ap (λ m. with_value m COUNTER 1 1 (little_bytes 4 c.args.value)) c.self.view_is

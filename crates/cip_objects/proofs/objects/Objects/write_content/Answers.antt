@@ -1,3 +1,4 @@
+use Rattle.std.specs.Box.{boxed_slice_items}
 use Rattle.cip_objects.specs.Counter.{counter_values}
 use Rattle.cip_objects.specs.Destination.{number_at}
 use Rattle.cip_objects.proofs.Destinations.{first_at_place, place_within}
@@ -15,13 +16,13 @@ write-requires c =
     let f = first_at_place o m c.args.place c.self.view_is c.requires.there in
     let b = c.index_mut.result.now in
     let numbered = c.self.invariant.numbered in
-    let e = content_read o.identity o.assemblies.items (counter_values o.counter) m n c.args.place b c.self.view_is
-    numbered f in
+    let e = content_read o.identity (boxed_slice_items o.assemblies) (counter_values o.counter) m n c.args.place b
+    c.self.view_is numbered f in
     rw (c.index_mut.ensures.value, ← e) c.requires.inside
 
 pub invariant_of-self : goal.invariant_of-self
 invariant_of-self c =
-    let bs = c.self.inside.assemblies.items in
+    let bs = boxed_slice_items c.self.inside.assemblies in
     let old = c.self.invariant in
     record {
       few = old.few;
@@ -38,6 +39,6 @@ returns c =
     let m = c.args.self.now in
     let n = number_at m.shapes c.args.place in
     let f = first_at_place o m c.args.place c.self.view_is c.requires.there in
-    content_set o.identity o.assemblies.items (counter_values o.counter) m n c.args.place c.index_mut.result.now
-    c.write.new.self c.args.offset c.args.bytes.now c.self.view_is c.self.invariant.numbered f
+    content_set o.identity (boxed_slice_items o.assemblies) (counter_values o.counter) m n c.args.place
+    c.index_mut.result.now c.write.new.self c.args.offset c.args.bytes.now c.self.view_is c.self.invariant.numbered f
     c.index_mut.ensures.value c.write.ensures

@@ -1,8 +1,8 @@
-use Rattle.std.proofs.Common.{ap, subst, ◌∙◌}
+use Rattle.std.proofs.Common.{refl, ap, subst, ◌∙◌}
 use Rattle.std.specs.Option.{unwrap_or}
 use Rattle.cip_class3.specs.declared.originator.Stage.TheVariants as stages
 use Rattle.enip_bench.specs.CountingWorld.{counting_seen}
-use Rattle.enip_bench.specs.Stored.{world_in, seen_in, frames_in, acceptances_in}
+use Rattle.enip_bench.specs.Stored.{world_in, acceptances_in}
 use Rattle.enip_bench.proofs.BenchLemmas.{same_seen}
 use Rattle.enip_bench.specs.Reached.{IsReached}
 use Rattle.enip_bench.proofs.ReachedLemmas.{stage_there, shows_numbers}
@@ -10,9 +10,8 @@ use Rattle.enip_bench.proofs.bench.Bench.seen.Goals as goal
 
 pub returns-clause-seen : goal.returns-clause-seen
 returns-clause-seen c =
-    same_seen (seen_in (record { objects = c.objects.result; back = c.deref.result; accepted = c.deref-2.result; stage = c.unwrap_or.result }))
-    (counting_seen (world_in c.self.inside.world)) c.objects.ensures (ap frames_in c.deref.ensures.value)
-    (ap acceptances_in c.deref-2.ensures.value)
+    same_seen _ (counting_seen (world_in c.self.inside.world)) c.objects.ensures refl
+    (ap acceptances_in c.deref.ensures.value)
     (c.unwrap_or.ensures
     ∙ ap (λ o. unwrap_or o stages.Idle) (c.stage.ensures ∙ stage_there (world_in c.self.inside.world) c.self.invariant.reached))
     ∙ ap counting_seen c.self.view_is

@@ -1,6 +1,6 @@
 use Rattle.std.proofs.Common.{◌≡◌, [], ◌∷◌, ◌++◌, ap₂, ◌≤◌, length, Some, ap, sym, ◌∙◌, arith, option_map}
 use Rattle.enip_bench.specs.Events.{delivery}
-use Rattle.enip_bench.specs.Stored.{world_in, frames_in, acceptance_in, acceptances_in, reply_put}
+use Rattle.enip_bench.specs.Stored.{world_in, acceptance_in, acceptances_in, reply_put}
 use Rattle.enip_bench.proofs.BenchLemmas.{accepted_told}
 use Rattle.enip_bench.proofs.PositionLemmas.{map-push}
 use Rattle.enip_bench.proofs.ReachedLemmas.{accepted_fits}
@@ -8,20 +8,18 @@ use Rattle.enip_bench.proofs.world.World.hear.Goals as goal
 
 pub hear_frame-requires-clause-room : goal.hear_frame-requires-clause-room
 hear_frame-requires-clause-room c = λ bytes e.
-    let found : delivery c.args.self.now.last_back (frames_in c.args.self.now.back.items) c.args.position
+    let found : delivery c.args.self.now.last_back c.args.self.now.back.frames c.args.position
     ≡ Some c.in-Some.frame.now
-    = ap (λ fs. delivery c.args.self.now.last_back (frames_in fs) c.args.position) (sym c.deref.ensures.value)
-    ∙ (sym c.delivered.ensures ∙ ap (option_map (λ f. f.now)) c.in-Some.is) in
+    = sym c.delivered.ensures ∙ ap (option_map (λ f. f.now)) c.in-Some.is in
     let within : length bytes ≤ length c.in-Some.frame.now
     = accepted_fits (world_in c.args.self.now) c.args.position c.in-Some.frame.now c.requires found bytes e in
     omega (arith, within, c.in_ok-reply.ensures.spare)
 
 pub returns-clause-stepped : goal.returns-clause-stepped
 returns-clause-stepped c =
-    let found : delivery c.args.self.now.last_back (frames_in c.args.self.now.back.items) c.args.position
+    let found : delivery c.args.self.now.last_back c.args.self.now.back.frames c.args.position
     ≡ Some c.in-Some.frame.now
-    = ap (λ fs. delivery c.args.self.now.last_back (frames_in fs) c.args.position) (sym c.deref.ensures.value)
-    ∙ (sym c.delivered.ensures ∙ ap (option_map (λ f. f.now)) c.in-Some.is) in
+    = sym c.delivered.ensures ∙ ap (option_map (λ f. f.now)) c.in-Some.is in
     accepted_told (world_in c.args.self.now) c.args.position c.in-Some.frame.now c.hear_frame.new.reply.items
     c.hear_frame.new.client (acceptances_in c.push_reserved.new.self.items) found c.hear_frame.ensures.client
     (c.hear_frame.ensures.reply ∙ ap (λ b. reply_put b c.hear_frame.new.reply.items) c.if-not-hear_frame.false)

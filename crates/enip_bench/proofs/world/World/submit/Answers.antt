@@ -1,7 +1,6 @@
-use Rattle.std.proofs.Common.{[], ◌∷◌, ◌++◌, length, Err, ap, ap₂, sym, ◌∙◌, arith}
-use Rattle.std.proofs.lemmas.List.{length-map}
+use Rattle.std.proofs.Common.{[], ◌∷◌, ◌++◌, length, Err, ap, sym, ◌∙◌}
 use Rattle.enip_client.specs.Calls.{bytes_in}
-use Rattle.enip_bench.specs.Stored.{world_in, frames_in}
+use Rattle.enip_bench.specs.Stored.{world_in}
 use Rattle.enip_bench.proofs.BenchLemmas.{refused_told, sent_told}
 use Rattle.enip_bench.proofs.ReachedLemmas.{no_client_fault}
 use Rattle.enip_bench.proofs.world.World.submit.Goals as goal
@@ -15,20 +14,14 @@ unreachable-requires c =
 pub returns-in-Err-Refused-clause-stepped : goal.returns-in-Err-Refused-clause-stepped
 returns-in-Err-Refused-clause-stepped c =
     refused_told (world_in c.args.self.now) c.args.request.now c.in-Err-Refused.why c.submit.follows.lender-at-none
-    (frames_in c.make_room.new.frames.items) c.requires.reached
+    c.make_room.new.self.frames c.requires.reached
     (sym c.submit.ensures.lent ∙ (ap bytes_in c.in-Err-Refused.is ∙ ap (λ fault. bytes_in (Err fault)) c.in-Err-Refused.field-0-is))
-    c.submit.follows.holds-at-none (ap frames_in c.make_room.ensures.kept)
+    c.submit.follows.holds-at-none c.make_room.ensures.kept
 
 pub returns-clause-stepped : goal.returns-clause-stepped
 returns-clause-stepped c =
     sent_told (world_in c.args.self.now) c.args.request.now c.in-Ok.frame.now c.submit.follows.lender-at-none
-    (frames_in c.put.new.frames.items) c.len.result c.requires.reached
+    c.push.new.self.frames c.len.result c.requires.reached
     (sym c.submit.ensures.lent ∙ ap bytes_in c.in-Ok.is) c.submit.follows.holds-at-none
-    (c.put.ensures.put
-    ∙ ap₂ (λ xs b. frames_in xs ++ b ∷ []) c.make_room.ensures.kept
-    (c.extend_reserved.ensures.items ∙ ap (λ xs. xs ++ c.in-Ok.frame.now) c.in_ok-room.ensures.empty))
-    (c.len.ensures ∙ omega (
-      arith,
-      ap length c.make_room.ensures.kept,
-      length-map c.args.self.now.sent.items (λ f. f.items),
-    ))
+    (c.push.ensures ∙ ap (λ xs. xs ++ c.in-Ok.frame.now ∷ []) c.make_room.ensures.kept)
+    (c.len.ensures.count ∙ ap length c.make_room.ensures.kept)

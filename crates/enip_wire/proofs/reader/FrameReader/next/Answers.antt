@@ -1,7 +1,7 @@
 use Rattle.std.proofs.Common.{◌≡◌, ◌≤◌, ◌++◌, [], length, take, refl, sym, ap, subst, ◌∙◌, arith, length-append, length-take}
 use Rattle.std.specs.Box.{boxed_slice_items}
-use Rattle.enip_wire.specs.Stream.{taken_of, Shows, sight_of, left_after}
-use Rattle.enip_wire.proofs.NextLemmas.{no_frame, some_held, left_of-pushed}
+use Rattle.enip_wire.specs.Stream.{taken_of, joined_of, Shows, sight_of, left_after}
+use Rattle.enip_wire.proofs.NextLemmas.{of_none, no_frame, some_held, left_of-pushed}
 use Rattle.enip_wire.proofs.reader.FrameReader.next.Goals as goal
 use Rattle.enip_wire.proofs.reader.FrameReader.next.Goals.{then-self-eq0+in_default, else-self-eq0}
 
@@ -12,11 +12,11 @@ kept c =
     elim c.if-self-eq0.branch [
       | then-self-eq0+in_default w ↦
           let empty : c.args.self.now ≡ [] = sym c.self.view_is ∙ ap (λ n. take n (boxed_slice_items c.self.inside.buffer)) w.if-self-eq0.true in
-          let bytes : c.push-taken.new.self ≡ take w.count-taken.result c.args.piece.now
+          let bytes : c.push-taken.new.self ≡ joined_of [] c.args.piece.now
           = c.push-taken.ensures.held ∙ ap (λ h. h ++ take c.push-taken.result c.args.piece.now) empty
-          ∙ ap (λ n. take n c.args.piece.now) (c.push-taken.ensures.number ∙ ap (λ h. taken_of h c.args.piece.now) empty ∙ sym w.count-taken.ensures.number) in
-          ap (left_after c.args.self.now c.push-taken.new.self) (ap sight_of bytes ∙ sym w.see.ensures.kind)
-          ∙ no_frame c.args.self.now c.push-taken.new.self w.see.result w.in_default.not-Frame
+          ∙ ap (λ n. take n c.args.piece.now) (c.push-taken.ensures.number ∙ ap (λ h. taken_of h c.args.piece.now) empty) in
+          no_frame c.args.self.now c.push-taken.new.self (sight_of c.push-taken.new.self)
+          (λ f e. of_none w.first_frame.result w.in_default.not-Some w.first_frame.ensures.none f (sym (ap sight_of bytes) ∙ e))
       | else-self-eq0 w ↦
           some_held c.args.self.now c.push-taken.new.self (sight_of c.push-taken.new.self) (
           λ empty.

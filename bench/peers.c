@@ -1,0 +1,243 @@
+// What bench/peers measures beside: a server with epoll that reads and writes as `enip serve` does, and the peers of both.
+//
+//   serve PLACES                    prints its port, and answers each whole frame of its peers: RegisterSession by a
+//                                   session, any other by the vendor, 46 bytes. One read of 4,096 bytes a peer and round,
+//                                   one write an answer. It ends when standard input does
+//   load PORT PEERS ROUNDS          that many peers ask for the vendor at once, each as often, and compare each answer:
+//                                   prints the round trips a second
+//   wait PORT ROUNDS                one peer asks: prints the median and the 99th percentile of a round trip, and the
+//                                   longest, in microseconds
+//   flood PORT                      one peer asks without waiting, and reads what comes, until it is killed
+#define _GNU_SOURCE
+#include <arpa/inet.h>
+#include <errno.h>
+#include <fcntl.h>
+#include <netinet/in.h>
+#include <netinet/tcp.h>
+#include <poll.h>
+#include <stdio.h>
+#include <stdlib.h>
+#include <string.h>
+#include <sys/epoll.h>
+#include <sys/socket.h>
+#include <time.h>
+#include <unistd.h>
+
+enum { HEADER = 24, ROOM = 4096, MOST_PEERS = 64, REGISTER = 28, REQUEST = 48, ANSWER = 46, LISTENER = MOST_PEERS };
+
+static const unsigned char REGISTERING[REGISTER] = {0x65, 0, 4, 0, [24] = 1};
+
+static const unsigned char VENDOR[ANSWER] = {0x6f, 0, 22, [30] = 2, [36] = 0xb2, [38] = 6, [40] = 0x8e, [44] = 0x34, 0x12};
+
+typedef struct {
+    int socket, ready;
+    size_t held;
+    unsigned char bytes[ROOM + HEADER];
+} Peer;
+
+static Peer peers[MOST_PEERS];
+
+static double now_in_seconds(void) {
+    struct timespec now;
+    clock_gettime(CLOCK_MONOTONIC, &now);
+    return now.tv_sec + now.tv_nsec / 1e9;
+}
+
+static void no_delay(int socket) {
+    int on = 1;
+    setsockopt(socket, IPPROTO_TCP, TCP_NODELAY, &on, sizeof on);
+}
+
+static int answer(Peer *peer, unsigned char *frame, unsigned size) {
+    unsigned char bytes[ANSWER];
+    if (frame[0] == 0x65) {
+        frame[4] = 1 + (peer - peers);
+        return send(peer->socket, frame, size, MSG_NOSIGNAL) == (ssize_t)size;
+    }
+    memcpy(bytes, VENDOR, ANSWER);
+    memcpy(bytes + 4, frame + 4, 16);
+    return send(peer->socket, bytes, ANSWER, MSG_NOSIGNAL) == ANSWER;
+}
+
+// One turn of a peer: a read, and an answer to each frame that is whole. Answers whether it goes on.
+static int turn(Peer *peer) {
+    ssize_t got = recv(peer->socket, peer->bytes + peer->held, ROOM - peer->held, 0);
+    if (got < 0 && errno == EAGAIN) return peer->ready = 0, 1;
+    if (got <= 0) return 0;
+    size_t at = 0, size = peer->held + got;
+    while (size - at >= HEADER) {
+        unsigned frame = HEADER + peer->bytes[at + 2] + 256 * peer->bytes[at + 3];
+        if (size - at < frame) break;
+        if (!answer(peer, peer->bytes + at, frame)) return 0;
+        at += frame;
+    }
+    memmove(peer->bytes, peer->bytes + at, size - at);
+    peer->held = size - at;
+    return 1;
+}
+
+static void admit(int poll, int listener, int places) {
+    for (int socket; (socket = accept4(listener, NULL, NULL, SOCK_NONBLOCK)) >= 0;) {
+        int place = 0;
+        while (place < places && peers[place].socket > 0) place++;
+        if (place == places) {
+            close(socket);
+            continue;
+        }
+        no_delay(socket);
+        peers[place] = (Peer){.socket = socket, .ready = 1};
+        struct epoll_event event = {.events = EPOLLIN | EPOLLOUT | EPOLLRDHUP | EPOLLET, .data.u32 = place};
+        epoll_ctl(poll, EPOLL_CTL_ADD, socket, &event);
+    }
+}
+
+// One round: each peer that may be ready has a turn. Answers whether one may be ready still.
+static int round_of_turns(int places) {
+    int ready = 0;
+    for (int place = 0; place < places; place++) {
+        Peer *peer = &peers[place];
+        if (peer->socket > 0 && peer->ready && !turn(peer)) {
+            close(peer->socket);
+            peer->socket = 0;
+        }
+        ready |= peer->socket > 0 && peer->ready;
+    }
+    return ready;
+}
+
+static int listen_on_a_free_port(void) {
+    struct sockaddr_in at = {.sin_family = AF_INET, .sin_addr.s_addr = htonl(INADDR_LOOPBACK)};
+    socklen_t size = sizeof at;
+    int listener = socket(AF_INET, SOCK_STREAM | SOCK_NONBLOCK, 0);
+    if (bind(listener, (void *)&at, size) || listen(listener, 128)) return -1;
+    if (getsockname(listener, (void *)&at, &size)) return -1;
+    printf("%d\n", ntohs(at.sin_port));
+    fflush(stdout);
+    return listener;
+}
+
+static int serve(int places) {
+    int listener = listen_on_a_free_port(), poll = epoll_create1(0), ready = 0;
+    struct epoll_event listening = {.events = EPOLLIN | EPOLLET, .data.u32 = LISTENER}, events[32];
+    struct epoll_event input = {.events = EPOLLIN | EPOLLHUP, .data.u32 = LISTENER + 1};
+    if (listener < 0 || epoll_ctl(poll, EPOLL_CTL_ADD, listener, &listening)) return 1;
+    epoll_ctl(poll, EPOLL_CTL_ADD, 0, &input);
+    for (;;) {
+        int count = epoll_wait(poll, events, 32, ready ? 0 : -1);
+        now_in_seconds();
+        for (int i = 0; i < count; i++) {
+            if (events[i].data.u32 > LISTENER) return 0;
+            if (events[i].data.u32 == LISTENER) admit(poll, listener, places);
+            else peers[events[i].data.u32].ready = 1;
+        }
+        ready = round_of_turns(places);
+    }
+}
+
+static int connected(int port) {
+    struct sockaddr_in at = {.sin_family = AF_INET, .sin_addr.s_addr = htonl(INADDR_LOOPBACK), .sin_port = htons(port)};
+    int peer = socket(AF_INET, SOCK_STREAM, 0);
+    if (connect(peer, (void *)&at, sizeof at)) return -1;
+    no_delay(peer);
+    return peer;
+}
+
+static int read_whole(int peer, unsigned char *bytes, size_t size) {
+    for (ssize_t got; size > 0; size -= got, bytes += got) {
+        if ((got = read(peer, bytes, size)) <= 0) return 0;
+    }
+    return 1;
+}
+
+// A peer with a session, whose handle is answered; 0 where that failed.
+static unsigned begin(int peer) {
+    unsigned char bytes[REGISTER];
+    if (write(peer, REGISTERING, REGISTER) != REGISTER || !read_whole(peer, bytes, REGISTER)) return 0;
+    return bytes[4] + 256 * bytes[5];
+}
+
+// The request of a session for the vendor, its number as the context, and what answers it.
+static void request_of(unsigned session, unsigned number, unsigned char *request, unsigned char *wanted) {
+    static const unsigned char PACKET[24] = {[6] = 2, [12] = 0xb2, [14] = 8, [16] = 0x0e, 3, 0x20, 1, 0x24, 1, 0x30, 1};
+    memset(request, 0, REQUEST);
+    request[0] = 0x6f, request[2] = 24, request[4] = session & 255, request[5] = session >> 8;
+    memcpy(request + 12, &number, sizeof number);
+    memcpy(request + HEADER, PACKET, sizeof PACKET);
+    memcpy(wanted, request, ANSWER);
+    wanted[2] = 22, wanted[38] = 6, wanted[40] = 0x8e, wanted[41] = wanted[42] = wanted[43] = 0;
+    wanted[44] = 0x34, wanted[45] = 0x12;
+}
+
+static int load(int port, int count, long rounds) {
+    unsigned char request[REQUEST], wanted[ANSWER], got[ANSWER];
+    unsigned sessions[MOST_PEERS];
+    int sockets[MOST_PEERS];
+    for (int i = 0; i < count; i++) {
+        if ((sockets[i] = connected(port)) < 0 || (sessions[i] = begin(sockets[i])) == 0) return 1;
+    }
+    double from = now_in_seconds();
+    for (long number = 0; number < rounds; number++) {
+        for (int i = 0; i < count; i++) {
+            request_of(sessions[i], number, request, wanted);
+            if (write(sockets[i], request, REQUEST) != REQUEST) return 1;
+        }
+        for (int i = 0; i < count; i++) {
+            request_of(sessions[i], number, request, wanted);
+            if (!read_whole(sockets[i], got, ANSWER) || memcmp(got, wanted, ANSWER)) return 1;
+        }
+    }
+    printf("%.0f\n", count * rounds / (now_in_seconds() - from));
+    return 0;
+}
+
+static int by_value(const void *a, const void *b) {
+    double difference = *(const double *)a - *(const double *)b;
+    return (difference > 0) - (difference < 0);
+}
+
+static int wait_for_each(int port, long rounds) {
+    unsigned char request[REQUEST], wanted[ANSWER], got[ANSWER];
+    int peer = connected(port);
+    unsigned session = begin(peer);
+    double *each = calloc(rounds, sizeof *each);
+    if (session == 0 || !each) return 1;
+    for (long number = 0; number < rounds; number++) {
+        request_of(session, number, request, wanted);
+        double from = now_in_seconds();
+        if (write(peer, request, REQUEST) != REQUEST || !read_whole(peer, got, ANSWER)) return 1;
+        each[number] = (now_in_seconds() - from) * 1e6;
+        if (memcmp(got, wanted, ANSWER)) return 1;
+    }
+    qsort(each, rounds, sizeof *each, by_value);
+    printf("%.0f %.0f %.0f\n", each[rounds / 2], each[rounds * 99 / 100], each[rounds - 1]);
+    return 0;
+}
+
+static int flood(int port) {
+    unsigned char request[REQUEST], wanted[ANSWER];
+    static unsigned char many[REQUEST * 1000], got[65536];
+    int peer = connected(port);
+    unsigned session = begin(peer);
+    for (int i = 0; i < 1000; i++) {
+        request_of(session, i, request, wanted);
+        memcpy(many + i * REQUEST, request, REQUEST);
+    }
+    fcntl(peer, F_SETFL, O_NONBLOCK);
+    for (size_t at = 0;;) {
+        struct pollfd events = {.fd = peer, .events = POLLIN | POLLOUT};
+        poll(&events, 1, -1);
+        while (read(peer, got, sizeof got) > 0) {
+        }
+        ssize_t sent = send(peer, many + at, sizeof many - at, MSG_NOSIGNAL);
+        if (sent < 0 && errno != EAGAIN) return 1;
+        at = sent > 0 ? (at + sent) % sizeof many : at;
+    }
+}
+
+int main(int count, char **words) {
+    if (count == 3 && !strcmp(words[1], "serve")) return serve(atoi(words[2]));
+    if (count == 5 && !strcmp(words[1], "load")) return load(atoi(words[2]), atoi(words[3]), atol(words[4]));
+    if (count == 4 && !strcmp(words[1], "wait")) return wait_for_each(atoi(words[2]), atol(words[3]));
+    if (count == 3 && !strcmp(words[1], "flood")) return flood(atoi(words[2]));
+    return 2;
+}

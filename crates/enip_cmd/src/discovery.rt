@@ -1,0 +1,64 @@
+//! Clients that look for devices, by datagrams of UDP.
+
+use crate::readiness::Readiness;
+use enip_adapter::DiscoveryRoom;
+use enip_peers::{Peers, Wire};
+use mio::net::UdpSocket;
+use std::alloc::{AllocError, Global};
+
+/// More bytes than a datagram has, so that none is cut.
+const ROOM: usize = 65_536;
+
+/// A socket for datagrams whose calls never wait.
+#[derive(Drop)]
+pub(crate) struct Discovery {
+    socket: UdpSocket,
+    readiness: Readiness,
+    /// The datagram that came.
+    block: Vec<u8>,
+    /// What answers it.
+    room: DiscoveryRoom,
+}
+
+impl Discovery {
+    /// The discovery over a socket, at which something may wait.
+    ///
+    /// # Errors
+    ///
+    /// `AllocError` where memory is refused.
+    pub(crate) fn new(alloc: Global, socket: UdpSocket) -> Result<Discovery, AllocError> {
+        Ok(Discovery {
+            socket,
+            readiness: Readiness::Ready,
+            block: Vec::from_elem(alloc, 0, ROOM)?,
+            room: DiscoveryRoom::new(),
+        })
+    }
+
+    /// When the socket is tried again.
+    pub(crate) fn readiness(&self) -> Readiness {
+        self.readiness
+    }
+
+    /// The system reports the socket.
+    pub(crate) fn report(&mut self) {
+        self.readiness = self.readiness.reported();
+    }
+
+    /// Takes one datagram at a moment, in microseconds, where there is one, and sends what answers it to its sender. An
+    /// answer that cannot be sent is dropped.
+    pub(crate) fn answer_one<W: Wire + Drop>(&mut self, peers: &Peers<W>, now: u64) {
+        if !self.readiness.is_due(now) {
+            return;
+        }
+        match self.socket.recv_from(&mut self.block) {
+            Ok((size, sender)) => {
+                self.readiness = Readiness::Ready;
+                if let Some(answer) = peers.discover(&self.block[..size], &mut self.room) {
+                    let _ = self.socket.send_to(answer, sender);
+                }
+            }
+            Err(error) => self.readiness = Readiness::after(&error, now),
+        }
+    }
+}

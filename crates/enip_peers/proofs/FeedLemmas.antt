@@ -1,0 +1,29 @@
+-- What was read, fed.
+use Rattle.std.proofs.Common.{◌≡◌, ◌≢◌, ℕ, List, [], true, false, Option, Some, None, is_some, refl, sym, subst, true≢false}
+use Rattle.enip_peers.specs.declared.line.Turn.{Turn}
+use Rattle.enip_peers.specs.declared.line.Turn.TheVariants.{More, Reads, Writes, Over}
+use Rattle.enip_peers.specs.Desks.{Desk, IsFlushed, AreFed, fed_once, IsToldBy, IsWaiting}
+use Rattle.enip_peers.specs.Desks.AreFed.{Not_yet, Once_more}
+
+-- nothing is fed
+pub none_fed : (now peer : ℕ) (d : Desk) → AreFed now peer d d
+none_fed now peer d = Not_yet
+
+-- one feed more
+pub one_more : (now peer to : ℕ) (old d between new : Desk) → to ≡ peer → AreFed now peer old d → d.outbox ≡ []
+    → d.closed ≡ false → between ≡ fed_once now to d → IsFlushed between new → AreFed now peer old new
+one_more now peer to old d between new same fed out served is flushed =
+    Once_more fed out served
+    (subst (λ p. IsFlushed (fed_once now p d) new) same (subst (λ x. IsFlushed x new) is flushed))
+
+-- what is not there
+pub none_there : {X : Type 0} → (o : Option X) → is_some o ≡ false → o ≡ None
+none_there None is = refl
+none_there (Some x) is = absurd (true≢false is)
+
+-- a turn that waits
+pub told_waiting : (d : Desk) (turn : Turn) → d.outbox ≢ [] → IsWaiting turn → IsToldBy d turn
+told_waiting d More waits is = absurd is
+told_waiting d Reads waits is = absurd is
+told_waiting d Writes waits is = waits
+told_waiting d Over waits is = tt

@@ -1,0 +1,10 @@
+pub mod FlushLemmas
+pub mod FeedLemmas
+pub mod TurnLemmas
+pub mod RoundLemmas
+pub mod MoveLemmas
+pub mod TurnMoves
+pub mod ApartLemmas
+pub mod HandleLemmas
+pub mod RoundMoves
+pub mod LifeLemmas

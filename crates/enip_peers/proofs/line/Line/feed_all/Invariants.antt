@@ -1,0 +1,15 @@
+use Rattle.std.proofs.Common.{◌≡◌, [], None, length}
+use Rattle.enip_peers.specs.Desks.{desk_of, AreFed}
+use Rattle.enip_peers.proofs.line.Line.feed_all.Given as goal
+
+abbrev pub invariant-loop-self : goal.invariant-loop-self
+invariant-loop-self g l = record {
+  peer : l.self.peer ≡ l.fn.self.peer;
+  out : l.self.outbox ≡ [];
+  served : l.self.closed ≡ None;
+  fed : AreFed l.now l.fn.self.peer (desk_of g.W.Wire.left g.W.Wire.written l.fn.adapter l.fn.self)
+      (desk_of g.W.Wire.left g.W.Wire.written l.adapter l.self);
+}
+
+abbrev pub decreases-loop-self : goal.decreases-loop-self
+decreases-loop-self g l = length l.self.inbox

@@ -1,0 +1,20 @@
+//! Several peers of an adapter at once (ODVA CIP Networks Library, Volume 2), without sockets and without a clock.
+//!
+//! `Peers` holds an adapter and a line for each of its places: a wire, what was read of it and not fed, and what of an
+//! answer is not out. A `Wire` never waits. `come` begins a peer, `wake` says that its wire may be ready, and `round`
+//! gives each peer that may be ready one turn: what waits of an answer is written, and only when all of it is out are
+//! bytes read, at most 4,096, and fed frame by frame, each answer written before the next frame is fed.
+//!
+//! Its calls after `Peers::new` take no memory.
+#![tactic(auto)]
+
+pub mod laws;
+mod line;
+mod peers;
+mod store;
+mod wire;
+
+pub use line::LINGER;
+pub use peers::{NO_LIMIT, Peers};
+pub use store::ROOM;
+pub use wire::{Came, Wire};

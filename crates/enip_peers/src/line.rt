@@ -1,0 +1,224 @@
+//! A peer's line, and its turn.
+
+ghost use Rattle.std.specs.Prelude.{◌≡◌, ◌≢◌, ◌≤◌, ◌<◌, [], length, Some, None, true, false, IfSome, IfNone, IfErr, IfOk};
+ghost use Rattle.enip_adapter.specs.Calls.{AdapterState};
+ghost use Rattle.enip_peers.specs.Rounds.{last_moment, IsServedLine, HasTurn};
+ghost use Rattle.enip_peers.specs.Desks.{desk_of, fed_once, IsFlushed, AreFed, IsThrownAway, IsTurn, IsToldBy, IsWaiting, IsFetched, HasEnded};
+
+use crate::store::Store;
+use crate::wire::{Came, Wire};
+use enip_adapter::{Adapter, Peer};
+
+/// How long a peer that the adapter closed is still read, in microseconds, so that its answer is not lost (ours).
+pub const LINGER: u64 = 1_000_000;
+
+/// What a turn came to.
+#[derive(Clone, Copy, Debug, PartialEq, Eq)]
+pub(crate) enum Turn {
+    /// More may have come.
+    More,
+    /// Nothing more has come: the wire is waited for until it can be read.
+    Reads,
+    /// An answer is not out: the wire is waited for until it can be written.
+    Writes,
+    /// The stream is at its end, or a call failed.
+    Over,
+}
+
+/// A peer that holds a place: its wire, and what waits on it.
+#[derive(Drop)]
+pub(crate) struct Line<W> {
+    pub(crate) peer: Peer,
+    pub(crate) wire: W,
+    /// Whether the wire may be ready.
+    pub(crate) ready: bool,
+    /// The moment at which a byte came last, or at which it began.
+    heard: u64,
+    /// Where the adapter closed the peer, the moment up to which it is still read.
+    closed: Option<u64>,
+    /// What was read and not fed.
+    inbox: Store,
+    /// What of an answer is not out.
+    outbox: Store,
+}
+
+impl<W: Wire> Line<W> {
+    /// A peer's line at its beginning, at a moment.
+    pub(crate) fn new(peer: Peer, wire: W, now: u64) -> Line<W>
+        ensures { result ≡ record {
+          peer = peer;
+          wire = wire;
+          ready = true;
+          heard = now;
+          closed = None;
+          inbox = [];
+          outbox = [];
+        } }
+    {
+        Line {
+            peer,
+            wire,
+            ready: true,
+            heard: now,
+            closed: None,
+            inbox: Store::new(),
+            outbox: Store::new(),
+        }
+    }
+
+    /// The moment at which the peer is ended if nothing comes of it, where silence may last so long.
+    pub(crate) fn last_moment(&self, silence: u64) -> u64
+        ensures { result ≡ last_moment silence self.now }
+    {
+        let silent = self.heard.saturating_add(silence);
+        match self.closed {
+            Some(last) => last.min(silent),
+            None => silent,
+        }
+    }
+
+    /// Gives the peer a turn if its wire may be ready. Answers whether it goes on: it does not where it was silent for
+    /// too long, or its stream is over.
+    pub(crate) fn serve(&mut self, adapter: &mut Adapter, now: u64, silence: u64) -> bool
+        ensures { IsServedLine W.left W.written now silence adapter.old self.old adapter.new self.new result }
+    {
+        if now >= self.last_moment(silence) {
+            return false;
+        }
+        if !self.ready {
+            return true;
+        }
+        self.have_turn(adapter, now)
+    }
+
+    /// Has one turn. Answers whether the stream goes on.
+    fn have_turn(&mut self, adapter: &mut Adapter, now: u64) -> bool
+        ensures { HasTurn W.left W.written now adapter.old self.old adapter.new self.new result }
+    {
+        let turn = self.turn(adapter, now);
+        self.ready = turn == Turn::More;
+        turn != Turn::Over
+    }
+
+    /// One turn: what waits of an answer is written, and once all of it is out a read is made and fed.
+    fn turn(&mut self, adapter: &mut Adapter, now: u64) -> Turn
+        ensures turn { IsTurn now self.old.peer (desk_of W.left W.written adapter.old self.old)
+            (desk_of W.left W.written adapter.new self.new) }
+        ensures told { IsToldBy (desk_of W.left W.written adapter.new self.new) result }
+        ensures peer { self.new.peer ≡ self.old.peer }
+    {
+        if let Some(waits) = self.flush() {
+            return waits;
+        }
+        if self.closed.is_some() {
+            return self.throw_away();
+        }
+        if let Some(ends) = self.fetch(now) {
+            return ends;
+        }
+        self.feed_all(adapter, now)
+    }
+
+    /// Reads once, where nothing waits to be fed. Answers `None` where something waits then.
+    fn fetch(&mut self, now: u64) -> Option<Turn>
+        ensures fetched { (adapter : AdapterState) → IsFetched (desk_of W.left W.written adapter self.old)
+            (desk_of W.left W.written adapter self.new) }
+        ensures none { IfSome result (λ turn. (self.new.inbox ≡ []) × HasEnded turn) }
+        ensures peer { self.new.peer ≡ self.old.peer }
+        ensures outbox { self.new.outbox ≡ self.old.outbox }
+        ensures closed { self.new.closed ≡ self.old.closed }
+    {
+        if !self.inbox.is_empty() {
+            return None;
+        }
+        match self.inbox.fill(&mut self.wire) {
+            Came::Bytes(_) => {
+                self.heard = now;
+                None
+            }
+            Came::Later => Some(Turn::Reads),
+            Came::End | Came::Failed => Some(Turn::Over),
+        }
+    }
+
+    /// Feeds what was read, frame by frame, until nothing is left, an answer is not out, or the adapter closes.
+    fn feed_all(&mut self, adapter: &mut Adapter, now: u64) -> Turn
+        requires out { self.old.outbox ≡ [] }
+        requires open { self.old.closed ≡ None }
+        ensures fed { AreFed now self.old.peer (desk_of W.left W.written adapter.old self.old)
+            (desk_of W.left W.written adapter.new self.new) }
+        ensures told { IsToldBy (desk_of W.left W.written adapter.new self.new) result }
+        ensures more { result ≢ Turn.Reads }
+        ensures peer { self.new.peer ≡ self.old.peer }
+    {
+        while !self.inbox.is_empty() {
+            self.feed_once(adapter, now);
+            if let Some(unsent) = self.flush() {
+                return unsent;
+            }
+            if self.closed.is_some() {
+                return Turn::More;
+            }
+        }
+        Turn::More
+    }
+
+    /// Feeds what was read up to the end of one frame. What answers it waits to be written.
+    fn feed_once(&mut self, adapter: &mut Adapter, now: u64)
+        requires out { self.old.outbox ≡ [] }
+        requires open { self.old.closed ≡ None }
+        ensures fed { desk_of W.left W.written adapter.new self.new
+            ≡ fed_once now self.old.peer (desk_of W.left W.written adapter.old self.old) }
+        ensures peer { self.new.peer ≡ self.old.peer }
+        ensures progress { 0 < length self.old.inbox → self.new.closed ≡ None →
+            length self.new.inbox < length self.old.inbox }
+    {
+        let fed = adapter.feed(now, &self.peer, self.inbox.as_slice());
+        let (taken, close) = (fed.taken, fed.close);
+        if let Some(frame) = fed.answer {
+            self.outbox.put(frame);
+        }
+        self.inbox.drop_front(taken);
+        if close {
+            self.closed = Some(now.saturating_add(LINGER));
+        }
+    }
+
+    /// Writes what waits of an answer. Answers `None` where all of it is out.
+    fn flush(&mut self) -> Option<Turn>
+        ensures flushed { (adapter : AdapterState) → IsFlushed (desk_of W.left W.written adapter self.old)
+            (desk_of W.left W.written adapter self.new) }
+        ensures out { IfNone result (self.new.outbox ≡ []) }
+        ensures waits { IfSome result (λ turn. (self.new.outbox ≢ []) × IsWaiting turn) }
+        ensures peer { self.new.peer ≡ self.old.peer }
+        ensures inbox { self.new.inbox ≡ self.old.inbox }
+        ensures closed { self.new.closed ≡ self.old.closed }
+    {
+        while !self.outbox.is_empty() {
+            match self.wire.write(self.outbox.as_slice()) {
+                None => return Some(Turn::Over),
+                Some(0) => return Some(Turn::Writes),
+                Some(size) => self.outbox.drop_front(size),
+            }
+        }
+        None
+    }
+
+    /// Reads once of a peer that the adapter closed, and throws it away; what is written to it is at its end.
+    fn throw_away(&mut self) -> Turn
+        requires out { self.old.outbox ≡ [] }
+        ensures thrown { (adapter : AdapterState) → IsThrownAway (desk_of W.left W.written adapter self.old)
+            (desk_of W.left W.written adapter self.new) }
+        ensures told { (adapter : AdapterState) → IsToldBy (desk_of W.left W.written adapter self.new) result }
+        ensures peer { self.new.peer ≡ self.old.peer }
+    {
+        self.wire.shut();
+        let came = self.inbox.fill(&mut self.wire);
+        self.inbox.clear();
+        match came {
+            Came::Bytes(_) => Turn::More,
+            Came::Later => Turn::Reads,
+            Came::End | Came::Failed => Turn::Over,
+        }
+    }
+}

@@ -1,0 +1,3 @@
+//! Tests of `enip_bench`: the largest connections.
+
+mod large;

@@ -1,0 +1,14 @@
+//! Tests of the crates `cip_bytes` to `cip_manager`: results and lengths that no command prints, steps of a search, and
+//! very long runs.
+
+mod bytes;
+mod class3_changed;
+mod class3_long;
+mod class3_originator;
+mod counting;
+mod manager_deadlines;
+mod manager_find;
+mod manager_openings;
+mod message;
+mod objects;
+mod words;

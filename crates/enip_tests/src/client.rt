@@ -1,0 +1,5 @@
+//! Tests of `enip_client`: calls in any order, openings of each size, and devices that fail.
+
+mod asking;
+mod calls;
+mod openings;

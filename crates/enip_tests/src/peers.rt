@@ -1,0 +1,4 @@
+//! Several peers at once, over wires that follow a script.
+
+mod turns;
+mod wires;

@@ -1,0 +1,9 @@
+//! Tests of `enip_text` and `enip_config` together: readers and writers that fail, and a client beside an adapter.
+
+mod answering;
+mod asking;
+mod configuration;
+mod demo;
+mod replaying;
+mod showing;
+mod streams;

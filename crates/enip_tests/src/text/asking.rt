@@ -1,0 +1,852 @@
+//! `enip get`, `set` and `call` over memory, and a client and an adapter back to back.
+
+use super::demo::demo_adapter;
+use super::streams::BrokenWriter;
+use cip_message::Path;
+use enip_adapter::{Adapter, Peer};
+use enip_client::{Client, Heard};
+use enip_text::{AskingStop, Question, Replied, WANTS, ask_over, end_asking};
+use enip_wire::{MemorySink, MemorySource, Sink, Source};
+use std::alloc::Global;
+use std::io::Write;
+use std::process::Abort;
+use std::test::Fail;
+
+/// RegisterSession with context 1, its answer, and UnRegisterSession, which has no context.
+const REGISTER: &[u8] = b"\x65\0\x04\0\0\0\0\0\0\0\0\0\x01\0\0\0\0\0\0\0\0\0\0\0\x01\0\0\0";
+
+const REGISTERED: &[u8] = b"\x65\0\x04\0\x01\0\0\0\0\0\0\0\x01\0\0\0\0\0\0\0\0\0\0\0\x01\0\0\0";
+
+const UNREGISTER: &[u8] = b"\x66\0\0\0\x01\0\0\0\0\0\0\0\0\0\0\0\0\0\0\0\0\0\0\0";
+
+/// The vendor's get, context 2.
+const GET_SENT: &[u8] = b"\x6f\0\x18\0\x01\0\0\0\0\0\0\0\x02\0\0\0\0\0\0\0\0\0\0\0\
+    \0\0\0\0\0\0\x02\0\0\0\0\0\xb2\0\x08\0\x0e\x03\x20\x01\x24\x01\x30\x01";
+
+/// Forward_Open, context 2, and the router's reply to it: O->T ID 1.
+const OPEN: &[u8] = b"\x6f\0\x3e\0\x01\0\0\0\0\0\0\0\x02\0\0\0\0\0\0\0\0\0\0\0\
+    \0\0\0\0\0\0\x02\0\0\0\0\0\xb2\0\x2e\0\
+    \x54\x02\x20\x06\x24\x01\x0a\x0e\0\0\0\0\x44\x33\x22\x11\x01\0\x42\0\x78\x56\x34\x12\0\0\0\0\
+    \x80\x84\x1e\0\xf4\x43\x80\x84\x1e\0\xf4\x43\xa3\x02\x20\x02\x24\x01";
+
+const OPENED: &[u8] = b"\xd4\0\0\0\x01\0\0\0\x44\x33\x22\x11\
+    \x01\0\x42\0\x78\x56\x34\x12\x80\x84\x1e\0\x80\x84\x1e\0\0\0";
+
+/// The counter's Add of 5 on connection 1 with count 1.
+const ADD_SENT: &[u8] = b"\x70\0\x20\0\x01\0\0\0\0\0\0\0\0\0\0\0\0\0\0\0\0\0\0\0\
+    \0\0\0\0\0\0\x02\0\xa1\0\x04\0\x01\0\0\0\xb1\0\x0c\0\x01\0\x32\x02\x20\x64\x24\x01\x05\0\0\0";
+
+/// Forward_Close, context 3, and the router's reply to it.
+const CLOSE: &[u8] = b"\x6f\0\x26\0\x01\0\0\0\0\0\0\0\x03\0\0\0\0\0\0\0\0\0\0\0\
+    \0\0\0\0\0\0\x02\0\0\0\0\0\xb2\0\x16\0\
+    \x4e\x02\x20\x06\x24\x01\x0a\x0e\x01\0\x42\0\x78\x56\x34\x12\x02\0\x20\x02\x24\x01";
+
+const CLOSED: &[u8] = b"\xce\0\0\0\x01\0\x42\0\x78\x56\x34\x12\0\0";
+
+const VENDOR: Question<'static> = Question {
+    service: 0x0e,
+    path: Path {
+        class: 1,
+        instance: 1,
+        attribute: Some(1),
+        member: None,
+    },
+    digits: "",
+};
+
+const ADD: Question<'static> = Question {
+    service: 0x32,
+    path: Path {
+        class: 0x64,
+        instance: 1,
+        attribute: None,
+        member: None,
+    },
+    digits: "05 000000",
+};
+
+/// What a device answers: these bytes, a SendRRData of session 1 with a context and a reply of the router, or a
+/// SendUnitData of session 1, T->O ID 0x11223344, with a count and a reply.
+#[derive(Clone, Copy)]
+enum Answer<'a> {
+    Bytes(&'a [u8]),
+    Reply(u8, &'a [u8]),
+    Item(&'a [u8]),
+}
+
+/// Appends these texts.
+fn push_all(answers: &mut Vec<u8>, texts: &[&[u8]]) -> Result<(), Fail> {
+    for text in texts {
+        answers.extend_from_slice(text)?;
+    }
+    Ok(())
+}
+
+/// What stands around the numbers of a SendRRData: its length, its context, and the count of its reply.
+const REPLY_COMMAND: &[u8] = b"\x6f\0";
+
+const REPLY_SESSION: &[u8] = b"\0\x01\0\0\0\0\0\0\0";
+
+const REPLY_PACKET: &[u8] = b"\0\0\0\0\0\0\0\0\0\0\0\0\0\0\0\0\0\x02\0\0\0\0\0\xb2\0";
+
+fn push_reply(answers: &mut Vec<u8>, context: u8, reply: &[u8]) -> Result<(), Fail> {
+    let count = u8::try_from(reply.len()).ok().ok_or("a short reply")?;
+    let length = count.checked_add(16).ok_or("a short reply")?;
+    let texts: [&[u8]; 7] = [
+        REPLY_COMMAND,
+        &[length],
+        REPLY_SESSION,
+        &[context],
+        REPLY_PACKET,
+        &[count, 0],
+        reply,
+    ];
+    push_all(answers, &texts)
+}
+
+/// What stands around the numbers of a SendUnitData: its length, and the count of its item.
+const ITEM_COMMAND: &[u8] = b"\x70\0";
+
+const ITEM_PACKET: &[u8] =
+    b"\0\x01\0\0\0\0\0\0\0\0\0\0\0\0\0\0\0\0\0\0\0\0\0\0\0\0\0\x02\0\xa1\0\x04\0\
+    \x44\x33\x22\x11\xb1\0";
+
+fn push_item(answers: &mut Vec<u8>, item: &[u8]) -> Result<(), Fail> {
+    let count = u8::try_from(item.len()).ok().ok_or("a short item")?;
+    let length = count.checked_add(20).ok_or("a short item")?;
+    let texts: [&[u8]; 5] = [ITEM_COMMAND, &[length], ITEM_PACKET, &[count, 0], item];
+    push_all(answers, &texts)
+}
+
+/// The answers, one behind the other.
+fn bytes_of(alloc: Global, answers: &[Answer<'_>]) -> Result<Vec<u8>, Fail> {
+    let mut bytes = Vec::new(alloc);
+    for answer in answers {
+        match *answer {
+            Answer::Bytes(text) => bytes.extend_from_slice(text)?,
+            Answer::Reply(context, reply) => push_reply(&mut bytes, context, reply)?,
+            Answer::Item(item) => push_item(&mut bytes, item)?,
+        }
+    }
+    Ok(bytes)
+}
+
+/// Asks over any devices. Its contract says nothing, so that whoever calls it carries no state on.
+fn asked_over<R: Source, W: Sink, O: Write + Drop>(
+    alloc: Global,
+    reader: &mut R,
+    writer: &mut W,
+    request: &[u8],
+    connected: bool,
+    output: O,
+) -> Result<Result<Replied, AskingStop>, Fail> {
+    if reader.failures() == u64::MAX || writer.failures() == u64::MAX {
+        return Err(Fail::from("devices that can fail once more"));
+    }
+    Ok(ask_over(alloc, reader, writer, request, connected, output))
+}
+
+/// The same of a question, and its exit status.
+fn run<R: Source, W: Sink>(
+    alloc: Global,
+    question: &Question<'_>,
+    connected: bool,
+    reader: &mut R,
+    writer: &mut W,
+    output: &mut Vec<u8>,
+    errors: &mut Vec<u8>,
+) -> Result<u8, Fail> {
+    let told = match question.request(alloc) {
+        Ok(request) => {
+            let request = request.as_slice();
+            asked_over(alloc, reader, writer, request, connected, output)?
+        }
+        Err(stop) => Err(stop),
+    };
+    Ok(end_asking(told, errors))
+}
+
+/// What is asked of a device, what it answers, how many bytes it takes, and what comes of it; what is sent is not
+/// looked at where it is `None`.
+#[derive(Clone, Copy)]
+struct Asked<'a> {
+    name: &'static str,
+    question: Question<'a>,
+    connected: bool,
+    answers: &'a [Answer<'a>],
+    room: usize,
+    status: u8,
+    output: &'a str,
+    errors: &'a str,
+    sent: Option<&'a [&'a [u8]]>,
+}
+
+/// What was printed and sent.
+fn check_texts<A: Abort>(
+    rt: &A,
+    alloc: Global,
+    row: &Asked<'_>,
+    output: &[u8],
+    errors: &[u8],
+    sent: &[u8],
+) -> Result<(), Fail> {
+    assert_eq!(rt; output, row.output.as_bytes(), "{}", row.name);
+    assert_eq!(rt; errors, row.errors.as_bytes(), "{}", row.name);
+    if let Some(texts) = row.sent {
+        let mut wanted = Vec::new(alloc);
+        push_all(&mut wanted, texts)?;
+        assert_eq!(rt; sent, wanted.as_slice(), "{}", row.name);
+    }
+    Ok(())
+}
+
+/// Asks over memory, of a device that gives at most 7 bytes a read.
+fn check_asked<A: Abort>(rt: &A, alloc: Global, row: &Asked<'_>) -> Result<(), Fail> {
+    let answers = bytes_of(alloc, row.answers)?;
+    let mut taken = vec![in alloc; 0u8; row.room]?;
+    let mut source = MemorySource::new(answers.as_slice(), &[]).with_largest_size(7);
+    let mut sink = MemorySink::new(taken.as_mut_slice());
+    let mut output = Vec::new(alloc);
+    let mut errors = Vec::new(alloc);
+    let status = run(
+        alloc,
+        &row.question,
+        row.connected,
+        &mut source,
+        &mut sink,
+        &mut output,
+        &mut errors,
+    )?;
+    assert_eq!(rt; status, row.status, "{}", row.name);
+    check_texts(
+        rt,
+        alloc,
+        row,
+        output.as_slice(),
+        errors.as_slice(),
+        sink.written(),
+    )
+}
+
+/// The vendor's get without a connection, which is answered.
+const GET: Asked<'static> = Asked {
+    name: "the frames of a get",
+    question: VENDOR,
+    connected: false,
+    answers: &[
+        Answer::Bytes(REGISTERED),
+        Answer::Reply(2, b"\x8e\0\0\0\x34\x12"),
+    ],
+    room: 1_000,
+    status: 0,
+    output: "3412\n",
+    errors: "",
+    sent: Some(&[REGISTER, GET_SENT, UNREGISTER]),
+};
+
+/// The counter's Add on a connection, which is answered.
+const CALL: Asked<'static> = Asked {
+    name: "the value after an addition",
+    question: ADD,
+    connected: true,
+    answers: &[
+        Answer::Bytes(REGISTERED),
+        Answer::Reply(2, OPENED),
+        Answer::Item(b"\x01\0\xb2\0\0\0\x05\0\0\0"),
+        Answer::Reply(3, CLOSED),
+    ],
+    room: 1_000,
+    status: 0,
+    output: "05000000\n",
+    errors: "",
+    sent: Some(&[REGISTER, OPEN, ADD_SENT, CLOSE, UNREGISTER]),
+};
+
+/// Replies without a connection.
+static REPLIES: [Asked<'static>; 8] = [
+    GET,
+    Asked {
+        name: "no data",
+        answers: &[Answer::Bytes(REGISTERED), Answer::Reply(2, b"\x8e\0\0\0")],
+        output: "ok\n",
+        sent: None,
+        ..GET
+    },
+    Asked {
+        name: "a status",
+        answers: &[Answer::Bytes(REGISTERED), Answer::Reply(2, b"\x8e\0\x05\0")],
+        status: 6,
+        output: "refused 0x05\n",
+        sent: None,
+        ..GET
+    },
+    Asked {
+        name: "a status with a word",
+        answers: &[
+            Answer::Bytes(REGISTERED),
+            Answer::Reply(2, b"\x8e\0\x01\x01\x15\x03"),
+        ],
+        status: 6,
+        output: "refused 0x01 0x0315\n",
+        sent: None,
+        ..GET
+    },
+    Asked {
+        name: "two words, the first of them 0",
+        answers: &[
+            Answer::Bytes(REGISTERED),
+            Answer::Reply(2, b"\x8e\0\x01\x02\0\0\x15\x03"),
+        ],
+        status: 6,
+        output: "refused 0x01\n",
+        sent: None,
+        ..GET
+    },
+    Asked {
+        name: "data behind a status",
+        answers: &[
+            Answer::Bytes(REGISTERED),
+            Answer::Reply(2, b"\x8e\0\x0a\0\x01\0"),
+        ],
+        status: 6,
+        output: "refused 0x0a\n",
+        sent: None,
+        ..GET
+    },
+    Asked {
+        name: "data behind a word",
+        answers: &[
+            Answer::Bytes(REGISTERED),
+            Answer::Reply(2, b"\x8e\0\0\x01\x01\0\xab"),
+        ],
+        output: "ab\n",
+        sent: None,
+        ..GET
+    },
+    Asked {
+        name: "additional words that go past the end",
+        answers: &[Answer::Bytes(REGISTERED), Answer::Reply(2, b"\x8e\0\0\x01")],
+        status: 7,
+        output: "",
+        errors: "fault 6\n",
+        sent: None,
+        ..GET
+    },
+];
+
+/// Replies on a connection.
+static ITEMS: [Asked<'static>; 5] = [
+    CALL,
+    Asked {
+        name: "no data",
+        answers: &[
+            Answer::Bytes(REGISTERED),
+            Answer::Reply(2, OPENED),
+            Answer::Item(b"\x01\0\xb2\0\0\0"),
+            Answer::Reply(3, CLOSED),
+        ],
+        output: "ok\n",
+        ..CALL
+    },
+    Asked {
+        name: "a status",
+        answers: &[
+            Answer::Bytes(REGISTERED),
+            Answer::Reply(2, OPENED),
+            Answer::Item(b"\x01\0\xb2\0\x20\0"),
+            Answer::Reply(3, CLOSED),
+        ],
+        status: 6,
+        output: "refused 0x20\n",
+        ..CALL
+    },
+    Asked {
+        name: "a status with a word",
+        answers: &[
+            Answer::Bytes(REGISTERED),
+            Answer::Reply(2, OPENED),
+            Answer::Item(b"\x01\0\xb2\0\x01\x01\x09\x01"),
+            Answer::Reply(3, CLOSED),
+        ],
+        status: 6,
+        output: "refused 0x01 0x0109\n",
+        ..CALL
+    },
+    Asked {
+        name: "words that go past the end",
+        answers: &[
+            Answer::Bytes(REGISTERED),
+            Answer::Reply(2, OPENED),
+            Answer::Item(b"\x01\0\xb2\0\0\x05"),
+            Answer::Reply(3, CLOSED),
+        ],
+        status: 7,
+        output: "",
+        errors: "fault 6\n",
+        ..CALL
+    },
+];
+
+/// Connections that are refused at their opening or at their close.
+static REFUSED: [Asked<'static>; 3] = [
+    Asked {
+        name: "there is one with these numbers",
+        answers: &[
+            Answer::Bytes(REGISTERED),
+            Answer::Reply(2, b"\xd4\0\x01\x01\0\x01\x01\0\x42\0\x78\x56\x34\x12\0\0"),
+            Answer::Item(b"\x01\0\xb2\0\0\0\x05\0\0\0"),
+            Answer::Reply(3, b""),
+        ],
+        status: 6,
+        output: "refused 0x01 0x0100\n",
+        sent: None,
+        ..CALL
+    },
+    Asked {
+        name: "there is no place",
+        answers: &[
+            Answer::Bytes(REGISTERED),
+            Answer::Reply(2, b"\xd4\0\x08\0"),
+            Answer::Item(b"\x01\0\xb2\0\0\0\x05\0\0\0"),
+            Answer::Reply(3, b""),
+        ],
+        status: 6,
+        output: "refused 0x08\n",
+        sent: None,
+        ..CALL
+    },
+    Asked {
+        name: "there is none to be closed",
+        answers: &[
+            Answer::Bytes(REGISTERED),
+            Answer::Reply(2, OPENED),
+            Answer::Item(b"\x01\0\xb2\0\0\0\x05\0\0\0"),
+            Answer::Reply(3, b"\xce\0\x01\x01\x07\x01\x01\0\x42\0\x78\x56\x34\x12\0\0"),
+        ],
+        status: 6,
+        output: "refused 0x01 0x0107\n",
+        sent: None,
+        ..CALL
+    },
+];
+
+/// Exchanges that fail, with and without a connection.
+static FAILING: [Asked<'static>; 8] = [
+    Asked {
+        name: "the input ends at once",
+        answers: &[Answer::Bytes(b"")],
+        status: 5,
+        output: "",
+        errors: "device\n",
+        sent: None,
+        ..CALL
+    },
+    Asked {
+        name: "the input ends within a frame",
+        answers: &[Answer::Bytes(b"\x65\0\x04")],
+        status: 5,
+        output: "",
+        errors: "device\n",
+        sent: None,
+        ..CALL
+    },
+    Asked {
+        name: "the input ends in place of the reply",
+        answers: &[Answer::Bytes(REGISTERED)],
+        status: 5,
+        output: "",
+        errors: "device\n",
+        sent: None,
+        ..CALL
+    },
+    Asked {
+        name: "the device takes no byte",
+        answers: &[Answer::Bytes(REGISTERED)],
+        room: 0,
+        status: 5,
+        output: "",
+        errors: "device\n",
+        sent: None,
+        ..CALL
+    },
+    Asked {
+        name: "the device does not take all",
+        answers: &[Answer::Bytes(REGISTERED)],
+        room: 40,
+        status: 5,
+        output: "",
+        errors: "device\n",
+        sent: None,
+        ..CALL
+    },
+    Asked {
+        name: "an encapsulation status",
+        answers: &[Answer::Bytes(
+            b"\x65\0\x04\0\0\0\0\0\x69\0\0\0\x01\0\0\0\0\0\0\0\0\0\0\0\x01\0\0\0",
+        )],
+        status: 7,
+        output: "",
+        errors: "fault 2\n",
+        sent: None,
+        ..CALL
+    },
+    Asked {
+        name: "a frame that is too long",
+        answers: &[Answer::Bytes(b"\x65\0\xe8\xff\0\0\0\0\0\0\0\0\x01\0\0\0\0\0\0\0\0\0\0\0")],
+        status: 7,
+        output: "",
+        errors: "fault 4\n",
+        sent: None,
+        ..CALL
+    },
+    Asked {
+        name: "a session with no data",
+        answers: &[Answer::Bytes(b"\x65\0\0\0\x01\0\0\0\0\0\0\0\x01\0\0\0\0\0\0\0\0\0\0\0")],
+        status: 7,
+        output: "",
+        errors: "fault 6\n",
+        sent: None,
+        ..CALL
+    },
+];
+
+/// Data that are no digits: nothing is sent.
+const NO_DIGITS: [&str; 4] = ["0g", "012", "0x01", "-"];
+
+/// So many bytes of data, with and without a connection: a request has at most 504 bytes, on a connection at most 498,
+/// and 6 of them stand before the data.
+const LENGTHS: [(usize, bool, u8, &str); 4] = [
+    (498, false, 5, "device\n"),
+    (499, false, 7, "fault 7\n"),
+    (492, true, 5, "device\n"),
+    (493, true, 7, "fault 7\n"),
+];
+
+#[test]
+fn exchanges_over_memory(rt: HostRuntime) -> Result<(), Fail> {
+    for rows in [
+        REPLIES.as_slice(),
+        ITEMS.as_slice(),
+        REFUSED.as_slice(),
+        FAILING.as_slice(),
+    ] {
+        for row in rows {
+            check_asked(&rt, rt.alloc(), row)?;
+        }
+    }
+    Ok(())
+}
+
+#[test]
+fn exchanges_that_fail_without_a_connection(rt: HostRuntime) -> Result<(), Fail> {
+    for row in &FAILING {
+        let row = Asked {
+            connected: false,
+            ..*row
+        };
+        check_asked(&rt, rt.alloc(), &row)?;
+    }
+    Ok(())
+}
+
+#[test]
+fn data_that_are_no_digits(rt: HostRuntime) -> Result<(), Fail> {
+    for digits in NO_DIGITS {
+        let row = Asked {
+            name: digits,
+            question: Question { digits, ..ADD },
+            answers: &[Answer::Bytes(REGISTERED)],
+            status: 2,
+            output: "",
+            errors: "hex\n",
+            sent: Some(&[]),
+            ..GET
+        };
+        check_asked(&rt, rt.alloc(), &row)?;
+    }
+    Ok(())
+}
+
+/// The digits of so many bytes 0.
+fn zeros(alloc: Global, count: usize) -> Result<String, Fail> {
+    let mut digits = String::new(alloc);
+    for _ in 0..count {
+        digits.push_str("00")?;
+    }
+    Ok(digits)
+}
+
+/// A device registers a session and opens a connection where one is asked for, and answers no more.
+fn first_answers(connected: bool) -> &'static [Answer<'static>] {
+    if connected {
+        &[Answer::Bytes(REGISTERED), Answer::Reply(2, OPENED)]
+    } else {
+        &[Answer::Bytes(REGISTERED)]
+    }
+}
+
+/// It is asked with so many digits of data.
+fn check_length<'a, A: Abort>(
+    rt: &A,
+    alloc: Global,
+    digits: &'a str,
+    connected: bool,
+    status: u8,
+    errors: &'a str,
+) -> Result<(), Fail> {
+    let row = Asked {
+        name: "a request of the longest length, or a longer one",
+        question: Question { digits, ..ADD },
+        connected,
+        answers: first_answers(connected),
+        room: 1_000,
+        status,
+        output: "",
+        errors,
+        sent: None,
+    };
+    check_asked(rt, alloc, &row)
+}
+
+#[test]
+fn requests_that_are_too_long(rt: HostRuntime) -> Result<(), Fail> {
+    for (count, connected, status, errors) in LENGTHS {
+        let digits = zeros(rt.alloc(), count)?;
+        check_length(&rt, rt.alloc(), digits.as_str(), connected, status, errors)?;
+    }
+    Ok(())
+}
+
+/// The vendor's get over this device, printed here: the status is 5, and `device` is told.
+fn check_device_fails<A: Abort, R: Source, O: Write + Drop>(
+    rt: &A,
+    alloc: Global,
+    reader: &mut R,
+    output: O,
+) -> Result<(), Fail> {
+    let mut errors = Vec::new(alloc);
+    let mut taken = [0; 100];
+    let mut sink = MemorySink::new(&mut taken);
+    let request = b"\x0e\x03\x20\x01\x24\x01\x30\x01";
+    let told = asked_over(alloc, reader, &mut sink, request, false, output)?;
+    assert_eq!(rt; end_asking(told, &mut errors), 5);
+    assert_eq!(rt; errors.as_slice(), b"device\n".as_slice());
+    Ok(())
+}
+
+#[test]
+fn a_reader_that_fails(rt: HostRuntime) -> Result<(), Fail> {
+    let mut output = Vec::new(rt.alloc());
+    let mut source = MemorySource::new(REGISTERED, &[]).with_failure_after(1);
+    check_device_fails(&rt, rt.alloc(), &mut source, &mut output)?;
+    assert_eq!(rt; output.len(), 0);
+    Ok(())
+}
+
+#[test]
+fn a_reply_that_can_not_be_printed(rt: HostRuntime) -> Result<(), Fail> {
+    let mut written = Vec::new(rt.alloc());
+    let answers = bytes_of(rt.alloc(), GET.answers)?;
+    let mut source = MemorySource::new(answers.as_slice(), &[]);
+    let output = BrokenWriter {
+        text: &mut written,
+        room: 2,
+    };
+    check_device_fails(&rt, rt.alloc(), &mut source, output)?;
+    assert_eq!(rt; written.as_slice(), b"34".as_slice());
+    Ok(())
+}
+
+/// The longest and the shortest spelling of a path, and capital digits.
+#[test]
+fn requests_of_words(rt: HostRuntime) -> Result<(), Fail> {
+    let largest = Question {
+        service: 127,
+        path: Path {
+            class: 65_535,
+            instance: 4_294_967_295,
+            attribute: Some(65_535),
+            member: None,
+        },
+        digits: "aBCd",
+    };
+    let request = largest.request(rt.alloc()).ok().ok_or("a request")?;
+    assert_eq!(rt;
+        request.as_slice(),
+        b"\x7f\x07\x21\0\xff\xff\x26\0\xff\xff\xff\xff\x31\0\xff\xff\xab\xcd".as_slice()
+    );
+    let request = VENDOR.request(rt.alloc()).ok().ok_or("a request")?;
+    assert_eq!(rt;
+        request.as_slice(),
+        b"\x0e\x03\x20\x01\x24\x01\x30\x01".as_slice()
+    );
+    Ok(())
+}
+
+/// Each service of the objects, and its reply.
+const SERVICES: [(&[u8], &[u8]); 8] = [
+    // Get_Attributes_All and Get_Attribute_List of Identity
+    (
+        b"\x01\x02\x20\x01\x24\x01",
+        b"\x81\0\0\0\x34\x12\x2b\0\x07\0\x02\x05\0\0\x04\x03\x02\x01\x04Demo",
+    ),
+    (
+        b"\x03\x02\x20\x01\x24\x01\x03\0\x01\0\x63\0\x02\0",
+        b"\x83\0\x0a\0\x03\0\x01\0\0\0\x34\x12\x63\0\x14\0\x02\0\0\0\x2b\0",
+    ),
+    // Set_Attribute_Single, Get_Member, Set_Member and Get_Attribute_Single of an assembly
+    (
+        b"\x10\x03\x20\x04\x24\x64\x30\x03\x01\x02\x03\x04",
+        b"\x90\0\0\0",
+    ),
+    (
+        b"\x18\x04\x20\x04\x24\x64\x30\x03\x28\x02",
+        b"\x98\0\0\0\x02\x03",
+    ),
+    (
+        b"\x19\x04\x20\x04\x24\x64\x30\x03\x28\x02\xaa\xbb",
+        b"\x99\0\0\0",
+    ),
+    (
+        b"\x0e\x03\x20\x04\x24\x64\x30\x03",
+        b"\x8e\0\0\0\x01\xaa\xbb\x04",
+    ),
+    // Add and Clear of the counter
+    (
+        b"\x32\x02\x20\x64\x24\x01\x64\0\0\0",
+        b"\xb2\0\0\0\x64\0\0\0",
+    ),
+    (b"\x33\x02\x20\x64\x24\x01", b"\xb3\0\0\0\x64\0\0\0"),
+];
+
+/// What a client does.
+#[derive(Clone, Copy)]
+enum Sent<'a> {
+    Registers,
+    Opens,
+    Asks(&'a [u8]),
+    Submits(&'a [u8]),
+    Resends,
+    Closes,
+}
+
+/// Its frame.
+fn lent<'a>(client: &'a mut Client, sent: Sent<'_>) -> Option<&'a [u8]> {
+    match sent {
+        Sent::Registers => client.register().ok(),
+        Sent::Opens => client.open().ok(),
+        Sent::Asks(request) => client.unconnected(request).ok(),
+        Sent::Submits(request) => client.submit(request).ok(),
+        Sent::Resends => client.resend(),
+        Sent::Closes => client.close().ok(),
+    }
+}
+
+/// What the adapter answers to a frame of the client.
+fn pass<'a>(adapter: &'a mut Adapter, peer: &Peer, frame: &[u8]) -> Option<&'a [u8]> {
+    adapter.feed(0, peer, frame).answer
+}
+
+/// What the client hears of an answer.
+fn check_heard<A: Abort>(rt: &A, client: &mut Client, answer: &[u8], heard: Heard<'_>) {
+    assert_eq!(rt; client.feed(answer).heard, heard);
+}
+
+/// A client and the adapter that it is a peer of.
+#[derive(Drop)]
+struct Ends {
+    adapter: Adapter,
+    peer: Peer,
+    client: Client,
+}
+
+/// The client sends this, and hears that of the adapter's answer.
+fn exchange<A: Abort>(
+    rt: &A,
+    ends: &mut Ends,
+    sent: Sent<'_>,
+    heard: Heard<'_>,
+) -> Result<(), Fail> {
+    let frame = lent(&mut ends.client, sent).ok_or("a frame")?;
+    let answer = pass(&mut ends.adapter, &ends.peer, frame).ok_or("an answer")?;
+    check_heard(rt, &mut ends.client, answer, heard);
+    Ok(())
+}
+
+/// The client sends this, and what is answered is lost.
+fn loses(ends: &mut Ends, sent: Sent<'_>) -> Result<(), Fail> {
+    let frame = lent(&mut ends.client, sent).ok_or("a frame")?;
+    let _ = pass(&mut ends.adapter, &ends.peer, frame).ok_or("an answer")?;
+    Ok(())
+}
+
+/// A request on the connection is answered, or the answer is lost and the request sent again.
+fn submits<A: Abort>(
+    rt: &A,
+    ends: &mut Ends,
+    request: &[u8],
+    reply: &[u8],
+    lost: bool,
+) -> Result<(), Fail> {
+    let heard = Heard::Accepted(reply);
+    if lost {
+        loses(ends, Sent::Submits(request))?;
+        exchange(rt, ends, Sent::Resends, heard)
+    } else {
+        exchange(rt, ends, Sent::Submits(request), heard)
+    }
+}
+
+/// The session ends, and the adapter closes.
+fn check_left<A: Abort>(rt: &A, ends: &mut Ends) -> Result<(), Fail> {
+    let left = ends.client.unregister().ok().ok_or("a frame")?;
+    assert!(rt; ends.adapter.feed(0, &ends.peer, left).close);
+    Ok(())
+}
+
+/// The ends, of which nothing was sent.
+fn both_ends(alloc: Global) -> Result<Ends, Fail> {
+    let mut adapter = demo_adapter(alloc)?;
+    let peer = adapter.begin().ok().ok_or("a peer")?;
+    let client = Client::new(alloc, &WANTS).ok().ok_or("a client")?;
+    Ok(Ends {
+        adapter,
+        peer,
+        client,
+    })
+}
+
+/// A session in which each service is asked for so often without a connection, and then on one, also with a lost answer.
+fn session<A: Abort>(rt: &A, ends: &mut Ends, rounds: usize) -> Result<(), Fail> {
+    exchange(rt, ends, Sent::Registers, Heard::Registered)?;
+    for _ in 0..rounds {
+        for (request, reply) in SERVICES {
+            exchange(rt, ends, Sent::Asks(request), Heard::Reply(reply))?;
+        }
+    }
+    exchange(rt, ends, Sent::Opens, Heard::Opened)?;
+    for round in 0..rounds {
+        for (request, reply) in SERVICES {
+            submits(rt, ends, request, reply, round % 2 == 1)?;
+        }
+    }
+    exchange(rt, ends, Sent::Closes, Heard::Closed)?;
+    check_left(rt, ends)
+}
+
+#[test]
+fn a_client_and_an_adapter(rt: HostRuntime) -> Result<(), Fail> {
+    let mut ends = both_ends(rt.alloc())?;
+    session(&rt, &mut ends, 1)?;
+    assert_eq!(rt; ends.adapter.free(), (3, 16));
+    Ok(())
+}
+
+/// No request takes memory: this has as many growths as the test before it. (`tests/memory` counts both.)
+#[test]
+fn a_client_for_a_thousand_rounds(rt: HostRuntime) -> Result<(), Fail> {
+    let mut ends = both_ends(rt.alloc())?;
+    session(&rt, &mut ends, 1_000)?;
+    assert_eq!(rt; ends.adapter.free(), (3, 16));
+    Ok(())
+}

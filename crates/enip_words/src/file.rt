@@ -1,0 +1,48 @@
+//! The file that a word names. Its name may be any bytes that the system takes, text or not.
+
+use crate::command_line::Word;
+use std::alloc::Global;
+use std::convert::AsStr;
+use std::io::{self, Read};
+
+/// The bytes of the file that a word names. The file's name need not be text.
+pub fn read_file(alloc: Global, words: &[Word], text: &str) -> io::Result<Vec<u8>> {
+    let word = words.iter().find(|word| word.as_str() == text);
+    let name = word.map_or(text.as_bytes(), |word| word.bytes.as_slice());
+    let mut bytes = Vec::new(alloc);
+    File::open(name)?.read_to_end(&mut bytes)?;
+    Ok(bytes)
+}
+
+/// A file that is open for reading.
+struct File {
+    descriptor: i32,
+}
+
+impl File {
+    /// Opens the file of a name for reading.
+    fn open(name: &[u8]) -> io::Result<File> {
+        let descriptor = os::open_read(name);
+        if descriptor < 0 {
+            return Err(io::Error::from_raw_os_error(os::errno()));
+        }
+        Ok(File { descriptor })
+    }
+}
+
+impl Drop for File {
+    fn drop(self) {
+        let File { descriptor } = self;
+        let _ = libc::close(descriptor);
+    }
+}
+
+impl Read for File {
+    fn read(&mut self, into: &mut [u8]) -> io::Result<usize> {
+        let count = libc::read(self.descriptor, into);
+        if count < 0 {
+            return Err(io::Error::from_raw_os_error(os::errno()));
+        }
+        Ok(count as usize)
+    }
+}

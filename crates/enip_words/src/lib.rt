@@ -1,0 +1,10 @@
+//! The words of the program `enip`: which it takes, what its help says of them, and the files that they name.
+#![tactic(auto)]
+
+mod command_line;
+mod commands;
+mod file;
+
+pub use command_line::{Word, words};
+pub use commands::{PROGRAM, program};
+pub use file::read_file;

@@ -1,0 +1,107 @@
+//! Growths of memory that are refused, and what stands then.
+
+use cip_class3::Stage;
+use enip_adapter::Adapter;
+use enip_bench::{Bench, BenchFault, Event};
+use enip_client::{Client, Wants};
+use std::alloc::Global;
+use std::test::Fail;
+use test_stands::bench::{
+    ADD_5, ADD_7, CLEAR, LIMITS, LISTEN, Row, WANTS, all_done, bench, counter, demo, look,
+};
+
+/// What the adapter refuses to open: an interval of 0.
+const NO_INTERVAL: Wants = Wants { rpi: 0, ..WANTS };
+
+#[test]
+fn an_opening_that_is_refused(rt: HostRuntime) -> Result<(), Fail> {
+    let adapter = Adapter::new(rt.alloc(), demo(rt.alloc(), 100)?, LISTEN, LIMITS)?;
+    let Ok(client) = Client::new(rt.alloc(), &NO_INTERVAL) else {
+        return Err(Fail::from("the client is made"));
+    };
+    let refused = Bench::new(rt.alloc(), adapter, client).err();
+    assert_eq!(rt; refused, Some(BenchFault::Setup));
+    Ok(())
+}
+
+#[test]
+fn faults_have_numbers(rt: HostRuntime) -> Result<(), Fail> {
+    assert_eq!(rt; BenchFault::Memory as u8, 1);
+    assert_eq!(rt; BenchFault::Setup as u8, 2);
+    Ok(())
+}
+
+/// A lost request, a clearing between, and the end.
+const EVENTS: [Row; 12] = [
+    Row::Submit(ADD_5),
+    Row::Resend,
+    Row::Reach(0),
+    Row::Reach(1),
+    Row::Other(CLEAR),
+    Row::Back(0),
+    Row::Submit(ADD_7),
+    Row::Reach(2),
+    Row::Back(1),
+    Row::Back(2),
+    Row::Shut,
+    Row::GiveUp,
+];
+
+/// How many frames were sent back, and how many replies accepted, before each of the events that follow.
+const BACK_BEFORE: [usize; 12] = [0, 0, 0, 1, 2, 2, 2, 2, 3, 3, 3, 3];
+
+const ACCEPTED_BEFORE: [usize; 12] = [0, 0, 0, 0, 0, 0, 1, 1, 1, 1, 2, 2];
+
+/// Whether what is seen is that before this event.
+fn is_as_before(bench: &Bench, position: usize) -> bool {
+    let seen = look(bench);
+    BACK_BEFORE.get(position) == Some(&seen.back.len())
+        && ACCEPTED_BEFORE.get(position) == Some(&seen.accepted.len())
+}
+
+/// Does the events, in two runs where a growth is refused in the first.
+fn run_all(bench: &mut Bench, events: &[Event]) -> Result<(), Fail> {
+    let Err((position, _)) = all_done(bench, events) else {
+        return Ok(());
+    };
+    if !is_as_before(bench, position) {
+        return Err(Fail::from("the events before it stand, and no other"));
+    }
+    let rest = events.get(position..).ok_or("it is one of them")?;
+    match all_done(bench, rest) {
+        Ok(()) => Ok(()),
+        Err(_) => Err(Fail::from("the rest is done")),
+    }
+}
+
+/// A bench, made again where a growth of it is refused.
+fn made(alloc: Global) -> Result<Bench, Fail> {
+    let adapter = Adapter::new(alloc, demo(alloc, 100)?, LISTEN, LIMITS)?;
+    let Ok(client) = Client::new(alloc, &WANTS) else {
+        return Err(Fail::from("the client is made"));
+    };
+    match Bench::new(alloc, adapter, client) {
+        Ok(bench) => Ok(bench),
+        Err(BenchFault::Memory) => bench(alloc, 100),
+        Err(BenchFault::Setup) => Err(Fail::from("the ends open")),
+    }
+}
+
+/// Whichever growth of `new` and `run` is refused, the events before it stand and no other, and the rest can be done
+/// then. Each is refused in turn by `tests/memory`.
+#[test]
+fn events_before_a_refused_growth(rt: HostRuntime) -> Result<(), Fail> {
+    let mut events = Vec::new(rt.alloc());
+    for row in EVENTS {
+        events.push(row.event(rt.alloc())?)?;
+    }
+    let mut bench = made(rt.alloc())?;
+    run_all(&mut bench, events.as_slice())?;
+    assert_eq!(rt; counter(&bench, 1)?, 7);
+    assert_eq!(rt; counter(&bench, 3)?, 2);
+    let seen = look(&bench);
+    assert_eq!(rt; seen.stage, Stage::Idle);
+    assert_eq!(rt; seen.back.len(), 3);
+    assert_eq!(rt; seen.accepted.len(), 2);
+    Ok(())
+}

@@ -1,0 +1,49 @@
+//! A client's session with all that needs room, where growths of memory are refused.
+
+use enip_client::{Client, ClientFault, Heard};
+use std::alloc::Global;
+use std::process::Abort;
+use std::test::Fail;
+use test_stands::client::{
+    ADD, ADD_SENT, ADDED, CLOSE, CLOSED, IS_5, OPEN, OPENED, REGISTER, REGISTERED, UNREGISTER,
+    WANTS, hear, made,
+};
+
+/// A client, made again where a growth of it is refused.
+fn made_again<A: Abort>(rt: &A, alloc: Global) -> Result<Client, Fail> {
+    match Client::new(alloc, &WANTS) {
+        Ok(client) => Ok(client),
+        Err(fault) => {
+            assert_eq!(rt; fault, ClientFault::Memory);
+            made(alloc)
+        }
+    }
+}
+
+/// A session and its connection are opened; the reply that opens it comes in two pieces.
+fn check_opening<A: Abort>(rt: &A, client: &mut Client) {
+    assert_eq!(rt; client.register(), Ok(REGISTER));
+    assert_eq!(rt; hear(client, REGISTERED).heard, Heard::Registered);
+    assert_eq!(rt; client.open(), Ok(OPEN));
+    assert_eq!(rt; hear(client, &OPENED[..30]).heard, Heard::Nothing);
+    assert_eq!(rt; hear(client, &OPENED[30..]).heard, Heard::Opened);
+}
+
+/// A request is sent twice, and all is closed.
+fn check_request<A: Abort>(rt: &A, client: &mut Client) {
+    assert_eq!(rt; client.submit(ADD), Ok(ADD_SENT));
+    assert_eq!(rt; client.resend(), Some(ADD_SENT));
+    assert_eq!(rt; hear(client, ADDED).heard, Heard::Accepted(IS_5));
+    assert_eq!(rt; client.close(), Ok(CLOSE));
+    assert_eq!(rt; hear(client, CLOSED).heard, Heard::Closed);
+    assert_eq!(rt; client.unregister(), Ok(UNREGISTER));
+}
+
+/// `new` takes all memory, so this ends well whichever growth is refused, each in turn by `tests/memory`.
+#[test]
+fn only_new_takes_memory(rt: HostRuntime) -> Result<(), Fail> {
+    let mut client = made_again(&rt, rt.alloc())?;
+    check_opening(&rt, &mut client);
+    check_request(&rt, &mut client);
+    Ok(())
+}

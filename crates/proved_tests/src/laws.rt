@@ -1,0 +1,89 @@
+//! The laws of a class 3 connection, of the Connection Manager and of the bench, at the objects; and a router that keeps
+//! no more than the one law of the trait, at a target.
+
+ghost use Rattle.std.specs.Prelude.{ℕ, List, ◌≡◌, [], ◌∷◌, slice_index};
+
+use cip_class3::{Received, Target};
+use cip_objects::{Objects, ReplyBuf, Router};
+use std::test::*;
+
+#[test]
+fn the_laws_of_a_connection() {
+    cip_class3::laws::each_request_once::<Objects>();
+    cip_class3::laws::counts_in_order();
+    cip_class3::laws::counts_differ();
+    cip_class3::laws::fewer_than_counts();
+    cip_class3::laws::one_reply_each();
+}
+
+#[test]
+fn the_laws_of_the_manager() {
+    cip_manager::laws::sessions_apart::<Objects>();
+    cip_manager::laws::connections_apart::<Objects>();
+    cip_manager::laws::ids_rise::<Objects>();
+    cip_manager::laws::connections_differ::<Objects>();
+}
+
+#[test]
+fn the_laws_of_the_objects() {
+    cip_objects::laws::replies_are_in_form();
+}
+
+#[test]
+fn the_laws_of_the_bench() {
+    enip_bench::laws::worlds_agree::<Objects>();
+    enip_bench::laws::executed_once();
+    enip_bench::laws::executed_on_arrival();
+    enip_bench::laws::accepted_once::<Objects>();
+    enip_bench::laws::answered_alike::<Objects>();
+    enip_bench::laws::fewer_than_counts();
+    enip_bench::laws::refused_at_the_bound::<Objects>();
+    enip_bench::laws::bound_cannot_be_raised::<Objects>();
+    enip_bench::laws::log_is_a_run();
+    enip_bench::laws::frames_agree();
+    enip_bench::laws::frames_accepted_once();
+    enip_bench::laws::frames_answered_alike();
+    enip_bench::laws::frames_executed_once();
+    enip_bench::laws::frames_bound_cannot_be_raised();
+    enip_bench::laws::ends_just_opened();
+}
+
+/// A router whose replies have no head: one byte, the first of the request before.
+#[derive(Drop)]
+struct Last {
+    byte: u8,
+}
+
+impl Router for Last {
+    ghost after = { λ s room request. record { byte = slice_index request 0 } };
+
+    ghost answer = { λ s room request. s.byte ∷ [] };
+
+    fn execute(&mut self, request: &[u8], room: usize, reply: &mut ReplyBuf) {
+        reply.clear();
+        reply.push(self.byte);
+        self.byte = request[0];
+    }
+
+    ghost too_large = { λ s room request h e. absurd (cc) };
+}
+
+/// What a target executes, repeats and drops of such a router's requests, and what it keeps.
+#[test]
+fn a_target_over_a_router_without_form(rt: HostRuntime) {
+    let mut router = Last { byte: 9 };
+    let mut target = Target::new(100, 100);
+    for (item, received, reply, left) in [
+        ([1, 0, 5, 0].as_slice(), Received::Executed, 9, 5),
+        (&[1, 0, 7, 0], Received::Repeated, 9, 5),
+        (&[2, 0, 7, 0], Received::Executed, 5, 7),
+        (&[3, 0, 8], Received::Dropped, 5, 7),
+    ] {
+        assert_eq!(rt; target.receive(&mut router, item), received);
+        assert_eq!(rt;
+            target.kept().map(|kept| kept.reply),
+            Some([reply].as_slice())
+        );
+        assert_eq!(rt; router.byte, left);
+    }
+}

@@ -1,0 +1,120 @@
+//! Runs of many events. (Volume 1, transport class 3.)
+
+use enip_bench::{Accepted, Bench, Event, Step};
+use std::alloc::Global;
+use std::process::Abort;
+use std::test::Fail;
+use test_stands::bench::{ADD_1, EXACTLY_ONCE, IS_12, Row, all_done, bench, counter, look};
+
+/// Does the events of these rows in one call.
+fn run_rows(alloc: Global, bench: &mut Bench, rows: &[(Row, Step<'_>)]) -> Result<(), Fail> {
+    let mut events = Vec::new(alloc);
+    for (row, _) in rows {
+        events.push(row.event(alloc)?)?;
+    }
+    run(bench, events.as_slice())
+}
+
+/// Does these events in one call.
+fn run(bench: &mut Bench, events: &[Event]) -> Result<(), Fail> {
+    match all_done(bench, events) {
+        Ok(()) => Ok(()),
+        Err(_) => Err(Fail::from("there is memory")),
+    }
+}
+
+/// What has to be seen after a run.
+struct Wanted<'a> {
+    value: u32,
+    additions: u32,
+    back: usize,
+    accepted: usize,
+    last_number: u64,
+    last_reply: &'a [u8],
+}
+
+/// The counter's value and its additions.
+fn check_counter<A: Abort>(rt: &A, bench: &Bench, wanted: &Wanted<'_>) -> Result<(), Fail> {
+    assert_eq!(rt; counter(bench, 1)?, wanted.value);
+    assert_eq!(rt; counter(bench, 3)?, wanted.additions);
+    Ok(())
+}
+
+/// The reply that was accepted last.
+fn check_last<A: Abort>(rt: &A, last: &Accepted, wanted: &Wanted<'_>) {
+    assert_eq!(rt; last.number, wanted.last_number);
+    assert_eq!(rt; last.reply.as_slice(), wanted.last_reply);
+}
+
+fn check_seen<A: Abort>(rt: &A, bench: &Bench, wanted: &Wanted<'_>) -> Result<(), Fail> {
+    check_counter(rt, bench, wanted)?;
+    let seen = look(bench);
+    assert_eq!(rt; seen.back.len(), wanted.back);
+    assert_eq!(rt; seen.accepted.len(), wanted.accepted);
+    let last = seen.accepted.last().ok_or("replies were accepted")?;
+    check_last(rt, last, wanted);
+    Ok(())
+}
+
+/// After the rows of exactly once: 5 and 7 were added once each.
+const ONCE: Wanted<'static> = Wanted {
+    value: 12,
+    additions: 2,
+    back: 3,
+    accepted: 2,
+    last_number: 1,
+    last_reply: IS_12,
+};
+
+/// All events in one call.
+#[test]
+fn exactly_once_in_one_run(rt: HostRuntime) -> Result<(), Fail> {
+    let mut bench = bench(rt.alloc(), 100)?;
+    run_rows(rt.alloc(), &mut bench, &EXACTLY_ONCE)?;
+    check_seen(&rt, &bench, &ONCE)
+}
+
+/// A request that is sent twice: both reach the adapter, and both replies the client.
+fn add_twice(alloc: Global, bench: &mut Bench, number: usize) -> Result<(), Fail> {
+    let submit = Row::Submit(ADD_1).event(alloc)?;
+    let first = number.saturating_mul(2);
+    let second = first.saturating_add(1);
+    let events = [
+        submit,
+        Event::Resend,
+        Event::Reach(first),
+        Event::Reach(second),
+        Event::Back(first),
+        Event::Back(second),
+    ];
+    run(bench, &events)
+}
+
+/// So many requests; the reply of each is accepted once.
+fn add_many(alloc: Global, bench: &mut Bench, count: usize) -> Result<(), Fail> {
+    for number in 0..count {
+        add_twice(alloc, bench, number)?;
+        if look(bench).accepted.len() != number + 1 {
+            return Err(Fail::from("the reply is accepted once"));
+        }
+    }
+    Ok(())
+}
+
+/// After 70,000 requests that add 1.
+const MANY: Wanted<'static> = Wanted {
+    value: 70_000,
+    additions: 70_000,
+    back: 140_000,
+    accepted: 70_000,
+    last_number: 69_999,
+    last_reply: b"\xb2\0\0\0\x70\x11\x01\0",
+};
+
+/// Past a wrap of the count: each request is sent twice, executed once, and its reply accepted once.
+#[test]
+fn seventy_thousand_requests(rt: HostRuntime) -> Result<(), Fail> {
+    let mut bench = bench(rt.alloc(), 1_000_000)?;
+    add_many(rt.alloc(), &mut bench, 70_000)?;
+    check_seen(&rt, &bench, &MANY)
+}

@@ -1,0 +1,163 @@
+//! Frames that a client sends and hears, and clients that stand somewhere between them. (Volume 2, encapsulation.)
+
+use enip_client::{Client, Hearing, Wants};
+use std::alloc::Global;
+use std::test::Fail;
+
+/// What the programs ask of a connection.
+pub const WANTS: Wants = Wants {
+    originator_vendor: 66,
+    originator_serial: 305_419_896,
+    connection_serial: 1,
+    t_to_o_id: 287_454_020,
+    rpi: 2_000_000,
+    timeout_multiplier: 0,
+    o_to_t_size: 500,
+    t_to_o_size: 500,
+    first_count: 1,
+};
+
+/// The first frame, context 1, and its reply: session 1.
+pub const REGISTER: &[u8] = b"\x65\0\x04\0\0\0\0\0\0\0\0\0\x01\0\0\0\0\0\0\0\0\0\0\0\x01\0\0\0";
+
+pub const REGISTERED: &[u8] = b"\x65\0\x04\0\x01\0\0\0\0\0\0\0\x01\0\0\0\0\0\0\0\0\0\0\0\x01\0\0\0";
+
+/// The Forward_Open of session 1, context 2, and its reply: O->T ID 1.
+pub const OPEN: &[u8] = b"\x6f\0\x3e\0\x01\0\0\0\0\0\0\0\x02\0\0\0\0\0\0\0\0\0\0\0\
+    \0\0\0\0\0\0\x02\0\0\0\0\0\xb2\0\x2e\0\
+    \x54\x02\x20\x06\x24\x01\x0a\x0e\0\0\0\0\x44\x33\x22\x11\x01\0\x42\0\x78\x56\x34\x12\0\0\0\0\
+    \x80\x84\x1e\0\xf4\x43\x80\x84\x1e\0\xf4\x43\xa3\x02\x20\x02\x24\x01";
+
+pub const OPENED: &[u8] = b"\x6f\0\x2e\0\x01\0\0\0\0\0\0\0\x02\0\0\0\0\0\0\0\0\0\0\0\
+    \0\0\0\0\0\0\x02\0\0\0\0\0\xb2\0\x1e\0\xd4\0\0\0\x01\0\0\0\x44\x33\x22\x11\
+    \x01\0\x42\0\x78\x56\x34\x12\x80\x84\x1e\0\x80\x84\x1e\0\0\0";
+
+/// The counter's Add of 5, its frame on connection 1 with count 1, and the reply.
+pub const ADD: &[u8] = b"\x32\x02\x20\x64\x24\x01\x05\0\0\0";
+
+pub const ADD_SENT: &[u8] = b"\x70\0\x20\0\x01\0\0\0\0\0\0\0\0\0\0\0\0\0\0\0\0\0\0\0\
+    \0\0\0\0\0\0\x02\0\xa1\0\x04\0\x01\0\0\0\xb1\0\x0c\0\x01\0\x32\x02\x20\x64\x24\x01\x05\0\0\0";
+
+pub const ADDED: &[u8] = b"\x70\0\x1e\0\x01\0\0\0\0\0\0\0\0\0\0\0\0\0\0\0\0\0\0\0\
+    \0\0\0\0\0\0\x02\0\xa1\0\x04\0\x44\x33\x22\x11\xb1\0\x0a\0\x01\0\xb2\0\0\0\x05\0\0\0";
+
+/// The Forward_Close of session 1, context 3, and its reply.
+pub const CLOSE: &[u8] = b"\x6f\0\x26\0\x01\0\0\0\0\0\0\0\x03\0\0\0\0\0\0\0\0\0\0\0\
+    \0\0\0\0\0\0\x02\0\0\0\0\0\xb2\0\x16\0\
+    \x4e\x02\x20\x06\x24\x01\x0a\x0e\x01\0\x42\0\x78\x56\x34\x12\x02\0\x20\x02\x24\x01";
+
+pub const CLOSED: &[u8] = b"\x6f\0\x1e\0\x01\0\0\0\0\0\0\0\x03\0\0\0\0\0\0\0\0\0\0\0\
+    \0\0\0\0\0\0\x02\0\0\0\0\0\xb2\0\x0e\0\xce\0\0\0\x01\0\x42\0\x78\x56\x34\x12\0\0";
+
+/// The vendor's get, its frame in session 1 with context 2, and the reply.
+pub const GET: &[u8] = b"\x0e\x03\x20\x01\x24\x01\x30\x01";
+
+pub const GET_SENT: &[u8] = b"\x6f\0\x18\0\x01\0\0\0\0\0\0\0\x02\0\0\0\0\0\0\0\0\0\0\0\
+    \0\0\0\0\0\0\x02\0\0\0\0\0\xb2\0\x08\0\x0e\x03\x20\x01\x24\x01\x30\x01";
+
+pub const GOT: &[u8] = b"\x6f\0\x16\0\x01\0\0\0\0\0\0\0\x02\0\0\0\0\0\0\0\0\0\0\0\
+    \0\0\0\0\0\0\x02\0\0\0\0\0\xb2\0\x06\0\x8e\0\0\0\x34\x12";
+
+/// The UnRegisterSession of session 1, which has no context.
+pub const UNREGISTER: &[u8] = b"\x66\0\0\0\x01\0\0\0\0\0\0\0\0\0\0\0\0\0\0\0\0\0\0\0";
+
+/// The Add of 5 with count 2.
+pub const ADD_SENT_NEXT: &[u8] = b"\x70\0\x20\0\x01\0\0\0\0\0\0\0\0\0\0\0\0\0\0\0\0\0\0\0\
+    \0\0\0\0\0\0\x02\0\xa1\0\x04\0\x01\0\0\0\xb1\0\x0c\0\x02\0\x32\x02\x20\x64\x24\x01\x05\0\0\0";
+
+/// The vendor's get with context 3.
+pub const GET_SENT_THIRD: &[u8] = b"\x6f\0\x18\0\x01\0\0\0\0\0\0\0\x03\0\0\0\0\0\0\0\0\0\0\0\
+    \0\0\0\0\0\0\x02\0\0\0\0\0\xb2\0\x08\0\x0e\x03\x20\x01\x24\x01\x30\x01";
+
+/// What the requests are replied.
+pub const IS_5: &[u8] = b"\xb2\0\0\0\x05\0\0\0";
+
+pub const VENDOR: &[u8] = b"\x8e\0\0\0\x34\x12";
+
+pub fn made(alloc: Global) -> Result<Client, Fail> {
+    Ok(Client::new(alloc, &WANTS).ok().ok_or("the client is made")?)
+}
+
+/// A client whose session is 1.
+pub fn registered(alloc: Global) -> Result<Client, Fail> {
+    let mut client = made(alloc)?;
+    let _ = client.register();
+    let _ = hear(&mut client, REGISTERED);
+    Ok(client)
+}
+
+/// The same, with connection 1 open.
+pub fn opened(alloc: Global) -> Result<Client, Fail> {
+    let mut client = registered(alloc)?;
+    let _ = client.open();
+    let _ = hear(&mut client, OPENED);
+    Ok(client)
+}
+
+/// Has a client hear a piece. Its contract says nothing, so that whoever calls it carries no state on.
+pub fn hear<'a>(client: &'a mut Client, piece: &'a [u8]) -> Hearing<'a> {
+    client.feed(piece)
+}
+
+/// The texts, one behind the other.
+pub fn joined(alloc: Global, texts: &[&[u8]]) -> Result<Vec<u8>, Fail> {
+    let mut bytes = Vec::new(alloc);
+    for text in texts {
+        bytes.extend_from_slice(text)?;
+    }
+    Ok(bytes)
+}
+
+/// The bytes with others at some places.
+pub fn with_bytes(alloc: Global, bytes: &[u8], changes: &[(usize, u8)]) -> Result<Vec<u8>, Fail> {
+    let mut changed = Vec::from_slice(alloc, bytes)?;
+    for (place, byte) in changes {
+        if let Some(old) = changed.as_mut_slice().get_mut(*place) {
+            *old = *byte;
+        }
+    }
+    Ok(changed)
+}
+
+/// What a client has done: nothing, registered, or opened its connection. Or which reply it awaits.
+#[derive(Clone, Copy, Debug)]
+pub enum Stand {
+    New,
+    Registered,
+    Opened,
+    AwaitsSession,
+    AwaitsConnection,
+    AwaitsReply,
+    AwaitsItem,
+    AwaitsEnd,
+    AwaitsItemAndEnd,
+}
+
+/// Asks for what is awaited.
+fn asks(client: &mut Client, stand: Stand) -> bool {
+    match stand {
+        Stand::New | Stand::Registered | Stand::Opened => true,
+        Stand::AwaitsSession => client.register().is_ok(),
+        Stand::AwaitsConnection => client.open().is_ok(),
+        Stand::AwaitsReply => client.unconnected(GET).is_ok(),
+        Stand::AwaitsItem => client.submit(ADD).is_ok(),
+        Stand::AwaitsEnd => client.close().is_ok(),
+        Stand::AwaitsItemAndEnd => client.submit(ADD).is_ok() && client.close().is_ok(),
+    }
+}
+
+/// A client that stands so.
+pub fn standing(alloc: Global, stand: Stand) -> Result<Client, Fail> {
+    let mut client = match stand {
+        Stand::New | Stand::AwaitsSession => made(alloc)?,
+        Stand::Registered | Stand::AwaitsConnection | Stand::AwaitsReply => registered(alloc)?,
+        Stand::Opened | Stand::AwaitsItem | Stand::AwaitsEnd | Stand::AwaitsItemAndEnd => {
+            opened(alloc)?
+        }
+    };
+    if asks(&mut client, stand) {
+        Ok(client)
+    } else {
+        Err("a frame is lent".into())
+    }
+}
