@@ -50,7 +50,7 @@ impl DiscoveryRoom {
         ensures { (if result then Some self.new.answer.items else None)
             ≡ frame_discovered shared.now (frame_of frame.entry) }
     {
-        let asked = &frame.header;
+        let asked = frame.header;
         // As over TCP: options or a status that are not 0 are discarded.
         if asked.options != 0 || asked.status != 0 {
             return false;
