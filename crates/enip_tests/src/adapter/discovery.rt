@@ -7,7 +7,7 @@ use std::test::Fail;
 use test_stands::adapter::{REGISTER, REGISTERED, adapter_with_peer, feed, free};
 
 /// Datagrams that are answered, and their answers.
-static ANSWERED: [(&[u8], &[u8]); 5] = [
+static ANSWERED: [(&[u8], &[u8]); 4] = [
     // ListIdentity
     (
         b"\x63\0\0\0\0\0\0\0\0\0\0\0\x01\x02\x03\x04\x05\x06\x07\x08\0\0\0\0",
@@ -30,11 +30,6 @@ static ANSWERED: [(&[u8], &[u8]); 5] = [
     (
         b"\x64\0\0\0\x07\0\0\0\0\0\0\0\x11\x12\x13\x14\x15\x16\x17\x18\0\0\0\0",
         b"\x64\0\x02\0\x07\0\0\0\0\0\0\0\x11\x12\x13\x14\x15\x16\x17\x18\0\0\0\0\0\0",
-    ),
-    // with data, which say nothing
-    (
-        b"\x64\0\x03\0\0\0\0\0\0\0\0\0\x01\x02\x03\x04\x05\x06\x07\x08\0\0\0\0\xff\xfe\xfd",
-        b"\x64\0\x02\0\0\0\0\0\0\0\0\0\x01\x02\x03\x04\x05\x06\x07\x08\0\0\0\0\0\0",
     ),
 ];
 
