@@ -15,6 +15,7 @@ use enip_text::Fault;
 use mio::net::{TcpListener, TcpStream, UdpSocket};
 use mio::{Events, Interest, Poll, Token};
 use std::alloc::Global;
+use std::cell::Cell;
 use std::net::Net;
 use std::rt::Clock;
 use std::time::{Duration, Instant};
@@ -59,13 +60,16 @@ pub(crate) fn serve_connections<R: Clock + Net>(
     ensures { IfErr result IsOfDevices }
 {
     let start = Instant::now(rt)?;
-    let mut server = Server::new(rt, alloc, sockets, adapter, serving)?;
+    let ends = Ends::new(alloc)?;
+    let mut server = Server::new(rt, alloc, sockets, adapter, serving, &ends)?;
     let mut now = 0;
     for _ in 0..u64::MAX {
         if server.is_done() {
             break;
         }
-        server.wait(now)?;
+        if server.is_to_wait() {
+            server.wait(now)?;
+        }
         now = moment(rt, start)?;
         server.round(now);
     }
@@ -93,15 +97,49 @@ fn earlier(first: Option<u64>, second: Option<u64>) -> Option<u64>
     }
 }
 
+/// Of which places the system has reported that the peer's stream is at its end.
+#[derive(Drop)]
+struct Ends {
+    places: Vec<Cell<bool>>,
+}
+
+impl Ends {
+    /// None was reported.
+    fn new(alloc: Global) -> Result<Ends, Fault>
+        ensures { IfErr result IsOfDevices }
+    {
+        let mut places = Vec::with_capacity(alloc, LISTENER)?;
+        for _ in 0..LISTENER {
+            places.push(Cell::new(false))?;
+        }
+        Ok(Ends { places })
+    }
+
+    /// What is told of a place, where there is one.
+    fn of(&self, place: usize) -> Option<&Cell<bool>> {
+        self.places.get(place)
+    }
+
+    /// The end of a place's stream is reported, or not yet.
+    fn tell(&self, place: usize, is_reported: bool) {
+        if let Some(told) = self.of(place) {
+            told.set(is_reported);
+        }
+    }
+}
+
 /// The peers and the sockets of a device that is served.
 #[derive(Drop)]
-struct Server {
+struct Server<'a> {
     poll: Poll,
     events: Events,
     /// Where connections come in, while they are taken.
     door: Option<Door>,
     discovery: Option<Discovery>,
-    peers: Peers<TcpWire>,
+    peers: Peers<TcpWire<'a>>,
+    ends: &'a Ends,
+    /// Whether the system was asked before the last round.
+    asked: bool,
     /// How many connections are taken.
     count: u64,
     /// How many were taken.
@@ -112,7 +150,7 @@ struct Server {
     held: u32,
 }
 
-impl Server {
+impl<'a> Server<'a> {
     /// A device's peers, of which there are none yet, and its sockets, which the system reports from now on.
     fn new<N: Net>(
         net: &N,
@@ -120,7 +158,8 @@ impl Server {
         sockets: Sockets,
         adapter: Adapter,
         serving: Serving,
-    ) -> Result<Server, Fault>
+        ends: &'a Ends,
+    ) -> Result<Server<'a>, Fault>
         ensures { IfErr result IsOfDevices }
     {
         let Sockets {
@@ -141,6 +180,8 @@ impl Server {
             door: Some(Door::new(listener)),
             discovery,
             peers: Peers::new(alloc, adapter, serving.silence)?,
+            ends,
+            asked: false,
             count: serving.count,
             taken: 0,
             ended: 0,
@@ -153,6 +194,13 @@ impl Server {
         ensures { IsTrue result ↔ (self.now.count ≤ self.now.ended) }
     {
         self.ended >= self.count
+    }
+
+    /// Whether the system is asked before the next round. While peers may be ready it is asked before every second round:
+    /// most of them are found to have nothing more in the one between.
+    fn is_to_wait(&mut self) -> bool {
+        self.asked = !self.asked || !self.peers.is_any_ready();
+        self.asked
     }
 
     /// Waits until a socket may be ready or something is to be done without one. `now` is the moment of the last round.
@@ -173,7 +221,12 @@ impl Server {
                         discovery.report();
                     }
                 }
-                place => self.peers.wake(place),
+                place => {
+                    if event.is_read_closed() {
+                        self.ends.tell(place, true);
+                    }
+                    self.peers.wake(place);
+                }
             }
         }
         Ok(())
@@ -254,6 +307,10 @@ impl Server {
         let Some(place) = self.peers.first_free() else {
             return false;
         };
+        let Some(ends) = self.ends.of(place) else {
+            return false;
+        };
+        ends.set(false);
         let interests = Interest::READABLE | Interest::WRITABLE;
         let registered = self
             .poll
@@ -262,6 +319,6 @@ impl Server {
         if registered.is_err() {
             return false;
         }
-        self.peers.come(now, TcpWire::new(stream)).is_ok()
+        self.peers.come(now, TcpWire::new(stream, ends)).is_ok()
     }
 }

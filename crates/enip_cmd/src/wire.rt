@@ -1,10 +1,11 @@
 //! A connection of TCP whose calls never wait, as a peer's wire.
 
-ghost use Rattle.std.specs.Prelude.{◌<◌, ◌≤◌, length, None, IfSome};
+ghost use Rattle.std.specs.Prelude.{◌≡◌, ◌<◌, ◌≤◌, length, None, IfSome};
 ghost use Rattle.enip_peers.specs.Wires.{IsRead};
 
 use enip_peers::{Came, Tally, Wire};
 use mio::net::TcpStream;
+use std::cell::Cell;
 use std::io::{ErrorKind, Read, Write};
 use std::net::Shutdown;
 
@@ -13,22 +14,46 @@ const INTERRUPTIONS: u32 = 64;
 
 /// A connection of TCP whose calls never wait.
 #[derive(Drop)]
-pub(crate) struct TcpWire {
+pub(crate) struct TcpWire<'a> {
     stream: TcpStream,
     tally: Tally,
+    /// Whether the system has reported the end of the stream.
+    ends: &'a Cell<bool>,
+    /// Whether the last read took all that had come, so that the system reports what comes next.
+    drained: bool,
 }
 
-impl TcpWire {
-    /// The wire of a connection.
-    pub(crate) fn new(stream: TcpStream) -> TcpWire {
+impl<'a> TcpWire<'a> {
+    /// The wire of a connection, and where it is told once the system has reported the end of its stream.
+    pub(crate) fn new(stream: TcpStream, ends: &'a Cell<bool>) -> TcpWire<'a> {
         TcpWire {
             stream,
             tally: Tally::new(),
+            ends,
+            drained: false,
         }
+    }
+
+    /// Reads what has come. A read that did not fill its room took all of it, so the next one is answered without a call:
+    /// the system reports what comes later. An end that it has reported it does not report again, so that is read for.
+    fn read_on(&mut self, into: &mut [u8]) -> Came
+        requires { 0 < length into.old }
+        ensures read { IsRead None None result into.new }
+        ensures tally { self.new.tally ≡ self.old.tally }
+    {
+        if self.drained {
+            self.drained = false;
+            return Came::Later;
+        }
+        let came = read_now(&mut self.stream, into);
+        if let Came::Bytes(size) = came {
+            self.drained = size < into.len() && !self.ends.get();
+        }
+        came
     }
 }
 
-impl Wire for TcpWire {
+impl Wire for TcpWire<'_> {
     ghost left = { λ _. None };
 
     ghost written = { λ _. None };
@@ -36,7 +61,7 @@ impl Wire for TcpWire {
     ghost tally = { λ wire. wire.tally };
 
     fn read(&mut self, into: &mut [u8]) -> Came {
-        let came = read_now(&mut self.stream, into);
+        let came = self.read_on(into);
         self.tally.add_read(came);
         came
     }
