@@ -8,7 +8,7 @@ ghost use Rattle.enip_text.specs.Statuses.{IsOfDevices};
 
 use crate::discovery::Discovery;
 use crate::door::Door;
-use crate::wire::TcpWire;
+use crate::wire::{Report, TcpWire};
 use enip_adapter::Adapter;
 use enip_peers::Peers;
 use enip_text::Fault;
@@ -60,8 +60,8 @@ pub(crate) fn serve_connections<R: Clock + Net>(
     ensures { IfErr result IsOfDevices }
 {
     let start = Instant::now(rt)?;
-    let ends = Ends::new(alloc)?;
-    let mut server = Server::new(rt, alloc, sockets, adapter, serving, &ends)?;
+    let reports = Reports::new(alloc)?;
+    let mut server = Server::new(rt, alloc, sockets, adapter, serving, &reports)?;
     let mut now = 0;
     for _ in 0..u64::MAX {
         if server.is_done() {
@@ -97,33 +97,38 @@ fn earlier(first: Option<u64>, second: Option<u64>) -> Option<u64>
     }
 }
 
-/// Of which places the system has reported that the peer's stream is at its end.
+/// What the system has reported of each place's peer.
 #[derive(Drop)]
-struct Ends {
-    places: Vec<Cell<bool>>,
+struct Reports {
+    places: Vec<Cell<Report>>,
 }
 
-impl Ends {
-    /// None was reported.
-    fn new(alloc: Global) -> Result<Ends, Fault>
+impl Reports {
+    /// Nothing was reported.
+    fn new(alloc: Global) -> Result<Reports, Fault>
         ensures { IfErr result IsOfDevices }
     {
         let mut places = Vec::with_capacity(alloc, LISTENER)?;
         for _ in 0..LISTENER {
-            places.push(Cell::new(false))?;
+            places.push(Cell::new(Report::Nothing))?;
         }
-        Ok(Ends { places })
+        Ok(Reports { places })
     }
 
     /// What is told of a place, where there is one.
-    fn of(&self, place: usize) -> Option<&Cell<bool>> {
+    fn of(&self, place: usize) -> Option<&Cell<Report>> {
         self.places.get(place)
     }
 
-    /// The end of a place's stream is reported, or not yet.
-    fn tell(&self, place: usize, is_reported: bool) {
-        if let Some(told) = self.of(place) {
-            told.set(is_reported);
+    /// The system reports a place's peer: something may have come, or the stream is at its end, which is kept.
+    fn tell(&self, place: usize, is_at_its_end: bool) {
+        let Some(told) = self.of(place) else {
+            return;
+        };
+        if is_at_its_end {
+            told.set(Report::End);
+        } else if told.get() == Report::Nothing {
+            told.set(Report::More);
         }
     }
 }
@@ -137,7 +142,7 @@ struct Server<'a> {
     door: Option<Door>,
     discovery: Option<Discovery>,
     peers: Peers<TcpWire<'a>>,
-    ends: &'a Ends,
+    reports: &'a Reports,
     /// Whether the system was asked before the last round.
     asked: bool,
     /// How many connections are taken.
@@ -158,7 +163,7 @@ impl<'a> Server<'a> {
         sockets: Sockets,
         adapter: Adapter,
         serving: Serving,
-        ends: &'a Ends,
+        reports: &'a Reports,
     ) -> Result<Server<'a>, Fault>
         ensures { IfErr result IsOfDevices }
     {
@@ -180,7 +185,7 @@ impl<'a> Server<'a> {
             door: Some(Door::new(listener)),
             discovery,
             peers: Peers::new(alloc, adapter, serving.silence)?,
-            ends,
+            reports,
             asked: false,
             count: serving.count,
             taken: 0,
@@ -222,9 +227,7 @@ impl<'a> Server<'a> {
                     }
                 }
                 place => {
-                    if event.is_read_closed() {
-                        self.ends.tell(place, true);
-                    }
+                    self.reports.tell(place, event.is_read_closed());
                     self.peers.wake(place);
                 }
             }
@@ -307,10 +310,10 @@ impl<'a> Server<'a> {
         let Some(place) = self.peers.first_free() else {
             return false;
         };
-        let Some(ends) = self.ends.of(place) else {
+        let Some(report) = self.reports.of(place) else {
             return false;
         };
-        ends.set(false);
+        report.set(Report::Nothing);
         let interests = Interest::READABLE | Interest::WRITABLE;
         let registered = self
             .poll
@@ -319,6 +322,6 @@ impl<'a> Server<'a> {
         if registered.is_err() {
             return false;
         }
-        self.peers.come(now, TcpWire::new(stream, ends)).is_ok()
+        self.peers.come(now, TcpWire::new(stream, report)).is_ok()
     }
 }

@@ -12,43 +12,54 @@ use std::net::Shutdown;
 /// How often a read or a write is tried that a signal interrupts.
 const INTERRUPTIONS: u32 = 64;
 
+/// What the system has reported of a connection since it was read last.
+#[derive(Clone, Copy, Debug, PartialEq, Eq)]
+pub(crate) enum Report {
+    /// Nothing.
+    Nothing,
+    /// Something may have come.
+    More,
+    /// The stream is at its end, behind what has come. That is reported once, and is kept.
+    End,
+}
+
 /// A connection of TCP whose calls never wait.
 #[derive(Drop)]
 pub(crate) struct TcpWire<'a> {
     stream: TcpStream,
     tally: Tally,
-    /// Whether the system has reported the end of the stream.
-    ends: &'a Cell<bool>,
+    report: &'a Cell<Report>,
     /// Whether the last read took all that had come, so that the system reports what comes next.
     drained: bool,
 }
 
 impl<'a> TcpWire<'a> {
-    /// The wire of a connection, and where it is told once the system has reported the end of its stream.
-    pub(crate) fn new(stream: TcpStream, ends: &'a Cell<bool>) -> TcpWire<'a> {
+    /// The wire of a connection, and where it is told what the system reports of it.
+    pub(crate) fn new(stream: TcpStream, report: &'a Cell<Report>) -> TcpWire<'a> {
         TcpWire {
             stream,
             tally: Tally::new(),
-            ends,
+            report,
             drained: false,
         }
     }
 
-    /// Reads what has come. A read that did not fill its room took all of it, so the next one is answered without a call:
-    /// the system reports what comes later. An end that it has reported it does not report again, so that is read for.
+    /// Reads what has come. A read that did not fill its room took all of it, so until the system reports that more has
+    /// come the next ones are answered without a call. To an end that was reported it is read on.
     fn read_on(&mut self, into: &mut [u8]) -> Came
         requires { 0 < length into.old }
         ensures read { IsRead None None result into.new }
         ensures tally { self.new.tally ≡ self.old.tally }
     {
-        if self.drained {
-            self.drained = false;
+        let report = self.report.get();
+        if self.drained && report == Report::Nothing {
             return Came::Later;
         }
-        let came = read_now(&mut self.stream, into);
-        if let Came::Bytes(size) = came {
-            self.drained = size < into.len() && !self.ends.get();
+        if report == Report::More {
+            self.report.set(Report::Nothing);
         }
+        let came = read_now(&mut self.stream, into);
+        self.drained = matches!(came, Came::Bytes(size) if size < into.len());
         came
     }
 }
