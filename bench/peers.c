@@ -30,7 +30,7 @@ static const unsigned char REGISTERING[REGISTER] = {0x65, 0, 4, 0, [24] = 1};
 static const unsigned char VENDOR[ANSWER] = {0x6f, 0, 22, [30] = 2, [36] = 0xb2, [38] = 6, [40] = 0x8e, [44] = 0x34, 0x12};
 
 typedef struct {
-    int socket, ready, ends;
+    int socket, ready;
     size_t held;
     unsigned char bytes[ROOM + HEADER];
 } Peer;
@@ -64,8 +64,6 @@ static int turn(Peer *peer) {
     ssize_t got = recv(peer->socket, peer->bytes + peer->held, ROOM - peer->held, 0);
     if (got < 0 && errno == EAGAIN) return peer->ready = 0, 1;
     if (got <= 0) return 0;
-    // what comes after a read that took all is reported, but for an end that was reported
-    if ((size_t)got < ROOM - peer->held && !peer->ends) peer->ready = 0;
     size_t at = 0, size = peer->held + got;
     while (size - at >= HEADER) {
         unsigned frame = HEADER + peer->bytes[at + 2] + 256 * peer->bytes[at + 3];
@@ -118,11 +116,6 @@ static int listen_on_a_free_port(void) {
     return listener;
 }
 
-static void report(Peer *peer, unsigned events) {
-    peer->ready = 1;
-    if (events & EPOLLRDHUP) peer->ends = 1;
-}
-
 static int serve(int places) {
     int listener = listen_on_a_free_port(), poll = epoll_create1(0), ready = 0;
     struct epoll_event listening = {.events = EPOLLIN | EPOLLET, .data.u32 = LISTENER}, events[32];
@@ -135,7 +128,7 @@ static int serve(int places) {
         for (int i = 0; i < count; i++) {
             if (events[i].data.u32 > LISTENER) return 0;
             if (events[i].data.u32 == LISTENER) admit(poll, listener, places);
-            else report(&peers[events[i].data.u32], events[i].events);
+            else peers[events[i].data.u32].ready = 1;
         }
         ready = round_of_turns(places);
     }

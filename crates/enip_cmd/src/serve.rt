@@ -8,14 +8,13 @@ ghost use Rattle.enip_text.specs.Statuses.{IsOfDevices};
 
 use crate::discovery::Discovery;
 use crate::door::Door;
-use crate::wire::{Report, TcpWire};
+use crate::wire::TcpWire;
 use enip_adapter::Adapter;
 use enip_peers::Peers;
 use enip_text::Fault;
 use mio::net::{TcpListener, TcpStream, UdpSocket};
 use mio::{Events, Interest, Poll, Token};
 use std::alloc::Global;
-use std::cell::Cell;
 use std::net::Net;
 use std::rt::Clock;
 use std::time::{Duration, Instant};
@@ -60,16 +59,13 @@ pub(crate) fn serve_connections<R: Clock + Net>(
     ensures { IfErr result IsOfDevices }
 {
     let start = Instant::now(rt)?;
-    let reports = Reports::new(alloc)?;
-    let mut server = Server::new(rt, alloc, sockets, adapter, serving, &reports)?;
+    let mut server = Server::new(rt, alloc, sockets, adapter, serving)?;
     let mut now = 0;
     for _ in 0..u64::MAX {
         if server.is_done() {
             break;
         }
-        if server.is_to_wait() {
-            server.wait(now)?;
-        }
+        server.wait(now)?;
         now = moment(rt, start)?;
         server.round(now);
     }
@@ -97,54 +93,15 @@ fn earlier(first: Option<u64>, second: Option<u64>) -> Option<u64>
     }
 }
 
-/// What the system has reported of each place's peer.
-#[derive(Drop)]
-struct Reports {
-    places: Vec<Cell<Report>>,
-}
-
-impl Reports {
-    /// Nothing was reported.
-    fn new(alloc: Global) -> Result<Reports, Fault>
-        ensures { IfErr result IsOfDevices }
-    {
-        let mut places = Vec::with_capacity(alloc, LISTENER)?;
-        for _ in 0..LISTENER {
-            places.push(Cell::new(Report::Nothing))?;
-        }
-        Ok(Reports { places })
-    }
-
-    /// What is told of a place, where there is one.
-    fn of(&self, place: usize) -> Option<&Cell<Report>> {
-        self.places.get(place)
-    }
-
-    /// The system reports a place's peer: something may have come, or the stream is at its end, which is kept.
-    fn tell(&self, place: usize, is_at_its_end: bool) {
-        let Some(told) = self.of(place) else {
-            return;
-        };
-        if is_at_its_end {
-            told.set(Report::End);
-        } else if told.get() == Report::Nothing {
-            told.set(Report::More);
-        }
-    }
-}
-
 /// The peers and the sockets of a device that is served.
 #[derive(Drop)]
-struct Server<'a> {
+struct Server {
     poll: Poll,
     events: Events,
     /// Where connections come in, while they are taken.
     door: Option<Door>,
     discovery: Option<Discovery>,
-    peers: Peers<TcpWire<'a>>,
-    reports: &'a Reports,
-    /// Whether the system was asked before the last round.
-    asked: bool,
+    peers: Peers<TcpWire>,
     /// How many connections are taken.
     count: u64,
     /// How many were taken.
@@ -155,7 +112,7 @@ struct Server<'a> {
     held: u32,
 }
 
-impl<'a> Server<'a> {
+impl Server {
     /// A device's peers, of which there are none yet, and its sockets, which the system reports from now on.
     fn new<N: Net>(
         net: &N,
@@ -163,8 +120,7 @@ impl<'a> Server<'a> {
         sockets: Sockets,
         adapter: Adapter,
         serving: Serving,
-        reports: &'a Reports,
-    ) -> Result<Server<'a>, Fault>
+    ) -> Result<Server, Fault>
         ensures { IfErr result IsOfDevices }
     {
         let Sockets {
@@ -185,8 +141,6 @@ impl<'a> Server<'a> {
             door: Some(Door::new(listener)),
             discovery,
             peers: Peers::new(alloc, adapter, serving.silence)?,
-            reports,
-            asked: false,
             count: serving.count,
             taken: 0,
             ended: 0,
@@ -199,13 +153,6 @@ impl<'a> Server<'a> {
         ensures { IsTrue result ↔ (self.now.count ≤ self.now.ended) }
     {
         self.ended >= self.count
-    }
-
-    /// Whether the system is asked before the next round. While peers may be ready it is asked before every second round:
-    /// most of them are found to have nothing more in the one between.
-    fn is_to_wait(&mut self) -> bool {
-        self.asked = !self.asked || !self.peers.is_any_ready();
-        self.asked
     }
 
     /// Waits until a socket may be ready or something is to be done without one. `now` is the moment of the last round.
@@ -226,10 +173,7 @@ impl<'a> Server<'a> {
                         discovery.report();
                     }
                 }
-                place => {
-                    self.reports.tell(place, event.is_read_closed());
-                    self.peers.wake(place);
-                }
+                place => self.peers.wake(place),
             }
         }
         Ok(())
@@ -310,10 +254,6 @@ impl<'a> Server<'a> {
         let Some(place) = self.peers.first_free() else {
             return false;
         };
-        let Some(report) = self.reports.of(place) else {
-            return false;
-        };
-        report.set(Report::Nothing);
         let interests = Interest::READABLE | Interest::WRITABLE;
         let registered = self
             .poll
@@ -322,6 +262,6 @@ impl<'a> Server<'a> {
         if registered.is_err() {
             return false;
         }
-        self.peers.come(now, TcpWire::new(stream, report)).is_ok()
+        self.peers.come(now, TcpWire::new(stream)).is_ok()
     }
 }
