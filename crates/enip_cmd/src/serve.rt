@@ -173,7 +173,10 @@ impl Server {
                         discovery.report();
                     }
                 }
-                place => self.peers.wake(place),
+                place => {
+                    let ends = event.is_read_closed() || event.is_error();
+                    self.peers.wake(place, ends);
+                }
             }
         }
         Ok(())
