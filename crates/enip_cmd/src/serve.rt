@@ -226,7 +226,8 @@ impl Server {
 
     /// Takes the next connection, where there is one. It is closed at once where there is no place for it.
     fn admit(&mut self, now: u64) {
-        if self.is_held() {
+        let is_due = matches!(&self.door, Some(door) if door.readiness().is_due(now));
+        if !is_due || self.is_held() {
             return;
         }
         let Some(door) = &mut self.door else {
@@ -244,12 +245,14 @@ impl Server {
         }
     }
 
-    /// Whether the next connection waits for the next round: all places are taken, but a peer may be at its end.
+    /// Whether the next connection waits for the next round: all places are taken, but a peer may be at its end. Of one
+    /// that is not ready the system may have more to report, so it is asked once more in any case.
     fn is_held(&mut self) -> bool
         ensures counted { IsTrue result → self.old.held < self.new.held }
         ensures limit { IsTrue result → self.new.held ≤ 16 }
     {
-        if self.last.ready && self.held < ROUNDS_HELD && self.peers.first_free().is_none() {
+        let may_have_ended = self.last.ready || self.held == 0;
+        if may_have_ended && self.held < ROUNDS_HELD && self.peers.first_free().is_none() {
             self.held += 1;
             return true;
         }
