@@ -10,7 +10,7 @@ use crate::discovery::Discovery;
 use crate::door::Door;
 use crate::wire::TcpWire;
 use enip_adapter::Adapter;
-use enip_peers::Peers;
+use enip_peers::{Peers, RoundEnd};
 use enip_text::Fault;
 use mio::net::{TcpListener, TcpStream, UdpSocket};
 use mio::{Events, Interest, Poll, Token};
@@ -102,6 +102,8 @@ struct Server {
     door: Option<Door>,
     discovery: Option<Discovery>,
     peers: Peers<TcpWire>,
+    /// What the last round came to; a peer that came since may be ready.
+    last: RoundEnd,
     /// How many connections are taken.
     count: u64,
     /// How many were taken.
@@ -135,12 +137,19 @@ impl Server {
             registry.register(&mut socket, Token(DATAGRAMS), Interest::READABLE)?;
             discovery = Some(Discovery::new(alloc, socket)?);
         }
+        let peers = Peers::new(alloc, adapter, serving.silence)?;
+        let last = RoundEnd {
+            ended: 0,
+            ready: false,
+            next: peers.next_moment(),
+        };
         Ok(Server {
             poll,
             events: Events::with_capacity(alloc, REPORTS)?,
             door: Some(Door::new(listener)),
             discovery,
-            peers: Peers::new(alloc, adapter, serving.silence)?,
+            peers,
+            last,
             count: serving.count,
             taken: 0,
             ended: 0,
@@ -173,7 +182,10 @@ impl Server {
                         discovery.report();
                     }
                 }
-                place => self.peers.wake(place),
+                place => {
+                    let ends = event.is_read_closed() || event.is_error();
+                    self.peers.wake(place, ends);
+                }
             }
         }
         Ok(())
@@ -181,10 +193,10 @@ impl Server {
 
     /// How long the next wait may last. `None` is without a limit.
     fn timeout(&self, now: u64) -> Option<Duration> {
-        if self.peers.is_any_ready() {
+        if self.last.ready {
             return Some(Duration::ZERO);
         }
-        let mut next = self.peers.next_moment();
+        let mut next = self.last.next;
         if let Some(door) = &self.door {
             next = earlier(next, door.readiness().next_moment());
         }
@@ -202,9 +214,9 @@ impl Server {
         if let Some(discovery) = &mut self.discovery {
             discovery.answer_one(&self.peers, now);
         }
-        let ended = self.peers.round(now);
-        if ended > 0 {
-            self.ended = self.ended.saturating_add(ended as u64);
+        self.last = self.peers.round(now);
+        if self.last.ended > 0 {
+            self.ended = self.ended.saturating_add(self.last.ended as u64);
             if let Some(door) = &mut self.door {
                 door.relieve();
             }
@@ -214,7 +226,8 @@ impl Server {
 
     /// Takes the next connection, where there is one. It is closed at once where there is no place for it.
     fn admit(&mut self, now: u64) {
-        if self.is_held() {
+        let is_due = matches!(&self.door, Some(door) if door.readiness().is_due(now));
+        if !is_due || self.is_held() {
             return;
         }
         let Some(door) = &mut self.door else {
@@ -232,15 +245,14 @@ impl Server {
         }
     }
 
-    /// Whether the next connection waits for the next round: all places are taken, but a peer may be at its end.
+    /// Whether the next connection waits for the next round: all places are taken, but a peer may be at its end. Of one
+    /// that is not ready the system may have more to report, so it is asked once more in any case.
     fn is_held(&mut self) -> bool
         ensures counted { IsTrue result → self.old.held < self.new.held }
         ensures limit { IsTrue result → self.new.held ≤ 16 }
     {
-        if self.held < ROUNDS_HELD
-            && self.peers.first_free().is_none()
-            && self.peers.is_any_ready()
-        {
+        let may_have_ended = self.last.ready || self.held == 0;
+        if may_have_ended && self.held < ROUNDS_HELD && self.peers.first_free().is_none() {
             self.held += 1;
             return true;
         }
@@ -262,6 +274,10 @@ impl Server {
         if registered.is_err() {
             return false;
         }
-        self.peers.come(now, TcpWire::new(stream)).is_ok()
+        if self.peers.come(now, TcpWire::new(stream)).is_err() {
+            return false;
+        }
+        self.last.ready = true;
+        true
     }
 }
