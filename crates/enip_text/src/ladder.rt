@@ -33,7 +33,8 @@ use std::io::{BufWriter, Write};
 const SAME: &str = "both worlds show the same: what a world without counts or kept replies shows";
 
 /// The names of the columns.
-const HEAD: &str = "            client                                 wire                               adapter";
+const HEAD: &str =
+    "            client                                 wire                               adapter";
 
 /// What is said where the adapter executes nothing, since the count is that of the reply that it keeps.
 const KEPT: &str = "kept reply of";
@@ -100,9 +101,15 @@ enum Happened {
         back: Option<usize>,
     },
     /// The frame sent back at a position reached the client, which accepted it or not.
-    Heard { position: usize, accepted: bool },
+    Heard {
+        position: usize,
+        accepted: bool,
+    },
     /// Something that moves no frame, at the client or at the adapter.
-    Aside { words: String, way: Way },
+    Aside {
+        words: String,
+        way: Way,
+    },
 }
 
 /// All that happened, and what lies in the frames that were sent.
@@ -176,7 +183,10 @@ impl Ladder {
             arrives,
             // counts go from the first on, and begin anew at 65,536 (transport class 3)
             count: WANTS.first_count.wrapping_add((number % COUNTS) as u16),
-            message: self.requests.get(number).map_or(&[], |request| request.as_slice()),
+            message: self
+                .requests
+                .get(number)
+                .map_or(&[], |request| request.as_slice()),
         })
     }
 }
@@ -214,7 +224,10 @@ impl Ladder {
                     submitted = *number;
                     writeln!(output, "{}", self.sent(words, *number, *position))?;
                 }
-                Happened::Reached { position, back: None } => {
+                Happened::Reached {
+                    position,
+                    back: None,
+                } => {
                     writeln!(output, "{}", self.reached(*position, "no connection", None))?;
                 }
                 Happened::Reached {
@@ -222,7 +235,11 @@ impl Ladder {
                     back: Some(answer),
                 } => {
                     let number = self.number_at(*position);
-                    let words = if kept == Some(number) { KEPT } else { "executes" };
+                    let words = if kept == Some(number) {
+                        KEPT
+                    } else {
+                        "executes"
+                    };
                     kept = Some(number);
                     writeln!(output, "{}", self.reached(*position, words, Some(number)))?;
                     writeln!(output, "{}", self.answered(back, *answer))?;
@@ -289,7 +306,11 @@ fn reply_at(back: &Frames, position: usize, arrives: bool) -> Field<'_> {
 
 /// A reply reaches the client, which accepts it as that of a request, or ignores it.
 fn heard(back: &Frames, position: usize, number: Option<usize>) -> Rung<'_> {
-    let words = if number.is_some() { "accepts" } else { "ignores" };
+    let words = if number.is_some() {
+        "accepts"
+    } else {
+        "ignores"
+    };
     Rung {
         client: Note { words, number },
         near: reply_at(back, position, true),
