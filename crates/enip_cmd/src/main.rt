@@ -71,6 +71,10 @@ fn run_answer(rt: &HostRuntime, words: &[Word], matches: &ArgMatches<'_>) -> Res
 fn run_replay(rt: &HostRuntime, words: &[Word], matches: &ArgMatches<'_>) -> Result<u8, Fault> {
     let config = read_file(rt.alloc(), words, matches.get_str("CONFIG").unwrap_or(""))?;
     let script = read_file(rt.alloc(), words, matches.get_str("SCRIPT").unwrap_or(""))?;
+    if matches.get_flag("ladder") {
+        replay::draw(rt.alloc(), config.as_slice(), script.as_slice(), rt.stdout())?;
+        return Ok(0);
+    }
     Ok(replay::replay_bytes(
         rt.alloc(),
         config.as_slice(),

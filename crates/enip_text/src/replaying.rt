@@ -125,7 +125,7 @@ impl From<BenchFault> for ReplayStop {
 }
 
 /// An adapter and a client with its connection open.
-fn bench_of(alloc: Global, adapter: Adapter) -> Result<Bench, ReplayStop>
+pub(crate) fn bench_of(alloc: Global, adapter: Adapter) -> Result<Bench, ReplayStop>
     requires { IsNewAdapter adapter }
     ensures made { IfOk result (IsOpeningOf adapter) }
     ensures refused { IfErr result (IsStopOf adapter) }
@@ -208,7 +208,7 @@ impl<W: Write + Drop> TakeLines for Player<W> {
 }
 
 /// Prints the counter, and the data of each assembly, by rising instance.
-fn print_objects<W: Write>(output: &mut W, objects: &Objects) -> Result<(), Fault>
+pub(crate) fn print_objects<W: Write>(output: &mut W, objects: &Objects) -> Result<(), Fault>
     ensures printed { OnOk result (Appends (W.contents output.old) (W.contents output.new)
         (objects_printed objects.now)) }
     ensures refused { IfErr result IsOfDevices }

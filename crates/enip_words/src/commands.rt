@@ -174,6 +174,7 @@ What `fault N` means
 enum Argument {
     Config,
     Script,
+    Ladder,
     Listen,
     Count,
     Idle,
@@ -193,6 +194,7 @@ impl Argument {
         match self {
             Argument::Config => config(alloc),
             Argument::Script => script(alloc),
+            Argument::Ladder => ladder(alloc),
             Argument::Listen => listen(alloc),
             Argument::Count => count(alloc),
             Argument::Idle => idle(alloc),
@@ -233,7 +235,7 @@ static COMMANDS: [Row; 7] = [
         about: "Moves a client and an adapter side by side by the lines of a script",
         long_about: ABOUT_REPLAY,
         after: None,
-        arguments: &[Argument::Config, Argument::Script],
+        arguments: &[Argument::Config, Argument::Script, Argument::Ladder],
     },
     Row {
         name: "serve",
@@ -334,6 +336,13 @@ fn script<'a>(alloc: Global) -> Arg<'a> {
     Arg::new(alloc, "SCRIPT")
         .required(true)
         .help("The lines of what happens, a file")
+}
+
+fn ladder<'a>(alloc: Global) -> Arg<'a> {
+    Arg::new(alloc, "ladder")
+        .long("ladder")
+        .action(ArgAction::SetTrue)
+        .help("Draws the run as a picture: the client, the wire and the adapter as columns")
 }
 
 fn listen<'a>(alloc: Global) -> Arg<'a> {
