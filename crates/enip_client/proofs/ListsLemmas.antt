@@ -70,7 +70,7 @@ skipped_in command i differs =
     (rw of refl, rw of refl)
 
 -- what is left of the items behind one
-more_of : (command : ListCommand) (i : Item) (more : List Item) (o : Option Entry) → entry_in command i ≡ o
+pub more_of : (command : ListCommand) (i : Item) (more : List Item) (o : Option Entry) → entry_in command i ≡ o
     → entries_in command (i ∷ more) ≡ filter_map (λ (x : Option Entry). x) (o ∷ []) ++ entries_in command more
 more_of command i more None e = rw e refl
 more_of command i more (Some entry) e = rw e refl

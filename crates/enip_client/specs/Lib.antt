@@ -10,3 +10,4 @@ pub mod AskSteps
 pub mod Identity
 pub mod Service
 pub mod Lists
+pub mod Listing
