@@ -16,3 +16,4 @@ pub mod AskedLemmas
 pub mod IdentityLemmas
 pub mod ServiceLemmas
 pub mod ListsLemmas
+pub mod ListingLemmas
