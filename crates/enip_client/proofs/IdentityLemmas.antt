@@ -6,9 +6,8 @@ use Rattle.std.proofs.lemmas.Bool.{eqb-true, eq-eqb}
 use Rattle.std.proofs.lemmas.List.{take_at, drop_all, take-append-drop, drop-drop, get_or-drop}
 use Rattle.byteorder.specs.Endian.{big_bytes, big_from, big_number}
 use Rattle.byteorder.specs.Numbers.{big_number-reads_back}
-use Rattle.cip_bytes.specs.Numbers.{le, number_at, AreBytes}
+use Rattle.cip_bytes.specs.Numbers.{le, AreBytes}
 use Rattle.cip_bytes.proofs.Bytes.{AreBytes-drop, cells, drop-cells, le2_again, le4_again, rest_slice, at1, at2, at4, Parts, parts_then}
-use Rattle.cip_bytes.proofs.Steps.{iff_then}
 use Rattle.enip_wire.proofs.FrameLemmas.{number-two, number-four}
 use Rattle.enip_client.specs.declared.identity.IdentityView.{IdentityView}
 use Rattle.enip_client.specs.Identity.{Identity, IsIdentity, SpellsIdentity, identity_with, socket_with, identity_fields, identity_of, identity_in}

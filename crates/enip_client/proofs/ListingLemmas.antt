@@ -1,8 +1,8 @@
 -- What is gathered of an answer, read by read.
-use Rattle.std.proofs.Common.{◌≡◌, ℕ, zero, suc, ◌+◌, ◌-◌, ◌^◌, ◌<◌, ◌≤◌, ◌⊎◌, inl, inr, List, [], ◌∷◌, ◌++◌, length, take, drop, Option, Result, Ok, Err, refl, sym, ap, subst, ◌∙◌, arith, append-nil, append_assoc, length-drop}
+use Rattle.std.proofs.Common.{◌≡◌, ℕ, zero, suc, ◌<◌, ◌≤◌, inl, inr, List, [], ◌++◌, length, take, drop, Option, Result, Err, refl, sym, ap, subst, ◌∙◌, arith, append-nil, append_assoc, length-drop}
 use Rattle.std.proofs.KnownBytes.{Consumes-nil, Consumes-trans}
 use Rattle.std.proofs.lemmas.List.{drop_all, take-append-drop}
-use Rattle.std.specs.Io.KnownBytes.{Appends, Consumes, IsAtEnd}
+use Rattle.std.specs.Io.KnownBytes.{Appends, Consumes}
 use Rattle.enip_wire.specs.Frames.{frame, Stops}
 use Rattle.enip_wire.specs.Stream.{IsFresh, Takes, Shows, frame_of}
 use Rattle.enip_wire.specs.declared.reader.Held.{Held}

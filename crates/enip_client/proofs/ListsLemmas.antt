@@ -1,6 +1,6 @@
 -- Entries that are read are those listed, and what is listed is read.
-use Rattle.std.proofs.Common.{◌≡◌, ◌↔◌, ℕ, ◌+◌, ◌<◌, ◌≤◌, ◌⊎◌, inl, inr, Bool, true, false, List, [], ◌∷◌, ◌++◌, length, take, drop, Option, Some, None, Result, Ok, Err, refl, sym, ap, subst, ◌∙◌, arith, append_assoc}
-use Rattle.std.specs.Prelude.{◌==◌, ◌&&◌, is_some, if◌then◌else◌}
+use Rattle.std.proofs.Common.{◌≡◌, ◌↔◌, ℕ, inl, inr, Bool, true, false, List, [], ◌∷◌, ◌++◌, length, Option, Some, None, Result, Ok, Err, refl, sym, ap, subst, ◌∙◌}
+use Rattle.std.specs.Prelude.{◌==◌, is_some, if◌then◌else◌}
 use Rattle.std.specs.List.{flat_map, filter_map, list_all}
 use Rattle.std.specs.Option.{option_map}
 use Rattle.std.proofs.lemmas.Bool.{eqb-true, eq-eqb, ne_eqb, cases_eq, and_parts, and_from}
@@ -10,10 +10,9 @@ use Rattle.cip_bytes.specs.Protocol.{command_number}
 use Rattle.cip_bytes.proofs.Bytes.{AreBytes-second, AreBytes-take}
 use Rattle.enip_wire.specs.Frames.{Frame, frame, IsFrame}
 use Rattle.enip_wire.specs.Headers.{header_spelling}
-use Rattle.enip_wire.specs.Items.{Item, item, items, AreItems, items_of}
+use Rattle.enip_wire.specs.Items.{Item, item, items_of}
 use Rattle.enip_wire.specs.Stream.{Sight, sight_of}
 use Rattle.enip_wire.specs.Stream.Sight.{Nothing_yet, A_frame, A_long_header}
-use Rattle.enip_wire.specs.declared.header.Header.{Header}
 use Rattle.enip_wire.specs.declared.item_list.CpfFault.{CpfFault}
 use Rattle.enip_wire.proofs.ItemLemmas.{items_iff}
 use Rattle.enip_wire.proofs.WriteLemmas.{items_again}
@@ -23,8 +22,8 @@ use Rattle.enip_client.specs.declared.fault.ClientFault.{ClientFault}
 use Rattle.enip_client.specs.declared.fault.ClientFault.TheVariants as faults
 use Rattle.enip_client.specs.declared.lists.ListCommand.{ListCommand}
 use Rattle.enip_client.specs.declared.lists.ListCommand.TheVariants as lists
-use Rattle.enip_client.specs.Identity.{Identity, identity_of}
-use Rattle.enip_client.specs.Service.{Service, service_of}
+use Rattle.enip_client.specs.Identity.{identity_of}
+use Rattle.enip_client.specs.Service.{service_of}
 use Rattle.enip_client.specs.Lists.{Entry, A_service, An_identity, Lists, Ended, Said, Skipped, SpellsEntry, IsAnswer, list_command, item_kind, entry_of, is_of, entry_in, entries_in, is_sound, list_of, is_reply_to, answered_with, answer_in}
 use Rattle.enip_client.proofs.IdentityLemmas.{identity_taken, identity_again}
 use Rattle.enip_client.proofs.ServiceLemmas.{service_taken, service_again}
@@ -99,9 +98,10 @@ lists_sound : {command : ListCommand} {l : List Item} {entries : List Entry} →
 lists_sound Ended = (refl, refl)
 lists_sound {command} (Said {item = i} {entry = entry} {more = more} {entries = entries} same spelled rest) =
     let r = lists_sound rest in
-    let s = said_in command i (Some entry) same (entry_again command i.bytes entry spelled) in
-    (and_from (is_sound command i) (list_all (is_sound command) more) s.0 r.0,
-    more_of command i more (Some entry) s.1 ∙ ap (λ (es : List Entry). entry ∷ es) r.1)
+    let s = said_in command i (Some entry) same (entry_again command i.bytes entry spelled) in (
+      and_from (is_sound command i) (list_all (is_sound command) more) s.0 r.0,
+      more_of command i more (Some entry) s.1 ∙ ap (λ (es : List Entry). entry ∷ es) r.1,
+    )
 lists_sound {command} (Skipped {item = i} {more = more} {entries = entries} differs rest) =
     let r = lists_sound rest in
     let s = skipped_in command i differs in

@@ -1,11 +1,11 @@
 -- A service that is read is the one spelled, and what is spelled is read.
-use Rattle.std.proofs.Common.{◌≡◌, ◌↔◌, ℕ, ◌+◌, ◌<◌, ◌≤◌, ltb, cond, Bool, true, false, List, [], ◌∷◌, ◌++◌, length, slice_index, take, drop, Option, Some, None, refl, sym, ap, subst, ◌∙◌, arith, length-drop}
+use Rattle.std.proofs.Common.{◌≡◌, ◌↔◌, ℕ, ◌<◌, ltb, cond, Bool, true, false, List, [], ◌++◌, length, take, drop, Option, Some, None, refl, sym, ap, subst, ◌∙◌, arith, length-drop}
 use Rattle.std.specs.Prelude.{◌==◌, if◌then◌else◌}
 use Rattle.std.specs.Option.{option_map}
 use Rattle.std.specs.List.{position_or_len}
 use Rattle.std.proofs.lemmas.Bool.{eqb-true, eq-eqb, ltb-false}
 use Rattle.std.proofs.lemmas.List.{take_all}
-use Rattle.cip_bytes.specs.Numbers.{le, number_at, AreBytes}
+use Rattle.cip_bytes.specs.Numbers.{le, AreBytes}
 use Rattle.cip_bytes.proofs.Bytes.{le2_again, at2, parts_then}
 use Rattle.enip_wire.proofs.FrameLemmas.{number-two}
 use Rattle.enip_client.specs.declared.service.ServiceView.{ServiceView}

@@ -2,7 +2,7 @@
 use Rattle.std.specs.Prelude.{ℕ, ◌≡◌, ◌<◌, ◌+◌, ◌^◌, ◌==◌, if◌then◌else◌, List, [], ◌∷◌, ◌++◌, length, take, drop}
 use Rattle.std.specs.Prelude.{slice_index, slice_range, Option, Some, None}
 use Rattle.byteorder.specs.Endian.{big_bytes, big_from}
-use Rattle.cip_bytes.specs.Numbers.{le, number_at, AreBytes}
+use Rattle.cip_bytes.specs.Numbers.{le, number_at}
 use Rattle.enip_client.specs.declared.identity.IdentityView.{IdentityView}
 
 -- What an item says of a device: the protocol version, a socket address, and attributes 1 to 8 of its Identity object.

@@ -1,6 +1,6 @@
 -- What a device tells of itself without a session: ListServices and ListIdentity (Volume 2, encapsulation commands).
 use Rattle.std.specs.Prelude.{ℕ, ◌≡◌, ◌==◌, ◌&&◌, is_some, if◌then◌else◌, Bool, true, List, [], ◌∷◌}
-use Rattle.std.specs.Prelude.{Option, Some, None, Result, Ok, Err}
+use Rattle.std.specs.Prelude.{Option, None, Result, Ok, Err}
 use Rattle.std.specs.List.{filter_map, list_all}
 use Rattle.std.specs.Option.{option_map}
 use Rattle.cip_bytes.specs.Numbers.{number_at}

@@ -61,7 +61,10 @@ pub fn ask<R: Source, W: Sink>(
 /// # Errors
 ///
 /// `Spent`, `Ended` or `Read`.
-pub(crate) fn read<R: Source>(reader: &mut R, into: &mut [u8; LONGEST_READ]) -> Result<usize, AskFault>
+pub(crate) fn read<R: Source>(
+    reader: &mut R,
+    into: &mut [u8; LONGEST_READ],
+) -> Result<usize, AskFault>
     requires { R.failures reader.old < u64.MAX }
     ensures bytes { IsRead (R.left reader.old) (R.left reader.new) (R.reads reader.old) (R.reads reader.new)
         into.new result }

@@ -30,7 +30,7 @@ pub use fault::{AskFault, ClientFault, SubmitFault};
 pub use hearing::{Heard, Hearing};
 pub use identity::IdentityView;
 pub use listing::ask_list;
-pub use lists::{ListCommand, ListEntry, ListEntries, read_list, write_list};
+pub use lists::{ListCommand, ListEntries, ListEntry, read_list, write_list};
 pub use sending::{LONGEST_SENT, Sent, write_register, write_request};
 pub use service::ServiceView;
 pub use wants::Wants;

@@ -1,4 +1,4 @@
-use Rattle.std.proofs.Common.{◌≡◌, ℕ, List, take, slice_index, ap, ◌∙◌, refl}
+use Rattle.std.proofs.Common.{ℕ, List, take, slice_index, ap, ◌∙◌, refl}
 use Rattle.cip_bytes.proofs.Bytes.{number_behind, rest_slice}
 use Rattle.enip_client.specs.Identity.{identity_fields}
 use Rattle.enip_client.proofs.IdentityLemmas.{same_identity, big_behind}

@@ -1,4 +1,4 @@
-use Rattle.std.proofs.Common.{◌≡◌, ◌≤◌, List, [], ℕ, length, take, refl, sym, subst, arith}
+use Rattle.std.proofs.Common.{◌≡◌, length, take, refl, sym, subst, arith}
 use Rattle.std.proofs.lemmas.Result.{err_from_is_err_and}
 use Rattle.enip_client.proofs.AskedLemmas.{size_read}
 use Rattle.enip_client.proofs.ListingLemmas.{Came, none_came, more_came, gathered, not_gathered}

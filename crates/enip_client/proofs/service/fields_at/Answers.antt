@@ -1,4 +1,4 @@
-use Rattle.std.proofs.Common.{◌≡◌, ℕ, List, ap, ◌∙◌}
+use Rattle.std.proofs.Common.{ap, ◌∙◌}
 use Rattle.cip_bytes.proofs.Bytes.{number_behind, rest_slice}
 use Rattle.enip_client.specs.Service.{service_fields, name_in}
 use Rattle.enip_client.proofs.ServiceLemmas.{same_service}

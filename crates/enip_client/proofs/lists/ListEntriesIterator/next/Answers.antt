@@ -1,4 +1,4 @@
-use Rattle.std.proofs.Common.{◌≡◌, length, Some, None, refl, sym, ap, ◌∙◌, arith, rules}
+use Rattle.std.proofs.Common.{length, Some, None, refl, sym, ap, ◌∙◌, arith, rules}
 use Rattle.std.specs.Option.{option_map}
 use Rattle.enip_wire.specs.Items.{item_of}
 use Rattle.enip_client.specs.Lists.{entries_in, entry_shown}
