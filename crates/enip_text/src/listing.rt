@@ -3,9 +3,9 @@
 ghost use Rattle.std.specs.Prelude.{◌≡◌, ◌<◌, IfErr, OnOk, Some};
 ghost use Rattle.std.specs.Io.KnownBytes.{Appends};
 ghost use Rattle.enip_client.specs.Listing.{sides};
-ghost use Rattle.enip_client.specs.Lists.{entries_left};
+ghost use Rattle.enip_client.specs.Lists.{entries_left, entry_shown};
 ghost use Rattle.enip_text.specs.Asking.{IsOfExchange};
-ghost use Rattle.enip_text.specs.Listing.{IsListTold, list_text, datagram_text};
+ghost use Rattle.enip_text.specs.Listing.{IsListTold, list_text, device_line, datagram_text};
 ghost use Rattle.enip_text.specs.Statuses.{IsOfDevices};
 
 use crate::asking::AskingStop;
@@ -272,9 +272,20 @@ pub fn print_devices<O: Write>(output: &mut O, datagram: &[u8]) -> Result<(), Fa
         return Ok(());
     };
     for entry in entries {
-        if let ListEntry::Identity(identity) = &entry {
-            writeln!(output, "{}", DeviceLine(identity))?;
-        }
+        print_device(output, entry)?;
+    }
+    Ok(())
+}
+
+/// Prints the line of a device. A service has none.
+fn print_device<O: Write>(output: &mut O, entry: ListEntry<'_>) -> Result<(), Fault>
+    ensures printed { OnOk result (Appends (O.contents output.old) (O.contents output.new)
+        (device_line (entry_shown entry.entry))) }
+    ensures refused { IfErr result IsOfDevices }
+{
+    match &entry {
+        ListEntry::Identity(identity) => writeln!(output, "{}", DeviceLine(identity))?,
+        ListEntry::Service(_) => {}
     }
     Ok(())
 }
