@@ -5,3 +5,4 @@ pub mod Asking
 pub mod Script
 pub mod Outcome
 pub mod Replay
+pub mod Listing

@@ -1,9 +1,9 @@
 //! The program's work over lines of text: the digits of bytes, the lines that it reads, what it prints, and the exit
 //! status with which it ends.
 //!
-//! [`answer`] runs an adapter over lines of pieces, [`replay`] an adapter and a client over the lines of a script, which [`draw_replay`] draws;
-//! [`show`] prints the fields of frames; [`ask_over`] asks a device once, with a request that a [`Question`] makes. Each
-//! is over any reader and writer. Why one ends early is a [`Fault`], a [`ReplayStop`] or an [`AskingStop`], with its text
+//! [`answer`] runs an adapter over lines of pieces, [`replay`] an adapter and a client over the lines of a script, which
+//! [`draw_replay`] draws; [`show`] prints the fields of frames; [`ask_over`] asks a device once, with a request that a
+//! [`Question`] makes; [`list_over`] asks what a device is, or what it offers. Each is over any reader and writer. Why one ends early is a [`Fault`], a [`ReplayStop`] or an [`AskingStop`], with its text
 //! and its exit status (`specs/Statuses.antt`). Which lines there are, and what each means, stands in `specs/Lines.antt`
 //! and `specs/Script.antt`; what a replay prints in `specs/Outcome.antt` and `specs/Replay.antt`.
 //!
@@ -17,6 +17,7 @@ mod fault;
 mod input_lines;
 mod ladder;
 mod lines;
+mod listing;
 mod number;
 mod outcome;
 mod replaying;
@@ -28,5 +29,6 @@ pub use answering::answer;
 pub use asking::{AskingStop, Question, Replied, WANTS, ask_over, end_asking};
 pub use fault::Fault;
 pub use ladder::draw_replay;
+pub use listing::{list_over, print_devices};
 pub use replaying::{ReplayStop, replay};
 pub use showing::show;
