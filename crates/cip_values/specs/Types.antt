@@ -51,3 +51,12 @@ IsSized (forms.Signed size) = (1 ≤ size) × (size ≤ 8)
 IsSized (forms.Unsigned size) = (1 ≤ size) × (size ≤ 8)
 IsSized (forms.Bits size) = (1 ≤ size) × (size ≤ 8)
 IsSized form = ⊤
+
+-- how many bytes a value has, that of a text without its characters
+abbrev pub size_of : Form → ℕ
+size_of forms.Bool = 1
+size_of (forms.Signed size) = size
+size_of (forms.Unsigned size) = size
+size_of (forms.Bits size) = size
+size_of forms.Real = 4
+size_of forms.Text = 1

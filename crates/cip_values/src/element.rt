@@ -52,6 +52,21 @@ pub(crate) enum Form {
     Text,
 }
 
+impl Form {
+    ghost use Rattle.cip_values.specs.Types.{size_of};
+
+    /// How many bytes a value has, that of a text without its characters.
+    pub(crate) fn size(self) -> usize
+        ensures { result ≡ size_of self }
+    {
+        match self {
+            Form::Signed(size) | Form::Unsigned(size) | Form::Bits(size) => size,
+            Form::Real => 4,
+            Form::Bool | Form::Text => 1,
+        }
+    }
+}
+
 impl ElementaryType {
     /// The type of a name of the standard, in capitals.
     pub fn from_name(name: &str) -> Option<ElementaryType>
@@ -98,6 +113,27 @@ impl ElementaryType {
             ElementaryType::Lword => "LWORD",
             ElementaryType::Real => "REAL",
             ElementaryType::ShortString => "SHORT_STRING",
+        }
+    }
+
+    /// The range of its numbers, in words.
+    pub(crate) fn range(self) -> &'static str {
+        match self {
+            ElementaryType::Bool => "0 to 1",
+            ElementaryType::Sint => "-128 to 127",
+            ElementaryType::Int => "-32768 to 32767",
+            ElementaryType::Dint => "-2147483648 to 2147483647",
+            ElementaryType::Lint => "-9223372036854775808 to 9223372036854775807",
+            ElementaryType::Usint => "0 to 255",
+            ElementaryType::Uint => "0 to 65535",
+            ElementaryType::Udint => "0 to 4294967295",
+            ElementaryType::Ulint => "0 to 18446744073709551615",
+            ElementaryType::Byte => "0x00 to 0xff",
+            ElementaryType::Word => "0x0000 to 0xffff",
+            ElementaryType::Dword => "0x00000000 to 0xffffffff",
+            ElementaryType::Lword => "0x0000000000000000 to 0xffffffffffffffff",
+            ElementaryType::Real => "-3.4028235e38 to 3.4028235e38",
+            ElementaryType::ShortString => "0 to 255 bytes",
         }
     }
 

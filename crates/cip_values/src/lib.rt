@@ -6,5 +6,9 @@
 #![tactic(auto)]
 
 mod element;
+mod fault;
+mod value;
 
 pub use element::{ElementaryType, ValueType};
+pub use fault::ValueFault;
+pub use value::Value;
