@@ -1,9 +1,10 @@
 -- Values of elementary types, and their bytes (Volume 1, data types).
-use Rattle.std.specs.Prelude.{◌≡◌, ◌≢◌, ◌+◌, ◌-◌, ◌*◌, ◌^◌, ◌<◌, ◌≤◌, ⊤, suc, ℕ, ℤ, pos, negsuc, Bool, true, false, List, [], ◌∷◌, ◌++◌, length, slice_index}
+use Rattle.std.specs.Prelude.{◌≡◌, ◌≢◌, ◌+◌, ◌-◌, ◌*◌, ◌^◌, ◌<◌, ◌≤◌, ⊤, suc, ℕ, ℤ, pos, negsuc, Bool, true, false, List, [], ◌∷◌, ◌++◌, length, slice_index, MatchBool}
 use Rattle.std.specs.List.{flat_map, AllByRecursion}
 use Rattle.cip_bytes.specs.Numbers.{le, AreBytes}
-use Rattle.cip_values.specs.Types.{size_of}
+use Rattle.cip_values.specs.Types.{size_of, form_of}
 use Rattle.cip_values.specs.declared.element.Form.{Form}
+use Rattle.cip_values.specs.declared.element.ValueType.{ValueType}
 use Rattle.cip_values.specs.declared.element.Form.TheVariants as forms
 use Rattle.cip_values.specs.declared.value.Value.{Value as ValueInCode}
 use Rattle.cip_values.specs.declared.value.Value.TheVariants as values
@@ -83,3 +84,38 @@ IsUnread form bytes fault = ⊥
 -- the bytes of values, one after the other
 abbrev pub joined : Form → List Value → List ℕ
 joined form values = flat_map (spelled (size_of form)) values
+
+-- values stand at the front of bytes, one after the other, and the rest behind them
+pub record StandBefore (form : Form) (bytes : List ℕ) (values : List Value) (rest : List ℕ) : Type 0 where
+  pub of_type : AllByRecursion (IsOf form) values
+  pub bytes_of : bytes ≡ joined form values ++ rest
+
+-- bytes are these values of a type, any number for a list, else one
+pub record AreBytesOf (value_type : ValueType) (bytes : List ℕ) (values : List Value) : Type 0 where
+  pub stand : StandBefore (form_of value_type.element) bytes values []
+  pub one : value_type.is_list ≡ false → length values ≡ 1
+
+-- why bytes are not one value
+abbrev pub IsNotOne : Form → List ℕ → ValueFault → Type 0
+IsNotOne form bytes (faults.Leftover count) =
+    (0 < count) × ((value : Value) × ((rest : List ℕ) × (IsFront form bytes value rest × (length rest ≡ count))))
+IsNotOne form bytes faults.Memory = ⊤
+IsNotOne form bytes fault = IsUnread form bytes fault
+
+-- behind the values that stand at the front of bytes there are more, and no further value stands at theirs
+pub record IsCutOff (form : Form) (bytes : List ℕ) (fault : ValueFault) : Type 0 where
+  pub values : List Value
+  pub rest : List ℕ
+  pub stand : StandBefore form bytes values rest
+  pub more : 0 < length rest
+  pub unread : IsUnread form rest fault
+
+-- why bytes are not values one after the other
+abbrev pub IsNoList : Form → List ℕ → ValueFault → Type 0
+IsNoList form bytes faults.Memory = ⊤
+IsNoList form bytes fault = IsCutOff form bytes fault
+
+-- why bytes are not values of a type
+abbrev pub IsUnreadable : ValueType → List ℕ → ValueFault → Type 0
+IsUnreadable value_type bytes fault =
+    MatchBool value_type.is_list (IsNoList (form_of value_type.element) bytes fault) (IsNotOne (form_of value_type.element) bytes fault)

@@ -7,8 +7,11 @@
 
 mod element;
 mod fault;
+pub mod laws;
 mod value;
+mod values;
 
 pub use element::{ElementaryType, ValueType};
 pub use fault::ValueFault;
 pub use value::Value;
+pub use values::read_values;
