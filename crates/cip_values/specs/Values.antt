@@ -40,6 +40,11 @@ abbrev pub IsSignedOf : ℕ → ℤ → Type 0
 IsSignedOf n (pos k) = k < 2 ^ (8 * n - 1)
 IsSignedOf n (negsuc k) = k < 2 ^ (8 * n - 1)
 
+-- an unsigned integer of n bytes
+abbrev pub IsUnsignedOf : ℕ → ℤ → Type 0
+IsUnsignedOf n (pos k) = k < 2 ^ (8 * n)
+IsUnsignedOf n (negsuc k) = ⊥
+
 -- a value is one of a type, and in its range
 abbrev pub IsOf : Form → Value → Type 0
 IsOf forms.Bool (Truth truth) = ⊤

@@ -13,7 +13,7 @@ pub enum ValueFault<'a> {
     #[error("the data end within a value")]
     Short,
     /// So many bytes stand behind the one value.
-    #[error("{0} bytes are left over")]
+    #[error("{0} {are} left over", are = bytes_are(.0))]
     Leftover(usize),
     /// A byte that should be a BOOL is neither 0 nor 1.
     #[error("{0} is no BOOL, which is 0 or 1")]
@@ -33,6 +33,14 @@ pub enum ValueFault<'a> {
     /// There was no memory.
     #[error("memory")]
     Memory,
+}
+
+/// The words behind a number of bytes.
+fn bytes_are(count: &usize) -> &'static str {
+    match *count {
+        1 => "byte is",
+        _ => "bytes are",
+    }
 }
 
 impl From<AllocError> for ValueFault<'_> {

@@ -8,10 +8,13 @@
 mod element;
 mod fault;
 pub mod laws;
+mod text;
 mod value;
 mod values;
+mod word;
 
 pub use element::{ElementaryType, ValueType};
 pub use fault::ValueFault;
+pub use text::ValuesText;
 pub use value::Value;
-pub use values::read_values;
+pub use values::{read_values, write_values};

@@ -6,7 +6,9 @@ ghost use Rattle.cip_values.specs.Values.{value_in, StandBefore, AreBytesOf, IsN
 
 use crate::element::{Form, ValueType};
 use crate::fault::ValueFault;
+use crate::text::{unescaped, unquoted};
 use crate::value::Value;
+use crate::word::value_of;
 use std::alloc::Global;
 
 /// Reads bytes as values of a type: all of them, any number for a list, else one.
@@ -69,4 +71,49 @@ fn read_list<'a>(
         rest = behind;
     }
     Ok(values)
+}
+
+/// Writes words as the bytes of values of a type: any number of words for a list, else one.
+///
+/// # Errors
+///
+/// `Count` where there is not one word for a type of one value, `Form` where a word is no value of the type, `Range` where
+/// its number is out of the type's range, `TooLong` where it is over 255 bytes of a SHORT_STRING, `Memory` where memory is
+/// refused.
+pub fn write_values<'a>(
+    alloc: Global,
+    value_type: ValueType,
+    words: &[&'a str],
+) -> Result<Vec<u8>, ValueFault<'a>> {
+    if !value_type.is_list && words.len() != 1 {
+        return Err(ValueFault::Count(value_type.element, words.len()));
+    }
+    let mut bytes = Vec::new(alloc);
+    for word in words {
+        append_word(alloc, value_type, *word, &mut bytes)?;
+    }
+    Ok(bytes)
+}
+
+/// Appends the bytes of the value that a word tells.
+fn append_word<'a>(
+    alloc: Global,
+    value_type: ValueType,
+    word: &'a str,
+    out: &mut Vec<u8>,
+) -> Result<(), ValueFault<'a>> {
+    let element = value_type.element;
+    if element.form() != Form::Text {
+        value_of(element, word)?.append(element.form(), out)?;
+        return Ok(());
+    }
+    let inner = if value_type.is_list { unquoted(word) } else { word };
+    let Some(text) = unescaped(alloc, inner)? else {
+        return Err(ValueFault::Form(word, element));
+    };
+    if text.len() > 255 {
+        return Err(ValueFault::TooLong(text.len()));
+    }
+    Value::Text(text.as_slice()).append(Form::Text, out)?;
+    Ok(())
 }

@@ -1,0 +1,149 @@
+//! The value that a word tells.
+
+ghost use Rattle.std.specs.Prelude.{◌≡◌, ◌≤◌, ◌<◌, ◌↔◌, ◌^◌, IfOk, IfErr, MatchResult, IsTrue, ℤ, pos, min, ◌-◌};
+ghost use Rattle.std.specs.Str.Parse.{IsNumeral, digits_value};
+ghost use Rattle.cip_values.specs.Types.{IsSized};
+ghost use Rattle.cip_values.specs.Values.{Real, value_in, IsOf, IsSignedOf, IsUnsignedOf};
+ghost use Rattle.cip_values.specs.Words.{Tells, IsMissed, Clamps, TellsInteger, TellsBits};
+
+use crate::element::{ElementaryType, Form};
+use crate::fault::ValueFault;
+use crate::value::Value;
+use std::num::f32_to_bits_with_nan;
+
+/// Why a word tells no value of a form.
+#[derive(Clone, Copy, Debug, PartialEq, Eq)]
+pub(crate) enum Miss {
+    /// It is none, whatever the range.
+    Form,
+    /// Its number is out of range.
+    Range,
+}
+
+/// The value of a word, of a type other than SHORT_STRING.
+///
+/// A BOOL is `0`, `1`, `false` or `true`. An integer is decimal digits, behind a minus sign where it is negative. A bit
+/// string is `0x` and hexadecimal digits, or an integer. A REAL is a decimal number, with or without an exponent, `inf` or
+/// `nan`.
+///
+/// # Errors
+///
+/// `Form` where the word is no such thing, `Range` where its number is out of the type's range.
+pub(crate) fn value_of<'a>(
+    element: ElementaryType,
+    word: &'a str,
+) -> Result<Value<'static>, ValueFault<'a>> {
+    match told(element.form(), word) {
+        Ok(value) => Ok(value),
+        Err(Miss::Form) => Err(ValueFault::Form(word, element)),
+        Err(Miss::Range) => Err(ValueFault::Range(word, element)),
+    }
+}
+
+/// The value of a word, of a form other than a text.
+fn told(form: Form, word: &str) -> Result<Value<'static>, Miss>
+    requires { IsSized form }
+    ensures told { IfOk result (λ value. Tells form word.now (value_in value)) }
+    ensures of_type { IfOk result (λ value. IsOf form (value_in value)) }
+    ensures missed { IfErr result (IsMissed form word.now) }
+{
+    match form {
+        Form::Bool => match word {
+            "0" | "false" => Ok(Value::Bool(false)),
+            "1" | "true" => Ok(Value::Bool(true)),
+            _ => Err(Miss::Form),
+        },
+        Form::Signed(size) => {
+            let number = integer(word)?;
+            if !fits_signed(number, size) {
+                return Err(Miss::Range);
+            }
+            Ok(Value::Signed(number as i64))
+        }
+        Form::Unsigned(size) => {
+            let number = integer(word)?;
+            if !fits_unsigned(number, size) {
+                return Err(Miss::Range);
+            }
+            Ok(Value::Unsigned(number as u64))
+        }
+        Form::Bits(size) => {
+            let number = bit_string(word)?;
+            if !fits_unsigned(number, size) {
+                return Err(Miss::Range);
+            }
+            Ok(Value::Bits(number as u64))
+        }
+        Form::Real => Ok(Value::Real(real(word)?)),
+        Form::Text => Err(Miss::Form),
+    }
+}
+
+/// Whether an integer has two's complement of so many bytes.
+fn fits_signed(number: i128, size: usize) -> bool
+    requires low { 1 ≤ size }
+    requires high { size ≤ 8 }
+    ensures { IsTrue result ↔ IsSignedOf size number }
+{
+    let half = (1u128 << (8 * size - 1)) as i128;
+    -half <= number && number < half
+}
+
+/// Whether an integer is an unsigned one of so many bytes.
+fn fits_unsigned(number: i128, size: usize) -> bool
+    requires low { 1 ≤ size }
+    requires high { size ≤ 8 }
+    ensures { IsTrue result ↔ IsUnsignedOf size number }
+{
+    0 <= number && number < (1u128 << (8 * size)) as i128
+}
+
+/// The integer that a word tells. One of more than 127 bits is told as the greatest or least of them.
+fn integer(word: &str) -> Result<i128, Miss>
+    ensures { MatchResult result (Clamps (TellsInteger word.now))
+        (λ miss. (miss ≡ Miss.Form) × ((number : ℤ) → TellsInteger word.now number → ⊥)) }
+{
+    match word.strip_prefix("-") {
+        Some(digits) => Ok(-number_of(digits, 10)?),
+        None => number_of(word, 10),
+    }
+}
+
+/// The bits that a word tells, as a number.
+fn bit_string(word: &str) -> Result<i128, Miss>
+    ensures { MatchResult result (Clamps (TellsBits word.now))
+        (λ miss. (miss ≡ Miss.Form) × ((number : ℤ) → TellsBits word.now number → ⊥)) }
+{
+    match word.strip_prefix("0x") {
+        Some(digits) => number_of(digits, 16),
+        None => integer(word),
+    }
+}
+
+/// The number that digits spell. One of more than 127 bits is told as the greatest of them.
+fn number_of(digits: &str, radix: u32) -> Result<i128, Miss>
+    requires low { 2 ≤ radix }
+    requires high { radix ≤ 16 }
+    ensures { MatchResult result
+        (λ number. IsNumeral radix digits.now × (number ≡ pos (min (digits_value radix digits.now) (2 ^ 127 - 1))))
+        (λ miss. (miss ≡ Miss.Form) × ¬ IsNumeral radix digits.now) }
+{
+    if digits.is_empty() || !digits.bytes().all(|digit| char::from(digit).is_digit(radix)) {
+        return Err(Miss::Form);
+    }
+    Ok(i128::from_str_radix(digits, radix).unwrap_or(i128::MAX))
+}
+
+/// The bits of the REAL that a word tells.
+fn real(word: &str) -> Result<u32, Miss>
+    ensures told { IfOk result (λ bits. Tells Form.Real word.now (Real bits)) }
+    ensures missed { IfErr result (IsMissed Form.Real word.now) }
+{
+    let Ok(number) = word.parse::<f32>() else {
+        return Err(Miss::Form);
+    };
+    if number.is_infinite() && word.bytes().any(|byte| byte.is_ascii_digit()) {
+        return Err(Miss::Range);
+    }
+    Ok(f32_to_bits_with_nan(number))
+}
