@@ -5,8 +5,12 @@ use Rattle.std.specs.Float.Ieee.{Float}
 use Rattle.std.specs.Float.Parse.{parse_float}
 use Rattle.std.specs.Str.Parse.{IsNumeral, digits_value}
 use Rattle.cip_values.specs.Values.{Value, Truth, Signed, Unsigned, Bits, Real, Text, IsSignedOf, IsUnsignedOf}
+use Rattle.cip_values.specs.Types.{form_of}
+use Rattle.cip_values.specs.declared.element.ElementaryType.{ElementaryType}
 use Rattle.cip_values.specs.declared.element.Form.{Form}
 use Rattle.cip_values.specs.declared.element.Form.TheVariants as forms
+use Rattle.cip_values.specs.declared.fault.ValueFault.{ValueFault}
+use Rattle.cip_values.specs.declared.fault.ValueFault.TheVariants as faults
 use Rattle.cip_values.specs.declared.word.Miss.{Miss}
 use Rattle.cip_values.specs.declared.word.Miss.TheVariants as misses
 
@@ -54,6 +58,12 @@ IsMissed (forms.Unsigned n) word misses.Range = (number : ℤ) × (TellsInteger 
 IsMissed (forms.Bits n) word misses.Range = (number : ℤ) × (TellsBits word number × (IsUnsignedOf n number → ⊥))
 IsMissed forms.Real word misses.Range = (x : Float) × ((parse_float binary32 word ≡ Some x) × (float_is_finite x ≡ false))
 IsMissed form word misses.Range = ⊥
+
+-- why a word is refused as a value of a type
+abbrev pub IsMistold : ElementaryType → List ℕ → ValueFault → Type 0
+IsMistold element word (faults.Form text type) = (text.now ≡ word) × (type ≡ element) × IsMissed (form_of element) word misses.Form
+IsMistold element word (faults.Range text type) = (text.now ≡ word) × (type ≡ element) × IsMissed (form_of element) word misses.Range
+IsMistold element word fault = ⊥
 
 -- a number is one that is told, or both are past 64 bits
 abbrev pub Clamps : (ℤ → Type 0) → ℤ → Type 0

@@ -54,12 +54,10 @@ impl fmt::Display for ValueText<'_> {
             Value::Bool(truth) => f.write_str(if truth { "1" } else { "0" }),
             Value::Signed(number) => write!(f, "{number}"),
             Value::Unsigned(number) => write!(f, "{number}"),
-            Value::Bits(number) => match self.form.size() {
-                1 => write!(f, "0x{number:02x}"),
-                2 => write!(f, "0x{number:04x}"),
-                4 => write!(f, "0x{number:08x}"),
-                _ => write!(f, "0x{number:016x}"),
-            },
+            Value::Bits(number) => {
+                let width = 2 * self.form.size();
+                write!(f, "0x{number:0width$x}")
+            }
             Value::Real(bits) => write!(f, "{}", RealText(bits)),
             Value::Text(text) if self.is_quoted => write!(f, "\"{}\"", Escaped { text, is_quoted: true }),
             Value::Text(text) => write!(f, "{}", Escaped { text, is_quoted: false }),

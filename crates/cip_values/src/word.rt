@@ -1,10 +1,10 @@
 //! The value that a word tells.
 
-ghost use Rattle.std.specs.Prelude.{◌≡◌, ◌≤◌, ◌<◌, ◌↔◌, ◌^◌, IfOk, IfErr, MatchResult, IsTrue, ℤ, pos, min, ◌-◌};
+ghost use Rattle.std.specs.Prelude.{◌≡◌, ◌≤◌, ◌<◌, ◌↔◌, ◌^◌, IfOk, IfErr, MatchResult, MatchOption, IsTrue, ℕ, ℤ, pos, min, ◌-◌, ◌≢◌, ◌++◌, List};
 ghost use Rattle.std.specs.Str.Parse.{IsNumeral, digits_value};
-ghost use Rattle.cip_values.specs.Types.{IsSized};
+ghost use Rattle.cip_values.specs.Types.{IsSized, form_of};
 ghost use Rattle.cip_values.specs.Values.{Real, value_in, IsOf, IsSignedOf, IsUnsignedOf};
-ghost use Rattle.cip_values.specs.Words.{Tells, IsMissed, Clamps, TellsInteger, TellsBits};
+ghost use Rattle.cip_values.specs.Words.{Tells, IsMissed, IsMistold, Clamps, TellsInteger, TellsBits};
 
 use crate::element::{ElementaryType, Form};
 use crate::fault::ValueFault;
@@ -32,7 +32,11 @@ pub(crate) enum Miss {
 pub(crate) fn value_of<'a>(
     element: ElementaryType,
     word: &'a str,
-) -> Result<Value<'static>, ValueFault<'a>> {
+) -> Result<Value<'static>, ValueFault<'a>>
+    ensures told { IfOk result (λ value. Tells (form_of element) word.now (value_in value)) }
+    ensures of_type { IfOk result (λ value. IsOf (form_of element) (value_in value)) }
+    ensures refused { IfErr result (IsMistold element word.now) }
+{
     match told(element.form(), word) {
         Ok(value) => Ok(value),
         Err(Miss::Form) => Err(ValueFault::Form(word, element)),
@@ -103,7 +107,7 @@ fn integer(word: &str) -> Result<i128, Miss>
     ensures { MatchResult result (Clamps (TellsInteger word.now))
         (λ miss. (miss ≡ Miss.Form) × ((number : ℤ) → TellsInteger word.now number → ⊥)) }
 {
-    match word.strip_prefix("-") {
+    match behind("-", word) {
         Some(digits) => Ok(-number_of(digits, 10)?),
         None => number_of(word, 10),
     }
@@ -114,10 +118,18 @@ fn bit_string(word: &str) -> Result<i128, Miss>
     ensures { MatchResult result (Clamps (TellsBits word.now))
         (λ miss. (miss ≡ Miss.Form) × ((number : ℤ) → TellsBits word.now number → ⊥)) }
 {
-    match word.strip_prefix("0x") {
+    match behind("0x", word) {
         Some(digits) => number_of(digits, 16),
         None => integer(word),
     }
+}
+
+/// What stands behind a mark at the front of a word.
+fn behind<'a>(mark: &str, word: &'a str) -> Option<&'a str>
+    ensures { MatchOption result ((rest : List ℕ) → word.now ≢ mark.now ++ rest)
+        (λ rest. word.now ≡ mark.now ++ rest.now) }
+{
+    word.strip_prefix(mark)
 }
 
 /// The number that digits spell. One of more than 127 bits is told as the greatest of them.
@@ -128,10 +140,19 @@ fn number_of(digits: &str, radix: u32) -> Result<i128, Miss>
         (λ number. IsNumeral radix digits.now × (number ≡ pos (min (digits_value radix digits.now) (2 ^ 127 - 1))))
         (λ miss. (miss ≡ Miss.Form) × ¬ IsNumeral radix digits.now) }
 {
-    if digits.is_empty() || !digits.bytes().all(|digit| char::from(digit).is_digit(radix)) {
+    if !is_numeral(digits, radix) {
         return Err(Miss::Form);
     }
     Ok(i128::from_str_radix(digits, radix).unwrap_or(i128::MAX))
+}
+
+/// Whether a text is digits, one at least.
+fn is_numeral(text: &str, radix: u32) -> bool
+    requires low { 2 ≤ radix }
+    requires high { radix ≤ 16 }
+    ensures { IsTrue result ↔ IsNumeral radix text.now }
+{
+    !text.is_empty() && text.bytes().all(|byte| char::from(byte).is_digit(radix))
 }
 
 /// The bits of the REAL that a word tells.
