@@ -1,6 +1,6 @@
 -- The value that a word tells.
 use Rattle.std.specs.Prelude.{◌≡◌, ◌≢◌, ◌⊎◌, ◌≤◌, ◌^◌, ⊤, ℕ, ℤ, pos, neg_ℤ, Bool, true, false, List, ◌∷◌, ◌++◌, codes, Option, None, Some, to_bits, unsigned_abs}
-use Rattle.std.specs.Float.{binary32, float_is_finite}
+use Rattle.std.specs.Float.{binary32, float_is_infinite}
 use Rattle.std.specs.Float.Ieee.{Float}
 use Rattle.std.specs.Float.Parse.{parse_float}
 use Rattle.std.specs.Str.Parse.{IsNumeral, digits_value}
@@ -56,7 +56,7 @@ IsMissed forms.Text word misses.Form = ⊤
 IsMissed (forms.Signed n) word misses.Range = (number : ℤ) × (TellsInteger word number × (IsSignedOf n number → ⊥))
 IsMissed (forms.Unsigned n) word misses.Range = (number : ℤ) × (TellsInteger word number × (IsUnsignedOf n number → ⊥))
 IsMissed (forms.Bits n) word misses.Range = (number : ℤ) × (TellsBits word number × (IsUnsignedOf n number → ⊥))
-IsMissed forms.Real word misses.Range = (x : Float) × ((parse_float binary32 word ≡ Some x) × (float_is_finite x ≡ false))
+IsMissed forms.Real word misses.Range = (x : Float) × ((parse_float binary32 word ≡ Some x) × (float_is_infinite x ≡ true))
 IsMissed form word misses.Range = ⊥
 
 -- why a word is refused as a value of a type

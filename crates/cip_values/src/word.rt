@@ -1,6 +1,8 @@
 //! The value that a word tells.
 
 ghost use Rattle.std.specs.Prelude.{◌≡◌, ◌≤◌, ◌<◌, ◌↔◌, ◌^◌, IfOk, IfErr, MatchResult, MatchOption, IsTrue, ℕ, ℤ, pos, min, ◌-◌, ◌≢◌, ◌++◌, List};
+ghost use Rattle.std.specs.Char.{is_digit};
+ghost use Rattle.std.specs.List.{list_all};
 ghost use Rattle.std.specs.Str.Parse.{IsNumeral, digits_value};
 ghost use Rattle.cip_values.specs.Types.{IsSized, form_of};
 ghost use Rattle.cip_values.specs.Values.{Real, value_in, IsOf, IsSignedOf, IsUnsignedOf};
@@ -152,7 +154,25 @@ fn is_numeral(text: &str, radix: u32) -> bool
     requires high { radix ≤ 16 }
     ensures { IsTrue result ↔ IsNumeral radix text.now }
 {
-    !text.is_empty() && text.bytes().all(|byte| char::from(byte).is_digit(radix))
+    !text.is_empty() && are_digits(text.as_bytes(), radix)
+}
+
+/// Whether each byte is a digit.
+fn are_digits(bytes: &[u8], radix: u32) -> bool
+    requires low { 2 ≤ radix }
+    requires high { radix ≤ 16 }
+    ensures { result ≡ list_all (λ byte. is_digit byte radix) bytes.now }
+{
+    bytes.iter().all(|byte| is_digit(*byte, radix))
+}
+
+/// Whether a byte is a digit.
+fn is_digit(byte: u8, radix: u32) -> bool
+    requires low { 2 ≤ radix }
+    requires high { radix ≤ 16 }
+    ensures { result ≡ is_digit byte radix }
+{
+    char::from(byte).is_digit(radix)
 }
 
 /// The bits of the REAL that a word tells.
