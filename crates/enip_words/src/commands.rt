@@ -24,7 +24,7 @@ Prints
   P closed    the adapter closed the connection of peer P, whose later pieces print nothing
   P full N    P cannot begin: all places are taken (1), or all session handles were given out (2)
 
-Exit status, and the line on standard error
+Exit status, and the last line on standard error; in front of it stands why, in words
 
   0                     all lines were run
   2  an explanation     the words are refused
@@ -93,7 +93,7 @@ once, and one reply was accepted:
   assembly 100 00000000
   client idle
 
-Exit status, and the line on standard error
+Exit status, and the last line on standard error; in front of it stands why, in words
 
   0                     all lines were run
   2  an explanation     the words are refused
@@ -114,7 +114,7 @@ not read keeps no other waiting; it is ended once it was silent for as long as -
 With --discovery datagrams of UDP at the same address and port are heard as well: a ListIdentity, a ListServices or a
 ListInterfaces without data is answered as over TCP, any other is dropped. At 0.0.0.0 that hears broadcasts too.
 
-Exit status, and the line on standard error, as of `enip answer`; 5 `device` also where the address cannot be bound.";
+Exit status, and the last line on standard error, as of `enip answer`; 5 `device` also where the address cannot be bound.";
 
 const ABOUT_SHOW: &str = "Prints the fields of frames that are given as lines of hexadecimal digits
 
@@ -151,7 +151,7 @@ Prints
   refused 0xGG           the device refused: the general status
   refused 0xGG 0xEEEE    the same, with the first additional word
 
-Exit status, and the line on standard error
+Exit status, and the last line on standard error; in front of it stands why, in words
 
   0                     the request was done
   2  an explanation     the words are refused
