@@ -2,6 +2,7 @@
 
 use crate::fault::Fault;
 use crate::noted::Noted;
+use crate::place::{Patience, Place};
 use crate::reason::{Ending, Reason, tell};
 use crate::socket::{SocketSink, SocketSource};
 use crate::status_words::StatusWords;
@@ -9,7 +10,6 @@ use cip_message::Path;
 use clap::ArgMatches;
 use enip_client::ClientFault;
 use enip_text::{AskingStop, Question, Replied, ask_over};
-use std::net::TcpStream;
 use std::time::Instant;
 
 /// What the words ask: of which device, what, and how.
@@ -18,11 +18,16 @@ pub(crate) struct Asked<'a> {
     address: &'a str,
     question: Question<'a>,
     connected: bool,
+    patience: Patience<'a>,
 }
 
 impl<'a> Asked<'a> {
-    /// What the words ask with a service. None where a word is missing.
-    pub(crate) fn of(service: Option<u8>, matches: &ArgMatches<'a>) -> Option<Asked<'a>> {
+    /// What the words ask with a service, with this patience. None where a word is missing.
+    pub(crate) fn of(
+        service: Option<u8>,
+        matches: &ArgMatches<'a>,
+        patience: Patience<'a>,
+    ) -> Option<Asked<'a>> {
         Some(Asked {
             address: matches.get_str("ADDRESS")?,
             question: Question {
@@ -36,6 +41,7 @@ impl<'a> Asked<'a> {
                 digits: matches.get_str("HEX").unwrap_or(""),
             },
             connected: matches.get_flag("connected"),
+            patience,
         })
     }
 }
@@ -59,13 +65,14 @@ fn ask_address<'a>(
     asked: Asked<'a>,
     request: &[u8],
 ) -> Result<Replied, Ending<'a>> {
-    let address = asked.address;
+    let place = Place::of(asked.address)?;
     let start = Instant::now(rt).map_err(|error| Ending::of_device("the clock", error))?;
-    let stream = TcpStream::connect(rt, address).map_err(|error| Ending::of_device(
-        address, error,
-    ))?;
+    let stream = place.connect(rt, asked.patience)?;
     // The requests are small.
     let _ = stream.set_nodelay(true);
+    stream
+        .set_read_timeout(asked.patience.limit())
+        .map_err(|error| Ending::of_device(place.word(), error))?;
     let mut output = Noted::new("standard output", rt.stdout());
     let mut source = SocketSource::new(&stream, rt, start);
     let mut sink = SocketSink::new(&stream);
@@ -83,7 +90,7 @@ fn ask_address<'a>(
             let lost = source
                 .lost()
                 .or(sink.lost())
-                .map(|lost| lost.reason(address));
+                .map(|lost| lost.reason(place.word(), asked.patience));
             Err(ending_of(stop, asked, output.reason().or(lost)))
         }
     }

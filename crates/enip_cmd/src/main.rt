@@ -10,6 +10,7 @@ mod door;
 pub mod fault;
 mod named;
 mod noted;
+mod place;
 mod readiness;
 mod reason;
 pub mod replay;
@@ -28,6 +29,7 @@ use enip_words::{PROGRAM, Word, program, words};
 use mio::net::UdpSocket;
 use named::{Named, ending_of_run};
 use noted::Noted;
+use place::{Patience, Place};
 use reason::{Ending, Reason};
 use serve::{Serving, Sockets, serve_connections};
 use std::io;
@@ -128,10 +130,23 @@ fn run_client<'a>(
     service: Option<u8>,
     matches: &ArgMatches<'a>,
 ) -> Result<u8, Ending<'a>> {
-    match Asked::of(service, matches) {
+    let word = matches.get_str("timeout").unwrap_or("");
+    let Some(patience) = Patience::of(word) else {
+        return Ok(refuse_seconds(rt, word));
+    };
+    match Asked::of(service, matches, patience) {
         Some(asked) => run_asking(rt, asked),
         None => Ok(WORDS_REFUSED),
     }
+}
+
+/// Says that the word of `--timeout` is refused, and gives the exit status.
+fn refuse_seconds(rt: &HostRuntime, word: &str) -> u8 {
+    let _ = eprintln!(rt;
+        "error: invalid value '{word}' for '--timeout <SECONDS>': it is a number from 0 to 3600, with \
+        up to six digits behind a point\n\nFor more information, try '--help'."
+    );
+    WORDS_REFUSED
 }
 
 /// `enip serve`.
@@ -148,15 +163,13 @@ fn run_serve<'a>(
     let silence = silence_of(seconds);
     let config = Named::read(rt.alloc(), words, matches, "CONFIG")?;
     let adapter = config.adapter(rt.alloc())?;
-    let address = matches.get_str("ADDRESS").unwrap_or("");
-    let sockets = bind_at(rt, address, matches.get_flag("discovery")).map_err(
-        |error| Ending::of_device(address, error),
-    )?;
+    let place = Place::of(matches.get_str("ADDRESS").unwrap_or(""))?;
+    let sockets = bind_at(rt, place, matches.get_flag("discovery"))?;
     print_listening(rt, &sockets).map_err(|error| Ending::of_device(ERRORS, error))?;
     match serve_connections(rt, rt.alloc(), sockets, adapter, Serving { count, silence }) {
         Ok(()) => Ok(0),
         Err(enip_text::Fault::Memory) => Err(Ending::of_memory()),
-        Err(_) => Err(Ending::of_reason(Reason::Failed(address))),
+        Err(_) => Err(Ending::of_reason(Reason::Failed(place.word()))),
     }
 }
 
@@ -177,9 +190,14 @@ fn silence_of(seconds: u16) -> u64
     }
 }
 
-/// The sockets of a device at an address, with one for datagrams where they are to be heard.
-fn bind_at(rt: &HostRuntime, address: &str, discovery: bool) -> io::Result<Sockets> {
-    let listener = TcpListener::bind(rt, address)?;
+/// The sockets of a device at a place, with one for datagrams where they are to be heard.
+fn bind_at<'a>(rt: &HostRuntime, place: Place<'a>, discovery: bool) -> Result<Sockets, Ending<'a>> {
+    let listener = place.bind(rt)?;
+    sockets_of(rt, listener, discovery).map_err(|error| Ending::of_device(place.word(), error))
+}
+
+/// The sockets of a device that listens so.
+fn sockets_of(rt: &HostRuntime, listener: TcpListener, discovery: bool) -> io::Result<Sockets> {
     listener.set_nonblocking(true)?;
     let bound = listener.local_addr()?;
     let mut datagrams = None;

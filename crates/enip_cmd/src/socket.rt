@@ -2,7 +2,8 @@
 
 ghost use Rattle.std.specs.Prelude.{◌≡◌, ◌≤◌, length, None, IfOk};
 
-use crate::reason::{DeviceWords, Reason};
+use crate::place::Patience;
+use crate::reason::Reason;
 use enip_wire::{Failed, Sink, Source};
 use std::io::{self, ErrorKind, Read, Write};
 use std::net::TcpStream;
@@ -22,11 +23,11 @@ pub(crate) enum Lost {
 }
 
 impl Lost {
-    /// Why, of the connection to an address.
-    pub(crate) fn reason(self, address: &str) -> Reason<'_> {
+    /// Why, of the connection to an address that was waited for so long.
+    pub(crate) fn reason<'a>(self, address: &'a str, patience: Patience<'a>) -> Reason<'a> {
         match self {
             Lost::Ended => Reason::Left(address),
-            Lost::Failed(error) => Reason::Device(address, DeviceWords(error)),
+            Lost::Failed(error) => patience.reason(address, error),
         }
     }
 }

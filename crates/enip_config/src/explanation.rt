@@ -1,6 +1,7 @@
 //! What is wrong with a configuration that is refused, in words, and the line where it is.
 
-ghost use Rattle.std.specs.Prelude.{IfOk, IfSome};
+ghost use Rattle.std.specs.Prelude.{◌≡◌, IfOk, IfSome};
+ghost use Rattle.enip_config.specs.Explained.{refusal_of};
 ghost use Rattle.enip_config.specs.Told.{IsRefused};
 
 use crate::configuration::Configuration;
@@ -26,9 +27,6 @@ pub struct Explanation {
 }
 
 impl Explanation {
-    ghost use Rattle.std.specs.Prelude.{◌≡◌};
-    ghost use Rattle.enip_config.specs.Explained.{refusal_of};
-
     /// The check that refuses the configuration.
     pub fn refusal(&self) -> Refusal
         ensures { result ≡ refusal_of self.now }
