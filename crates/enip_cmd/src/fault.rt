@@ -4,7 +4,7 @@ ghost use Rattle.std.specs.Prelude.{◌≡◌};
 ghost use Rattle.enip_cmd.specs.Statuses.{exit_status};
 
 use enip_config::Refusal;
-use enip_text::ReplayStop;
+use enip_text::{AskingStop, ReplayStop};
 use std::alloc::AllocError;
 use std::io;
 use thiserror::Error;
@@ -21,6 +21,9 @@ pub enum Fault {
     /// A line of the input is refused, or a device or memory failed.
     #[error("{0}")]
     Run(enip_text::Fault),
+    /// A device that was asked gave no reply.
+    #[error("{0}")]
+    Asking(AskingStop),
 }
 
 impl Fault {
@@ -32,6 +35,7 @@ impl Fault {
             Fault::Configuration(_) => 3,
             Fault::Setup => ReplayStop::Setup.exit_status(),
             Fault::Run(fault) => fault.exit_status(),
+            Fault::Asking(stop) => stop.exit_status(),
         }
     }
 }

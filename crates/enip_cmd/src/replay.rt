@@ -56,7 +56,13 @@ pub fn replay_bytes<W: Write + Drop, E: Write + Drop>(
     }
 }
 
-fn run<W: Write + Drop>(alloc: Global, config: &[u8], script: &[u8], output: W) -> Result<(), Fault>
+/// As `replay_bytes`, and answers why it ended early.
+pub(crate) fn run<W: Write + Drop>(
+    alloc: Global,
+    config: &[u8],
+    script: &[u8],
+    output: W,
+) -> Result<(), Fault>
     ensures accepted { IfOk result (λ _. IsAccepted config.now) }
     ensures refused { IfErr result (IsReplayFaultOf config.now) }
 {

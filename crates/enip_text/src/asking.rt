@@ -84,8 +84,8 @@ fn path_bytes(path: Path) -> ArrayVec<u8, LONGEST_PATH>
 pub enum Replied {
     /// The request was done.
     Done,
-    /// It was refused.
-    Refused,
+    /// It was refused: the general status, and the first additional word or 0.
+    Refused(u8, u16),
 }
 
 impl Replied {
@@ -95,7 +95,7 @@ impl Replied {
     {
         match self {
             Replied::Done => 0,
-            Replied::Refused => 6,
+            Replied::Refused(..) => 6,
         }
     }
 }
@@ -106,6 +106,9 @@ pub enum AskingStop {
     /// The data of the request are no hexadecimal digits.
     #[error("hex")]
     Hex,
+    /// The device answered RegisterSession with this encapsulation status, 32 bits.
+    #[error("fault {}", ClientFault::Status(*.0).number())]
+    Session(u32),
     /// The exchange met this fault.
     #[error("fault {}", .0.number())]
     Client(ClientFault),
@@ -121,7 +124,7 @@ impl AskingStop {
     {
         match self {
             AskingStop::Hex => 2,
-            AskingStop::Client(_) => 7,
+            AskingStop::Session(_) | AskingStop::Client(_) => 7,
             AskingStop::Program(fault) => fault.exit_status(),
         }
     }
@@ -182,7 +185,7 @@ impl From<AskFault> for AskingStop {
 ///
 /// # Errors
 ///
-/// `Client` with the client's fault, with `Request` where the connection refuses the request, with `Malformed` where
+/// `Session` where the device refuses the session, `Client` with the client's fault, with `Request` where the connection refuses the request, with `Malformed` where
 /// the reply is none; `Program` where a device failed, the input ended, or memory was refused.
 pub fn ask_over<R: Source, W: Sink, O: Write + Drop>(
     alloc: Global,
@@ -208,6 +211,9 @@ pub fn ask_over<R: Source, W: Sink, O: Write + Drop>(
         // the connection was not opened or not closed
         Err(AskFault::Client(ClientFault::Refused(status, extended))) => {
             print_refused(&mut output, status, extended)?
+        }
+        Err(AskFault::Client(ClientFault::Status(status))) if !client.is_registered() => {
+            return Err(AskingStop::Session(status));
         }
         Err(fault) => return Err(AskingStop::from(fault)),
     };
@@ -239,7 +245,7 @@ fn print_reply<O: Write>(output: &mut O, bytes: &[u8]) -> Result<Replied, Asking
 
 /// Prints that a request was refused: `refused 0xGG`, with ` 0xEEEE` where the first additional word is not 0.
 fn print_refused<O: Write>(output: &mut O, status: u8, extended: u16) -> Result<Replied, AskingStop>
-    ensures told { IfOk result (λ replied. replied ≡ Replied.Refused) }
+    ensures told { IfOk result (λ replied. replied ≡ Replied.Refused status extended) }
     ensures untold { IfErr result IsOfDevice }
 {
     write!(output, "refused {status:#04x}")?;
@@ -247,7 +253,7 @@ fn print_refused<O: Write>(output: &mut O, status: u8, extended: u16) -> Result<
         write!(output, " {extended:#06x}")?;
     }
     output.write_all(b"\n")?;
-    Ok(Replied::Refused)
+    Ok(Replied::Refused(status, extended))
 }
 
 /// The exit status of the program, with a line on `errors` where no reply was told.

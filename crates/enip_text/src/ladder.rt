@@ -17,6 +17,7 @@ ghost use Rattle.enip_text.specs.Statuses.{EndsBy, IsOfDevices};
 use crate::asking::WANTS;
 use crate::fault::Fault;
 use crate::input_lines::{TakeLines, read_lines};
+use crate::line_fault::LineFault;
 use crate::outcome::{Outcome, Standing};
 use crate::replaying::{ReplayStop, bench_of, print_objects};
 use crate::rungs::{Arrow, Field, Note, Rung, Way};
@@ -428,7 +429,7 @@ impl TakeLines for Climber {
             return Ok(());
         }
         let Some(event) = event_of(self.alloc, text, &mut self.digits)? else {
-            return Err(Fault::Line(number));
+            return Err(Fault::Line(number, LineFault::of_script(text)));
         };
         self.run_event(event)
     }

@@ -13,6 +13,7 @@ ghost use Rattle.enip_text.specs.Statuses.{EndsBy, IsOfDevices, replay_stop_stat
 use crate::asking::WANTS;
 use crate::fault::Fault;
 use crate::input_lines::{TakeLines, read_lines};
+use crate::line_fault::LineFault;
 use crate::outcome::{AssemblyData, Counter, Outcome, Standing};
 use crate::script::{event_of, is_skipped};
 use cip_bytes::protocol::ASSEMBLY;
@@ -197,7 +198,7 @@ impl<W: Write + Drop> TakeLines for Player<W> {
         if self.run_line(text)? {
             Ok(())
         } else {
-            Err(Fault::Line(number))
+            Err(Fault::Line(number, LineFault::of_script(text)))
         }
     }
 

@@ -24,7 +24,7 @@ Prints
   P closed    the adapter closed the connection of peer P, whose later pieces print nothing
   P full N    P cannot begin: all places are taken (1), or all session handles were given out (2)
 
-Exit status, and the line on standard error
+Exit status, and the last line on standard error; in front of it stands why, in words
 
   0                     all lines were run
   2  an explanation     the words are refused
@@ -93,7 +93,7 @@ once, and one reply was accepted:
   assembly 100 00000000
   client idle
 
-Exit status, and the line on standard error
+Exit status, and the last line on standard error; in front of it stands why, in words
 
   0                     all lines were run
   2  an explanation     the words are refused
@@ -114,7 +114,7 @@ not read keeps no other waiting; it is ended once it was silent for as long as -
 With --discovery datagrams of UDP at the same address and port are heard as well: a ListIdentity, a ListServices or a
 ListInterfaces without data is answered as over TCP, any other is dropped. At 0.0.0.0 that hears broadcasts too.
 
-Exit status, and the line on standard error, as of `enip answer`; 5 `device` also where the address cannot be bound.";
+Exit status, and the last line on standard error, as of `enip answer`; 5 `device` also where the address cannot be bound.";
 
 const ABOUT_SHOW: &str = "Prints the fields of frames that are given as lines of hexadecimal digits
 
@@ -140,9 +140,9 @@ const ABOUT_CALL: &str = "Calls a service of an object of a device
 calls service 50 (0x32) of class 100, instance 1, with the data 05 00 00 00: of the demo it adds 5 to the counter.";
 
 const AFTER_ASKING: &str =
-    "One request is sent in a session of its own, with --connected on a class 3 connection of its own. There is no
-time-out: a device that does not answer is not waited for beyond what TCP does. Numbers are decimal, and lie in HEX
-least byte first.
+    "One request is sent in a session of its own, with --connected on a class 3 connection of its own. ADDRESS is a host
+or a name, with a port as in plc.local:2222 or without: 44818 then. A device that is not connected, or from which nothing
+comes, within the seconds of --timeout is waited for no longer. Numbers are decimal, and lie in HEX least byte first.
 
 Prints
 
@@ -151,12 +151,13 @@ Prints
   refused 0xGG           the device refused: the general status
   refused 0xGG 0xEEEE    the same, with the first additional word
 
-Exit status, and the line on standard error
+Exit status, and the last line on standard error; in front of it stands why, in words
 
   0                     the request was done
   2  an explanation     the words are refused
   2  hex                HEX is no hexadecimal digits
-  5  device             the device could not be reached, read or written, or left before its reply
+  5  device             the device could not be reached, read or written, did not answer in time, or left before its
+                        reply
   5  memory             there was no memory
   6                     the device refused
   7  fault N            there was no reply
@@ -187,6 +188,7 @@ enum Argument {
     Digits,
     OptionalDigits,
     Connected,
+    Timeout,
 }
 
 impl Argument {
@@ -207,6 +209,7 @@ impl Argument {
             Argument::Digits => digits(alloc).required(true),
             Argument::OptionalDigits => digits(alloc),
             Argument::Connected => connected(alloc),
+            Argument::Timeout => timeout(alloc),
         }
     }
 }
@@ -268,6 +271,7 @@ static COMMANDS: [Row; 7] = [
             Argument::Instance,
             Argument::Attribute,
             Argument::Connected,
+            Argument::Timeout,
         ],
     },
     Row {
@@ -282,6 +286,7 @@ static COMMANDS: [Row; 7] = [
             Argument::Attribute,
             Argument::Digits,
             Argument::Connected,
+            Argument::Timeout,
         ],
     },
     Row {
@@ -296,6 +301,7 @@ static COMMANDS: [Row; 7] = [
             Argument::Instance,
             Argument::OptionalDigits,
             Argument::Connected,
+            Argument::Timeout,
         ],
     },
 ];
@@ -347,7 +353,7 @@ fn ladder<'a>(alloc: Global) -> Arg<'a> {
 
 fn listen<'a>(alloc: Global) -> Arg<'a> {
     Arg::new(alloc, "ADDRESS").required(true).help(
-        "Where to listen, as 127.0.0.1:44818; port 0 takes a free one",
+        "Where to listen, as 127.0.0.1:44818, or 127.0.0.1 for port 44818; port 0 takes a free one",
     )
 }
 
@@ -380,9 +386,9 @@ fn discovery<'a>(alloc: Global) -> Arg<'a> {
 }
 
 fn device<'a>(alloc: Global) -> Arg<'a> {
-    Arg::new(alloc, "ADDRESS")
-        .required(true)
-        .help("Where the device listens, as 127.0.0.1:44818")
+    Arg::new(alloc, "ADDRESS").required(true).help(
+        "Where the device listens, as 10.0.0.9, plc.local or 127.0.0.1:44818",
+    )
 }
 
 fn service<'a>(alloc: Global) -> Arg<'a> {
@@ -425,4 +431,15 @@ fn connected<'a>(alloc: Global) -> Arg<'a> {
         .long("connected")
         .action(ArgAction::SetTrue)
         .help("Asks on a class 3 connection")
+}
+
+fn timeout<'a>(alloc: Global) -> Arg<'a> {
+    // 0 to 3,600 seconds (ours)
+    Arg::new(alloc, "timeout")
+        .long("timeout")
+        .value_name("SECONDS")
+        .default_value("5")
+        .help(
+            "How long a device is waited for, a decimal fraction to 3600; 0 is as long as TCP does",
+        )
 }

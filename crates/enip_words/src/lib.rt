@@ -4,7 +4,9 @@
 mod command_line;
 mod commands;
 mod file;
+mod seconds;
 
 pub use command_line::{Word, words};
 pub use commands::{PROGRAM, program};
 pub use file::read_file;
+pub use seconds::microseconds_of;

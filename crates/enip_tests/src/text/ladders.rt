@@ -2,7 +2,7 @@
 
 use super::demo::demo_adapter;
 use super::streams::BrokenWriter;
-use enip_text::{Fault, ReplayStop, draw_replay};
+use enip_text::{Fault, LineFault, ReplayStop, draw_replay};
 use std::alloc::Global;
 use std::test::Fail;
 
@@ -113,8 +113,8 @@ fn what_is_lost_or_ignored(rt: HostRuntime) -> Result<(), Fail> {
 fn a_line_that_is_refused(rt: HostRuntime) -> Result<(), Fail> {
     let adapter = demo_adapter(rt.alloc())?;
     let mut written = Vec::new(rt.alloc());
-    let ended = draw_replay(rt.alloc(), adapter, b"giveup\nreach\n", &mut written);
-    assert_eq!(rt; ended, Err(ReplayStop::Program(Fault::Line(2))));
+    let ended = draw_replay(rt.alloc(), adapter, b"giveup\nreach x\n", &mut written);
+    assert_eq!(rt; ended, Err(ReplayStop::Program(Fault::Line(2, LineFault::Reach))));
     let line = "               | giveup                                                                   |\n";
     let want = format!(in rt.alloc(); "{HEAD}{line}")?;
     assert_eq!(rt; written.as_slice(), want.as_bytes());
