@@ -67,12 +67,7 @@ fn ask_address<'a>(
 ) -> Result<Replied, Ending<'a>> {
     let place = Place::of(asked.address)?;
     let start = Instant::now(rt).map_err(|error| Ending::of_device("the clock", error))?;
-    let stream = place.connect(rt, asked.patience)?;
-    // The requests are small.
-    let _ = stream.set_nodelay(true);
-    stream
-        .set_read_timeout(asked.patience.limit())
-        .map_err(|error| Ending::of_device(place.word(), error))?;
+    let stream = place.dial(rt, asked.patience)?;
     let mut output = Noted::new("standard output", rt.stdout());
     let mut source = SocketSource::new(&stream, rt, start);
     let mut sink = SocketSink::new(&stream);
@@ -109,7 +104,7 @@ fn ending_of<'a>(stop: AskingStop, asked: Asked<'a>, device: Option<Reason<'a>>)
 }
 
 /// Why the client got no reply.
-fn reason_of_client<'a>(fault: ClientFault) -> Reason<'a> {
+pub(crate) fn reason_of_client<'a>(fault: ClientFault) -> Reason<'a> {
     match fault {
         ClientFault::State => Reason::State,
         ClientFault::Status(status) => Reason::Frame(status),

@@ -8,6 +8,7 @@ mod asking;
 mod discovery;
 mod door;
 pub mod fault;
+mod listing;
 mod named;
 mod noted;
 mod place;
@@ -24,8 +25,10 @@ mod wire;
 use asking::{Asked, run_asking};
 use clap::ArgMatches;
 use clap::error::ErrorKind;
+use enip_client::ListCommand;
 use enip_peers::NO_LIMIT;
 use enip_words::{PROGRAM, Word, program, words};
+use listing::{run_discovery, run_list};
 use mio::net::UdpSocket;
 use named::{Named, ending_of_run};
 use noted::Noted;
@@ -43,6 +46,8 @@ const WORDS_REFUSED: u8 = 2;
 const SECOND: u64 = 1_000_000;
 
 /// Services of all objects. (Volume 1, common services.)
+const GET_ATTRIBUTES_ALL: u8 = 0x01;
+
 const GET_ATTRIBUTE_SINGLE: u8 = 0x0e;
 
 const SET_ATTRIBUTE_SINGLE: u8 = 0x10;
@@ -61,7 +66,10 @@ fn run<'a>(rt: &HostRuntime, words: &[Word], matches: &ArgMatches<'a>) -> Result
         Some(("replay", matches)) => run_replay(rt, words, matches),
         Some(("serve", matches)) => run_serve(rt, words, matches),
         Some(("show", _)) => run_show(rt),
-        Some(("get", matches)) => run_client(rt, Some(GET_ATTRIBUTE_SINGLE), matches),
+        Some(("identity", matches)) => run_listing(rt, Listing::Of(ListCommand::Identity), matches),
+        Some(("services", matches)) => run_listing(rt, Listing::Of(ListCommand::Services), matches),
+        Some(("discover", matches)) => run_listing(rt, Listing::Devices, matches),
+        Some(("get", matches)) => run_client(rt, Some(service_of_get(matches)), matches),
         Some(("set", matches)) => run_client(rt, Some(SET_ATTRIBUTE_SINGLE), matches),
         Some(("call", matches)) => run_client(rt, matches.get_one("SERVICE"), matches),
         _ => Ok(WORDS_REFUSED),
@@ -125,6 +133,40 @@ fn run_show<'a>(rt: &HostRuntime) -> Result<u8, Ending<'a>> {
             let device = output.reason().or(input.reason());
             Err(Ending::of_reason(device.unwrap_or(Reason::Failed(INPUT))))
         }
+    }
+}
+
+/// What is asked for without a session.
+#[derive(Clone, Copy)]
+enum Listing {
+    /// A list of a device.
+    Of(ListCommand),
+    /// The devices that there are.
+    Devices,
+}
+
+/// `enip identity`, `enip services` and `enip discover`.
+fn run_listing<'a>(
+    rt: &HostRuntime,
+    listing: Listing,
+    matches: &ArgMatches<'a>,
+) -> Result<u8, Ending<'a>> {
+    let word = matches.get_str("timeout").unwrap_or("");
+    let Some(patience) = Patience::of(word) else {
+        return Ok(refuse_seconds(rt, word));
+    };
+    let address = matches.get_str("ADDRESS").unwrap_or("");
+    match listing {
+        Listing::Of(command) => run_list(rt, command, address, patience),
+        Listing::Devices => run_discovery(rt, address, patience),
+    }
+}
+
+/// The service of `enip get`: of all attributes where none is said.
+fn service_of_get(matches: &ArgMatches<'_>) -> u8 {
+    match matches.get_one::<u16>("ATTRIBUTE") {
+        Some(_) => GET_ATTRIBUTE_SINGLE,
+        None => GET_ATTRIBUTES_ALL,
     }
 }
 

@@ -1,9 +1,11 @@
 //! Where a device listens, as a word says it, and how long it is waited for.
 
+use crate::listing::request;
 use crate::reason::{DeviceWords, Ending, Reason};
+use enip_client::ListCommand;
 use enip_words::microseconds_of;
 use std::io::{self, ErrorKind};
-use std::net::{HostAddrs, IpAddr, SocketAddr, TcpListener, TcpStream, ToSocketAddrs};
+use std::net::{HostAddrs, IpAddr, SocketAddr, TcpListener, TcpStream, ToSocketAddrs, UdpSocket};
 use std::time::{Duration, Instant};
 
 /// The port that is registered for EtherNet/IP. (Volume 2, TCP.)
@@ -70,6 +72,43 @@ impl<'a> Place<'a> {
         }
         Err(Ending::of_reason(last))
     }
+}
+
+impl<'a> Place<'a> {
+    /// Connects, as for requests, which are small, with the patience at each read.
+    pub(crate) fn dial(
+        self,
+        rt: &HostRuntime,
+        patience: Patience<'a>,
+    ) -> Result<TcpStream, Ending<'a>> {
+        let stream = self.connect(rt, patience)?;
+        let _ = stream.set_nodelay(true);
+        stream
+            .set_read_timeout(patience.limit())
+            .map_err(|error| Ending::of_device(self.word, error))?;
+        Ok(stream)
+    }
+
+    /// A socket from which a ListIdentity was sent in a datagram to the first of its addresses, which may be that of all
+    /// machines of a network.
+    pub(crate) fn datagrams(self, rt: &HostRuntime) -> Result<UdpSocket, Ending<'a>> {
+        for address in self.addresses(rt)? {
+            return ask_all(rt, address).map_err(|error| Ending::of_device(self.word, error));
+        }
+        Err(Ending::of_reason(Reason::NoHost(self.word)))
+    }
+}
+
+/// A socket from which a ListIdentity was sent in a datagram to an address.
+fn ask_all(rt: &HostRuntime, address: SocketAddr) -> io::Result<UdpSocket> {
+    let any = match address {
+        SocketAddr::V4(_) => "0.0.0.0:0",
+        SocketAddr::V6(_) => "[::]:0",
+    };
+    let socket = UdpSocket::bind(rt, any)?;
+    socket.set_broadcast(true)?;
+    socket.send_to(request(ListCommand::Identity).as_slice(), address)?;
+    Ok(socket)
 }
 
 /// The host and the port of a word.

@@ -125,7 +125,64 @@ const ABOUT_GET: &str = "Reads an attribute of an object of a device
 
   enip get 127.0.0.1:44818 1 1 1
 
-reads the vendor: class 1 (Identity), instance 1, attribute 1.";
+reads the vendor: class 1 (Identity), instance 1, attribute 1. Without an attribute all of them are read at once.";
+
+const ABOUT_IDENTITY: &str = "Asks a device what it is, without a session (ListIdentity)
+
+Prints a line for each field; several identities are divided by an empty line:
+
+  vendor 4660
+  device type 43
+  product code 7
+  revision 2.5
+  status 0x0000
+  serial 0x01020304
+  name Demo
+  state 3
+  address 127.0.0.1:44818
+
+Bytes of the name that can't be printed are told as \\xNN.";
+
+const ABOUT_SERVICES: &str =
+    "Asks a device which encapsulation services it offers, without a session (ListServices)
+
+Prints a line for each field; several services are divided by an empty line:
+
+  version 1
+  capability flags 0x0020
+  name Communications";
+
+const ABOUT_DISCOVER: &str =
+    "Looks for the devices of a network, by one datagram to all of its machines (ListIdentity)
+
+Prints a line for each device that answers within the seconds of --timeout:
+
+  127.0.0.1:44818 Demo vendor 4660 product 7 serial 0x01020304
+
+A datagram that is no whole answer is left out. Exit status, and the last line on standard error:
+
+  0                     the time is over, whoever answered
+  2  an explanation     the words are refused
+  5  device             the datagram could not be sent, or what came not be printed
+  5  memory             there was no memory";
+
+const AFTER_LISTING: &str =
+    "ADDRESS is a host or a name, with a port as in plc.local:2222 or without: 44818 then.
+
+Exit status, and the last line on standard error; in front of it stands why, in words
+
+  0                     the device answered
+  2  an explanation     the words are refused
+  5  device             the device could not be reached, read or written, did not answer in time, or left before its
+                        answer
+  5  memory             there was no memory
+  7  fault N            there was no answer
+
+What `fault N` means
+
+  2    the device answered with an encapsulation status
+  4    a frame was too long
+  6    the answer has another shape";
 
 const ABOUT_SET: &str = "Sets an attribute of an object of a device
 
@@ -181,14 +238,17 @@ enum Argument {
     Idle,
     Discovery,
     Device,
+    Network,
     Service,
     Class,
     Instance,
     Attribute,
+    OptionalAttribute,
     Digits,
     OptionalDigits,
     Connected,
     Timeout,
+    Answers,
 }
 
 impl Argument {
@@ -202,14 +262,17 @@ impl Argument {
             Argument::Idle => idle(alloc),
             Argument::Discovery => discovery(alloc),
             Argument::Device => device(alloc),
+            Argument::Network => network(alloc),
             Argument::Service => service(alloc),
             Argument::Class => class(alloc),
             Argument::Instance => instance(alloc),
-            Argument::Attribute => attribute(alloc),
+            Argument::Attribute => attribute(alloc).required(true),
+            Argument::OptionalAttribute => attribute(alloc),
             Argument::Digits => digits(alloc).required(true),
             Argument::OptionalDigits => digits(alloc),
             Argument::Connected => connected(alloc),
-            Argument::Timeout => timeout(alloc),
+            Argument::Timeout => timeout(alloc).default_value("5"),
+            Argument::Answers => timeout(alloc).default_value("1"),
         }
     }
 }
@@ -225,7 +288,7 @@ struct Row {
     arguments: &'static [Argument],
 }
 
-static COMMANDS: [Row; 7] = [
+static COMMANDS: [Row; 10] = [
     Row {
         name: "answer",
         about: "Answers frames that are given as lines of hexadecimal digits",
@@ -261,15 +324,36 @@ static COMMANDS: [Row; 7] = [
         arguments: &[],
     },
     Row {
+        name: "identity",
+        about: "Asks a device what it is",
+        long_about: ABOUT_IDENTITY,
+        after: Some(AFTER_LISTING),
+        arguments: &[Argument::Device, Argument::Timeout],
+    },
+    Row {
+        name: "services",
+        about: "Asks a device which encapsulation services it offers",
+        long_about: ABOUT_SERVICES,
+        after: Some(AFTER_LISTING),
+        arguments: &[Argument::Device, Argument::Timeout],
+    },
+    Row {
+        name: "discover",
+        about: "Looks for the devices of a network",
+        long_about: ABOUT_DISCOVER,
+        after: None,
+        arguments: &[Argument::Network, Argument::Answers],
+    },
+    Row {
         name: "get",
-        about: "Reads an attribute of an object of a device",
+        about: "Reads an attribute of an object of a device, or all",
         long_about: ABOUT_GET,
         after: Some(AFTER_ASKING),
         arguments: &[
             Argument::Device,
             Argument::Class,
             Argument::Instance,
-            Argument::Attribute,
+            Argument::OptionalAttribute,
             Argument::Connected,
             Argument::Timeout,
         ],
@@ -391,6 +475,14 @@ fn device<'a>(alloc: Global) -> Arg<'a> {
     )
 }
 
+fn network<'a>(alloc: Global) -> Arg<'a> {
+    Arg::new(alloc, "ADDRESS")
+        .default_value("255.255.255.255")
+        .help(
+            "Where devices are looked for: the address of one machine, or that of all machines of a network",
+        )
+}
+
 fn service<'a>(alloc: Global) -> Arg<'a> {
     // bit 7 marks a reply (message router)
     Arg::new(alloc, "SERVICE")
@@ -415,7 +507,6 @@ fn instance<'a>(alloc: Global) -> Arg<'a> {
 
 fn attribute<'a>(alloc: Global) -> Arg<'a> {
     Arg::new(alloc, "ATTRIBUTE")
-        .required(true)
         .value_parser(value_parser!(u16))
         .help("The attribute, 0 to 65535")
 }
@@ -438,7 +529,6 @@ fn timeout<'a>(alloc: Global) -> Arg<'a> {
     Arg::new(alloc, "timeout")
         .long("timeout")
         .value_name("SECONDS")
-        .default_value("5")
         .help(
             "How long a device is waited for, a decimal fraction to 3600; 0 is as long as TCP does",
         )
