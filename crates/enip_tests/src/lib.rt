@@ -18,6 +18,4 @@ mod peers;
 #[cfg(test)]
 mod text;
 #[cfg(test)]
-mod values;
-#[cfg(test)]
 mod wire;

@@ -1,4 +1,0 @@
-pub mod Types
-pub mod Values
-pub mod Words
-pub mod Texts
