@@ -5,9 +5,11 @@ ghost use Rattle.std.specs.Prelude.{◌≡◌, ◌<◌, ◌*◌, ◌-◌, ◌^�
 
 pub mod answer;
 mod asking;
+mod checking;
 mod discovery;
 mod door;
 pub mod fault;
+mod journal;
 mod listing;
 mod named;
 mod noted;
@@ -16,18 +18,23 @@ mod readiness;
 mod reason;
 pub mod replay;
 pub mod serve;
+mod served;
 pub mod socket;
 mod status_words;
 #[cfg(test)]
 mod tests;
+mod watch;
+mod watched_wire;
 mod wire;
 
 use asking::{Asked, run_asking};
+use checking::print_device;
 use clap::ArgMatches;
 use clap::error::ErrorKind;
 use enip_client::ListCommand;
 use enip_peers::NO_LIMIT;
 use enip_words::{PROGRAM, Word, program, words};
+use journal::Journal;
 use listing::{run_discovery, run_list};
 use mio::net::UdpSocket;
 use named::{Named, ending_of_run};
@@ -38,6 +45,8 @@ use serve::{Serving, Sockets, serve_connections};
 use std::io;
 use std::net::TcpListener;
 use std::process::ExitCode;
+use std::time::Instant;
+use watch::Unwatched;
 
 /// The exit status where the words are refused.
 const WORDS_REFUSED: u8 = 2;
@@ -64,6 +73,7 @@ fn run<'a>(rt: &HostRuntime, words: &[Word], matches: &ArgMatches<'a>) -> Result
     match matches.subcommand() {
         Some(("answer", matches)) => run_answer(rt, words, matches),
         Some(("replay", matches)) => run_replay(rt, words, matches),
+        Some(("check", matches)) => run_check(rt, words, matches),
         Some(("serve", matches)) => run_serve(rt, words, matches),
         Some(("show", _)) => run_show(rt),
         Some(("identity", matches)) => run_listing(rt, Listing::Of(ListCommand::Identity), matches),
@@ -170,6 +180,20 @@ fn service_of_get(matches: &ArgMatches<'_>) -> u8 {
     }
 }
 
+/// `enip check`.
+fn run_check<'a>(
+    rt: &HostRuntime,
+    words: &[Word],
+    matches: &ArgMatches<'a>,
+) -> Result<u8, Ending<'a>> {
+    let config = Named::read(rt.alloc(), words, matches, "CONFIG")?;
+    let configuration = config.configuration(rt.alloc())?;
+    match print_device(rt.alloc(), &configuration, rt.stdout()) {
+        Ok(()) => Ok(0),
+        Err(error) => Err(Ending::of_device(OUTPUT, error)),
+    }
+}
+
 /// `enip get`, `enip set` and `enip call`: asks with a service.
 fn run_client<'a>(
     rt: &HostRuntime,
@@ -212,7 +236,15 @@ fn run_serve<'a>(
     let place = Place::of(matches.get_str("ADDRESS").unwrap_or(""))?;
     let sockets = bind_at(rt, place, matches.get_flag("discovery"))?;
     print_listening(rt, &sockets).map_err(|error| Ending::of_device(ERRORS, error))?;
-    match serve_connections(rt, rt.alloc(), sockets, adapter, Serving { count, silence }) {
+    let serving = Serving { count, silence };
+    let served = if matches.get_flag("log") {
+        let start = Instant::now(rt).map_err(|error| Ending::of_device("the clock", error))?;
+        let journal = Journal::new(rt, rt.alloc(), start);
+        serve_connections(rt, rt.alloc(), sockets, adapter, serving, &journal)
+    } else {
+        serve_connections(rt, rt.alloc(), sockets, adapter, serving, Unwatched)
+    };
+    match served {
         Ok(()) => Ok(0),
         Err(enip_text::Fault::Memory) => Err(Ending::of_memory()),
         Err(_) => Err(Ending::of_reason(Reason::Failed(place.word()))),

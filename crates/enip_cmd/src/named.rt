@@ -4,7 +4,7 @@ use crate::fault::Fault;
 use crate::reason::{Ending, Reason};
 use clap::ArgMatches;
 use enip_adapter::Adapter;
-use enip_config::{adapter_from, explain};
+use enip_config::{Configuration, adapter_from, explain};
 use enip_words::{Word, read_file};
 use std::alloc::Global;
 
@@ -42,10 +42,19 @@ impl<'a> Named<'a> {
 
     /// The adapter that the file tells.
     pub(crate) fn adapter(&self, alloc: Global) -> Result<Adapter, Ending<'a>> {
-        match adapter_from(alloc, self.bytes()) {
-            Ok(adapter) => Ok(adapter),
-            Err(enip_config::Fault::Memory) => Err(Ending::of_memory()),
-            Err(fault) => Err(Ending::new(Fault::from(fault), self.explanation(alloc))),
+        adapter_from(alloc, self.bytes()).map_err(|fault| self.refused(alloc, fault))
+    }
+
+    /// The configuration that the file is.
+    pub(crate) fn configuration(&self, alloc: Global) -> Result<Configuration, Ending<'a>> {
+        Configuration::from_bytes(alloc, self.bytes()).map_err(|fault| self.refused(alloc, fault))
+    }
+
+    /// How a command ends to which the file is no configuration.
+    fn refused(&self, alloc: Global, fault: enip_config::Fault) -> Ending<'a> {
+        match fault {
+            enip_config::Fault::Memory => Ending::of_memory(),
+            fault => Ending::new(Fault::from(fault), self.explanation(alloc)),
         }
     }
 

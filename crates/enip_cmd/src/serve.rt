@@ -8,7 +8,7 @@ ghost use Rattle.enip_text.specs.Statuses.{IsOfDevices};
 
 use crate::discovery::Discovery;
 use crate::door::Door;
-use crate::wire::TcpWire;
+use crate::watch::Watch;
 use enip_adapter::Adapter;
 use enip_peers::Peers;
 use enip_text::Fault;
@@ -49,17 +49,18 @@ pub(crate) struct Serving {
 }
 
 /// Serves the connections that come, until so many as are taken were taken and are over. One that fails ends alone.
-pub(crate) fn serve_connections<R: Clock + Net>(
+pub(crate) fn serve_connections<R: Clock + Net, W: Watch + Drop>(
     rt: &R,
     alloc: Global,
     sockets: Sockets,
     adapter: Adapter,
     serving: Serving,
+    watch: W,
 ) -> Result<(), Fault>
     ensures { IfErr result IsOfDevices }
 {
     let start = Instant::now(rt)?;
-    let mut server = Server::new(rt, alloc, sockets, adapter, serving)?;
+    let mut server = Server::new(rt, alloc, sockets, adapter, serving, watch)?;
     let mut now = 0;
     for _ in 0..u64::MAX {
         if server.is_done() {
@@ -95,13 +96,15 @@ fn earlier(first: Option<u64>, second: Option<u64>) -> Option<u64>
 
 /// The peers and the sockets of a device that is served.
 #[derive(Drop)]
-struct Server {
+struct Server<W: Watch + Drop> {
     poll: Poll,
     events: Events,
     /// Where connections come in, while they are taken.
     door: Option<Door>,
     discovery: Option<Discovery>,
-    peers: Peers<TcpWire>,
+    peers: Peers<W::Wire>,
+    /// Who watches the connections.
+    watch: W,
     /// How many connections are taken.
     count: u64,
     /// How many were taken.
@@ -112,7 +115,7 @@ struct Server {
     held: u32,
 }
 
-impl Server {
+impl<W: Watch + Drop> Server<W> {
     /// A device's peers, of which there are none yet, and its sockets, which the system reports from now on.
     fn new<N: Net>(
         net: &N,
@@ -120,7 +123,8 @@ impl Server {
         sockets: Sockets,
         adapter: Adapter,
         serving: Serving,
-    ) -> Result<Server, Fault>
+        watch: W,
+    ) -> Result<Server<W>, Fault>
         ensures { IfErr result IsOfDevices }
     {
         let Sockets {
@@ -141,6 +145,7 @@ impl Server {
             door: Some(Door::new(listener)),
             discovery,
             peers: Peers::new(alloc, adapter, serving.silence)?,
+            watch,
             count: serving.count,
             taken: 0,
             ended: 0,
@@ -200,7 +205,7 @@ impl Server {
     /// One round: a datagram, a turn for each peer that may be ready, and a connection.
     fn round(&mut self, now: u64) {
         if let Some(discovery) = &mut self.discovery {
-            discovery.answer_one(&self.peers, now);
+            discovery.answer_one(&self.peers, &self.watch, now);
         }
         let ended = self.peers.round(now);
         if ended > 0 {
@@ -252,6 +257,7 @@ impl Server {
     fn seat(&mut self, now: u64, stream: TcpStream) -> bool {
         let mut stream = stream;
         let Some(place) = self.peers.first_free() else {
+            self.watch.turned_away(stream);
             return false;
         };
         let interests = Interest::READABLE | Interest::WRITABLE;
@@ -262,6 +268,9 @@ impl Server {
         if registered.is_err() {
             return false;
         }
-        self.peers.come(now, TcpWire::new(stream)).is_ok()
+        match self.watch.wire(stream) {
+            Some(wire) => self.peers.come(now, wire).is_ok(),
+            None => false,
+        }
     }
 }

@@ -14,8 +14,9 @@ use std::fmt;
 use thiserror::Error;
 use toml::{Table, Value};
 
-/// Beyond so many lines of a text no line is told, since each is looked for from the beginning.
-const LINES_LOOKED_AT: usize = 1_000;
+/// How many bytes are read at most to find a line: the lines up to each one are read from the beginning, which are as many
+/// as this for some 300 lines of a configuration. Where that is not enough no line is told.
+const MOST_READ: usize = 1 << 20;
 
 /// What is wrong with a configuration that is refused. Its text is one line: the line of the file, where that is known,
 /// and what is wrong there.
@@ -158,11 +159,13 @@ fn wrong_in(alloc: Global, bytes: &[u8]) -> Result<Option<(Option<usize>, Wrong)
 /// The line, from 1, with which something stands in a configuration: the first lines that are a text in which it stands.
 fn line_of(alloc: Global, bytes: &[u8], spot: Spot<'_>) -> Option<usize> {
     let mut number: usize = 1;
+    let mut read: usize = 0;
     for end in 1..bytes.len() + 1 {
         if end < bytes.len() && bytes[end - 1] != b'\n' {
             continue;
         }
-        if number > LINES_LOOKED_AT {
+        read = read.saturating_add(end);
+        if read > MOST_READ {
             return None;
         }
         if is_in_text(alloc, &bytes[..end], spot) {

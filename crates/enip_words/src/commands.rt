@@ -44,6 +44,32 @@ What `configuration N` means, by the first that holds of
   4    the `instance` of an assembly is 0, or stands twice
   5    `value` of the counter is over its `limit`";
 
+const ABOUT_CHECK: &str = "Says which device a configuration tells, or what is wrong with it
+
+Prints its identity, its counter, its assemblies with their sizes, and how many places there are, as
+
+  vendor 4660
+  device type 43
+  product code 7
+  revision 2.5
+  status 0x0000
+  serial 0x01020304
+  name Demo
+  state 3
+  address 127.0.0.1:44818
+  counter 0, limit 100
+  assembly 100, settable, 4 bytes, members of 1 2 1
+  places for 4 peers and 16 connections
+  first session handle 1, first connection ID 1
+
+Exit status, and the last line on standard error; in front of it stands what is wrong, and in which line
+
+  0                     it is a configuration
+  2  an explanation     the words are refused
+  3  configuration N    it is refused: N is as of `enip answer`
+  5  device             a file or a stream could not be read or written
+  5  memory             there was no memory";
+
 const ABOUT_REPLAY: &str = "Moves a client and an adapter side by side by the lines of a script
 
 The client has registered and opened its connection, and a second session is registered. Each frame that is sent, in
@@ -113,6 +139,15 @@ not read keeps no other waiting; it is ended once it was silent for as long as -
 
 With --discovery datagrams of UDP at the same address and port are heard as well: a ListIdentity, a ListServices or a
 ListInterfaces without data is answered as over TCP, any other is dropped. At 0.0.0.0 that hears broadcasts too.
+
+With --log there is a line on standard error for each connection that begins or ends, and for each frame that is served:
+the seconds since the beginning, the client, what it asked, and the status of the answer, as
+
+  0.002117 127.0.0.1:40312 begins
+  0.002305 127.0.0.1:40312 RegisterSession: success
+  0.002377 127.0.0.1:40312 SendRRData Get_Attribute_Single class 1 instance 1 attribute 1: success
+  0.002462 127.0.0.1:40312 UnRegisterSession: no answer
+  0.002481 127.0.0.1:40312 ends
 
 Exit status, and the last line on standard error, as of `enip answer`; 5 `device` also where the address cannot be bound.";
 
@@ -237,6 +272,7 @@ enum Argument {
     Count,
     Idle,
     Discovery,
+    Log,
     Device,
     Network,
     Service,
@@ -261,6 +297,7 @@ impl Argument {
             Argument::Count => count(alloc),
             Argument::Idle => idle(alloc),
             Argument::Discovery => discovery(alloc),
+            Argument::Log => log(alloc),
             Argument::Device => device(alloc),
             Argument::Network => network(alloc),
             Argument::Service => service(alloc),
@@ -288,11 +325,18 @@ struct Row {
     arguments: &'static [Argument],
 }
 
-static COMMANDS: [Row; 10] = [
+static COMMANDS: [Row; 11] = [
     Row {
         name: "answer",
         about: "Answers frames that are given as lines of hexadecimal digits",
         long_about: ABOUT_ANSWER,
+        after: None,
+        arguments: &[Argument::Config],
+    },
+    Row {
+        name: "check",
+        about: "Says which device a configuration tells, or what is wrong with it",
+        long_about: ABOUT_CHECK,
         after: None,
         arguments: &[Argument::Config],
     },
@@ -314,6 +358,7 @@ static COMMANDS: [Row; 10] = [
             Argument::Count,
             Argument::Idle,
             Argument::Discovery,
+            Argument::Log,
         ],
     },
     Row {
@@ -467,6 +512,13 @@ fn discovery<'a>(alloc: Global) -> Arg<'a> {
         .long("discovery")
         .action(ArgAction::SetTrue)
         .help("Answers over UDP to clients that look for devices")
+}
+
+fn log<'a>(alloc: Global) -> Arg<'a> {
+    Arg::new(alloc, "log")
+        .long("log")
+        .action(ArgAction::SetTrue)
+        .help("Tells on standard error of each connection and of each frame that is served")
 }
 
 fn device<'a>(alloc: Global) -> Arg<'a> {
