@@ -6,3 +6,4 @@ pub mod Script
 pub mod Outcome
 pub mod Replay
 pub mod Listing
+pub mod Ladder

@@ -18,7 +18,7 @@ use Rattle.enip_client.specs.declared.lists.ListCommand.TheVariants as lists
 use Rattle.enip_text.specs.Replay.{ended}
 use Rattle.enip_text.specs.Statuses.{IsOfDevices}
 use Rattle.enip_text.specs.declared.asking.AskingStop.{AskingStop}
-use Rattle.enip_text.specs.declared.asking.AskingStop.TheVariants.{Hex, Client, Program}
+use Rattle.enip_text.specs.declared.asking.AskingStop.TheVariants.{Hex, Session, Client, Program}
 
 -- Two and four bytes of a number, in digits.
 abbrev pub hex_word : ℕ → List ℕ
@@ -104,5 +104,14 @@ abbrev pub IsListTold : ListCommand → Sides → Sides → Option (List ℕ) �
 IsListTold command old new before after (Ok done) =
     (entries : List Entry) × IsListed command old new (Ok entries) × Appends before after (list_text entries)
 IsListTold command old new before after (Err Hex) = ⊥
+IsListTold command old new before after (Err (Session status)) = ⊥
 IsListTold command old new before after (Err (Client fault)) = IsListed command old new (Err (ask.Client fault))
 IsListTold command old new before after (Err (Program fault)) = IsOfDevices fault
+
+-- The same of who asks, wherever the answer is printed.
+abbrev pub IsListAsked : ListCommand → Sides → Sides → Result (Unit {0}) AskingStop → Type 0
+IsListAsked command old new (Ok done) = (entries : List Entry) × IsListed command old new (Ok entries)
+IsListAsked command old new (Err Hex) = ⊥
+IsListAsked command old new (Err (Session status)) = ⊥
+IsListAsked command old new (Err (Client fault)) = IsListed command old new (Err (ask.Client fault))
+IsListAsked command old new (Err (Program fault)) = IsOfDevices fault

@@ -205,6 +205,26 @@ fn item_of(frame: &[u8]) -> (u16, &[u8]) {
     }
 }
 
+/// What was drawn so far.
+#[derive(Clone, Copy)]
+struct Drawn {
+    /// The number of the request that was sent last.
+    submitted: usize,
+    /// The number of the request whose reply the adapter keeps.
+    kept: Option<usize>,
+}
+
+impl Drawn {
+    /// What the adapter does with the request of a number: the count of the one whose reply it keeps is known to it.
+    fn executed(&mut self, number: usize) -> &'static str {
+        if self.kept == Some(number) {
+            return KEPT;
+        }
+        self.kept = Some(number);
+        "executes"
+    }
+}
+
 /// The lines of a ladder.
 impl Ladder {
     /// Draws all that happened. `back` are the frames that were sent back.
@@ -212,45 +232,49 @@ impl Ladder {
         ensures { IfErr result IsOfDevices }
     {
         writeln!(output, "{HEAD}")?;
-        let mut submitted = 0;
-        // the request whose reply the adapter keeps
-        let mut kept = None;
+        let mut drawn = Drawn {
+            submitted: 0,
+            kept: None,
+        };
         for happened in &self.happened {
-            match happened {
-                Happened::Sent {
-                    words,
-                    number,
-                    position,
-                } => {
-                    submitted = *number;
-                    writeln!(output, "{}", self.sent(words, *number, *position))?;
-                }
-                Happened::Reached {
-                    position,
-                    back: None,
-                } => {
-                    writeln!(output, "{}", self.reached(*position, "no connection", None))?;
-                }
-                Happened::Reached {
-                    position,
-                    back: Some(answer),
-                } => {
-                    let number = self.number_at(*position);
-                    let words = if kept == Some(number) {
-                        KEPT
-                    } else {
-                        "executes"
-                    };
-                    kept = Some(number);
-                    writeln!(output, "{}", self.reached(*position, words, Some(number)))?;
-                    writeln!(output, "{}", self.answered(back, *answer))?;
-                }
-                Happened::Heard { position, accepted } => {
-                    let number = accepted.then_some(submitted);
-                    writeln!(output, "{}", heard(back, *position, number))?;
-                }
-                Happened::Aside { words, way } => writeln!(output, "{}", aside(words, *way))?,
+            self.draw_one(happened, back, &mut drawn, output)?;
+        }
+        Ok(())
+    }
+
+    /// Draws one thing that happened.
+    fn draw_one<'a, W: Write>(
+        &'a self,
+        happened: &'a Happened,
+        back: &'a Frames,
+        drawn: &mut Drawn,
+        output: &mut W,
+    ) -> Result<(), Fault>
+        ensures { IfErr result IsOfDevices }
+    {
+        match happened {
+            Happened::Sent {
+                words,
+                number,
+                position,
+            } => {
+                drawn.submitted = *number;
+                writeln!(output, "{}", self.sent(words, *number, *position))?;
             }
+            Happened::Reached { position, back: None } => {
+                writeln!(output, "{}", self.reached(*position, "no connection", None))?;
+            }
+            Happened::Reached { position, back: Some(answer) } => {
+                let number = self.number_at(*position);
+                let words = drawn.executed(number);
+                writeln!(output, "{}", self.reached(*position, words, Some(number)))?;
+                writeln!(output, "{}", self.answered(back, *answer))?;
+            }
+            Happened::Heard { position, accepted } => {
+                let number = accepted.then_some(drawn.submitted);
+                writeln!(output, "{}", heard(back, *position, number))?;
+            }
+            Happened::Aside { words, way } => writeln!(output, "{}", aside(words, *way))?,
         }
         Ok(())
     }

@@ -4,8 +4,7 @@ ghost use Rattle.std.specs.Prelude.{◌≡◌, ◌<◌, IfErr, OnOk, Some};
 ghost use Rattle.std.specs.Io.KnownBytes.{Appends};
 ghost use Rattle.enip_client.specs.Listing.{sides};
 ghost use Rattle.enip_client.specs.Lists.{entries_left, entry_shown};
-ghost use Rattle.enip_text.specs.Asking.{IsOfExchange};
-ghost use Rattle.enip_text.specs.Listing.{IsListTold, list_text, device_line, datagram_text};
+ghost use Rattle.enip_text.specs.Listing.{IsListAsked, IsListTold, list_text, device_line, datagram_text};
 ghost use Rattle.enip_text.specs.Statuses.{IsOfDevices};
 
 use crate::asking::AskingStop;
@@ -211,7 +210,9 @@ pub fn list_over<R: Source, W: Sink, O: Write + Drop>(
 ) -> Result<(), AskingStop>
     requires reads { R.failures reader.old < u64.MAX }
     requires writes { W.failures writer.old < u64.MAX }
-    ensures { IfErr result IsOfExchange }
+    ensures { IsListAsked command
+        (sides (R.left reader.old) (R.reads reader.old) (W.written writer.old))
+        (sides (R.left reader.new) (R.reads reader.new) (W.written writer.new)) result }
 {
     let mut frames = FrameReader::new(alloc)?;
     let mut output = BufWriter::new(alloc, output)?;

@@ -1,6 +1,8 @@
 //! The rungs of a ladder: a line of text for what happened, with the client, the wire and the adapter as columns.
 
-ghost use Rattle.std.specs.Prelude.{None};
+ghost use Rattle.std.specs.Prelude.{◌≡◌, ◌≤◌, ◌*◌, min, length, replicate, Some};
+ghost use Rattle.std.specs.Fmt.{WritesOnOk};
+ghost use Rattle.enip_text.specs.Ladder.{digits_of};
 
 use crate::digits::Digits;
 use std::fmt;
@@ -43,14 +45,16 @@ pub(crate) struct Arrow<'a> {
 }
 
 impl fmt::Display for Field<'_> {
-    ghost output = { λ _. None };
+    ghost use Rattle.enip_text.specs.Ladder.{field_text};
+
+    ghost output = { λ field. Some (field_text field) };
 
     fn fmt<W: fmt::Write>(&self, f: &mut fmt::Formatter<W>) -> fmt::Result {
         match self {
-            Field::Blank => repeat(f, " ", WIDTH),
+            Field::Blank => write_spaces(f, WIDTH),
             Field::Words(words) => {
                 write!(f, " {words}")?;
-                repeat(f, " ", WIDTH.saturating_sub(words.len()).saturating_sub(1))
+                write_spaces(f, WIDTH.saturating_sub(words.len()).saturating_sub(1))
             }
             Field::Arrow(arrow) => write!(f, "{arrow}"),
         }
@@ -58,22 +62,23 @@ impl fmt::Display for Field<'_> {
 }
 
 impl fmt::Display for Arrow<'_> {
-    ghost output = { λ _. None };
+    ghost use Rattle.enip_text.specs.Ladder.{arrow_text};
+
+    ghost output = { λ arrow. Some (arrow_text arrow) };
 
     fn fmt<W: fmt::Write>(&self, f: &mut fmt::Formatter<W>) -> fmt::Result {
-        let message = Message(self.message);
-        let text = 2 + digits_of(self.count) + message.width();
-        let tail = WIDTH.saturating_sub(text);
+        let (count, message) = (self.count, Message(self.message));
+        let room = WIDTH.saturating_sub(2 + digits_of(count) + message.width());
         match self.way {
             Way::There => {
-                write!(f, "--- {}: {message} ", self.count)?;
-                repeat(f, "-", tail.saturating_sub(6))?;
+                write!(f, "--- {count}: {message} ")?;
+                write_dashes(f, room.saturating_sub(6))?;
                 f.write_str(if self.arrives { ">" } else { "x" })
             }
             Way::Back => {
                 f.write_str(if self.arrives { "<" } else { "x" })?;
-                write!(f, "-- {}: {message} ", self.count)?;
-                repeat(f, "-", tail.saturating_sub(5))
+                write!(f, "-- {count}: {message} ")?;
+                write_dashes(f, room.saturating_sub(5))
             }
         }
     }
@@ -85,13 +90,18 @@ struct Message<'a>(&'a [u8]);
 
 impl Message<'_> {
     /// How many characters it has.
-    fn width(self) -> usize {
+    fn width(self) -> usize
+        ensures width { result ≡ 2 * min (length self.entry.0.now) SHOWN }
+        ensures few { result ≤ 2 * SHOWN }
+    {
         2 * self.0.len().min(SHOWN)
     }
 }
 
 impl fmt::Display for Message<'_> {
-    ghost output = { λ _. None };
+    ghost use Rattle.enip_text.specs.Ladder.{message_text};
+
+    ghost output = { λ m. Some (message_text m.0.now) };
 
     fn fmt<W: fmt::Write>(&self, f: &mut fmt::Formatter<W>) -> fmt::Result {
         if self.0.len() <= SHOWN {
@@ -102,7 +112,10 @@ impl fmt::Display for Message<'_> {
 }
 
 /// How many decimal digits a count has.
-fn digits_of(count: u16) -> usize {
+fn digits_of(count: u16) -> usize
+    ensures digits { result ≡ digits_of count }
+    ensures few { result ≤ 5 }
+{
     match count {
         0..=9 => 1,
         10..=99 => 2,
@@ -112,10 +125,22 @@ fn digits_of(count: u16) -> usize {
     }
 }
 
-/// Writes a character so many times.
-fn repeat<W: fmt::Write>(f: &mut fmt::Formatter<W>, character: &str, times: usize) -> fmt::Result {
-    for _ in 0..times {
-        f.write_str(character)?;
+/// Writes so many spaces.
+fn write_spaces<W: fmt::Write>(f: &mut fmt::Formatter<W>, count: usize) -> fmt::Result
+    ensures { WritesOnOk W.write_str_gives f.old result (replicate count 32) f.new }
+{
+    for _space in 0..count {
+        write!(f, " ")?;
+    }
+    Ok(())
+}
+
+/// Writes so many dashes.
+fn write_dashes<W: fmt::Write>(f: &mut fmt::Formatter<W>, count: usize) -> fmt::Result
+    ensures { WritesOnOk W.write_str_gives f.old result (replicate count 45) f.new }
+{
+    for _dash in 0..count {
+        write!(f, "-")?;
     }
     Ok(())
 }
@@ -151,23 +176,69 @@ pub(crate) struct Rung<'a> {
 }
 
 impl fmt::Display for Rung<'_> {
-    ghost output = { λ _. None };
+    ghost use Rattle.enip_text.specs.Ladder.{rung_text};
+
+    ghost output = { λ rung. Some (rung_text rung) };
 
     fn fmt<W: fmt::Write>(&self, f: &mut fmt::Formatter<W>) -> fmt::Result {
-        match self.client.number {
-            Some(number) => write!(f, "{:<9}{number:<6}|", self.client.words)?,
-            None => write!(f, "{:<15}|", self.client.words)?,
+        let (client, position) = (AtClient(self.client), OnWire(self.position));
+        let (near, far, adapter) = (self.near, self.far, AtAdapter(self.adapter));
+        write!(f, "{client}{near}{position}{far}|{adapter}")
+    }
+}
+
+/// What stands beside the client.
+#[derive(Clone, Copy)]
+struct AtClient<'a>(Note<'a>);
+
+impl fmt::Display for AtClient<'_> {
+    ghost use Rattle.enip_text.specs.Ladder.{client_text};
+
+    ghost output = { λ c. Some (client_text c.0.words.now c.0.number) };
+
+    fn fmt<W: fmt::Write>(&self, f: &mut fmt::Formatter<W>) -> fmt::Result {
+        let words = self.0.words;
+        match self.0.number {
+            Some(number) => write!(f, "{words:<9}{number:<6}|"),
+            None => write!(f, "{words:<15}|"),
         }
-        write!(f, "{}", self.near)?;
-        match self.position {
-            Some(position) => write!(f, "{position:>4}  ")?,
-            None => f.write_str("      ")?,
+    }
+}
+
+/// The position of a frame, if there is one.
+#[derive(Clone, Copy)]
+struct OnWire(Option<usize>);
+
+impl fmt::Display for OnWire {
+    ghost use Rattle.enip_text.specs.Ladder.{position_text};
+
+    ghost output = { λ w. Some (position_text w.0) };
+
+    fn fmt<W: fmt::Write>(&self, f: &mut fmt::Formatter<W>) -> fmt::Result {
+        match self.0 {
+            Some(position) => write!(f, "{position:>4}  "),
+            None => f.write_str("      "),
         }
-        write!(f, "{}|", self.far)?;
-        match (self.adapter.words, self.adapter.number) {
-            ("", _) => Ok(()),
-            (words, Some(number)) => write!(f, "  {words} {number}"),
-            (words, None) => write!(f, "  {words}"),
+    }
+}
+
+/// What stands beside the adapter.
+#[derive(Clone, Copy)]
+struct AtAdapter<'a>(Note<'a>);
+
+impl fmt::Display for AtAdapter<'_> {
+    ghost use Rattle.enip_text.specs.Ladder.{adapter_text};
+
+    ghost output = { λ a. Some (adapter_text a.0.words.now a.0.number) };
+
+    fn fmt<W: fmt::Write>(&self, f: &mut fmt::Formatter<W>) -> fmt::Result {
+        let words = self.0.words;
+        if words.is_empty() {
+            return Ok(());
+        }
+        match self.0.number {
+            Some(number) => write!(f, "  {words} {number}"),
+            None => write!(f, "  {words}"),
         }
     }
 }
