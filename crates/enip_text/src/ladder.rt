@@ -228,7 +228,7 @@ impl Drawn {
 /// The lines of a ladder.
 impl Ladder {
     /// Draws all that happened. `back` are the frames that were sent back.
-    fn draw<W: Write>(&self, back: &Frames, output: &mut W) -> Result<(), Fault>
+    fn draw<'a, W: Write>(&'a self, back: &'a Frames, output: &mut W) -> Result<(), Fault>
         ensures { IfErr result IsOfDevices }
     {
         writeln!(output, "{HEAD}")?;
@@ -261,10 +261,16 @@ impl Ladder {
                 drawn.submitted = *number;
                 writeln!(output, "{}", self.sent(words, *number, *position))?;
             }
-            Happened::Reached { position, back: None } => {
+            Happened::Reached {
+                position,
+                back: None,
+            } => {
                 writeln!(output, "{}", self.reached(*position, "no connection", None))?;
             }
-            Happened::Reached { position, back: Some(answer) } => {
+            Happened::Reached {
+                position,
+                back: Some(answer),
+            } => {
                 let number = self.number_at(*position);
                 let words = drawn.executed(number);
                 writeln!(output, "{}", self.reached(*position, words, Some(number)))?;

@@ -30,7 +30,7 @@ pub use answering::answer;
 pub use asking::{AskingStop, Question, Replied, WANTS, ask_over, end_asking};
 pub use fault::Fault;
 pub use ladder::draw_replay;
-pub use listing::{list_over, print_devices};
 pub use line_fault::LineFault;
+pub use listing::{list_over, print_devices};
 pub use replaying::{ReplayStop, replay};
 pub use showing::{show, show_frames};
