@@ -18,7 +18,7 @@ use cip_objects::Router;
 const LEAST_FIRST_TIMEOUT: u64 = 10_000_000;
 
 /// The three numbers by which an originator names its connection.
-#[derive(Clone, Copy, Debug, PartialEq, Eq)]
+#[derive(Clone, Copy, PartialEq, Eq)]
 pub struct Triad {
     pub connection_serial: u16,
     pub originator_vendor: u16,

@@ -18,7 +18,7 @@ use cip_message::{
 const GREATEST_MULTIPLIER: u8 = 7;
 
 /// What is asked for one direction of a connection.
-#[derive(Clone, Copy, Debug, PartialEq, Eq)]
+#[derive(Clone, Copy)]
 pub struct Direction {
     /// The requested packet interval, in microseconds.
     pub rpi: u32,
@@ -63,7 +63,7 @@ impl Direction {
 }
 
 /// What an opening asks for, in whichever layout it came.
-#[derive(Clone, Copy, Debug, PartialEq, Eq)]
+#[derive(Clone, Copy)]
 pub struct Opening {
     pub t_to_o_id: u32,
     pub triad: Triad,

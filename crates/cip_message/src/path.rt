@@ -97,7 +97,7 @@ fn value32(bytes: &[u8]) -> Result<(u32, &[u8]), PathFault>
 }
 
 /// What a logical segment names: bits 7 to 2 of its first byte. (Volume 1, logical segment: type.)
-#[derive(Clone, Copy, Debug, PartialEq, Eq)]
+#[derive(Clone, Copy, PartialEq, Eq)]
 enum Kind {
     Class,
     Instance,

@@ -18,7 +18,7 @@ pub(crate) const DATA_LIMIT: usize = 3_900;
 pub(crate) const MEMBER_LIMIT: usize = 64;
 
 /// Where a member lies in the data, in bytes.
-#[derive(Clone, Copy, Debug)]
+#[derive(Clone, Copy)]
 pub(crate) struct Span {
     /// Where it begins, from 0.
     pub(crate) offset: usize,

@@ -6,7 +6,7 @@ ghost use Rattle.cip_objects.specs.Value.{value_bytes, IsShort};
 use crate::value::Value;
 
 /// A class that has attributes as such, at instance 0.
-#[derive(Clone, Copy, PartialEq, Eq, Debug)]
+#[derive(Clone, Copy)]
 pub(crate) enum Class {
     /// The Identity object.
     Identity,

@@ -35,7 +35,7 @@ static COUNTER_SERVICES: [Service; 5] = [
 ];
 
 /// What the class and the instance of a path lead to. Where there is none, the path's destination is unknown: 0x05.
-#[derive(Clone, Copy, PartialEq, Eq, Debug)]
+#[derive(Clone, Copy)]
 pub(crate) enum Destination {
     /// A class itself, at instance 0.
     Class(Class),
@@ -77,7 +77,7 @@ impl Destination {
 }
 
 /// What a request is about: the destination of its path, and the attribute and the member that the path names there.
-#[derive(Clone, Copy, Debug)]
+#[derive(Clone, Copy)]
 pub(crate) struct Subject {
     /// What its class and instance lead to.
     pub(crate) destination: Destination,
@@ -88,7 +88,7 @@ pub(crate) struct Subject {
 }
 
 /// A member of the data of an assembly.
-#[derive(Clone, Copy, Debug)]
+#[derive(Clone, Copy)]
 pub(crate) struct Member {
     /// The assembly's place among the assemblies, from 0.
     pub(crate) place: usize,
@@ -97,7 +97,7 @@ pub(crate) struct Member {
 }
 
 /// An attribute that can be set (objects).
-#[derive(Clone, Copy, Debug)]
+#[derive(Clone, Copy)]
 pub(crate) enum Settable {
     /// The data of the assembly at this place.
     Data {

@@ -2,7 +2,7 @@
 ghost use Rattle.std.specs.Prelude.{◌≡◌};
 
 /// A service that some instance of the objects has (Volume 1, common services; Add and Clear are the counter's own).
-#[derive(Clone, Copy, PartialEq, Eq, Debug)]
+#[derive(Clone, Copy)]
 pub(crate) enum Service {
     /// The attributes 1 to 7, joined.
     GetAttributesAll,

@@ -4,7 +4,7 @@ ghost use Rattle.std.specs.Prelude.{◌≡◌};
 use cip_bytes::protocol::GeneralStatus;
 
 /// How much a service that wasn't refused has done.
-#[derive(Clone, Copy, PartialEq, Eq, Debug)]
+#[derive(Clone, Copy)]
 pub(crate) enum Completion {
     /// All of it.
     Whole,
@@ -27,7 +27,7 @@ impl Completion {
 }
 
 /// Why a request is refused: nothing is changed, and the reply has this status and no data.
-#[derive(Clone, Copy, PartialEq, Eq, Debug)]
+#[derive(Clone, Copy)]
 pub(crate) enum Refusal {
     /// The path is no path.
     PathSegmentError,

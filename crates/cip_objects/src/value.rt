@@ -8,7 +8,7 @@ use crate::text::append;
 use cip_bytes::protocol::REPLY_LIMIT;
 
 /// The value of one attribute, as its type has it (Volume 1, elementary data types).
-#[derive(Clone, Copy, Debug)]
+#[derive(Clone, Copy)]
 pub(crate) enum Value<'a> {
     /// USINT.
     Usint(u8),

@@ -42,7 +42,7 @@ impl Peer {
 }
 
 /// What a peer is to the encapsulation.
-#[derive(Clone, Copy, Debug, PartialEq, Eq)]
+#[derive(Clone, Copy)]
 pub(crate) struct Session {
     /// The session handle that it was given when it began.
     pub(crate) handle: u32,

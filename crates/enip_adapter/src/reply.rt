@@ -84,7 +84,7 @@ fn append_text(block: &mut [u8], size: usize, text: &[u8]) -> usize
 }
 
 /// What answers a frame.
-#[derive(Clone, Copy, Debug)]
+#[derive(Clone, Copy)]
 pub(crate) enum Reply {
     /// Nothing, for this reason.
     Silent(Silence),
@@ -93,7 +93,7 @@ pub(crate) enum Reply {
 }
 
 /// What a frame is to its peer, beside its registration.
-#[derive(Clone, Copy, Debug)]
+#[derive(Clone, Copy)]
 pub(crate) struct Reaction {
     /// What answers it.
     pub(crate) reply: Reply,

@@ -46,7 +46,7 @@ pub enum Step<'a> {
 }
 
 /// What is told of an event, apart from the bytes of a reply.
-#[derive(Clone, Copy, Debug)]
+#[derive(Clone, Copy)]
 pub(crate) enum Told {
     Sent(u64, usize),
     Refused(Refused),

@@ -143,6 +143,8 @@ impl<R: Eprint + Clock> Wire for WatchedWire<'_, R> {
 
     ghost written = { λ _. None };
 
+    ghost tally = { λ w. w.wire.tally };
+
     fn read(&mut self, into: &mut [u8]) -> Came {
         self.finish();
         let came = self.wire.read(into);

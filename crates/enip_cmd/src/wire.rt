@@ -1,8 +1,9 @@
 //! A connection of TCP whose calls never wait, as a peer's wire.
 
-ghost use Rattle.std.specs.Prelude.{None};
+ghost use Rattle.std.specs.Prelude.{◌<◌, ◌≤◌, length, None, IfSome};
+ghost use Rattle.enip_peers.specs.Wires.{IsRead};
 
-use enip_peers::{Came, Wire};
+use enip_peers::{Came, Tally, Wire};
 use mio::net::TcpStream;
 use std::io::{ErrorKind, Read, Write};
 use std::net::Shutdown;
@@ -14,12 +15,16 @@ const INTERRUPTIONS: u32 = 64;
 #[derive(Drop)]
 pub(crate) struct TcpWire {
     stream: TcpStream,
+    tally: Tally,
 }
 
 impl TcpWire {
     /// The wire of a connection.
     pub(crate) fn new(stream: TcpStream) -> TcpWire {
-        TcpWire { stream }
+        TcpWire {
+            stream,
+            tally: Tally::new(),
+        }
     }
 }
 
@@ -28,37 +33,58 @@ impl Wire for TcpWire {
 
     ghost written = { λ _. None };
 
+    ghost tally = { λ wire. wire.tally };
+
     fn read(&mut self, into: &mut [u8]) -> Came {
-        for _ in 0..INTERRUPTIONS {
-            match self.stream.read(into) {
-                Ok(0) => return Came::End,
-                Ok(size) => return Came::Bytes(size),
-                Err(error) => match error.kind() {
-                    ErrorKind::Interrupted => {}
-                    ErrorKind::WouldBlock => return Came::Later,
-                    _ => return Came::Failed,
-                },
-            }
-        }
-        Came::Failed
+        let came = read_now(&mut self.stream, into);
+        self.tally.add_read(came);
+        came
     }
 
     fn write(&mut self, from: &[u8]) -> Option<usize> {
-        for _ in 0..INTERRUPTIONS {
-            match self.stream.write(from) {
-                Ok(0) if !from.is_empty() => return None,
-                Ok(size) => return Some(size),
-                Err(error) => match error.kind() {
-                    ErrorKind::Interrupted => {}
-                    ErrorKind::WouldBlock => return Some(0),
-                    _ => return None,
-                },
-            }
-        }
-        None
+        let taken = write_now(&mut self.stream, from);
+        self.tally.add_write(taken);
+        taken
     }
 
     fn shut(&mut self) {
         let _ = self.stream.shutdown(Shutdown::Write);
     }
+}
+
+/// Reads what has come.
+fn read_now(stream: &mut TcpStream, into: &mut [u8]) -> Came
+    requires { 0 < length into.old }
+    ensures { IsRead None None result into.new }
+{
+    for _ in 0..INTERRUPTIONS {
+        match stream.read(into) {
+            Ok(0) => return Came::End,
+            Ok(size) => return Came::Bytes(size),
+            Err(error) => match error.kind() {
+                ErrorKind::Interrupted => {}
+                ErrorKind::WouldBlock => return Came::Later,
+                _ => return Came::Failed,
+            },
+        }
+    }
+    Came::Failed
+}
+
+/// Writes a front of these bytes, and answers how many.
+fn write_now(stream: &mut TcpStream, from: &[u8]) -> Option<usize>
+    ensures { IfSome result (λ n. n ≤ length from.now) }
+{
+    for _ in 0..INTERRUPTIONS {
+        match stream.write(from) {
+            Ok(0) if !from.is_empty() => return None,
+            Ok(size) => return Some(size),
+            Err(error) => match error.kind() {
+                ErrorKind::Interrupted => {}
+                ErrorKind::WouldBlock => return Some(0),
+                _ => return None,
+            },
+        }
+    }
+    None
 }

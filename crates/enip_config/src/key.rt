@@ -42,7 +42,7 @@ pub enum NumberKey {
 }
 
 /// A row of the table: a key's name, the range of its number, and its number where it is left out.
-#[derive(Clone, Copy, Debug)]
+#[derive(Clone, Copy)]
 pub(crate) struct Row {
     pub(crate) name: &'static str,
     pub(crate) least: u32,

@@ -11,7 +11,7 @@ use crate::key::{INSTANCE, NumberKey};
 use toml::{Table, Value};
 
 /// A kind of table, by where it stands.
-#[derive(Clone, Copy, Debug)]
+#[derive(Clone, Copy)]
 pub(crate) enum TableKind {
     /// The text itself, but for its tables.
     Text,

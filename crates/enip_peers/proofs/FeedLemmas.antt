@@ -1,5 +1,5 @@
 -- What was read, fed.
-use Rattle.std.proofs.Common.{◌≡◌, ◌≢◌, ℕ, List, [], true, false, Option, Some, None, is_some, refl, sym, subst, true≢false}
+use Rattle.std.proofs.Common.{◌≡◌, ◌≢◌, ℕ, [], true, false, Option, Some, None, is_some, refl, sym, subst, true≢false}
 use Rattle.enip_peers.specs.declared.line.Turn.{Turn}
 use Rattle.enip_peers.specs.declared.line.Turn.TheVariants.{More, Reads, Writes, Over}
 use Rattle.enip_peers.specs.Desks.{Desk, IsFlushed, AreFed, fed_once, IsToldBy, IsWaiting}
@@ -11,7 +11,7 @@ none_fed now peer d = Not_yet
 
 -- one feed more
 pub one_more : (now peer to : ℕ) (old d between new : Desk) → to ≡ peer → AreFed now peer old d → d.outbox ≡ []
-    → d.closed ≡ false → between ≡ fed_once now to d → IsFlushed between new → AreFed now peer old new
+    → d.closed ≡ None → between ≡ fed_once now to d → IsFlushed between new → AreFed now peer old new
 one_more now peer to old d between new same fed out served is flushed =
     Once_more fed out served
     (subst (λ p. IsFlushed (fed_once now p d) new) same (subst (λ x. IsFlushed x new) is flushed))
@@ -20,6 +20,11 @@ one_more now peer to old d between new same fed out served is flushed =
 pub none_there : {X : Type 0} → (o : Option X) → is_some o ≡ false → o ≡ None
 none_there None is = refl
 none_there (Some x) is = absurd (true≢false is)
+
+-- what is there
+pub some_there : {X : Type 0} → (o : Option X) → is_some o ≡ true → o ≢ None
+some_there None is none = true≢false (sym is)
+some_there (Some x) is none = cc
 
 -- a turn that waits
 pub told_waiting : (d : Desk) (turn : Turn) → d.outbox ≢ [] → IsWaiting turn → IsToldBy d turn

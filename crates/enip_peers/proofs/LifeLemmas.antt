@@ -10,6 +10,7 @@ use Rattle.enip_adapter.specs.Calls.{AdapterState, Call, after_call}
 use Rattle.enip_adapter.specs.Calls.Call.{Begins_peer}
 use Rattle.enip_adapter.specs.Runs.{after_calls, IsForOther}
 use Rattle.enip_peers.specs.declared.line.Line.{Line}
+use Rattle.enip_peers.specs.declared.tally.Tally.{Tally}
 use Rattle.enip_peers.specs.Desks.{desk_of}
 use Rattle.enip_peers.specs.Moves.{Moves, GoesOnWith}
 use Rattle.enip_peers.specs.Rounds.{PeersState, new_peers, new_line, first_free, IsCome, woken_line}
@@ -58,7 +59,7 @@ module _ {W : Type 0} where
       → slice_get lines place ≡ Some (Some after) → after ≡ line
   same_line lines place line after there stays = cc
 
-module _ {W : Type 0} (left written : W → Option (List ℕ)) where
+module _ {W : Type 0} (left written : W → Option (List ℕ)) (tally : W → Tally) where
   -- ---- the peers stay sound
 
   sound_comes : (old new : PeersState W) (now : ℕ) (wire : W) (result : Result ℕ Full) → IsCome now wire old new result
@@ -74,15 +75,15 @@ module _ {W : Type 0} (left written : W → Option (List ℕ)) where
       sound_of old new sound (subst (AreOf old.lines) (sym (ap (λ p. p.lines) is.1)) (are_of_themselves old.lines))
       (omega (arith, next_begun old.adapter, ap (λ p. p.adapter.state.next_handle) is.1))
 
-  sound_step : (old new : PeersState W) → IsStep left written old new → AreSound old → AreSound new
+  sound_step : (old new : PeersState W) → IsStep left written tally old new → AreSound old → AreSound new
   sound_step old new (Comes now wire result is) sound = sound_comes old new now wire result is sound
   sound_step old new (Wakes place is) sound =
       sound_of old new sound
       (subst (AreOf old.lines) (sym (ap (λ p. p.lines) is)) (of_woken old.lines place (slice_get old.lines place) refl))
       (omega (arith, ap (λ p. p.adapter.state.next_handle) is))
-  sound_step old new (Rounds now is) sound = sound_round left written now old new is sound
+  sound_step old new (Rounds now is) sound = sound_round left written tally now old new is sound
 
-  sound_run : (old new : PeersState W) → IsRun left written old new → AreSound old → AreSound new
+  sound_run : (old new : PeersState W) → IsRun left written tally old new → AreSound old → AreSound new
   sound_run old new Still sound = sound
   sound_run old new (Goes_on {between = between} run step) sound =
       sound_step between new step (sound_run old between run sound)
@@ -94,19 +95,19 @@ module _ {W : Type 0} (left written : W → Option (List ℕ)) where
     calls : List Call
     each : AllByRecursion (IsForOther line.peer) calls
     leads : b ≡ after_calls a calls
-    same : desk_of left written b after ≡ desk_of left written b line
+    same : desk_of left written tally b after ≡ desk_of left written tally b line
 
   kept_moves : (a : AdapterState) (line : Line W) (b : AdapterState) (after : Line W) → IsKept a line b after
-      → MovesBy line.peer (GoesOnWith line.peer) (desk_of left written a line) (desk_of left written b after)
+      → MovesBy line.peer (GoesOnWith line.peer) (desk_of left written tally a line) (desk_of left written tally b after)
   kept_moves a line b after k =
-      subst (λ d. MovesBy line.peer (GoesOnWith line.peer) (desk_of left written a line) d) (sym k.same)
-      (moves_by_weaker line.peer (IsForOther line.peer) (GoesOnWith line.peer) (desk_of left written a line)
-      (desk_of left written b line) (other_goes_on line.peer)
-      (moves_other line.peer (desk_of left written a line) b k.calls k.each k.leads))
+      subst (λ d. MovesBy line.peer (GoesOnWith line.peer) (desk_of left written tally a line) d) (sym k.same)
+      (moves_by_weaker line.peer (IsForOther line.peer) (GoesOnWith line.peer) (desk_of left written tally a line)
+      (desk_of left written tally b line) (other_goes_on line.peer)
+      (moves_other line.peer (desk_of left written tally a line) b k.calls k.each k.leads))
 
   -- nothing was called
   kept_still : (a : AdapterState) (line : Line W) (b : AdapterState) (after : Line W) → b ≡ a
-      → desk_of left written b after ≡ desk_of left written b line → IsKept a line b after
+      → desk_of left written tally b after ≡ desk_of left written tally b line → IsKept a line b after
   kept_still a line b after is same = record { calls = []; each = tt; leads = is; same = same }
 
   -- a peer began, or was refused
@@ -116,7 +117,7 @@ module _ {W : Type 0} (left written : W → Option (List ℕ)) where
     calls = Begins_peer ∷ [];
     each = (tt, tt);
     leads = is;
-    same = ap (desk_of left written b) same;
+    same = ap (desk_of left written tally b) same;
   }
 
   kept_come : (old new : PeersState W) (now : ℕ) (wire : W) (result : Result ℕ Full) → IsCome now wire old new result
@@ -131,7 +132,7 @@ module _ {W : Type 0} (left written : W → Option (List ℕ)) where
       (sym (get_set_other old.lines free place (Some (new_line is.0 wire now)) elsewhere) ∙ held))
   kept_come old new now wire (Err full) (inl is) place line after there stays =
       kept_still old.adapter line new.adapter after (ap (λ p. p.adapter) is.2)
-      (ap (desk_of left written new.adapter)
+      (ap (desk_of left written tally new.adapter)
       (same_line old.lines place line after there
       (subst (λ (p : PeersState W). slice_get p.lines place ≡ Some (Some after)) is.2 stays)))
   kept_come old new now wire (Err full) (inr is) place line after there stays =
@@ -143,13 +144,13 @@ module _ {W : Type 0} (left written : W → Option (List ℕ)) where
   woken_desk : (a : AdapterState) (lines : List (Option (Line W))) (waken place : ℕ) (found : Option (Option (Line W)))
       → slice_get lines waken ≡ found → (line after : Line W) → slice_get lines place ≡ Some (Some line)
       → slice_get (woken_line lines waken found) place ≡ Some (Some after) → (here : Bool) → eqb waken place ≡ here
-      → desk_of left written a after ≡ desk_of left written a line
+      → desk_of left written tally a after ≡ desk_of left written tally a line
   woken_desk a lines waken place None is line after there stays here at =
-      ap (desk_of left written a) (same_line lines place line after there stays)
+      ap (desk_of left written tally a) (same_line lines place line after there stays)
   woken_desk a lines waken place (Some None) is line after there stays here at =
-      ap (desk_of left written a) (same_line lines place line after there stays)
+      ap (desk_of left written tally a) (same_line lines place line after there stays)
   woken_desk a lines waken place (Some (Some found)) is line after there stays false at =
-      ap (desk_of left written a)
+      ap (desk_of left written tally a)
       (same_line lines place line after there
       (sym (get_set_other lines waken place (Some (record found { ready = true })) (eqb-false waken place at)) ∙ stays))
   woken_desk a lines waken place (Some (Some found)) is line after there stays true at =
@@ -164,12 +165,12 @@ module _ {W : Type 0} (left written : W → Option (List ℕ)) where
       = subst (λ n. slice_get lines n ≡ Some (Some line)) (sym same) there in
       let is_new : after ≡ record found { ready = true } = cc in
       let is_old : found ≡ line = cc in
-      ap (desk_of left written a) is_new ∙ ap (desk_of left written a) is_old
+      ap (desk_of left written tally a) is_new ∙ ap (desk_of left written tally a) is_old
 
-  step_moves : (old new : PeersState W) → AreSound old → IsStep left written old new → (place : ℕ) (line after : Line W)
+  step_moves : (old new : PeersState W) → AreSound old → IsStep left written tally old new → (place : ℕ) (line after : Line W)
       → slice_get old.lines place ≡ Some (Some line) → slice_get new.lines place ≡ Some (Some after)
-      → MovesBy line.peer (GoesOnWith line.peer) (desk_of left written old.adapter line)
-      (desk_of left written new.adapter after)
+      → MovesBy line.peer (GoesOnWith line.peer) (desk_of left written tally old.adapter line)
+      (desk_of left written tally new.adapter after)
   step_moves old new sound (Comes now wire result is) place line after there stays =
       kept_moves old.adapter line new.adapter after (kept_come old new now wire result is place line after there stays)
   step_moves old new sound (Wakes waken is) place line after there stays =
@@ -178,45 +179,45 @@ module _ {W : Type 0} (left written : W → Option (List ℕ)) where
       (woken_desk new.adapter old.lines waken place (slice_get old.lines waken) refl line after there
       (subst (λ (p : PeersState W). slice_get p.lines place ≡ Some (Some after)) is stays) (eqb waken place) refl))
   step_moves old new sound (Rounds now is) place line after there stays =
-      round_moves left written now old new is sound place line after there stays
+      round_moves left written tally now old new is sound place line after there stays
 
   -- ---- a peer's life
 
   holds_at_end : (place peer : ℕ) (first last : PeersState W) (line after : Line W)
-      → Lives left written place peer first line last after → Holds place peer last after
+      → Lives left written tally place peer first line last after → Holds place peer last after
   holds_at_end place peer first last line after (Begins holds) = holds
   holds_at_end place peer first last line after (Lives_on lives step holds) = holds
 
   sound_life : (place peer : ℕ) (first last : PeersState W) (line after : Line W)
-      → Lives left written place peer first line last after → AreSound first → AreSound last
+      → Lives left written tally place peer first line last after → AreSound first → AreSound last
   sound_life place peer first last line after (Begins holds) sound = sound
   sound_life place peer first last line after (Lives_on {between = between} {mid = mid} lives step holds) sound =
       sound_step between last step (sound_life place peer first between line mid lives sound)
 
   life_moves : (place peer : ℕ) (first last : PeersState W) (line after : Line W) → AreSound first
-      → Lives left written place peer first line last after
-      → MovesBy peer (GoesOnWith peer) (desk_of left written first.adapter line) (desk_of left written last.adapter after)
+      → Lives left written tally place peer first line last after
+      → MovesBy peer (GoesOnWith peer) (desk_of left written tally first.adapter line) (desk_of left written tally last.adapter after)
   life_moves place peer first last line after sound (Begins holds) =
-      moves_not peer (GoesOnWith peer) (desk_of left written first.adapter line)
+      moves_not peer (GoesOnWith peer) (desk_of left written tally first.adapter line)
   life_moves place peer first last line after sound (Lives_on {between = between} {mid = mid} lives step holds) =
       let before : Holds place peer between mid = holds_at_end place peer first between line mid lives in
-      moves_by_then peer (GoesOnWith peer) (desk_of left written first.adapter line)
-      (desk_of left written between.adapter mid) (desk_of left written last.adapter after)
+      moves_by_then peer (GoesOnWith peer) (desk_of left written tally first.adapter line)
+      (desk_of left written tally between.adapter mid) (desk_of left written tally last.adapter after)
       (life_moves place peer first between line mid sound lives)
       (subst (
-      λ n. MovesBy n (GoesOnWith n) (desk_of left written between.adapter mid) (desk_of left written last.adapter after)
+      λ n. MovesBy n (GoesOnWith n) (desk_of left written tally between.adapter mid) (desk_of left written tally last.adapter after)
       ) before.peer_of
       (step_moves between last (sound_life place peer first between line mid lives sound) step place mid after before.there
       holds.there))
 
   -- as the law says it
   pub law_peers : (adapter : AdapterState) (silence place peer : ℕ) (first last : PeersState W) (line after : Line W)
-      → IsRun left written (new_peers adapter silence) first → Lives left written place peer first line last after
+      → IsRun left written tally (new_peers adapter silence) first → Lives left written tally place peer first line last after
       → (calls : List Call) × (came : List ℕ) × (gone : List ℕ) × AllByRecursion (GoesOnWith peer) calls
-      × Moves peer calls came gone (desk_of left written first.adapter line) (desk_of left written last.adapter after)
+      × Moves peer calls came gone (desk_of left written tally first.adapter line) (desk_of left written tally last.adapter after)
   law_peers adapter silence place peer first last line after run lives =
-      let m : MovesBy peer (GoesOnWith peer) (desk_of left written first.adapter line)
-      (desk_of left written last.adapter after)
+      let m : MovesBy peer (GoesOnWith peer) (desk_of left written tally first.adapter line)
+      (desk_of left written tally last.adapter after)
       = life_moves place peer first last line after
       (sound_run (new_peers adapter silence) first run (sound_new adapter silence)) lives in
       (m.calls, m.came, m.gone, m.each, m.moves)

@@ -1,6 +1,6 @@
 -- Moves of a peer's desk, one after the other.
-use Rattle.std.proofs.Common.{◌≡◌, ◌≢◌, ℕ, List, [], ◌∷◌, ◌++◌, Bool, true, false, cond, eqb, refl, sym, ap, ◌∙◌}
-use Rattle.std.proofs.Common.{append_assoc, append-nil, take, drop, take-append-drop, true≢false}
+use Rattle.std.proofs.Common.{◌≡◌, ◌≢◌, ℕ, List, [], ◌∷◌, ◌++◌, Option, Some, None, cond, eqb, refl, sym, ap, ◌∙◌}
+use Rattle.std.proofs.Common.{append_assoc, append-nil, take, drop, take-append-drop}
 use Rattle.std.proofs.lemmas.Bool.{eq-eqb, ne_eqb}
 use Rattle.std.proofs.KnownBytes.{Appends-nil, Appends-trans, Consumes-nil, Consumes-trans}
 use Rattle.std.specs.List.{AllByRecursion}
@@ -55,12 +55,16 @@ pass_on before first second gone later between after p q =
 record IsRest (peer : ℕ) (calls : List Call) (came : List ℕ) (old new : Desk) : Type 0 where
   rest : List ℕ
   taken : old.inbox ++ came ≡ taken_by_calls peer old.adapter calls ++ rest
-  waits : new.closed ≡ false → rest ≡ new.inbox
+  waits : new.closed ≡ None → rest ≡ new.inbox
+
+not_none : {X : Type 0} → (o : Option X) (x : X) → o ≡ Some x → o ≢ None
+not_none o x is none = cc
 
 rest_then : (peer : ℕ) (calls more : List Call) (came gone coming going : List ℕ) (a b c : Desk)
-    → Moves peer calls came gone a b → Moves peer more coming going b c → (closed : Bool) → b.closed ≡ closed
+    → Moves peer calls came gone a b → Moves peer more coming going b c → (closed : Option ℕ)
+    → b.closed ≡ closed
     → IsRest peer (calls ++ more) (came ++ coming) a c
-rest_then peer calls more came gone coming going a b c m n false served = record {
+rest_then peer calls more came gone coming going a b c m n None served = record {
   rest = n.rest;
   taken = pass_on a.inbox came coming (taken_by_calls peer a.adapter calls) (taken_by_calls peer b.adapter more) b.inbox n.rest
       (m.taken ∙ ap (λ xs. taken_by_calls peer a.adapter calls ++ xs) (m.waits served)) n.taken
@@ -68,15 +72,15 @@ rest_then peer calls more came gone coming going a b c m n false served = record
       ∙ ap (λ xs. xs ++ n.rest) (sym (taken_by_calls-append peer a.adapter calls more));
   waits = n.waits;
 }
-rest_then peer calls more came gone coming going a b c m n true shut = record {
+rest_then peer calls more came gone coming going a b c m n (Some last) shut = record {
   rest = m.rest ++ coming;
   taken = sym (append_assoc a.inbox came coming) ∙ ap (λ xs. xs ++ coming) m.taken
       ∙ append_assoc (taken_by_calls peer a.adapter calls) m.rest coming
       ∙ ap (λ xs. xs ++ (m.rest ++ coming)) (sym (append-nil (taken_by_calls peer a.adapter calls)))
-      ∙ ap (λ xs. (taken_by_calls peer a.adapter calls ++ xs) ++ (m.rest ++ coming)) (sym (n.closed shut).1)
+      ∙ ap (λ xs. (taken_by_calls peer a.adapter calls ++ xs) ++ (m.rest ++ coming)) (sym (n.closed (not_none b.closed last shut)).1)
       ∙ ap (λ x. (taken_by_calls peer a.adapter calls ++ taken_by_calls peer x more) ++ (m.rest ++ coming)) m.adapter
       ∙ ap (λ xs. xs ++ (m.rest ++ coming)) (sym (taken_by_calls-append peer a.adapter calls more));
-  waits = λ served. absurd (true≢false (sym (n.closed shut).0 ∙ served));
+  waits = λ served. absurd ((n.closed (not_none b.closed last shut)).0 served);
 }
 
 -- one after the other
@@ -156,7 +160,7 @@ own_call : {X : Type 0} → (peer : ℕ) (x y : X) → cond (eqb peer peer) x y 
 own_call peer x y = ap (λ b. cond b x y) (eq-eqb peer peer refl)
 
 -- one feed
-pub moves_fed : (now peer : ℕ) (d : Desk) → d.outbox ≡ [] → d.closed ≡ false
+pub moves_fed : (now peer : ℕ) (d : Desk) → d.outbox ≡ [] → d.closed ≡ None
     → Moves peer (Feeds now peer d.inbox ∷ []) [] [] d (fed_once now peer d)
 moves_fed now peer d out served = record {
   adapter = refl;
@@ -172,7 +176,7 @@ moves_fed now peer d out served = record {
       (sym (own_call peer (take (call_meaning d.adapter (Feeds now peer d.inbox)).taken d.inbox) [])
       ∙ sym (append-nil (taken_by_call peer d.adapter (Feeds now peer d.inbox))));
   waits = λ _. refl;
-  closed = λ shut. absurd (true≢false (sym shut ∙ served));
+  closed = λ shut. absurd (shut served);
 }
 
 other_call : {X : Type 0} → (other peer : ℕ) (x y : X) → other ≢ peer → cond (eqb other peer) x y ≡ y

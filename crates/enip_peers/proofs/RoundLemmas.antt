@@ -7,31 +7,32 @@ use Rattle.enip_adapter.proofs.LookupLemmas.{slice_get-within}
 use Rattle.enip_adapter.specs.Calls.{AdapterState, after_call}
 use Rattle.enip_adapter.specs.Calls.Call.{Ends_peer}
 use Rattle.enip_peers.specs.declared.line.Line.{Line}
+use Rattle.enip_peers.specs.declared.tally.Tally.{Tally}
 use Rattle.enip_peers.specs.declared.peers.Peers.{Peers}
 use Rattle.enip_peers.specs.Rounds.{PeersState, state_of, new_peers, woken, woken_line}
 use Rattle.enip_peers.specs.Rounds.{IsServedLine, IsLeft, IsPlaceServed, ArePlacesServed}
 
-module _ {W : Type 0} (left written : W → Option (List ℕ)) (now silence : ℕ) (a : AdapterState) where
+module _ {W : Type 0} (left written : W → Option (List ℕ)) (tally : W → Tally) (now silence : ℕ) (a : AdapterState) where
   -- what became of its peer is what became of the place
   place_left : (old : Option (Line W)) (line after : Line W) (between b : AdapterState) (goes_on : Bool)
-      (place : Option (Line W)) → old ≡ Some line → IsServedLine left written now silence a line between after goes_on
-      → IsLeft between after goes_on b place → IsPlaceServed left written now silence a old b place
+      (place : Option (Line W)) → old ≡ Some line → IsServedLine left written tally now silence a line between after goes_on
+      → IsLeft between after goes_on b place → IsPlaceServed left written tally now silence a old b place
   place_left old line after between b goes_on place is served stays =
-      subst (λ o. IsPlaceServed left written now silence a o b place) (sym is)
+      subst (λ o. IsPlaceServed left written tally now silence a o b place) (sym is)
       (record { adapter = between; after = after; goes_on = goes_on; served = served; stays = stays })
 
   -- its peer goes on
   pub place_goes_on : (old : Option (Line W)) (line after : Line W) (between : AdapterState) (goes_on : Bool)
-      → old ≡ Some line → IsServedLine left written now silence a line between after goes_on → goes_on ≡ true
-      → IsPlaceServed left written now silence a old between (Some after)
+      → old ≡ Some line → IsServedLine left written tally now silence a line between after goes_on → goes_on ≡ true
+      → IsPlaceServed left written tally now silence a old between (Some after)
   place_goes_on old line after between goes_on is served stays =
       place_left old line after between between goes_on (Some after) is served
       (subst (λ r. IsLeft between after r between (Some after)) (sym stays) (refl, refl))
 
   -- its peer is ended
   pub place_ended : (old : Option (Line W)) (line after : Line W) (between b : AdapterState) (goes_on : Bool)
-      → old ≡ Some line → IsServedLine left written now silence a line between after goes_on → goes_on ≡ false
-      → b ≡ after_call between (Ends_peer after.peer) → IsPlaceServed left written now silence a old b None
+      → old ≡ Some line → IsServedLine left written tally now silence a line between after goes_on → goes_on ≡ false
+      → b ≡ after_call between (Ends_peer after.peer) → IsPlaceServed left written tally now silence a old b None
   place_ended old line after between b goes_on is served leaves ends =
       place_left old line after between b goes_on None is served
       (subst (λ r. IsLeft between after r b None) (sym leaves) (ends, refl))
@@ -39,11 +40,11 @@ module _ {W : Type 0} (left written : W → Option (List ℕ)) (now silence : �
   -- one place more
   pub places_more : (old : List (Option (Line W))) (first : Option (Line W)) (rest : List (Option (Line W)))
       (between b : AdapterState) (place : Option (Line W)) (places : List (Option (Line W))) → old ≡ first ∷ rest
-      → IsPlaceServed left written now silence a first between place
-      → ArePlacesServed left written now silence between rest b places
-      → ArePlacesServed left written now silence a old b (place ∷ places)
+      → IsPlaceServed left written tally now silence a first between place
+      → ArePlacesServed left written tally now silence between rest b places
+      → ArePlacesServed left written tally now silence a old b (place ∷ places)
   places_more old first rest between b place places is served others =
-      subst (λ l. ArePlacesServed left written now silence a l b (place ∷ places)) (sym is) (between, served, others)
+      subst (λ l. ArePlacesServed left written tally now silence a l b (place ∷ places)) (sym is) (between, served, others)
 
 -- the peers by their parts
 state_by : {W : Type 0} (p : Peers W) (adapter : AdapterState) (silence : ℕ) (lines : List (Option (Line W)))

@@ -7,6 +7,7 @@ use Rattle.enip_adapter.specs.Calls.Call.{Begins_peer, Feeds, Ends_peer, Ticks}
 use Rattle.enip_adapter.specs.Deeds.{IsFeedOf}
 use Rattle.enip_adapter.specs.Runs.{after_calls, IsForOther}
 use Rattle.enip_peers.specs.declared.line.Line.{Line}
+use Rattle.enip_peers.specs.declared.tally.Tally.{Tally}
 use Rattle.enip_peers.specs.Desks.{desk_of}
 use Rattle.enip_peers.specs.Moves.{GoesOnWith}
 use Rattle.enip_peers.specs.Rounds.{PeersState, HasTurn, IsServedLine, IsServedAt, IsLeft, IsPlaceServed}
@@ -62,35 +63,35 @@ leads_weaker : (P Q : Call → Type 0) (a b : AdapterState) → ((call : Call) �
     → LeadsBy Q a b
 leads_weaker P Q a b weaker l = record { calls = l.calls; each = all_weaker P Q weaker l.calls l.each; after = l.after }
 
-module _ {W : Type 0} (left written : W → Option (List ℕ)) (now silence : ℕ) where
+module _ {W : Type 0} (left written : W → Option (List ℕ)) (tally : W → Tally) (now silence : ℕ) where
   -- What a line's turn came to: its peer is the same, and its desk is moved by feeds.
   record HasMoved (a : AdapterState) (line : Line W) (b : AdapterState) (after : Line W) : Type 0 where
     peer : after.peer ≡ line.peer
-    moves : MovesBy line.peer (IsFeedOf now line.peer) (desk_of left written a line) (desk_of left written b after)
+    moves : MovesBy line.peer (IsFeedOf now line.peer) (desk_of left written tally a line) (desk_of left written tally b after)
 
   moved_not : (a : AdapterState) (line : Line W) (b : AdapterState) (after : Line W) → b ≡ a → after ≡ line
       → HasMoved a line b after
   moved_not a line b after same is =
       subst (λ x. HasMoved a line x after) (sym same)
       (subst (λ l. HasMoved a line a l) (sym is)
-      (record { peer = refl; moves = moves_not line.peer (IsFeedOf now line.peer) (desk_of left written a line) }))
+      (record { peer = refl; moves = moves_not line.peer (IsFeedOf now line.peer) (desk_of left written tally a line) }))
 
   moved_turn : (a : AdapterState) (line : Line W) (b : AdapterState) (after : Line W) (goes_on : Bool)
-      → HasTurn left written now a line b after goes_on → HasMoved a line b after
+      → HasTurn left written tally now a line b after goes_on → HasMoved a line b after
   moved_turn a line b after goes_on t = record {
     peer = t.peer;
-    moves = turn_moves now line.peer (desk_of left written a line) (desk_of left written b after) t.turn;
+    moves = turn_moves now line.peer (desk_of left written tally a line) (desk_of left written tally b after) t.turn;
   }
 
   moved_ready : (a : AdapterState) (line : Line W) (b : AdapterState) (after : Line W) (goes_on : Bool)
-      → IsServedLine left written now silence a line b after goes_on → now < last_moment silence line → (ready : Bool)
+      → IsServedLine left written tally now silence a line b after goes_on → now < last_moment silence line → (ready : Bool)
       → line.ready ≡ ready → HasMoved a line b after
   moved_ready a line b after goes_on s early false is =
       moved_not a line b after (s.waits early is).0 (s.waits early is).1
   moved_ready a line b after goes_on s early true is = moved_turn a line b after goes_on (s.ready early is)
 
   moved_line : (a : AdapterState) (line : Line W) (b : AdapterState) (after : Line W) (goes_on : Bool)
-      → IsServedLine left written now silence a line b after goes_on → (early : Bool)
+      → IsServedLine left written tally now silence a line b after goes_on → (early : Bool)
       → ltb now (last_moment silence line) ≡ early → HasMoved a line b after
   moved_line a line b after goes_on s true is =
       moved_ready a line b after goes_on s (ltb-true now (last_moment silence line) is) line.ready refl
@@ -124,7 +125,7 @@ module _ {W : Type 0} (left written : W → Option (List ℕ)) (now silence : �
       (Leaves (leads_then (IsAbout line.peer) a between b (leads_moved a line between after m) ends))
 
   became : (a : AdapterState) (line : Line W) (b : AdapterState) (place : Option (Line W))
-      → IsServedAt left written now silence a line b place → Became a line b place
+      → IsServedAt left written tally now silence a line b place → Became a line b place
   became a line b place s =
       became_left a line s.adapter s.after s.goes_on b place
       (moved_line a line s.adapter s.after s.goes_on s.served (ltb now (last_moment silence line)) refl) s.stays
@@ -146,7 +147,7 @@ module _ {W : Type 0} (left written : W → Option (List ℕ)) (now silence : �
   -- ---- all peers
 
   place_next : (a : AdapterState) (old : Option (Line W)) (b : AdapterState) (place : Option (Line W))
-      → IsPlaceServed left written now silence a old b place
+      → IsPlaceServed left written tally now silence a old b place
       → IsOf old place × (b.state.next_handle ≡ a.state.next_handle)
   place_next a None b place is =
       (subst (λ o. IsOf None o) (sym is.1) tt, ap (λ x. x.state.next_handle) is.0)
@@ -158,7 +159,7 @@ module _ {W : Type 0} (left written : W → Option (List ℕ)) (now silence : �
       )
 
   places_next : (a : AdapterState) (lines : List (Option (Line W))) (b : AdapterState) (places : List (Option (Line W)))
-      → ArePlacesServed left written now silence a lines b places
+      → ArePlacesServed left written tally now silence a lines b places
       → AreOf lines places × (b.state.next_handle ≡ a.state.next_handle)
   places_next a [] b [] is = (tt, ap (λ x. x.state.next_handle) is)
   places_next a [] b (place ∷ places) is = absurd is
@@ -173,7 +174,7 @@ module _ {W : Type 0} (left written : W → Option (List ℕ)) (now silence : �
 
   -- what is done at another place is done for another peer
   place_for_other : (peer : ℕ) (a : AdapterState) (old : Option (Line W)) (b : AdapterState) (place : Option (Line W))
-      → IsPlaceServed left written now silence a old b place
+      → IsPlaceServed left written tally now silence a old b place
       → ((line : Line W) → old ≡ Some line → line.peer ≢ peer) → LeadsBy (IsForOther peer) a b
   place_for_other peer a None b place is differs =
       subst (λ x. LeadsBy (IsForOther peer) a x) (sym is.0) (leads_not (IsForOther peer) a)
@@ -188,7 +189,7 @@ module _ {W : Type 0} (left written : W → Option (List ℕ)) (now silence : �
       let same : first ≡ line = cc in subst (λ (l : Line W). l.peer ≢ peer) same none.0
 
   places_for_others : (peer : ℕ) (a : AdapterState) (lines : List (Option (Line W))) (b : AdapterState)
-      (places : List (Option (Line W))) → ArePlacesServed left written now silence a lines b places → HasNone peer lines
+      (places : List (Option (Line W))) → ArePlacesServed left written tally now silence a lines b places → HasNone peer lines
       → LeadsBy (IsForOther peer) a b
   places_for_others peer a [] b [] is none =
       subst (λ x. LeadsBy (IsForOther peer) a x) (sym is) (leads_not (IsForOther peer) a)
@@ -201,11 +202,11 @@ module _ {W : Type 0} (left written : W → Option (List ℕ)) (now silence : �
 
   -- calls for other peers leave a line's desk but for the adapter
   line_stays : (line : Line W) (a b : AdapterState) → LeadsBy (IsForOther line.peer) a b
-      → MovesBy line.peer (GoesOnWith line.peer) (desk_of left written a line) (desk_of left written b line)
+      → MovesBy line.peer (GoesOnWith line.peer) (desk_of left written tally a line) (desk_of left written tally b line)
   line_stays line a b l =
-      moves_by_weaker line.peer (IsForOther line.peer) (GoesOnWith line.peer) (desk_of left written a line)
-      (desk_of left written b line) (other_goes_on line.peer)
-      (moves_other line.peer (desk_of left written a line) b l.calls l.each l.after)
+      moves_by_weaker line.peer (IsForOther line.peer) (GoesOnWith line.peer) (desk_of left written tally a line)
+      (desk_of left written tally b line) (other_goes_on line.peer)
+      (moves_other line.peer (desk_of left written tally a line) b l.calls l.each l.after)
 
   apart_first : (first : Option (Line W)) (lines : List (Option (Line W))) (line : Line W) → first ≡ Some line
       → AreApart (first ∷ lines) → HasNone line.peer lines
@@ -223,18 +224,18 @@ module _ {W : Type 0} (left written : W → Option (List ℕ)) (now silence : �
 
   -- the peer of a place that stays
   place_moves : (a : AdapterState) (old : Option (Line W)) (b : AdapterState) (place : Option (Line W))
-      → IsPlaceServed left written now silence a old b place → (line after : Line W) → old ≡ Some line
+      → IsPlaceServed left written tally now silence a old b place → (line after : Line W) → old ≡ Some line
       → place ≡ Some after → HasMoved a line b after
   place_moves a old b place is line after there stays =
       became_moves a line b after
       (became a line b (Some after)
-      (subst (λ o. IsPlaceServed left written now silence a (Some line) b o) stays
-      (subst (λ o. IsPlaceServed left written now silence a o b place) there is)))
+      (subst (λ o. IsPlaceServed left written tally now silence a (Some line) b o) stays
+      (subst (λ o. IsPlaceServed left written tally now silence a o b place) there is)))
 
   places_move : (a : AdapterState) (lines : List (Option (Line W))) (b : AdapterState) (places : List (Option (Line W)))
-      → ArePlacesServed left written now silence a lines b places → AreApart lines → (index : ℕ) (line after : Line W)
+      → ArePlacesServed left written tally now silence a lines b places → AreApart lines → (index : ℕ) (line after : Line W)
       → slice_get lines index ≡ Some (Some line) → slice_get places index ≡ Some (Some after)
-      → MovesBy line.peer (GoesOnWith line.peer) (desk_of left written a line) (desk_of left written b after)
+      → MovesBy line.peer (GoesOnWith line.peer) (desk_of left written tally a line) (desk_of left written tally b after)
   places_move a [] b [] is apart index line after there stays = cc
   places_move a [] b (place ∷ places) is apart index line after there stays = absurd is
   places_move a (first ∷ lines) b [] is apart index line after there stays = absurd is
@@ -244,41 +245,41 @@ module _ {W : Type 0} (left written : W → Option (List ℕ)) (now silence : �
       let m : HasMoved a line is.0 after = place_moves a first is.0 place is.1 line after old new in
       let none : HasNone line.peer lines = apart_first first lines line old apart in
       let rest : LeadsBy (IsForOther line.peer) is.0 b = places_for_others line.peer is.0 lines b places is.2 none in
-      moves_by_then line.peer (GoesOnWith line.peer) (desk_of left written a line) (desk_of left written is.0 after)
-      (desk_of left written b after)
-      (moves_by_weaker line.peer (IsFeedOf now line.peer) (GoesOnWith line.peer) (desk_of left written a line)
-      (desk_of left written is.0 after) (feed_goes_on now line.peer) m.moves)
-      (subst (λ n. MovesBy n (GoesOnWith n) (desk_of left written is.0 after) (desk_of left written b after)) m.peer
+      moves_by_then line.peer (GoesOnWith line.peer) (desk_of left written tally a line) (desk_of left written tally is.0 after)
+      (desk_of left written tally b after)
+      (moves_by_weaker line.peer (IsFeedOf now line.peer) (GoesOnWith line.peer) (desk_of left written tally a line)
+      (desk_of left written tally is.0 after) (feed_goes_on now line.peer) m.moves)
+      (subst (λ n. MovesBy n (GoesOnWith n) (desk_of left written tally is.0 after) (desk_of left written tally b after)) m.peer
       (line_stays after is.0 b (subst (λ n. LeadsBy (IsForOther n) is.0 b) (sym m.peer) rest)))
   places_move a (first ∷ lines) b (place ∷ places) is apart (suc index) line after there stays =
       let before : LeadsBy (IsForOther line.peer) a is.0
       = place_for_other line.peer a first is.0 place is.1 (apart_before first lines index line apart there) in
-      moves_by_then line.peer (GoesOnWith line.peer) (desk_of left written a line) (desk_of left written is.0 line)
-      (desk_of left written b after) (line_stays line a is.0 before)
+      moves_by_then line.peer (GoesOnWith line.peer) (desk_of left written tally a line) (desk_of left written tally is.0 line)
+      (desk_of left written tally b after) (line_stays line a is.0 before)
       (places_move is.0 lines b places is.2 (apart_tail first lines apart) index line after there stays)
 
 ticks : (peer now : ℕ) (a : AdapterState) → LeadsBy (IsForOther peer) a (after_call a (Ticks now))
 ticks peer now a = record { calls = Ticks now ∷ []; each = (tt, tt); after = refl }
 
-module _ {W : Type 0} (left written : W → Option (List ℕ)) (now : ℕ) (old new : PeersState W)
-    (round : IsRound left written now old new) where
+module _ {W : Type 0} (left written : W → Option (List ℕ)) (tally : W → Tally) (now : ℕ) (old new : PeersState W)
+    (round : IsRound left written tally now old new) where
   -- the peers stay sound in a round
   pub sound_round : AreSound old → AreSound new
   sound_round sound =
       let r : AreOf old.lines new.lines × (new.adapter.state.next_handle ≡ old.adapter.state.next_handle)
-      = places_next left written now old.silence (after_call old.adapter (Ticks now)) old.lines new.adapter new.lines
+      = places_next left written tally now old.silence (after_call old.adapter (Ticks now)) old.lines new.adapter new.lines
       round.places in
       sound_of old new sound r.0 (omega (arith, r.1))
 
   -- a round moves each peer that stays
   pub round_moves : AreSound old → (place : ℕ) (line after : Line W) → slice_get old.lines place ≡ Some (Some line)
       → slice_get new.lines place ≡ Some (Some after)
-      → MovesBy line.peer (GoesOnWith line.peer) (desk_of left written old.adapter line)
-      (desk_of left written new.adapter after)
+      → MovesBy line.peer (GoesOnWith line.peer) (desk_of left written tally old.adapter line)
+      (desk_of left written tally new.adapter after)
   round_moves sound place line after there stays =
-      moves_by_then line.peer (GoesOnWith line.peer) (desk_of left written old.adapter line)
-      (desk_of left written (after_call old.adapter (Ticks now)) line) (desk_of left written new.adapter after)
-      (line_stays left written now old.silence line old.adapter (after_call old.adapter (Ticks now))
+      moves_by_then line.peer (GoesOnWith line.peer) (desk_of left written tally old.adapter line)
+      (desk_of left written tally (after_call old.adapter (Ticks now)) line) (desk_of left written tally new.adapter after)
+      (line_stays left written tally now old.silence line old.adapter (after_call old.adapter (Ticks now))
       (ticks line.peer now old.adapter))
-      (places_move left written now old.silence (after_call old.adapter (Ticks now)) old.lines new.adapter new.lines
+      (places_move left written tally now old.silence (after_call old.adapter (Ticks now)) old.lines new.adapter new.lines
       round.places sound.apart place line after there stays)

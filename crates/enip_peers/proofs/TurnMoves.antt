@@ -1,5 +1,5 @@
 -- A turn moves its peer's desk.
-use Rattle.std.proofs.Common.{◌≡◌, ◌≢◌, ℕ, List, [], ◌∷◌, ◌++◌, Bool, true, false, refl, sym, ap, subst, ◌∙◌, append-nil}
+use Rattle.std.proofs.Common.{◌≡◌, ◌≢◌, ℕ, List, [], ◌∷◌, ◌++◌, Option, Some, None, refl, sym, ap, subst, ◌∙◌, append-nil}
 use Rattle.std.proofs.KnownBytes.{Appends-nil, Consumes-nil}
 use Rattle.std.specs.Io.KnownBytes.{Appends, Consumes}
 use Rattle.std.specs.List.{AllByRecursion}
@@ -25,7 +25,7 @@ flushed_moves peer P old new f = record {
     rest = old.inbox;
     taken = append-nil old.inbox;
     waits = λ _. sym f.inbox;
-    closed = λ shut. (f.closed ∙ shut, refl);
+    closed = λ shut. (λ none. shut (sym f.closed ∙ none), refl);
   };
 }
 
@@ -43,8 +43,9 @@ fed_moves now peer old new (Once_more {d = d} fed out served flushed) =
     (moves_by_then peer (IsFeedOf now peer) d (fed_once now peer d) new one
     (flushed_moves peer (IsFeedOf now peer) (fed_once now peer d) new flushed))
 
-fetched_moves : (peer : ℕ) (P : Call → Type 0) (old new : Desk) → IsFetched old new → MovesBy peer P old new
-fetched_moves peer P old new f = record {
+fetched_moves : (now peer : ℕ) (P : Call → Type 0) (old new : Desk) → IsFetched now old new
+    → MovesBy peer P old new
+fetched_moves now peer P old new f = record {
   calls = [];
   came = f.came;
   gone = [];
@@ -57,11 +58,11 @@ fetched_moves peer P old new f = record {
     rest = old.inbox ++ f.came;
     taken = refl;
     waits = λ _. sym f.inbox;
-    closed = λ shut. (f.closed ∙ shut, refl);
+    closed = λ shut. (λ none. shut (sym f.closed ∙ none), refl);
   };
 }
 
-thrown_moves : (peer : ℕ) (P : Call → Type 0) (old new : Desk) → old.closed ≡ true → IsThrownAway old new
+thrown_moves : (peer : ℕ) (P : Call → Type 0) (old new : Desk) → old.closed ≢ None → IsThrownAway old new
     → MovesBy peer P old new
 thrown_moves peer P old new shut t = record {
   calls = [];
@@ -75,20 +76,21 @@ thrown_moves peer P old new shut t = record {
     sent = append-nil old.outbox ∙ sym (ap (λ d. d.outbox) t.same);
     rest = old.inbox ++ t.came;
     taken = refl;
-    waits = λ served. absurd (cc);
-    closed = λ _. (ap (λ d. d.closed) t.same ∙ shut, refl);
+    waits = λ served. absurd (shut (sym (ap (λ d. d.closed) t.same) ∙ served));
+    closed = λ _. (λ none. shut (sym (ap (λ d. d.closed) t.same) ∙ none), refl);
   };
 }
 
 -- what is done where all is out, by whether the adapter closed the peer
-out_moves : (now peer : ℕ) (old new : Desk) (t : IsTurn now peer old new) → t.between.outbox ≡ [] → (closed : Bool)
+out_moves : (now peer : ℕ) (old new : Desk) (t : IsTurn now peer old new) → t.between.outbox ≡ [] → (closed : Option ℕ)
     → t.between.closed ≡ closed → MovesBy peer (IsFeedOf now peer) t.between new
-out_moves now peer old new t out false served =
+out_moves now peer old new t out None served =
     let s : IsServed now peer t.between new = t.served out served in
     moves_by_then peer (IsFeedOf now peer) t.between s.between new
-    (fetched_moves peer (IsFeedOf now peer) t.between s.between s.fetched) (fed_moves now peer s.between new s.fed)
-out_moves now peer old new t out true shut =
-    thrown_moves peer (IsFeedOf now peer) t.between new shut (t.thrown out shut)
+    (fetched_moves now peer (IsFeedOf now peer) t.between s.between s.fetched) (fed_moves now peer s.between new s.fed)
+out_moves now peer old new t out (Some last) shut =
+    let closed : t.between.closed ≢ None = λ none. cc in
+    thrown_moves peer (IsFeedOf now peer) t.between new closed (t.thrown out closed)
 
 not_out : (n : ℕ) (ns : List ℕ) → (n ∷ ns) ≢ []
 not_out n ns is = cc

@@ -1,5 +1,6 @@
 -- A peer's line as the adapter and the wire see it, and what a turn does to it.
-use Rattle.std.specs.Prelude.{ℕ, ◌≡◌, ◌≢◌, ◌≤◌, List, [], ◌++◌, length, drop, Bool, true, false, Option, is_some, ⊤}
+use Rattle.std.specs.Prelude.{ℕ, ◌+◌, ◌-◌, ◌^◌, min, ◌≡◌, ◌≢◌, ◌≤◌, List, [], ◌∷◌, ◌++◌, length, drop}
+use Rattle.std.specs.Prelude.{Bool, true, false, Option, Some, None, ⊤}
 use Rattle.std.specs.Io.KnownBytes.{Appends, Consumes}
 use Rattle.enip_adapter.specs.Calls.{AdapterState, call_meaning, call_answer, after_call}
 use Rattle.enip_adapter.specs.Calls.Call.{Feeds}
@@ -7,26 +8,38 @@ use Rattle.enip_adapter.specs.Serving.{bytes_said}
 use Rattle.enip_peers.specs.declared.line.Line.{Line}
 use Rattle.enip_peers.specs.declared.line.Turn.{Turn}
 use Rattle.enip_peers.specs.declared.line.Turn.TheVariants.{More, Reads, Writes, Over}
+use Rattle.enip_peers.specs.declared.tally.Tally.{Tally}
+use Rattle.enip_peers.specs.Wires.{one_more}
 
--- The adapter, what was read of a peer and not fed, what of an answer is not out, whether the adapter closed the peer,
--- and what of its wire is left to read and was written, where that is known.
+-- A sum of moments, which stops at the greatest.
+abbrev pub moment_after : ℕ → ℕ → ℕ
+moment_after moment more = min (moment + more) (2 ^ 64 - 1)
+
+-- The adapter, what was read of a peer and not fed, what of an answer is not out, where the adapter closed the peer the
+-- moment up to which it is still read, the moment at which a byte came last, what of its wire is left to read and was
+-- written, where that is known, and how the calls of its wire went.
 pub record Desk : Type 0 where
   pub adapter : AdapterState
   pub inbox : List ℕ
   pub outbox : List ℕ
-  pub closed : Bool
+  pub closed : Option ℕ
+  pub heard : ℕ
   pub left : Option (List ℕ)
   pub written : Option (List ℕ)
+  pub tally : Tally
 
 -- The desk of a line.
-abbrev pub desk_of : {W : Type 0} → (W → Option (List ℕ)) → (W → Option (List ℕ)) → AdapterState → Line W → Desk
-desk_of left written adapter line = record {
+abbrev pub desk_of : {W : Type 0} → (W → Option (List ℕ)) → (W → Option (List ℕ)) → (W → Tally) → AdapterState → Line W
+    → Desk
+desk_of left written tally adapter line = record {
   adapter = adapter;
   inbox = line.inbox;
   outbox = line.outbox;
-  closed = is_some line.closed;
+  closed = line.closed;
+  heard = line.heard;
   left = left line.wire;
   written = written line.wire;
+  tally = tally line.wire;
 }
 
 -- A front of what waits of an answer is written, and nothing else is done.
@@ -37,7 +50,14 @@ pub record IsFlushed (old new : Desk) : Type 0 where
   pub adapter : new.adapter ≡ old.adapter
   pub inbox : new.inbox ≡ old.inbox
   pub closed : new.closed ≡ old.closed
+  pub heard : new.heard ≡ old.heard
   pub left : new.left ≡ old.left
+  pub reads : new.tally.reads ≡ old.tally.reads
+
+-- A peer that is closed at a moment is still read for a second.
+abbrev pub closed_at : ℕ → Bool → Option ℕ
+closed_at now false = None
+closed_at now true = Some (moment_after now 1_000_000)
 
 -- What was read is fed to its peer at a moment, up to the end of one frame; what answers it waits.
 abbrev pub fed_once : ℕ → ℕ → Desk → Desk
@@ -45,17 +65,22 @@ fed_once now peer d = record d {
   adapter = after_call d.adapter (Feeds now peer d.inbox);
   inbox = drop (call_meaning d.adapter (Feeds now peer d.inbox)).taken d.inbox;
   outbox = bytes_said (call_answer d.adapter (Feeds now peer d.inbox)).said;
-  closed = (call_answer d.adapter (Feeds now peer d.inbox)).close;
+  closed = closed_at now (call_answer d.adapter (Feeds now peer d.inbox)).close;
 }
 
 -- Feeds of a peer at a moment: at each of them all answers before it are out, and the adapter has not closed the peer.
 pub data AreFed (now peer : ℕ) : Desk → Desk → Type 0 where
   Not_yet : {d : Desk} → AreFed now peer d d
-  Once_more : {old d new : Desk} → AreFed now peer old d → d.outbox ≡ [] → d.closed ≡ false
+  Once_more : {old d new : Desk} → AreFed now peer old d → d.outbox ≡ [] → d.closed ≡ None
       → IsFlushed (fed_once now peer d) new → AreFed now peer old new
 
--- Where nothing waits to be fed a read is made, of 4,096 bytes at most; what came waits to be fed.
-pub record IsFetched (old new : Desk) : Type 0 where
+-- When a byte came last, after bytes that came at a moment.
+abbrev pub heard_at : ℕ → List ℕ → ℕ → ℕ
+heard_at now [] heard = heard
+heard_at now (byte ∷ bytes) heard = now
+
+-- Where nothing waits to be fed one read is made, of 4,096 bytes at most; what came waits to be fed.
+pub record IsFetched (now : ℕ) (old new : Desk) : Type 0 where
   pub came : List ℕ
   pub few : length came ≤ 4096
   pub only : old.inbox ≢ [] → came ≡ []
@@ -64,34 +89,46 @@ pub record IsFetched (old new : Desk) : Type 0 where
   pub adapter : new.adapter ≡ old.adapter
   pub outbox : new.outbox ≡ old.outbox
   pub closed : new.closed ≡ old.closed
+  pub heard : new.heard ≡ heard_at now came old.heard
   pub written : new.written ≡ old.written
+  pub reads : old.inbox ≡ [] → new.tally.reads ≡ one_more old.tally.reads
+  pub no_read : old.inbox ≢ [] → new.tally.reads ≡ old.tally.reads
 
 -- What waits to be fed, or came, is fed.
 pub record IsServed (now peer : ℕ) (old new : Desk) : Type 0 where
   pub between : Desk
-  pub fetched : IsFetched old between
+  pub fetched : IsFetched now old between
   pub fed : AreFed now peer between new
 
--- A read of a peer that the adapter closed is thrown away, and with it what waited to be fed.
+-- One read of a peer that the adapter closed is thrown away, and with it what waited to be fed.
 pub record IsThrownAway (old new : Desk) : Type 0 where
   pub came : List ℕ
   pub read : Consumes old.left new.left came
-  pub same : new ≡ record old { inbox = []; left = new.left }
+  pub same : new ≡ record old { inbox = []; left = new.left; tally = new.tally }
+  pub reads : new.tally.reads ≡ one_more old.tally.reads
 
 -- A turn: what waits of an answer is written first. While some of it waits nothing else is done.
 pub record IsTurn (now peer : ℕ) (old new : Desk) : Type 0 where
   pub between : Desk
   pub flushed : IsFlushed old between
   pub waits : between.outbox ≢ [] → new ≡ between
-  pub served : between.outbox ≡ [] → between.closed ≡ false → IsServed now peer between new
-  pub thrown : between.outbox ≡ [] → between.closed ≡ true → IsThrownAway between new
+  pub served : between.outbox ≡ [] → between.closed ≡ None → IsServed now peer between new
+  pub thrown : between.outbox ≡ [] → between.closed ≢ None → IsThrownAway between new
 
--- What a turn came to.
+-- What a turn came to: where more may have come all that was read is fed, unless the adapter closed the peer.
 abbrev pub IsToldBy : Desk → Turn → Type 0
-IsToldBy d More = d.outbox ≡ []
+IsToldBy d More = (d.outbox ≡ []) × (d.closed ≡ None → d.inbox ≡ [])
 IsToldBy d Reads = (d.outbox ≡ []) × (d.inbox ≡ [])
 IsToldBy d Writes = d.outbox ≢ []
 IsToldBy d Over = ⊤
+
+-- What a turn came to, by how the calls of the wire went: where more may have come none of them had to wait; where one
+-- had to, that one was the only one; where the stream is over one of them was at its end or failed.
+abbrev pub IsToldOf : Turn → Tally → Tally → Type 0
+IsToldOf More old new = (new.waits ≡ old.waits) × (new.ends ≡ old.ends)
+IsToldOf Reads old new = (new.waits ≡ one_more old.waits) × (new.ends ≡ old.ends)
+IsToldOf Writes old new = (new.waits ≡ one_more old.waits) × (new.ends ≡ old.ends)
+IsToldOf Over old new = (new.waits ≡ old.waits) × (new.ends ≡ one_more old.ends)
 
 -- A turn that ends before a read is made: an answer is not out, or a write failed.
 abbrev pub IsWaiting : Turn → Type 0

@@ -1,5 +1,5 @@
 -- What calls of the adapter do to one peer's desk, whoever they are for.
-use Rattle.std.specs.Prelude.{ℕ, ◌≡◌, ◌≢◌, ◌==◌, ⊤, List, [], ◌∷◌, ◌++◌, if◌then◌else◌, true, false}
+use Rattle.std.specs.Prelude.{ℕ, ◌≡◌, ◌≢◌, ◌==◌, ⊤, List, [], ◌∷◌, ◌++◌, if◌then◌else◌, None}
 use Rattle.std.specs.Io.KnownBytes.{Appends, Consumes}
 use Rattle.enip_adapter.specs.Calls.{AdapterState, Call, call_answer, after_call}
 use Rattle.enip_adapter.specs.Calls.Call.{Begins_peer, Feeds, Ends_peer, Ticks}
@@ -30,8 +30,8 @@ pub record Moves (peer : ℕ) (calls : List Call) (came gone : List ℕ) (old ne
   pub sent : old.outbox ++ sent_by_calls peer old.adapter calls ≡ gone ++ new.outbox
   pub rest : List ℕ
   pub taken : old.inbox ++ came ≡ taken_by_calls peer old.adapter calls ++ rest
-  pub waits : new.closed ≡ false → rest ≡ new.inbox
-  pub closed : old.closed ≡ true → (new.closed ≡ true) × (taken_by_calls peer old.adapter calls ≡ [])
+  pub waits : new.closed ≡ None → rest ≡ new.inbox
+  pub closed : old.closed ≢ None → (new.closed ≢ None) × (taken_by_calls peer old.adapter calls ≡ [])
 
 -- A call that does not end this peer.
 abbrev pub GoesOnWith : ℕ → Call → Type 0

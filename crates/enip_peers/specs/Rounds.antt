@@ -13,7 +13,8 @@ use Rattle.enip_peers.specs.declared.line.Line.{Line}
 use Rattle.enip_peers.specs.declared.line.Turn.{Turn}
 use Rattle.enip_peers.specs.declared.peers.Peers.{Peers}
 use Rattle.enip_peers.specs.declared.line.Turn.TheVariants.{More, Reads, Writes, Over}
-use Rattle.enip_peers.specs.Desks.{desk_of, IsTurn, IsToldBy}
+use Rattle.enip_peers.specs.declared.tally.Tally.{Tally}
+use Rattle.enip_peers.specs.Desks.{moment_after, desk_of, IsTurn, IsToldBy, IsToldOf}
 
 -- The adapter, how long a peer may be silent, and the line of each place that is taken.
 pub record PeersState (W : Type 0) : Type 0 where
@@ -24,10 +25,6 @@ pub record PeersState (W : Type 0) : Type 0 where
 -- The peers, as their calls see them.
 abbrev pub state_of : {W : Type 0} → Peers W → PeersState W
 state_of p = record { adapter = p.adapter; silence = p.silence; lines = boxed_slice_items p.lines }
-
--- A sum of moments, which stops at the greatest.
-abbrev pub moment_after : ℕ → ℕ → ℕ
-moment_after moment more = min (moment + more) (2 ^ 64 - 1)
 
 -- The moment at which a peer is ended if nothing comes of it: when it was silent for too long, or was read for long
 -- enough since the adapter closed it.
@@ -52,56 +49,57 @@ is_over Reads = false
 is_over Writes = false
 is_over Over = true
 
-pub record HasTurn {W : Type 0} (left written : W → Option (List ℕ)) (now : ℕ) (a : AdapterState) (line : Line W)
+pub record HasTurn {W : Type 0} (left written : W → Option (List ℕ)) (tally : W → Tally) (now : ℕ) (a : AdapterState) (line : Line W)
     (b : AdapterState) (after : Line W) (goes_on : Bool) : Type 0 where
   pub came_to : Turn
-  pub turn : IsTurn now line.peer (desk_of left written a line) (desk_of left written b after)
-  pub told : IsToldBy (desk_of left written b after) came_to
+  pub turn : IsTurn now line.peer (desk_of left written tally a line) (desk_of left written tally b after)
+  pub told : IsToldBy (desk_of left written tally b after) came_to
+  pub tells : IsToldOf came_to (tally line.wire) (tally after.wire)
   pub peer : after.peer ≡ line.peer
   pub ready : after.ready ≡ is_more came_to
   pub over : goes_on ≡ not (is_over came_to)
 
 -- A peer in a round: where it was silent for too long it does not go on; else it has one turn if its wire may be ready,
 -- and none if not.
-pub record IsServedLine {W : Type 0} (left written : W → Option (List ℕ)) (now silence : ℕ) (a : AdapterState)
+pub record IsServedLine {W : Type 0} (left written : W → Option (List ℕ)) (tally : W → Tally) (now silence : ℕ) (a : AdapterState)
     (line : Line W) (b : AdapterState) (after : Line W) (goes_on : Bool) : Type 0 where
   pub silent : last_moment silence line ≤ now → (b ≡ a) × (after ≡ line) × (goes_on ≡ false)
   pub waits : now < last_moment silence line → line.ready ≡ false → (b ≡ a) × (after ≡ line) × (goes_on ≡ true)
-  pub ready : now < last_moment silence line → line.ready ≡ true → HasTurn left written now a line b after goes_on
+  pub ready : now < last_moment silence line → line.ready ≡ true → HasTurn left written tally now a line b after goes_on
 
 -- A peer that goes on keeps its place; any other is ended.
 abbrev pub IsLeft : {W : Type 0} → AdapterState → Line W → Bool → AdapterState → Option (Line W) → Type 0
 IsLeft a line true b place = (b ≡ a) × (place ≡ Some line)
 IsLeft a line false b place = (b ≡ after_call a (Ends_peer line.peer)) × (place ≡ None)
 
-pub record IsServedAt {W : Type 0} (left written : W → Option (List ℕ)) (now silence : ℕ) (a : AdapterState)
+pub record IsServedAt {W : Type 0} (left written : W → Option (List ℕ)) (tally : W → Tally) (now silence : ℕ) (a : AdapterState)
     (line : Line W) (b : AdapterState) (place : Option (Line W)) : Type 0 where
   pub adapter : AdapterState
   pub after : Line W
   pub goes_on : Bool
-  pub served : IsServedLine left written now silence a line adapter after goes_on
+  pub served : IsServedLine left written tally now silence a line adapter after goes_on
   pub stays : IsLeft adapter after goes_on b place
 
 -- A place in a round: one that is free stays so.
-abbrev pub IsPlaceServed : {W : Type 0} → (W → Option (List ℕ)) → (W → Option (List ℕ)) → ℕ → ℕ
+abbrev pub IsPlaceServed : {W : Type 0} → (W → Option (List ℕ)) → (W → Option (List ℕ)) → (W → Tally) → ℕ → ℕ
     → AdapterState → Option (Line W) → AdapterState → Option (Line W) → Type 0
-IsPlaceServed left written now silence a None b place = (b ≡ a) × (place ≡ None)
-IsPlaceServed left written now silence a (Some line) b place = IsServedAt left written now silence a line b place
+IsPlaceServed left written tally now silence a None b place = (b ≡ a) × (place ≡ None)
+IsPlaceServed left written tally now silence a (Some line) b place = IsServedAt left written tally now silence a line b place
 
 -- The places in a round, one after the other.
-abbrev pub ArePlacesServed : {W : Type 0} → (W → Option (List ℕ)) → (W → Option (List ℕ)) → ℕ → ℕ
+abbrev pub ArePlacesServed : {W : Type 0} → (W → Option (List ℕ)) → (W → Option (List ℕ)) → (W → Tally) → ℕ → ℕ
     → AdapterState → List (Option (Line W)) → AdapterState → List (Option (Line W)) → Type 0
-ArePlacesServed left written now silence a [] b [] = b ≡ a
-ArePlacesServed left written now silence a [] b (place ∷ places) = ⊥
-ArePlacesServed left written now silence a (line ∷ lines) b [] = ⊥
-ArePlacesServed left written now silence a (line ∷ lines) b (place ∷ places) =
-    (between : AdapterState) × IsPlaceServed left written now silence a line between place
-    × ArePlacesServed left written now silence between lines b places
+ArePlacesServed left written tally now silence a [] b [] = b ≡ a
+ArePlacesServed left written tally now silence a [] b (place ∷ places) = ⊥
+ArePlacesServed left written tally now silence a (line ∷ lines) b [] = ⊥
+ArePlacesServed left written tally now silence a (line ∷ lines) b (place ∷ places) =
+    (between : AdapterState) × IsPlaceServed left written tally now silence a line between place
+    × ArePlacesServed left written tally now silence between lines b places
 
 -- A round at a moment: the moment comes, and then each place is served.
-pub record IsRound {W : Type 0} (left written : W → Option (List ℕ)) (now : ℕ) (old new : PeersState W) : Type 0 where
+pub record IsRound {W : Type 0} (left written : W → Option (List ℕ)) (tally : W → Tally) (now : ℕ) (old new : PeersState W) : Type 0 where
   pub silence : new.silence ≡ old.silence
-  pub places : ArePlacesServed left written now old.silence (after_call old.adapter (Ticks now)) old.lines
+  pub places : ArePlacesServed left written tally now old.silence (after_call old.adapter (Ticks now)) old.lines
       new.adapter new.lines
 
 -- How many peers ended in a round.

@@ -1,6 +1,8 @@
--- What the calls of a wire do to the bytes that are left to read and those that were written, where they are known.
-use Rattle.std.specs.Prelude.{ℕ, ◌≡◌, ◌<◌, ◌≤◌, List, [], take, length, Option, Some, None}
+-- What the calls of a wire do to the bytes that are left to read and those that were written, where they are known, and
+-- to the tally of how they went.
+use Rattle.std.specs.Prelude.{ℕ, zero, suc, ◌+◌, ◌%◌, ◌^◌, ◌≡◌, ◌<◌, ◌≤◌, List, [], take, length, Option, Some, None}
 use Rattle.std.specs.Io.KnownBytes.{Consumes, Keeps, IsAtEnd}
+use Rattle.enip_peers.specs.declared.tally.Tally.{Tally}
 use Rattle.enip_peers.specs.declared.wire.Came.{Came}
 use Rattle.enip_peers.specs.declared.wire.Came.TheVariants.{Bytes, Later, End, Failed}
 
@@ -22,3 +24,20 @@ AreGivenBy (Bytes size) bytes = (0 < length bytes) × (length bytes ≡ size)
 AreGivenBy Later bytes = bytes ≡ []
 AreGivenBy End bytes = bytes ≡ []
 AreGivenBy Failed bytes = bytes ≡ []
+
+-- One more, of numbers that begin again at 2^64.
+abbrev pub one_more : ℕ → ℕ
+one_more n = (n + 1) % 2 ^ 64
+
+-- A read is counted, and so is what it came to where it gave nothing: a wait, or an end.
+abbrev pub after_read : Came → Tally → Tally
+after_read (Bytes size) t = record t { reads = one_more t.reads }
+after_read Later t = record t { reads = one_more t.reads; waits = one_more t.waits }
+after_read End t = record t { reads = one_more t.reads; ends = one_more t.ends }
+after_read Failed t = record t { reads = one_more t.reads; ends = one_more t.ends }
+
+-- A write is counted where it took nothing: a wait, or where it failed an end.
+abbrev pub after_write : Option ℕ → Tally → Tally
+after_write None t = record t { ends = one_more t.ends }
+after_write (Some zero) t = record t { waits = one_more t.waits }
+after_write (Some (suc n)) t = t

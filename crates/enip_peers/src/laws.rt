@@ -25,9 +25,9 @@ pub fn turns_move()
 /// what was written to its wire and what waits to be written, in this order.
 pub fn peers_are_served_apart<W: Wire>()
     ensures { (adapter : AdapterState) (silence place peer : ℕ) (first last : PeersState W) (line after : Line W) →
-        IsRun W.left W.written (new_peers adapter silence) first →
-        Lives W.left W.written place peer first line last after →
+        IsRun W.left W.written W.tally (new_peers adapter silence) first →
+        Lives W.left W.written W.tally place peer first line last after →
         (calls : List Call) × (came : List ℕ) × (gone : List ℕ) × AllByRecursion (GoesOnWith peer) calls
-        × Moves peer calls came gone (desk_of W.left W.written first.adapter line)
-        (desk_of W.left W.written last.adapter after) }
+        × Moves peer calls came gone (desk_of W.left W.written W.tally first.adapter line)
+        (desk_of W.left W.written W.tally last.adapter after) }
 {}

@@ -12,9 +12,11 @@ pub mod laws;
 mod line;
 mod peers;
 mod store;
+mod tally;
 mod wire;
 
 pub use line::LINGER;
 pub use peers::{NO_LIMIT, Peers};
 pub use store::ROOM;
+pub use tally::Tally;
 pub use wire::{Came, Wire};

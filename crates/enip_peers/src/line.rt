@@ -3,7 +3,8 @@
 ghost use Rattle.std.specs.Prelude.{◌≡◌, ◌≢◌, ◌≤◌, ◌<◌, [], length, Some, None, true, false, IfSome, IfNone, IfErr, IfOk};
 ghost use Rattle.enip_adapter.specs.Calls.{AdapterState};
 ghost use Rattle.enip_peers.specs.Rounds.{last_moment, IsServedLine, HasTurn};
-ghost use Rattle.enip_peers.specs.Desks.{desk_of, fed_once, IsFlushed, AreFed, IsThrownAway, IsTurn, IsToldBy, IsWaiting, IsFetched, HasEnded};
+ghost use Rattle.enip_peers.specs.Desks.{desk_of, fed_once, IsFlushed, AreFed, IsThrownAway, IsTurn, IsToldBy, IsToldOf, IsWaiting};
+ghost use Rattle.enip_peers.specs.Desks.{IsFetched, HasEnded};
 
 use crate::store::Store;
 use crate::wire::{Came, Wire};
@@ -80,7 +81,7 @@ impl<W: Wire> Line<W> {
     /// Gives the peer a turn if its wire may be ready. Answers whether it goes on: it does not where it was silent for
     /// too long, or its stream is over.
     pub(crate) fn serve(&mut self, adapter: &mut Adapter, now: u64, silence: u64) -> bool
-        ensures { IsServedLine W.left W.written now silence adapter.old self.old adapter.new self.new result }
+        ensures { IsServedLine W.left W.written W.tally now silence adapter.old self.old adapter.new self.new result }
     {
         if now >= self.last_moment(silence) {
             return false;
@@ -93,7 +94,7 @@ impl<W: Wire> Line<W> {
 
     /// Has one turn. Answers whether the stream goes on.
     fn have_turn(&mut self, adapter: &mut Adapter, now: u64) -> bool
-        ensures { HasTurn W.left W.written now adapter.old self.old adapter.new self.new result }
+        ensures { HasTurn W.left W.written W.tally now adapter.old self.old adapter.new self.new result }
     {
         let turn = self.turn(adapter, now);
         self.ready = turn == Turn::More;
@@ -102,9 +103,10 @@ impl<W: Wire> Line<W> {
 
     /// One turn: what waits of an answer is written, and once all of it is out a read is made and fed.
     fn turn(&mut self, adapter: &mut Adapter, now: u64) -> Turn
-        ensures turn { IsTurn now self.old.peer (desk_of W.left W.written adapter.old self.old)
-            (desk_of W.left W.written adapter.new self.new) }
-        ensures told { IsToldBy (desk_of W.left W.written adapter.new self.new) result }
+        ensures turn { IsTurn now self.old.peer (desk_of W.left W.written W.tally adapter.old self.old)
+            (desk_of W.left W.written W.tally adapter.new self.new) }
+        ensures told { IsToldBy (desk_of W.left W.written W.tally adapter.new self.new) result }
+        ensures tells { IsToldOf result (W.tally self.old.wire) (W.tally self.new.wire) }
         ensures peer { self.new.peer ≡ self.old.peer }
     {
         if let Some(waits) = self.flush() {
@@ -121,9 +123,11 @@ impl<W: Wire> Line<W> {
 
     /// Reads once, where nothing waits to be fed. Answers `None` where something waits then.
     fn fetch(&mut self, now: u64) -> Option<Turn>
-        ensures fetched { (adapter : AdapterState) → IsFetched (desk_of W.left W.written adapter self.old)
-            (desk_of W.left W.written adapter self.new) }
+        ensures fetched { (adapter : AdapterState) → IsFetched now (desk_of W.left W.written W.tally adapter self.old)
+            (desk_of W.left W.written W.tally adapter self.new) }
         ensures none { IfSome result (λ turn. (self.new.inbox ≡ []) × HasEnded turn) }
+        ensures goes_on { IfNone result (IsToldOf Turn.More (W.tally self.old.wire) (W.tally self.new.wire)) }
+        ensures tells { IfSome result (λ turn. IsToldOf turn (W.tally self.old.wire) (W.tally self.new.wire)) }
         ensures peer { self.new.peer ≡ self.old.peer }
         ensures outbox { self.new.outbox ≡ self.old.outbox }
         ensures closed { self.new.closed ≡ self.old.closed }
@@ -145,9 +149,10 @@ impl<W: Wire> Line<W> {
     fn feed_all(&mut self, adapter: &mut Adapter, now: u64) -> Turn
         requires out { self.old.outbox ≡ [] }
         requires open { self.old.closed ≡ None }
-        ensures fed { AreFed now self.old.peer (desk_of W.left W.written adapter.old self.old)
-            (desk_of W.left W.written adapter.new self.new) }
-        ensures told { IsToldBy (desk_of W.left W.written adapter.new self.new) result }
+        ensures fed { AreFed now self.old.peer (desk_of W.left W.written W.tally adapter.old self.old)
+            (desk_of W.left W.written W.tally adapter.new self.new) }
+        ensures told { IsToldBy (desk_of W.left W.written W.tally adapter.new self.new) result }
+        ensures tells { IsToldOf result (W.tally self.old.wire) (W.tally self.new.wire) }
         ensures more { result ≢ Turn.Reads }
         ensures peer { self.new.peer ≡ self.old.peer }
     {
@@ -167,8 +172,8 @@ impl<W: Wire> Line<W> {
     fn feed_once(&mut self, adapter: &mut Adapter, now: u64)
         requires out { self.old.outbox ≡ [] }
         requires open { self.old.closed ≡ None }
-        ensures fed { desk_of W.left W.written adapter.new self.new
-            ≡ fed_once now self.old.peer (desk_of W.left W.written adapter.old self.old) }
+        ensures fed { desk_of W.left W.written W.tally adapter.new self.new
+            ≡ fed_once now self.old.peer (desk_of W.left W.written W.tally adapter.old self.old) }
         ensures peer { self.new.peer ≡ self.old.peer }
         ensures progress { 0 < length self.old.inbox → self.new.closed ≡ None →
             length self.new.inbox < length self.old.inbox }
@@ -186,10 +191,12 @@ impl<W: Wire> Line<W> {
 
     /// Writes what waits of an answer. Answers `None` where all of it is out.
     fn flush(&mut self) -> Option<Turn>
-        ensures flushed { (adapter : AdapterState) → IsFlushed (desk_of W.left W.written adapter self.old)
-            (desk_of W.left W.written adapter self.new) }
+        ensures flushed { (adapter : AdapterState) → IsFlushed (desk_of W.left W.written W.tally adapter self.old)
+            (desk_of W.left W.written W.tally adapter self.new) }
         ensures out { IfNone result (self.new.outbox ≡ []) }
         ensures waits { IfSome result (λ turn. (self.new.outbox ≢ []) × IsWaiting turn) }
+        ensures goes_on { IfNone result (IsToldOf Turn.More (W.tally self.old.wire) (W.tally self.new.wire)) }
+        ensures tells { IfSome result (λ turn. IsToldOf turn (W.tally self.old.wire) (W.tally self.new.wire)) }
         ensures peer { self.new.peer ≡ self.old.peer }
         ensures inbox { self.new.inbox ≡ self.old.inbox }
         ensures closed { self.new.closed ≡ self.old.closed }
@@ -207,9 +214,10 @@ impl<W: Wire> Line<W> {
     /// Reads once of a peer that the adapter closed, and throws it away; what is written to it is at its end.
     fn throw_away(&mut self) -> Turn
         requires out { self.old.outbox ≡ [] }
-        ensures thrown { (adapter : AdapterState) → IsThrownAway (desk_of W.left W.written adapter self.old)
-            (desk_of W.left W.written adapter self.new) }
-        ensures told { (adapter : AdapterState) → IsToldBy (desk_of W.left W.written adapter self.new) result }
+        ensures thrown { (adapter : AdapterState) → IsThrownAway (desk_of W.left W.written W.tally adapter self.old)
+            (desk_of W.left W.written W.tally adapter self.new) }
+        ensures told { (adapter : AdapterState) → IsToldBy (desk_of W.left W.written W.tally adapter self.new) result }
+        ensures tells { IsToldOf result (W.tally self.old.wire) (W.tally self.new.wire) }
         ensures peer { self.new.peer ≡ self.old.peer }
     {
         self.wire.shut();

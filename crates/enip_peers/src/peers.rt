@@ -86,7 +86,7 @@ impl<W: Wire + Drop> Peers<W> {
     /// A moment comes, and each peer whose wire may be ready has one turn. Answers how many peers ended: those whose
     /// stream was over, and those that were silent for too long.
     pub fn round(&mut self, now: u64) -> usize
-        ensures round { IsRound W.left W.written now (state_of self.old) (state_of self.new) }
+        ensures round { IsRound W.left W.written W.tally now (state_of self.old) (state_of self.new) }
         ensures ended { result ≡ ended_in (state_of self.old).lines (state_of self.new).lines }
     {
         self.adapter.tick(now);
@@ -143,7 +143,7 @@ fn serve_places<W: Wire + Drop>(
     now: u64,
     silence: u64,
 ) -> usize
-    ensures served { ArePlacesServed W.left W.written now silence adapter.old places.old adapter.new places.new }
+    ensures served { ArePlacesServed W.left W.written W.tally now silence adapter.old places.old adapter.new places.new }
     ensures ended { result ≡ ended_in places.old places.new }
     ensures few { result ≤ length places.old }
 {
@@ -161,7 +161,7 @@ fn serve_place<W: Wire + Drop>(
     now: u64,
     silence: u64,
 ) -> bool
-    ensures served { IsPlaceServed W.left W.written now silence adapter.old place.old adapter.new place.new }
+    ensures served { IsPlaceServed W.left W.written W.tally now silence adapter.old place.old adapter.new place.new }
     ensures ended { result ≡ has_ended place.old place.new }
 {
     let Some(line) = place else {

@@ -2,7 +2,7 @@
 
 ghost use Rattle.std.specs.Prelude.{◌≡◌, ◌≤◌, ◌==◌, [], length, take, drop};
 ghost use Rattle.std.specs.Io.KnownBytes.{Consumes};
-ghost use Rattle.enip_peers.specs.Wires.{AreGivenBy};
+ghost use Rattle.enip_peers.specs.Wires.{AreGivenBy, after_read};
 
 use crate::wire::{Came, Wire};
 use std::marker::Model;
@@ -86,6 +86,7 @@ impl Store {
         ensures bytes { AreGivenBy result self.new }
         ensures few { length self.new ≤ ROOM }
         ensures written { W.written wire.new ≡ W.written wire.old }
+        ensures tally { W.tally wire.new ≡ after_read result (W.tally wire.old) }
     {
         let came = wire.read(&mut self.block);
         self.start = 0;

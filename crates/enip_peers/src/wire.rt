@@ -2,7 +2,8 @@
 
 ghost use Rattle.std.specs.Prelude.{ℕ, List, Option, ◌≡◌, ◌<◌, ◌≤◌, length, take, IfSome};
 ghost use Rattle.std.specs.Io.KnownBytes.{Appends};
-ghost use Rattle.enip_peers.specs.Wires.{IsRead, size_taken};
+ghost use Rattle.enip_peers.specs.declared.tally.Tally.{Tally};
+ghost use Rattle.enip_peers.specs.Wires.{IsRead, size_taken, after_read, after_write};
 
 /// What a read came to.
 #[derive(Clone, Copy, Debug, PartialEq, Eq)]
@@ -25,21 +26,27 @@ pub trait Wire {
     // The bytes that were written, where the wire tells them.
     ghost written: { Self → Option (List ℕ) };
 
+    // How the calls went.
+    ghost tally: { Self → Tally };
+
     /// Reads what has come to the front of a slice that is not empty.
     fn read(&mut self, into: &mut [u8]) -> Came
         requires { 0 < length into.old }
         ensures read { IsRead (left self.old) (left self.new) result into.new }
-        ensures written { written self.new ≡ written self.old };
+        ensures written { written self.new ≡ written self.old }
+        ensures tally { tally self.new ≡ after_read result (tally self.old) };
 
     /// Writes a front of these bytes, and answers how many: 0 where nothing goes out yet, `None` where the write
     /// failed.
     fn write(&mut self, from: &[u8]) -> Option<usize>
         ensures size { IfSome result (λ n. n ≤ length from.now) }
         ensures written { Appends (written self.old) (written self.new) (take (size_taken result) from.now) }
-        ensures left { left self.new ≡ left self.old };
+        ensures left { left self.new ≡ left self.old }
+        ensures tally { tally self.new ≡ after_write result (tally self.old) };
 
     /// Shuts the writing side. What comes can still be read.
     fn shut(&mut self)
         ensures written { written self.new ≡ written self.old }
-        ensures left { left self.new ≡ left self.old };
+        ensures left { left self.new ≡ left self.old }
+        ensures tally { tally self.new ≡ tally self.old };
 }

@@ -65,7 +65,7 @@ pub struct ItemView<'a> {
 }
 
 /// The first two items of a text, lent, where it has so many.
-#[derive(Clone, Copy, Debug)]
+#[derive(Clone, Copy)]
 pub(crate) struct Pair<'a> {
     /// The first item.
     pub(crate) first: Option<ItemView<'a>>,

@@ -10,6 +10,8 @@ mod adapter_memory;
 #[cfg(test)]
 mod bench_growths;
 #[cfg(test)]
+mod both_ends;
+#[cfg(test)]
 mod changed;
 #[cfg(test)]
 mod client_memory;

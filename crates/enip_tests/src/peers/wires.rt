@@ -1,6 +1,6 @@
 //! A wire that follows a script: each call must be the next one that it tells.
 
-use enip_peers::{Came, Wire};
+use enip_peers::{Came, Tally, Wire};
 use std::cell::Cell;
 
 /// A call of a wire, and what it answers.
@@ -28,12 +28,17 @@ pub(super) struct ScriptedWire<'a> {
     calls: &'a [Call<'a>],
     /// How many calls were made, `usize::MAX` from one on that was not the next.
     made: &'a Cell<usize>,
+    tally: Tally,
 }
 
 impl<'a> ScriptedWire<'a> {
     /// A wire of these calls, which counts them.
     pub(super) fn new(calls: &'a [Call<'a>], made: &'a Cell<usize>) -> ScriptedWire<'a> {
-        ScriptedWire { calls, made }
+        ScriptedWire {
+            calls,
+            made,
+            tally: Tally::new(),
+        }
     }
 
     fn next(&mut self) -> Option<Call<'a>> {
@@ -45,14 +50,8 @@ impl<'a> ScriptedWire<'a> {
     fn wrong(&mut self) {
         self.made.set(usize::MAX);
     }
-}
 
-impl Wire for ScriptedWire<'_> {
-    ghost left = { λ _. None };
-
-    ghost written = { λ _. None };
-
-    fn read(&mut self, into: &mut [u8]) -> Came {
+    fn read_next(&mut self, into: &mut [u8]) -> Came {
         match self.next() {
             Some(Call::Gives(bytes)) if bytes.len() <= into.len() => {
                 into[..bytes.len()].copy_from_slice(bytes);
@@ -68,7 +67,7 @@ impl Wire for ScriptedWire<'_> {
         }
     }
 
-    fn write(&mut self, from: &[u8]) -> Option<usize> {
+    fn write_next(&mut self, from: &[u8]) -> Option<usize> {
         match self.next() {
             Some(Call::Takes(bytes, size)) if bytes == from => Some(size),
             Some(Call::Refuses(bytes)) if bytes == from => None,
@@ -77,6 +76,26 @@ impl Wire for ScriptedWire<'_> {
                 None
             }
         }
+    }
+}
+
+impl Wire for ScriptedWire<'_> {
+    ghost left = { λ _. None };
+
+    ghost written = { λ _. None };
+
+    ghost tally = { λ wire. wire.tally };
+
+    fn read(&mut self, into: &mut [u8]) -> Came {
+        let came = self.read_next(into);
+        self.tally.add_read(came);
+        came
+    }
+
+    fn write(&mut self, from: &[u8]) -> Option<usize> {
+        let taken = self.write_next(from);
+        self.tally.add_write(taken);
+        taken
     }
 
     fn shut(&mut self) {

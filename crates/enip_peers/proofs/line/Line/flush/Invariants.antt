@@ -1,6 +1,7 @@
 use Rattle.std.proofs.Common.{◌≡◌, length}
 use Rattle.enip_adapter.specs.Calls.{AdapterState}
-use Rattle.enip_peers.specs.Desks.{desk_of, IsFlushed}
+use Rattle.enip_peers.specs.Desks.{desk_of, IsFlushed, IsToldOf}
+use Rattle.enip_peers.specs.declared.line.Turn.TheVariants.{More}
 use Rattle.enip_peers.proofs.line.Line.flush.Given as goal
 
 abbrev pub invariant-loop-self : goal.invariant-loop-self
@@ -8,8 +9,9 @@ invariant-loop-self g l = record {
   peer : l.self.peer ≡ l.fn.self.peer;
   inbox : l.self.inbox ≡ l.fn.self.inbox;
   closed : l.self.closed ≡ l.fn.self.closed;
-  flushed : (adapter : AdapterState) → IsFlushed (desk_of g.W.Wire.left g.W.Wire.written adapter l.fn.self)
-      (desk_of g.W.Wire.left g.W.Wire.written adapter l.self);
+  told : IsToldOf More (g.W.Wire.tally l.fn.self.wire) (g.W.Wire.tally l.self.wire);
+  flushed : (adapter : AdapterState) → IsFlushed (desk_of g.W.Wire.left g.W.Wire.written g.W.Wire.tally adapter l.fn.self)
+      (desk_of g.W.Wire.left g.W.Wire.written g.W.Wire.tally adapter l.self);
 }
 
 abbrev pub decreases-loop-self : goal.decreases-loop-self
