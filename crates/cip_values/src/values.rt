@@ -3,6 +3,7 @@
 ghost use Rattle.std.specs.Prelude.{◌≡◌, ◌≢◌, [], ◌++◌, List, map, length, IfOk, IfErr, OnOk, ⊤};
 ghost use Rattle.cip_values.specs.Types.{IsSized, form_of};
 ghost use Rattle.cip_values.specs.Values.{value_in, StandBefore, AreBytesOf, IsNotOne, IsNoList, IsUnreadable};
+ghost use Rattle.cip_values.specs.Words.{Appends, AreWritten, AreMistold, IsMistold};
 
 use crate::element::{Form, ValueType};
 use crate::fault::ValueFault;
@@ -84,7 +85,10 @@ pub fn write_values<'a>(
     alloc: Global,
     value_type: ValueType,
     words: &[&'a str],
-) -> Result<Vec<u8>, ValueFault<'a>> {
+) -> Result<Vec<u8>, ValueFault<'a>>
+    ensures written { IfOk result (λ bytes. AreWritten value_type (map (λ word. word.now) words.now) bytes.items) }
+    ensures refused { IfErr result (AreMistold value_type (map (λ word. word.now) words.now)) }
+{
     if !value_type.is_list && words.len() != 1 {
         return Err(ValueFault::Count(value_type.element, words.len()));
     }
@@ -101,7 +105,10 @@ fn append_word<'a>(
     value_type: ValueType,
     word: &'a str,
     out: &mut Vec<u8>,
-) -> Result<(), ValueFault<'a>> {
+) -> Result<(), ValueFault<'a>>
+    ensures written { OnOk result (Appends value_type word.now out.old.items out.new.items) }
+    ensures refused { IfErr result (λ fault. fault ≢ ValueFault.Memory → IsMistold value_type.element word.now fault) }
+{
     let element = value_type.element;
     if element.form() != Form::Text {
         value_of(element, word)?.append(element.form(), out)?;
