@@ -81,11 +81,16 @@ pub record AreWritten (value_type : ValueType) (count : ℕ) (bytes : List ℕ) 
   pub each : length values ≡ count
   pub bytes_of : AreBytesOf value_type bytes values
 
+-- a type of one value has another count of words
+abbrev pub IsMiscounted : ValueType → ℕ → ValueFault → Type 0
+IsMiscounted value_type words (faults.Count element count) =
+    (value_type.is_list ≡ false) × (element ≡ value_type.element) × (count ≡ words) × (count ≢ 1)
+IsMiscounted value_type words fault = ⊥
+
 -- why words are refused
 abbrev pub AreMistold : ValueType → ℕ → ValueFault → Type 0
-AreMistold value_type words (faults.Count element count) =
-    (value_type.is_list ≡ false) × (element ≡ value_type.element) × (count ≡ words) × (count ≢ 1)
-AreMistold value_type words fault = (word : List ℕ) × IsMistold value_type.element word fault
+AreMistold value_type words fault =
+    IsMiscounted value_type words fault ⊎ ((word : List ℕ) × IsMistold value_type.element word fault)
 
 -- a number is one that is told, or both are past 64 bits
 abbrev pub Clamps : (ℤ → Type 0) → ℤ → Type 0
