@@ -29,13 +29,13 @@ so_far_more element word old new count h more =
     let before : old ≡ joined form h.values = h.stand.bytes_of ∙ append-nil (joined form h.values) in
     let one : joined form (more.value ∷ []) ≡ spelled (size_of form) more.value = append-nil (spelled (size_of form) more.value) in
     let after : joined form (h.values ++ more.value ∷ []) ≡ joined form h.values ++ spelled (size_of form) more.value =
-      flat_map-append (spelled (size_of form)) h.values (more.value ∷ []) ∙ ap (λ (r : List ℕ). joined form h.values ++ r) one in
+    flat_map-append (spelled (size_of form)) h.values (more.value ∷ []) ∙ ap (λ (r : List ℕ). joined form h.values ++ r) one in
     record {
       values = h.values ++ more.value ∷ [];
       each = length-append h.values (more.value ∷ []) ∙ ap (λ (n : ℕ). n + 1) h.each;
       stand = record {
         of_type = all-append (IsOf form) h.values more.value h.stand.of_type more.of_type;
         bytes_of = more.bytes_of ∙ ap (λ (r : List ℕ). r ++ spelled (size_of form) more.value) before ∙ sym after
-          ∙ sym (append-nil (joined form (h.values ++ more.value ∷ [])));
+            ∙ sym (append-nil (joined form (h.values ++ more.value ∷ [])));
       };
     }

@@ -30,7 +30,11 @@ impl fmt::Display for ValuesText<'_, '_> {
             if index != 0 {
                 f.write_str(" ")?;
             }
-            let text = ValueText { element, value: *value, is_quoted };
+            let text = ValueText {
+                element,
+                value: *value,
+                is_quoted,
+            };
             write!(f, "{text}")?;
         }
         Ok(())
@@ -62,8 +66,22 @@ impl fmt::Display for ValueText<'_> {
                 write!(f, "0x{number:0width$x}")
             }
             Value::Real(bits) => write!(f, "{}", RealText(bits)),
-            Value::Text(text) if self.is_quoted => write!(f, "\"{}\"", Escaped { text, is_quoted: true }),
-            Value::Text(text) => write!(f, "{}", Escaped { text, is_quoted: false }),
+            Value::Text(text) if self.is_quoted => write!(
+                f,
+                "\"{}\"",
+                Escaped {
+                    text,
+                    is_quoted: true
+                }
+            ),
+            Value::Text(text) => write!(
+                f,
+                "{}",
+                Escaped {
+                    text,
+                    is_quoted: false
+                }
+            ),
         }
     }
 }

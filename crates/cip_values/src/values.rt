@@ -133,7 +133,11 @@ fn append_text<'a>(
     ensures written { OnOk result (Appends value_type.element word.now out.old.items out.new.items) }
     ensures refused { IfErr result (IsMistold value_type.element word.now) }
 {
-    let inner = if value_type.is_list { unquoted(word) } else { word };
+    let inner = if value_type.is_list {
+        unquoted(word)
+    } else {
+        word
+    };
     let Some(text) = unescaped(alloc, inner)? else {
         return Err(ValueFault::Form(word, value_type.element));
     };

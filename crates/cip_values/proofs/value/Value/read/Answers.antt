@@ -54,4 +54,4 @@ returns-else-rest-size-clause-read c =
       rest_is = rw size at c.split_at.ensures.back;
     } in
     rw c.in-Text.is (text_front c.args.bytes.now c.split_at.result.0.now c.split_at.result.1.now c.split_at-in-Text.result.0.now
-        c.split_at-in-Text.result.1.now splits c.if-rest-size.false c.split_at-in-Text.ensures.front c.split_at-in-Text.ensures.back)
+    c.split_at-in-Text.result.1.now splits c.if-rest-size.false c.split_at-in-Text.ensures.front c.split_at-in-Text.ensures.back)
