@@ -55,9 +55,9 @@ record Found (form : Form) (v : Value) (r : List ℕ) : Type 0 where
 found : (form : Form) (v : Value) (r : List ℕ) → IsSized form → IsOf form v → Found form v r
 found forms.Bool v r sized h = elim v as (λ v. IsOf forms.Bool v → Found forms.Bool v r) [
   | Truth b ↦ λ h. elim b as (λ b. Found forms.Bool (Truth b) r) [
-      | true ↦ record { back = refl; needs = refl; some = omega arith; truth = λ e. omega arith }
-      | false ↦ record { back = refl; needs = refl; some = omega arith; truth = λ e. omega arith }
-    ]
+    | true ↦ record { back = refl; needs = refl; some = omega arith; truth = λ e. omega arith }
+    | false ↦ record { back = refl; needs = refl; some = omega arith; truth = λ e. omega arith }
+  ]
   | _ ↦ λ h. absurd h
 ] h
 found (forms.Signed n) v r sized h = elim v as (λ v. IsOf (forms.Signed n) v → Found (forms.Signed n) v r) [
@@ -66,7 +66,7 @@ found (forms.Signed n) v r sized h = elim v as (λ v. IsOf (forms.Signed n) v �
       let count = length-bytes_low_first 0 n (complement n z) in
       record {
         back = ap (λ (x : ℕ). Signed (twos_complement n x)) (little_number-reads_back n (complement n z) r below)
-          ∙ ap Signed (twos_complement-complement n z sized.0 sized.1 h);
+            ∙ ap Signed (twos_complement-complement n z sized.0 sized.1 h);
         needs = sym count;
         some = omega (arith, count, sized.0);
         truth = λ e. absurd (cc);
@@ -99,20 +99,20 @@ found (forms.Bits n) v r sized h = elim v as (λ v. IsOf (forms.Bits n) v → Fo
 ] h
 found forms.Real v r sized h = elim v as (λ v. IsOf forms.Real v → Found forms.Real v r) [
   | Real x ↦ λ h. record {
-        back = ap Real (little_number-reads_back 4 x r h);
-        needs = refl;
-        some = omega arith;
-        truth = λ e. absurd (cc);
-      }
+    back = ap Real (little_number-reads_back 4 x r h);
+    needs = refl;
+    some = omega arith;
+    truth = λ e. absurd (cc);
+  }
   | _ ↦ λ h. absurd h
 ] h
 found forms.Text v r sized h = elim v as (λ v. IsOf forms.Text v → Found forms.Text v r) [
   | Text bytes ↦ λ h. record {
-        back = ap Text (take_at bytes r (length bytes) refl);
-        needs = omega arith;
-        some = omega arith;
-        truth = λ e. absurd (cc);
-      }
+    back = ap Text (take_at bytes r (length bytes) refl);
+    needs = omega arith;
+    some = omega arith;
+    truth = λ e. absurd (cc);
+  }
   | _ ↦ λ h. absurd h
 ] h
 
@@ -124,7 +124,7 @@ same_first form v w r s sized hv hw e =
     let g = found form w s sized hw in
     let same : v ≡ w = sym f.back ∙ ap (value_from form) e ∙ g.back in
     let lengths : length (spelled (size_of form) w) ≡ length (spelled (size_of form) v) =
-      sym g.needs ∙ ap (needed form) (sym e) ∙ f.needs in
+    sym g.needs ∙ ap (needed form) (sym e) ∙ f.needs in
     (same, (same_front (spelled (size_of form) v) (spelled (size_of form) w) r s lengths e).1)
 
 -- where a value stands at the front, nothing is refused
@@ -161,7 +161,7 @@ same_values form (x ∷ xs) [] rest sized hx hy e =
     inr (x, (joined form xs, record { of_type = hx.0; bytes_of = sym e }))
 same_values form (x ∷ xs) (y ∷ ys) rest sized hx hy e =
     let firsts = same_first form x y (joined form xs) (joined form ys ++ rest) sized hx.0 hy.0
-      (e ∙ append_assoc (spelled (size_of form) y) (joined form ys) rest) in
+    (e ∙ append_assoc (spelled (size_of form) y) (joined form ys) rest) in
     elim (same_values form xs ys rest sized hx.1 hy.1 firsts.1) [
       | inl h ↦ inl (rw (firsts.0, h.0) refl, h.1)
       | inr h ↦ inr h

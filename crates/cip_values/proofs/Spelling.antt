@@ -63,7 +63,7 @@ pub le-mod : (n x : ℕ) → le n (x % 256 ^ n) ≡ le n x
 le-mod n x =
     let back = little_from-bytes n 0 x [] in
     let same : little_from 0 n (le n x) ≡ x % 256 ^ n =
-      ap (little_from 0 n) (sym (append-nil (le n x))) ∙ back ∙ ap (λ (y : ℕ). y % 256 ^ n) (div-one x) in
+    ap (little_from 0 n) (sym (append-nil (le n x))) ∙ back ∙ ap (λ (y : ℕ). y % 256 ^ n) (div-one x) in
     ap (le n) (sym same) ∙ le-front n (le n x) (AreBytes-le n x) (length-bytes_low_first 0 n x)
 
 -- ---- two's complement
@@ -87,7 +87,7 @@ le-complement n (negsuc k) low high h =
     let some : 1 ≤ 2 ^ (64 - 8 * n) = one-le-pow (64 - 8 * n) 2 (omega arith) in
     let below : k < 2 ^ (8 * n) = omega arith in
     let rest : (2 ^ 64 - suc k) % 2 ^ (8 * n) ≡ 2 ^ (8 * n) - suc k =
-      ap (λ (y : ℕ). (y - suc k) % 2 ^ (8 * n)) (sym times) ∙ mod_below (2 ^ (64 - 8 * n)) (2 ^ (8 * n)) k some below in
+    ap (λ (y : ℕ). (y - suc k) % 2 ^ (8 * n)) (sym times) ∙ mod_below (2 ^ (64 - 8 * n)) (2 ^ (8 * n)) k some below in
     sym (le-mod n (2 ^ 64 - suc k)) ∙ ap (λ (m : ℕ). le n ((2 ^ 64 - suc k) % m)) whole ∙ ap (le n) rest
 
 -- what n bytes read as in two's complement is in range, and its complement is their number
@@ -170,5 +170,5 @@ text_front (size ∷ more) front rest text behind h room e f =
     rw (e, f, first, all) (record {
       of_type = (omega arith, AreBytes-take size more (AreBytes-tail size more h.fits));
       bytes_of = ap (λ (r : List ℕ). size ∷ r) (sym (take-append-drop size more))
-        ∙ ap (λ (k : ℕ). k ∷ (take size more ++ drop size more)) (sym count);
+          ∙ ap (λ (k : ℕ). k ∷ (take size more ++ drop size more)) (sym count);
     })

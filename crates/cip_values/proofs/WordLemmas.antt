@@ -60,7 +60,7 @@ parsed {E} radix (c ∷ cs) r high h p =
     let plus : (c == 43) ≡ false = grind arith in
     let minus : (c == 45) ≡ false = grind arith in
     let plain : OkIff r (IsNumeral radix (c ∷ cs) × FitsSigned w128 (pos (digits_value radix (c ∷ cs)))) (pos (digits_value radix (c ∷ cs))) =
-      rw (minus, plus) at p in
+    rw (minus, plus) at p in
     clamped radix (c ∷ cs) r h plain
 
 -- ---- integers
@@ -91,9 +91,9 @@ near_below v Told h = elim (cases_lt most v) [
       rw e (neg_ℤ (pos v), (h, inl refl))
 ]
   where
-  far : (v : ℕ) → 2 ^ 64 ≤ v → 2 ^ 64 ≤ unsigned_abs (neg_ℤ (pos v))
-  far zero h = h
-  far (suc v) h = h
+    far : (v : ℕ) → 2 ^ 64 ≤ v → 2 ^ 64 ≤ unsigned_abs (neg_ℤ (pos v))
+    far zero h = h
+    far (suc v) h = h
 
 fits_most : (v : ℕ) → FitsSigned w128 (pos (min v most))
 fits_most v = record { sfits = omega arith }
@@ -154,9 +154,10 @@ bits_untold word mark none z (inr (ds, (f, _, _))) = mark ds f
 -- ---- ranges
 
 power_le : (n : ℕ) → n ≤ 8 → (2 ^ (8 * n - 1) ≤ 2 ^ 63) × (2 ^ (8 * n) ≤ 2 ^ 64)
-power_le n high =
-    (pow-le-pow_right {n = 2} (omega arith) {i = 8 * n - 1} {j = 63} (omega arith),
-      pow-le-pow_right {n = 2} (omega arith) {i = 8 * n} {j = 64} (omega arith))
+power_le n high = (
+  pow-le-pow_right {n = 2} (omega arith) {i = 8 * n - 1} {j = 63} (omega arith),
+  pow-le-pow_right {n = 2} (omega arith) {i = 8 * n} {j = 64} (omega arith),
+)
 
 signed_near : (n : ℕ) (z : ℤ) → n ≤ 8 → IsSignedOf n z → unsigned_abs z < 2 ^ 64
 signed_near n (pos k) high h = let half : k < 2 ^ (8 * n - 1) = h in let p = (power_le n high).0 in omega arith
@@ -197,7 +198,7 @@ Reads Told r = MatchResult r (Clamps Told) (λ miss. (miss ≡ misses.Form) × (
 abbrev pub ReadsDigits : ℕ → List ℕ → Result ℤ Miss → Type 0
 ReadsDigits radix ds r =
     MatchResult r (λ n. IsNumeral radix ds × (n ≡ pos (min (digits_value radix ds) (2 ^ 127 - 1))))
-      (λ miss. (miss ≡ misses.Form) × ¬ IsNumeral radix ds)
+    (λ miss. (miss ≡ misses.Form) × ¬ IsNumeral radix ds)
 
 pub plain : (word : List ℕ) (r : Result ℤ Miss) → ((rest : List ℕ) → word ≢ codes "-" ++ rest) → ReadsDigits 10 word r → Reads (TellsInteger word) r
 plain word (Ok n) sign h = plain_told word n h.0 h.1

@@ -1,12 +1,13 @@
 -- The value that a word tells.
-use Rattle.std.specs.Prelude.{◌≡◌, ◌≢◌, ◌⊎◌, ◌≤◌, ◌^◌, ⊤, ℕ, ℤ, pos, neg_ℤ, Bool, true, false, List, ◌∷◌, ◌++◌, codes, Option, None, Some, to_bits, unsigned_abs}
+use Rattle.std.specs.Prelude.{◌≡◌, ◌≢◌, ◌⊎◌, ◌<◌, ◌≤◌, ◌^◌, [], length, ⊤, ℕ, ℤ, pos, neg_ℤ, Bool, true, false, List, ◌∷◌, ◌++◌, codes, Option, None, Some, to_bits, unsigned_abs}
 use Rattle.std.specs.Float.{binary32, float_is_infinite}
 use Rattle.std.specs.Float.Ieee.{Float}
 use Rattle.std.specs.Float.Parse.{parse_float}
 use Rattle.std.specs.Str.Parse.{IsNumeral, digits_value}
-use Rattle.cip_values.specs.Values.{Value, Truth, Signed, Unsigned, Bits, Real, Text, IsSignedOf, IsUnsignedOf}
-use Rattle.cip_values.specs.Types.{form_of}
+use Rattle.cip_values.specs.Values.{Value, Truth, Signed, Unsigned, Bits, Real, Text, IsSignedOf, IsUnsignedOf, IsOf, AreBytesOf, spelled}
+use Rattle.cip_values.specs.Types.{form_of, size_of}
 use Rattle.cip_values.specs.declared.element.ElementaryType.{ElementaryType}
+use Rattle.cip_values.specs.declared.element.ValueType.{ValueType}
 use Rattle.cip_values.specs.declared.element.Form.{Form}
 use Rattle.cip_values.specs.declared.element.Form.TheVariants as forms
 use Rattle.cip_values.specs.declared.fault.ValueFault.{ValueFault}
@@ -35,7 +36,7 @@ TellsBits word number =
 abbrev pub TellsReal : List ℕ → ℕ → Type 0
 TellsReal word bits = (x : Float) × ((parse_float binary32 word ≡ Some x) × (bits ≡ to_bits binary32 x))
 
--- What a word tells of a form. Of texts nothing is said.
+-- What a word tells of a form. Of texts it is not said.
 abbrev pub Tells : Form → List ℕ → Value → Type 0
 Tells forms.Bool word (Truth truth) = TellsTruth word truth
 Tells (forms.Signed n) word (Signed number) = TellsInteger word number
@@ -45,7 +46,7 @@ Tells forms.Real word (Real bits) = TellsReal word bits
 Tells forms.Text word (Text bytes) = ⊤
 Tells form word value = ⊥
 
--- why a word tells no value of a form
+-- why a word tells no value of a form. Of texts it is not said.
 abbrev pub IsMissed : Form → List ℕ → Miss → Type 0
 IsMissed forms.Bool word misses.Form = (truth : Bool) → TellsTruth word truth → ⊥
 IsMissed (forms.Signed n) word misses.Form = (number : ℤ) → TellsInteger word number → ⊥
@@ -63,7 +64,33 @@ IsMissed form word misses.Range = ⊥
 abbrev pub IsMistold : ElementaryType → List ℕ → ValueFault → Type 0
 IsMistold element word (faults.Form text type) = (text.now ≡ word) × (type ≡ element) × IsMissed (form_of element) word misses.Form
 IsMistold element word (faults.Range text type) = (text.now ≡ word) × (type ≡ element) × IsMissed (form_of element) word misses.Range
+IsMistold element word (faults.TooLong count) = (form_of element ≡ forms.Text) × (255 < count)
+IsMistold element word faults.Memory = ⊤
 IsMistold element word fault = ⊥
+
+-- the bytes of the value that a word tells are appended
+pub record Appends (element : ElementaryType) (word old new : List ℕ) : Type 0 where
+  pub value : Value
+  pub told : Tells (form_of element) word value
+  pub of_type : IsOf (form_of element) value
+  pub bytes_of : new ≡ old ++ spelled (size_of (form_of element)) value
+
+-- bytes are those of values of a type, one for each of so many words
+pub record AreWritten (value_type : ValueType) (count : ℕ) (bytes : List ℕ) : Type 0 where
+  pub values : List Value
+  pub each : length values ≡ count
+  pub bytes_of : AreBytesOf value_type bytes values
+
+-- a type of one value has another count of words
+abbrev pub IsMiscounted : ValueType → ℕ → ValueFault → Type 0
+IsMiscounted value_type words (faults.Count element count) =
+    (value_type.is_list ≡ false) × (element ≡ value_type.element) × (count ≡ words) × (count ≢ 1)
+IsMiscounted value_type words fault = ⊥
+
+-- why words are refused
+abbrev pub AreMistold : ValueType → ℕ → ValueFault → Type 0
+AreMistold value_type words fault =
+    IsMiscounted value_type words fault ⊎ ((word : List ℕ) × IsMistold value_type.element word fault)
 
 -- a number is one that is told, or both are past 64 bits
 abbrev pub Clamps : (ℤ → Type 0) → ℤ → Type 0

@@ -1,6 +1,6 @@
 //! The elementary data types, by their names. (Volume 1, data types.)
 
-ghost use Rattle.std.specs.Prelude.{◌≡◌, IfSome, None};
+ghost use Rattle.std.specs.Prelude.{◌≡◌, ◌≤◌, IfSome, None};
 ghost use Rattle.cip_values.specs.declared.element.ElementaryType.{ElementaryType};
 ghost use Rattle.cip_values.specs.Types.{name_of, form_of, IsSized};
 
@@ -57,7 +57,9 @@ impl Form {
 
     /// How many bytes a value has, that of a text without its characters.
     pub(crate) fn size(self) -> usize
-        ensures { result ≡ size_of self }
+        requires { IsSized self }
+        ensures value { result ≡ size_of self }
+        ensures most { result ≤ 8 }
     {
         match self {
             Form::Signed(size) | Form::Unsigned(size) | Form::Bits(size) => size,

@@ -1,6 +1,8 @@
 //! The text of a value.
 
-use crate::element::{ElementaryType, Form, ValueType};
+ghost use Rattle.std.specs.Prelude.{◌<◌, length, IfSome};
+
+use crate::element::{ElementaryType, ValueType};
 use crate::value::Value;
 use ryu::Buffer;
 use std::alloc::{AllocError, Global};
@@ -22,13 +24,17 @@ pub struct ValuesText<'a, 'b> {
 
 impl fmt::Display for ValuesText<'_, '_> {
     fn fmt<W: fmt::Write>(&self, f: &mut fmt::Formatter<W>) -> fmt::Result {
-        let form = self.value_type.element.form();
+        let element = self.value_type.element;
         let is_quoted = self.value_type.is_list;
         for (index, value) in self.values.iter().enumerate() {
             if index != 0 {
                 f.write_str(" ")?;
             }
-            let text = ValueText { form, value: *value, is_quoted };
+            let text = ValueText {
+                element,
+                value: *value,
+                is_quoted,
+            };
             write!(f, "{text}")?;
         }
         Ok(())
@@ -38,16 +44,17 @@ impl fmt::Display for ValuesText<'_, '_> {
 /// One value that is printed as text.
 #[derive(Clone, Copy)]
 struct ValueText<'a> {
-    form: Form,
+    element: ElementaryType,
     value: Value<'a>,
     is_quoted: bool,
 }
 
 impl fmt::Display for ValueText<'_> {
+    ghost use Rattle.cip_values.specs.Types.{form_of};
     ghost use Rattle.cip_values.specs.Values.{value_in};
     ghost use Rattle.cip_values.specs.Texts.{text_of};
 
-    ghost output = { λ t. text_of t.form t.is_quoted (value_in t.value) };
+    ghost output = { λ t. text_of (form_of t.element) t.is_quoted (value_in t.value) };
 
     fn fmt<W: fmt::Write>(&self, f: &mut fmt::Formatter<W>) -> fmt::Result {
         match self.value {
@@ -55,12 +62,26 @@ impl fmt::Display for ValueText<'_> {
             Value::Signed(number) => write!(f, "{number}"),
             Value::Unsigned(number) => write!(f, "{number}"),
             Value::Bits(number) => {
-                let width = 2 * self.form.size();
+                let width = 2 * self.element.form().size();
                 write!(f, "0x{number:0width$x}")
             }
             Value::Real(bits) => write!(f, "{}", RealText(bits)),
-            Value::Text(text) if self.is_quoted => write!(f, "\"{}\"", Escaped { text, is_quoted: true }),
-            Value::Text(text) => write!(f, "{}", Escaped { text, is_quoted: false }),
+            Value::Text(text) if self.is_quoted => write!(
+                f,
+                "\"{}\"",
+                Escaped {
+                    text,
+                    is_quoted: true
+                }
+            ),
+            Value::Text(text) => write!(
+                f,
+                "{}",
+                Escaped {
+                    text,
+                    is_quoted: false
+                }
+            ),
         }
     }
 }
@@ -105,7 +126,10 @@ impl fmt::Display for Escaped<'_> {
 /// What stands between the quotes of a word, or the word itself where it has none.
 pub(crate) fn unquoted(word: &str) -> &str {
     match word.strip_prefix("\"") {
-        Some(behind) => behind.strip_suffix("\"").unwrap_or(word),
+        Some(behind) => match behind.strip_suffix("\"") {
+            Some(inner) => inner,
+            None => word,
+        },
         None => word,
     }
 }
@@ -126,12 +150,25 @@ pub(crate) fn unescaped(alloc: Global, text: &str) -> Result<Option<Vec<u8>>, Al
 }
 
 /// The byte that the front of an escaped text tells, and what stands behind it.
-fn first_byte(text: &[u8]) -> Option<(u8, &[u8])> {
+fn first_byte(text: &[u8]) -> Option<(u8, &[u8])>
+    ensures { IfSome result (λ read. length read.1.now < length text.now) }
+{
     match text {
-        [b'\\', b'x', high, low, rest @ ..] => Some((hexadecimal(*high, *low)?, rest)),
-        [b'\\', other, rest @ ..] if *other == b'\\' || *other == b'"' => Some((*other, rest)),
-        [b'\\', ..] | [] => None,
+        [b'\\', escaped @ ..] => escaped_byte(escaped),
         [byte, rest @ ..] => Some((*byte, rest)),
+        [] => None,
+    }
+}
+
+/// The byte that is told behind a backslash, and what stands behind it.
+fn escaped_byte(text: &[u8]) -> Option<(u8, &[u8])>
+    ensures { IfSome result (λ read. length read.1.now < length text.now) }
+{
+    match text {
+        [b'x', high, low, rest @ ..] => Some((hexadecimal(*high, *low)?, rest)),
+        [b'\\', rest @ ..] => Some((b'\\', rest)),
+        [b'"', rest @ ..] => Some((b'"', rest)),
+        _ => None,
     }
 }
 

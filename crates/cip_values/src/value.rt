@@ -52,7 +52,10 @@ impl<'a> Value<'a> {
                 other => Err(ValueFault::NoBool(other)),
             },
             Form::Signed(size) => Ok((Value::Signed(LittleEndian::read_int(front, size)), rest)),
-            Form::Unsigned(size) => Ok((Value::Unsigned(LittleEndian::read_uint(front, size)), rest)),
+            Form::Unsigned(size) => Ok((
+                Value::Unsigned(LittleEndian::read_uint(front, size)),
+                rest,
+            )),
             Form::Bits(size) => Ok((Value::Bits(LittleEndian::read_uint(front, size)), rest)),
             Form::Real => Ok((Value::Real(LittleEndian::read_u32(front)), rest)),
             Form::Text => {

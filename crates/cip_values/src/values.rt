@@ -3,6 +3,7 @@
 ghost use Rattle.std.specs.Prelude.{◌≡◌, ◌≢◌, [], ◌++◌, List, map, length, IfOk, IfErr, OnOk, ⊤};
 ghost use Rattle.cip_values.specs.Types.{IsSized, form_of};
 ghost use Rattle.cip_values.specs.Values.{value_in, StandBefore, AreBytesOf, IsNotOne, IsNoList, IsUnreadable};
+ghost use Rattle.cip_values.specs.Words.{Appends, AreWritten, AreMistold, IsMistold};
 
 use crate::element::{Form, ValueType};
 use crate::fault::ValueFault;
@@ -10,6 +11,9 @@ use crate::text::{unescaped, unquoted};
 use crate::value::Value;
 use crate::word::value_of;
 use std::alloc::Global;
+
+/// How many bytes a SHORT_STRING has at most.
+const LONGEST: usize = 255;
 
 /// Reads bytes as values of a type: all of them, any number for a list, else one.
 ///
@@ -84,7 +88,10 @@ pub fn write_values<'a>(
     alloc: Global,
     value_type: ValueType,
     words: &[&'a str],
-) -> Result<Vec<u8>, ValueFault<'a>> {
+) -> Result<Vec<u8>, ValueFault<'a>>
+    ensures written { IfOk result (λ bytes. AreWritten value_type (length words.now) bytes.items) }
+    ensures refused { IfErr result (AreMistold value_type (length words.now)) }
+{
     if !value_type.is_list && words.len() != 1 {
         return Err(ValueFault::Count(value_type.element, words.len()));
     }
@@ -101,17 +108,40 @@ fn append_word<'a>(
     value_type: ValueType,
     word: &'a str,
     out: &mut Vec<u8>,
-) -> Result<(), ValueFault<'a>> {
+) -> Result<(), ValueFault<'a>>
+    ensures written { OnOk result (Appends value_type.element word.now out.old.items out.new.items) }
+    ensures refused { IfErr result (IsMistold value_type.element word.now) }
+{
     let element = value_type.element;
-    if element.form() != Form::Text {
-        value_of(element, word)?.append(element.form(), out)?;
-        return Ok(());
+    match element.form() {
+        Form::Text => append_text(alloc, value_type, word, out),
+        form => {
+            value_of(element, word)?.append(form, out)?;
+            Ok(())
+        }
     }
-    let inner = if value_type.is_list { unquoted(word) } else { word };
-    let Some(text) = unescaped(alloc, inner)? else {
-        return Err(ValueFault::Form(word, element));
+}
+
+/// Appends the bytes of the SHORT_STRING that a word tells.
+fn append_text<'a>(
+    alloc: Global,
+    value_type: ValueType,
+    word: &'a str,
+    out: &mut Vec<u8>,
+) -> Result<(), ValueFault<'a>>
+    requires { form_of value_type.element ≡ Form.Text }
+    ensures written { OnOk result (Appends value_type.element word.now out.old.items out.new.items) }
+    ensures refused { IfErr result (IsMistold value_type.element word.now) }
+{
+    let inner = if value_type.is_list {
+        unquoted(word)
+    } else {
+        word
     };
-    if text.len() > 255 {
+    let Some(text) = unescaped(alloc, inner)? else {
+        return Err(ValueFault::Form(word, value_type.element));
+    };
+    if text.len() > LONGEST {
         return Err(ValueFault::TooLong(text.len()));
     }
     Value::Text(text.as_slice()).append(Form::Text, out)?;

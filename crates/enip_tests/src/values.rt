@@ -9,19 +9,34 @@ use std::process::Abort;
 use std::test::Fail;
 
 /// A type, the words of values, their bytes, and the text of those where it isn't the words.
-type Row = (&'static str, &'static [&'static str], &'static [u8], &'static str);
+type Row = (
+    &'static str,
+    &'static [&'static str],
+    &'static [u8],
+    &'static str,
+);
 
 fn type_of(name: &str) -> Result<ValueType, Fail> {
     Ok(ValueType::from_name(name).ok_or("no type")?)
 }
 
 /// Asserts what bytes are read as, and printed.
-fn check_read(rt: &impl Abort, alloc: Global, name: &str, bytes: &[u8], text: &str) -> Result<(), Fail> {
+fn check_read(
+    rt: &impl Abort,
+    alloc: Global,
+    name: &str,
+    bytes: &[u8],
+    text: &str,
+) -> Result<(), Fail> {
     let value_type = type_of(name)?;
     let values = read_values(alloc, value_type, bytes)?;
     let values = values.as_slice();
     let printed = format!(in alloc; "{}", ValuesText { value_type, values })?;
-    assert!(rt; printed.as_str() == text, "{name}: {text} is {}", printed.as_str());
+    assert!(rt;
+        printed.as_str() == text,
+        "{name}: {text} is {}",
+        printed.as_str()
+    );
     Ok(())
 }
 
@@ -47,7 +62,12 @@ static ROWS: [Row; 50] = [
     ("INT", &["32767"], &[0xff, 0x7f], "32767"),
     ("DINT", &["-2147483648"], &[0, 0, 0, 0x80], "-2147483648"),
     ("DINT", &["16909060"], &[4, 3, 2, 1], "16909060"),
-    ("DINT", &["2147483647"], &[0xff, 0xff, 0xff, 0x7f], "2147483647"),
+    (
+        "DINT",
+        &["2147483647"],
+        &[0xff, 0xff, 0xff, 0x7f],
+        "2147483647",
+    ),
     (
         "LINT",
         &["-9223372036854775808"],
@@ -73,7 +93,12 @@ static ROWS: [Row; 50] = [
     ("UINT", &["00513"], &[1, 2], "513"),
     ("UINT", &["65535"], &[0xff, 0xff], "65535"),
     ("UDINT", &["0"], &[0, 0, 0, 0], "0"),
-    ("UDINT", &["4294967295"], &[0xff, 0xff, 0xff, 0xff], "4294967295"),
+    (
+        "UDINT",
+        &["4294967295"],
+        &[0xff, 0xff, 0xff, 0xff],
+        "4294967295",
+    ),
     ("ULINT", &["0"], &[0, 0, 0, 0, 0, 0, 0, 0], "0"),
     (
         "ULINT",
@@ -87,7 +112,12 @@ static ROWS: [Row; 50] = [
     ("WORD", &["0x102"], &[2, 1], "0x0102"),
     ("WORD", &["0xffff"], &[0xff, 0xff], "0xffff"),
     ("DWORD", &["0x01020304"], &[4, 3, 2, 1], "0x01020304"),
-    ("DWORD", &["0xffffffff"], &[0xff, 0xff, 0xff, 0xff], "0xffffffff"),
+    (
+        "DWORD",
+        &["0xffffffff"],
+        &[0xff, 0xff, 0xff, 0xff],
+        "0xffffffff",
+    ),
     (
         "LWORD",
         &["0x0102030405060708"],
@@ -103,7 +133,12 @@ static ROWS: [Row; 50] = [
     ("REAL", &["1"], &[0, 0, 0x80, 0x3f], "1.0"),
     ("REAL", &["-0.15625"], &[0, 0, 0x20, 0xbe], "-0.15625"),
     ("REAL", &["0.1"], &[0xcd, 0xcc, 0xcc, 0x3d], "0.1"),
-    ("REAL", &["3.4028235e38"], &[0xff, 0xff, 0x7f, 0x7f], "3.4028235e38"),
+    (
+        "REAL",
+        &["3.4028235e38"],
+        &[0xff, 0xff, 0x7f, 0x7f],
+        "3.4028235e38",
+    ),
     ("REAL", &["1e-45"], &[1, 0, 0, 0], "1e-45"),
     ("REAL", &["-inf"], &[0, 0, 0x80, 0xff], "-inf"),
     ("REAL", &["NaN"], &[0, 0, 0xc0, 0x7f], "NaN"),
@@ -164,10 +199,26 @@ type Refused = (&'static str, &'static [&'static str], &'static str);
 static REFUSED: [Refused; 50] = [
     ("BOOL", &["2"], "2 is no BOOL"),
     ("BOOL", &["TRUE"], "TRUE is no BOOL"),
-    ("SINT", &["-129"], "-129 is out of the range of SINT, -128 to 127"),
-    ("SINT", &["128"], "128 is out of the range of SINT, -128 to 127"),
-    ("INT", &["-32769"], "-32769 is out of the range of INT, -32768 to 32767"),
-    ("INT", &["32768"], "32768 is out of the range of INT, -32768 to 32767"),
+    (
+        "SINT",
+        &["-129"],
+        "-129 is out of the range of SINT, -128 to 127",
+    ),
+    (
+        "SINT",
+        &["128"],
+        "128 is out of the range of SINT, -128 to 127",
+    ),
+    (
+        "INT",
+        &["-32769"],
+        "-32769 is out of the range of INT, -32768 to 32767",
+    ),
+    (
+        "INT",
+        &["32768"],
+        "32768 is out of the range of INT, -32768 to 32767",
+    ),
     (
         "DINT",
         &["-2147483649"],
@@ -188,11 +239,31 @@ static REFUSED: [Refused; 50] = [
         &["9223372036854775808"],
         "9223372036854775808 is out of the range of LINT, -9223372036854775808 to 9223372036854775807",
     ),
-    ("USINT", &["-1"], "-1 is out of the range of USINT, 0 to 255"),
-    ("USINT", &["300"], "300 is out of the range of USINT, 0 to 255"),
-    ("USINT", &["256"], "256 is out of the range of USINT, 0 to 255"),
-    ("UINT", &["65536"], "65536 is out of the range of UINT, 0 to 65535"),
-    ("UDINT", &["4294967296"], "4294967296 is out of the range of UDINT, 0 to 4294967295"),
+    (
+        "USINT",
+        &["-1"],
+        "-1 is out of the range of USINT, 0 to 255",
+    ),
+    (
+        "USINT",
+        &["300"],
+        "300 is out of the range of USINT, 0 to 255",
+    ),
+    (
+        "USINT",
+        &["256"],
+        "256 is out of the range of USINT, 0 to 255",
+    ),
+    (
+        "UINT",
+        &["65536"],
+        "65536 is out of the range of UINT, 0 to 65535",
+    ),
+    (
+        "UDINT",
+        &["4294967296"],
+        "4294967296 is out of the range of UDINT, 0 to 4294967295",
+    ),
     (
         "ULINT",
         &["18446744073709551616"],
@@ -208,9 +279,21 @@ static REFUSED: [Refused; 50] = [
         &["-999999999999999999999999999999999999999999999999"],
         "-999999999999999999999999999999999999999999999999 is out of the range of ULINT, 0 to 18446744073709551615",
     ),
-    ("BYTE", &["0x100"], "0x100 is out of the range of BYTE, 0x00 to 0xff"),
-    ("BYTE", &["256"], "256 is out of the range of BYTE, 0x00 to 0xff"),
-    ("WORD", &["0x10000"], "0x10000 is out of the range of WORD, 0x0000 to 0xffff"),
+    (
+        "BYTE",
+        &["0x100"],
+        "0x100 is out of the range of BYTE, 0x00 to 0xff",
+    ),
+    (
+        "BYTE",
+        &["256"],
+        "256 is out of the range of BYTE, 0x00 to 0xff",
+    ),
+    (
+        "WORD",
+        &["0x10000"],
+        "0x10000 is out of the range of WORD, 0x0000 to 0xffff",
+    ),
     (
         "DWORD",
         &["0x100000000"],
@@ -226,8 +309,16 @@ static REFUSED: [Refused; 50] = [
         &["-1"],
         "-1 is out of the range of LWORD, 0x0000000000000000 to 0xffffffffffffffff",
     ),
-    ("REAL", &["1e39"], "1e39 is out of the range of REAL, -3.4028235e38 to 3.4028235e38"),
-    ("REAL", &["-1e39"], "-1e39 is out of the range of REAL, -3.4028235e38 to 3.4028235e38"),
+    (
+        "REAL",
+        &["1e39"],
+        "1e39 is out of the range of REAL, -3.4028235e38 to 3.4028235e38",
+    ),
+    (
+        "REAL",
+        &["-1e39"],
+        "-1e39 is out of the range of REAL, -3.4028235e38 to 3.4028235e38",
+    ),
     ("UINT", &[""], " is no UINT"),
     ("UINT", &["-"], "- is no UINT"),
     ("UINT", &["+1"], "+1 is no UINT"),
@@ -255,7 +346,11 @@ static REFUSED: [Refused; 50] = [
     ("SHORT_STRING", &["\\x0g"], "\\x0g is no SHORT_STRING"),
     ("UINT", &[], "UINT takes one value, and not 0"),
     ("UINT", &["1", "513"], "UINT takes one value, and not 2"),
-    ("UINT[]", &["1", "65536"], "65536 is out of the range of UINT, 0 to 65535"),
+    (
+        "UINT[]",
+        &["1", "65536"],
+        "65536 is out of the range of UINT, 0 to 65535",
+    ),
 ];
 
 #[test]
@@ -265,7 +360,11 @@ fn refused_words(rt: HostRuntime) -> Result<(), Fail> {
             return Err("the words are written")?;
         };
         let text = format!(in rt.alloc(); "{fault}")?;
-        assert!(rt; text.as_str() == why, "{name}: {why}, and not {}", text.as_str());
+        assert!(rt;
+            text.as_str() == why,
+            "{name}: {why}, and not {}",
+            text.as_str()
+        );
     }
     Ok(())
 }
@@ -283,28 +382,106 @@ fn longest_text(rt: HostRuntime) -> Result<(), Fail> {
     assert_eq!(rt; bytes.first().copied(), Some(255));
     word.push_str("x")?;
     let words = [word.as_str()];
-    assert_eq!(rt; write_values(rt.alloc(), short_string, &words).err(), Some(ValueFault::TooLong(256)));
+    assert_eq!(rt;
+        write_values(rt.alloc(), short_string, &words).err(),
+        Some(ValueFault::TooLong(256))
+    );
     Ok(())
 }
 
 /// A type, bytes, and why they are no values.
-type Broken = (&'static str, &'static [u8], ValueFault<'static>, &'static str);
+type Broken = (
+    &'static str,
+    &'static [u8],
+    ValueFault<'static>,
+    &'static str,
+);
 
 static BROKEN: [Broken; 14] = [
-    ("BOOL", &[2], ValueFault::NoBool(2), "2 is no BOOL, which is 0 or 1"),
-    ("BOOL", &[], ValueFault::Short, "the data end within a value"),
-    ("BOOL[]", &[1, 0xff], ValueFault::NoBool(255), "255 is no BOOL, which is 0 or 1"),
-    ("SINT", &[], ValueFault::Short, "the data end within a value"),
-    ("INT", &[1], ValueFault::Short, "the data end within a value"),
-    ("LINT", &[1, 2, 3, 4, 5, 6, 7], ValueFault::Short, "the data end within a value"),
-    ("REAL", &[1, 2, 3], ValueFault::Short, "the data end within a value"),
-    ("USINT", &[1, 2, 3, 4], ValueFault::Leftover(3), "3 bytes are left over"),
-    ("UINT", &[1, 2, 3], ValueFault::Leftover(1), "1 byte is left over"),
-    ("UINT[]", &[1, 2, 3], ValueFault::Short, "the data end within a value"),
-    ("SHORT_STRING", &[], ValueFault::Short, "the data end within a value"),
-    ("SHORT_STRING", &[3, b'a', b'b'], ValueFault::Short, "the data end within a value"),
-    ("SHORT_STRING", &[1, b'a', b'b'], ValueFault::Leftover(1), "1 byte is left over"),
-    ("SHORT_STRING[]", &[1, b'a', 1], ValueFault::Short, "the data end within a value"),
+    (
+        "BOOL",
+        &[2],
+        ValueFault::NoBool(2),
+        "2 is no BOOL, which is 0 or 1",
+    ),
+    (
+        "BOOL",
+        &[],
+        ValueFault::Short,
+        "the data end within a value",
+    ),
+    (
+        "BOOL[]",
+        &[1, 0xff],
+        ValueFault::NoBool(255),
+        "255 is no BOOL, which is 0 or 1",
+    ),
+    (
+        "SINT",
+        &[],
+        ValueFault::Short,
+        "the data end within a value",
+    ),
+    (
+        "INT",
+        &[1],
+        ValueFault::Short,
+        "the data end within a value",
+    ),
+    (
+        "LINT",
+        &[1, 2, 3, 4, 5, 6, 7],
+        ValueFault::Short,
+        "the data end within a value",
+    ),
+    (
+        "REAL",
+        &[1, 2, 3],
+        ValueFault::Short,
+        "the data end within a value",
+    ),
+    (
+        "USINT",
+        &[1, 2, 3, 4],
+        ValueFault::Leftover(3),
+        "3 bytes are left over",
+    ),
+    (
+        "UINT",
+        &[1, 2, 3],
+        ValueFault::Leftover(1),
+        "1 byte is left over",
+    ),
+    (
+        "UINT[]",
+        &[1, 2, 3],
+        ValueFault::Short,
+        "the data end within a value",
+    ),
+    (
+        "SHORT_STRING",
+        &[],
+        ValueFault::Short,
+        "the data end within a value",
+    ),
+    (
+        "SHORT_STRING",
+        &[3, b'a', b'b'],
+        ValueFault::Short,
+        "the data end within a value",
+    ),
+    (
+        "SHORT_STRING",
+        &[1, b'a', b'b'],
+        ValueFault::Leftover(1),
+        "1 byte is left over",
+    ),
+    (
+        "SHORT_STRING[]",
+        &[1, b'a', 1],
+        ValueFault::Short,
+        "the data end within a value",
+    ),
 ];
 
 #[test]
@@ -315,7 +492,11 @@ fn refused_bytes(rt: HostRuntime) -> Result<(), Fail> {
         };
         assert!(rt; fault == wanted, "{name}: {why}");
         let text = format!(in rt.alloc(); "{fault}")?;
-        assert!(rt; text.as_str() == why, "{name}: {why}, and not {}", text.as_str());
+        assert!(rt;
+            text.as_str() == why,
+            "{name}: {why}, and not {}",
+            text.as_str()
+        );
     }
     Ok(())
 }
@@ -324,8 +505,21 @@ fn refused_bytes(rt: HostRuntime) -> Result<(), Fail> {
 #[test]
 fn names(rt: HostRuntime) -> Result<(), Fail> {
     let names = [
-        "BOOL", "SINT", "INT", "DINT", "LINT", "USINT", "UINT", "UDINT", "ULINT", "BYTE", "WORD",
-        "DWORD", "LWORD", "REAL", "SHORT_STRING",
+        "BOOL",
+        "SINT",
+        "INT",
+        "DINT",
+        "LINT",
+        "USINT",
+        "UINT",
+        "UDINT",
+        "ULINT",
+        "BYTE",
+        "WORD",
+        "DWORD",
+        "LWORD",
+        "REAL",
+        "SHORT_STRING",
     ];
     for name in names {
         let one = type_of(name)?;
