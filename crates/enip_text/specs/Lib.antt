@@ -6,3 +6,5 @@ pub mod Script
 pub mod Outcome
 pub mod Replay
 pub mod Listing
+pub mod Styles
+pub mod Identities

@@ -18,7 +18,7 @@ use Rattle.enip_client.specs.declared.lists.ListCommand.TheVariants as lists
 use Rattle.enip_text.specs.Replay.{ended}
 use Rattle.enip_text.specs.Statuses.{IsOfDevices}
 use Rattle.enip_text.specs.declared.asking.AskingStop.{AskingStop}
-use Rattle.enip_text.specs.declared.asking.AskingStop.TheVariants.{Hex, Client, Program}
+use Rattle.enip_text.specs.declared.asking.AskingStop.TheVariants.{Hex, Session, Client, Shape, Program}
 
 -- Two and four bytes of a number, in digits.
 abbrev pub hex_word : ℕ → List ℕ
@@ -104,5 +104,7 @@ abbrev pub IsListTold : ListCommand → Sides → Sides → Option (List ℕ) �
 IsListTold command old new before after (Ok done) =
     (entries : List Entry) × IsListed command old new (Ok entries) × Appends before after (list_text entries)
 IsListTold command old new before after (Err Hex) = ⊥
+IsListTold command old new before after (Err (Session status)) = ⊥
 IsListTold command old new before after (Err (Client fault)) = IsListed command old new (Err (ask.Client fault))
+IsListTold command old new before after (Err (Shape value_type fault)) = ⊥
 IsListTold command old new before after (Err (Program fault)) = IsOfDevices fault
