@@ -10,4 +10,4 @@ mod reply;
 mod value;
 
 pub use identity::identity_line;
-pub use reply::{data_line, refusal_line, values_line};
+pub use reply::{data_line, refusal_line, timed_line, values_line};

@@ -1,6 +1,6 @@
 //! What a device replied.
 
-ghost use Rattle.std.specs.Prelude.{◌≡◌, IfOk, map, string_bytes};
+ghost use Rattle.std.specs.Prelude.{◌≡◌, ◌++◌, IfOk, codes, decimal, map, string_bytes};
 ghost use Rattle.cip_values.specs.Values.{value_in};
 ghost use Rattle.enip_json.specs.Objects.{data_told, AreValuesTold, IsValuesLine, refusal_told};
 ghost use Rattle.serde_json.specs.View.{view};
@@ -62,4 +62,12 @@ fn refusal_object(alloc: Global, status: u8, extended: u16) -> Result<Json, Allo
     ensures { IfOk result (λ object. view object ≡ refusal_told status extended) }
 {
     json!(in alloc; {"extended": extended, "status": status})
+}
+
+/// The line of a reply that came at a moment, in microseconds: an object of the moment and of the reply's own.
+pub fn timed_line(alloc: Global, moment: u64, line: &str) -> Result<String, AllocError>
+    ensures { IfOk result (λ timed. string_bytes timed
+        ≡ codes "{\"microseconds\":" ++ decimal moment ++ codes ",\"reply\":" ++ line.now ++ codes "}") }
+{
+    format!(in alloc; "{{\"microseconds\":{moment},\"reply\":{line}}}")
 }

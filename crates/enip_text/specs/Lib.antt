@@ -8,3 +8,4 @@ pub mod Replay
 pub mod Listing
 pub mod Styles
 pub mod Identities
+pub mod Readings

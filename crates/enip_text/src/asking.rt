@@ -9,7 +9,7 @@ ghost use Rattle.enip_text.specs.Statuses.{asking_status, replied_status, asking
 
 use crate::digits::decode;
 use crate::fault::Fault;
-use crate::style::{Style, print_data};
+use crate::style::{Style, data_object, print_data};
 use arrayvec::ArrayVec;
 use cip_message::{Path, ReplyView, write_path};
 use cip_objects::ReplyBuf;
@@ -230,7 +230,7 @@ pub fn ask_over<R: Source, W: Sink, O: Write + Drop>(
         Ok(()) => print_reply(alloc, &mut output, style, reply.as_slice())?,
         // the connection was not opened or not closed
         Err(AskFault::Client(ClientFault::Refused(status, extended))) => {
-            print_refused(alloc, &mut output, style, status, extended)?
+            print_refusal(alloc, &mut output, style, status, extended)?
         }
         Err(AskFault::Client(ClientFault::Status(status))) if !client.is_registered() => {
             return Err(AskingStop::Session(status));
@@ -241,8 +241,8 @@ pub fn ask_over<R: Source, W: Sink, O: Write + Drop>(
     Ok(replied)
 }
 
-/// Prints a reply.
-fn print_reply<O: Write>(
+/// Prints a reply in a style.
+pub(crate) fn print_reply<O: Write>(
     alloc: Global,
     output: &mut O,
     style: Style,
@@ -251,20 +251,57 @@ fn print_reply<O: Write>(
     ensures told { IfOk result (IsReplyTold bytes.now) }
     ensures untold { IfErr result (IsUntold style bytes.now) }
 {
+    if style.is_json {
+        let line = reply_object(alloc, style, bytes)?;
+        writeln!(output, "{}", line.text)?;
+        return Ok(line.replied);
+    }
     let Ok(reply) = ReplyView::read(bytes) else {
         return Err(AskingStop::Client(ClientFault::Malformed));
     };
     // general status 0 is success (message router)
     if reply.status != 0 {
         let extended = reply.additional_word(0).unwrap_or(0);
-        return print_refused(alloc, output, style, reply.status, extended);
+        return print_refused(output, reply.status, extended);
     }
     print_data(alloc, output, style, reply.data)?;
     Ok(Replied::Done)
 }
 
-/// Prints that a request was refused: `refused 0xGG`, with ` 0xEEEE` where the first additional word is not 0.
-fn print_refused<O: Write>(
+/// The object of a reply, and how the reply was told by it.
+#[derive(Drop)]
+pub(crate) struct ReplyObject {
+    pub(crate) replied: Replied,
+    pub(crate) text: String,
+}
+
+/// The object of a reply.
+pub(crate) fn reply_object(
+    alloc: Global,
+    style: Style,
+    bytes: &[u8],
+) -> Result<ReplyObject, AskingStop>
+    ensures told { IfOk result (λ told. IsReplyTold bytes.now told.replied) }
+    ensures untold { IfErr result (IsUntold style bytes.now) }
+{
+    let Ok(reply) = ReplyView::read(bytes) else {
+        return Err(AskingStop::Client(ClientFault::Malformed));
+    };
+    if reply.status != 0 {
+        let extended = reply.additional_word(0).unwrap_or(0);
+        return Ok(ReplyObject {
+            replied: Replied::Refused(reply.status, extended),
+            text: refusal_line(alloc, reply.status, extended)?,
+        });
+    }
+    Ok(ReplyObject {
+        replied: Replied::Done,
+        text: data_object(alloc, style, reply.data)?,
+    })
+}
+
+/// Prints a refusal in a style.
+fn print_refusal<O: Write>(
     alloc: Global,
     output: &mut O,
     style: Style,
@@ -278,6 +315,14 @@ fn print_refused<O: Write>(
         writeln!(output, "{}", refusal_line(alloc, status, extended)?)?;
         return Ok(Replied::Refused(status, extended));
     }
+    print_refused(output, status, extended)
+}
+
+/// Prints that a request was refused: `refused 0xGG`, with ` 0xEEEE` where the first additional word is not 0.
+fn print_refused<O: Write>(output: &mut O, status: u8, extended: u16) -> Result<Replied, AskingStop>
+    ensures told { IfOk result (λ replied. replied ≡ Replied.Refused status extended) }
+    ensures untold { IfErr result IsOfDevice }
+{
     write!(output, "refused {status:#04x}")?;
     if extended != 0 {
         write!(output, " {extended:#06x}")?;

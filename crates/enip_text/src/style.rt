@@ -28,7 +28,7 @@ pub const DIGITS: Style = Style {
     is_json: false,
 };
 
-/// Prints the data of a reply, and ends the line.
+/// Prints the data of a reply as text, and ends the line.
 ///
 /// # Errors
 ///
@@ -44,12 +44,32 @@ pub(crate) fn print_data<O: Write>(
     match style.value_type {
         Some(value_type) => {
             let values = values_of(alloc, value_type, bytes)?;
-            print_values(alloc, output, style.is_json, value_type, bytes, values.as_slice())?;
+            print_values(output, value_type, values.as_slice())?;
         }
-        None if style.is_json => writeln!(output, "{}", data_line(alloc, bytes)?)?,
         None => print_plain(output, bytes)?,
     }
     Ok(())
+}
+
+/// The object of the data of a reply.
+///
+/// # Errors
+///
+/// `Shape` where they are no values of the type, `Program` where memory was refused.
+pub(crate) fn data_object(
+    alloc: Global,
+    style: Style,
+    bytes: &[u8],
+) -> Result<String, AskingStop>
+    ensures { IfErr result (IsUnprinted style bytes.now) }
+{
+    match style.value_type {
+        Some(value_type) => {
+            let values = values_of(alloc, value_type, bytes)?;
+            Ok(values_line(alloc, bytes, value_type, values.as_slice())?)
+        }
+        None => Ok(data_line(alloc, bytes)?),
+    }
 }
 
 /// The values that data are.
@@ -74,20 +94,13 @@ fn values_of(
 
 /// Prints values on a line.
 fn print_values<O: Write>(
-    alloc: Global,
     output: &mut O,
-    is_json: bool,
     value_type: ValueType,
-    bytes: &[u8],
     values: &[Value<'_>],
 ) -> Result<(), Fault>
     ensures { IfErr result IsOfDevices }
 {
-    if is_json {
-        writeln!(output, "{}", values_line(alloc, bytes, value_type, values)?)?;
-    } else {
-        writeln!(output, "{}", ValuesText { value_type, values })?;
-    }
+    writeln!(output, "{}", ValuesText { value_type, values })?;
     Ok(())
 }
 
