@@ -5,7 +5,7 @@ use super::streams::BrokenWriter;
 use cip_message::Path;
 use enip_adapter::{Adapter, Peer};
 use enip_client::{Client, Heard};
-use enip_text::{AskingStop, Question, Replied, WANTS, ask_over, end_asking};
+use enip_text::{AskingStop, DIGITS, Question, Replied, WANTS, ask_over, end_asking};
 use enip_wire::{MemorySink, MemorySource, Sink, Source};
 use std::alloc::Global;
 use std::io::Write;
@@ -143,7 +143,9 @@ fn asked_over<R: Source, W: Sink, O: Write + Drop>(
     if reader.failures() == u64::MAX || writer.failures() == u64::MAX {
         return Err(Fail::from("devices that can fail once more"));
     }
-    Ok(ask_over(alloc, reader, writer, request, connected, output))
+    Ok(ask_over(
+        alloc, reader, writer, request, connected, DIGITS, output,
+    ))
 }
 
 /// The same of a question, and its exit status.
