@@ -75,10 +75,22 @@ pub record Appends (element : ElementaryType) (word old new : List ℕ) : Type 0
   pub of_type : IsOf (form_of element) value
   pub bytes_of : new ≡ old ++ spelled (size_of (form_of element)) value
 
--- bytes are those of values of a type, one for each of so many words
-pub record AreWritten (value_type : ValueType) (count : ℕ) (bytes : List ℕ) : Type 0 where
+-- the bytes of a text are appended, and it is a SHORT_STRING
+pub record IsAppended (bytes old new : List ℕ) : Type 0 where
+  pub of_type : IsOf forms.Text (Text bytes)
+  pub bytes_of : new ≡ old ++ spelled 1 (Text bytes)
+
+-- each value is what its word tells
+abbrev pub AllTell : Form → List (List ℕ) → List Value → Type 0
+AllTell form [] [] = ⊤
+AllTell form (word ∷ words) (value ∷ values) = Tells form word value × AllTell form words values
+AllTell form [] (value ∷ values) = ⊥
+AllTell form (word ∷ words) [] = ⊥
+
+-- bytes are those of the values of a type that words tell, one for each word
+pub record AreWritten (value_type : ValueType) (words : List (List ℕ)) (bytes : List ℕ) : Type 0 where
   pub values : List Value
-  pub each : length values ≡ count
+  pub told : AllTell (form_of value_type.element) words values
   pub bytes_of : AreBytesOf value_type bytes values
 
 -- a type of one value has another count of words

@@ -1,16 +1,16 @@
 //! Values of a type: read from bytes, and written as bytes.
 
-ghost use Rattle.std.specs.Prelude.{◌≡◌, ◌≢◌, [], ◌++◌, List, map, length, IfOk, IfErr, OnOk, ⊤};
+ghost use Rattle.std.specs.Prelude.{◌≡◌, ◌≢◌, ◌≤◌, [], ◌++◌, List, map, length, IfOk, IfErr, OnOk, ⊤};
 ghost use Rattle.cip_values.specs.Types.{IsSized, form_of};
 ghost use Rattle.cip_values.specs.Values.{value_in, StandBefore, AreBytesOf, IsNotOne, IsNoList, IsUnreadable};
-ghost use Rattle.cip_values.specs.Words.{Appends, AreWritten, AreMistold, IsMistold};
+ghost use Rattle.cip_values.specs.Words.{Appends, IsAppended, AreWritten, AreMistold, IsMistold};
 
 use crate::element::{Form, ValueType};
 use crate::fault::ValueFault;
 use crate::text::{unescaped, unquoted};
 use crate::value::Value;
 use crate::word::value_of;
-use std::alloc::Global;
+use std::alloc::{AllocError, Global};
 
 /// How many bytes a SHORT_STRING has at most.
 const LONGEST: usize = 255;
@@ -89,7 +89,7 @@ pub fn write_values<'a>(
     value_type: ValueType,
     words: &[&'a str],
 ) -> Result<Vec<u8>, ValueFault<'a>>
-    ensures written { IfOk result (λ bytes. AreWritten value_type (length words.now) bytes.items) }
+    ensures written { IfOk result (λ bytes. AreWritten value_type (map (λ word. word.now) words.now) bytes.items) }
     ensures refused { IfErr result (AreMistold value_type (length words.now)) }
 {
     if !value_type.is_list && words.len() != 1 {
@@ -144,6 +144,14 @@ fn append_text<'a>(
     if text.len() > LONGEST {
         return Err(ValueFault::TooLong(text.len()));
     }
-    Value::Text(text.as_slice()).append(Form::Text, out)?;
+    append_string(text.as_slice(), out)?;
     Ok(())
+}
+
+/// Appends the bytes of a SHORT_STRING.
+fn append_string(text: &[u8], out: &mut Vec<u8>) -> Result<(), AllocError>
+    requires { length text.now ≤ 255 }
+    ensures { OnOk result (IsAppended text.now out.old.items out.new.items) }
+{
+    Value::Text(text).append(Form::Text, out)
 }

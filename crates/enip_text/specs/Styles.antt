@@ -1,5 +1,5 @@
 -- Data of requests and replies as values of the standard's elementary types.
-use Rattle.std.specs.Prelude.{◌≡◌, ◌≢◌, ℕ, List, length, Some, ⊥}
+use Rattle.std.specs.Prelude.{◌≡◌, ◌≢◌, ℕ, List, map, Some, ⊥}
 use Rattle.cip_message.specs.PathWriting.{short}
 use Rattle.cip_message.specs.Request.{request}
 use Rattle.cip_values.specs.Values.{IsUnreadable}
@@ -15,7 +15,7 @@ use Rattle.enip_text.specs.declared.typed.TypedQuestion.{TypedQuestion}
 -- The bytes that ask this: service, the shortest path, and the bytes of the values that the words tell.
 abbrev pub IsTypedRequest : TypedQuestion → List ℕ → Type 0
 IsTypedRequest q bytes = (given : List ℕ)
-    × AreWritten q.value_type (length q.words.now) given
+    × AreWritten q.value_type (map (λ word. word.now) q.words.now) given
     × (bytes ≡ request (record { service = q.service; path = short q.path; «data» = given }))
 
 -- These data are no values of the type, or memory failed.
