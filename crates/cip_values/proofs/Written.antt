@@ -1,12 +1,14 @@
 -- Values that are written one after the other.
-use Rattle.std.proofs.Common.{◌≡◌, ◌≢◌, ℕ, ◌+◌, List, [], ◌∷◌, ◌++◌, length, refl, sym, ap, subst, ◌∙◌, arith, length-append, append_assoc}
+use Rattle.std.proofs.Common.{◌≡◌, ◌≢◌, ℕ, ◌+◌, ◌<◌, List, [], ◌∷◌, ◌++◌, length, map, take, get_or, Bor, inr, refl, sym, ap, subst, ◌∙◌, arith, length-append, append_assoc}
 use Rattle.std.proofs.lemmas.Grind.{flat_map-append}
-use Rattle.std.proofs.lemmas.List.{append-nil}
+use Rattle.std.proofs.lemmas.List.{append-nil, take_more, map-append}
 use Rattle.std.specs.List.{AllByRecursion}
 use Rattle.cip_values.specs.Types.{form_of, size_of}
 use Rattle.cip_values.specs.Values.{Value, Text, IsOf, spelled, joined, StandBefore}
-use Rattle.cip_values.specs.Words.{Appends, IsAppended, Tells, AllTell}
+use Rattle.cip_values.specs.Words.{Appends, IsAppended, Tells, AllTell, IsMistold, AreMistold}
 use Rattle.cip_values.specs.declared.element.ElementaryType.{ElementaryType}
+use Rattle.cip_values.specs.declared.element.ValueType.{ValueType}
+use Rattle.cip_values.specs.declared.fault.ValueFault.{ValueFault}
 use Rattle.cip_values.specs.declared.element.Form.{Form}
 use Rattle.cip_values.specs.declared.element.Form.TheVariants as forms
 
@@ -65,3 +67,20 @@ text_appends element word bytes old new is h = record {
   of_type = subst (λ (form : Form). IsOf form (Text bytes)) (sym is) h.of_type;
   bytes_of = h.bytes_of;
 }
+
+-- one word more of a list
+pub so_far_word : (element : ElementaryType) (words : List (Bor (List ℕ))) (place : ℕ) (d : Bor (List ℕ)) (old new : List ℕ)
+    → place < length words → SoFar element (map (λ word. word.now) (take place words)) old
+    → Appends element (get_or words place d).now old new → SoFar element (map (λ word. word.now) (take (place + 1) words)) new
+so_far_word element words place d old new inside h more =
+    let texts : map (λ (w : Bor (List ℕ)). w.now) (take (place + 1) words)
+    ≡ map (λ (w : Bor (List ℕ)). w.now) (take place words) ++ (get_or words place d).now ∷ [] =
+    ap (map (λ (w : Bor (List ℕ)). w.now)) (take_more words place d inside)
+    ∙ map-append (λ (w : Bor (List ℕ)). w.now) (take place words) (get_or words place d ∷ []) in
+    subst (λ (told : List (List ℕ)). SoFar element told new) (sym texts)
+    (so_far_more element (map (λ (w : Bor (List ℕ)). w.now) (take place words)) (get_or words place d).now old new h more)
+
+-- where a word is refused, the words are
+pub word_refused : (value_type : ValueType) (count : ℕ) (word : List ℕ) (fault : ValueFault) → IsMistold value_type.element word fault
+    → AreMistold value_type count fault
+word_refused value_type count word fault h = inr (word, h)

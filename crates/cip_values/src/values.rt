@@ -97,7 +97,10 @@ pub fn write_values<'a>(
     }
     let mut bytes = Vec::new(alloc);
     for word in words {
-        append_word(alloc, value_type, *word, &mut bytes)?;
+        match append_word(alloc, value_type, *word, &mut bytes) {
+            Ok(()) => {}
+            Err(fault) => return Err(fault),
+        }
     }
     Ok(bytes)
 }
