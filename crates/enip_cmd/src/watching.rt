@@ -8,7 +8,7 @@ use crate::refused::{RefusedWord, seconds_of};
 use crate::socket::{SocketSink, SocketSource};
 use clap::ArgMatches;
 use enip_text::{AskingStop, Readings, Replied, Session, print_reading};
-use std::net::TcpStream;
+use std::rt::Clock;
 use std::thread;
 use std::time::{Duration, Instant};
 
@@ -17,11 +17,11 @@ const OUTPUT: &str = "standard output";
 
 const CLOCK: &str = "the clock";
 
-/// The longest time between two requests of a session (ours): a device may end one that is silent for longer.
-const LONGEST_SILENCE: Duration = Duration::from_secs(60);
+/// The seconds of the longest time between two requests of a session (ours): a device may end one that is silent for longer.
+const LONGEST_SILENCE: u64 = 60;
 
-/// How long a device that went away is left alone where the patience has no limit.
-const PAUSE: Duration = Duration::from_secs(5);
+/// How many seconds a device that went away is left alone where the patience has no limit.
+const PAUSE: u64 = 5;
 
 /// How often a device is asked, and what is printed.
 #[derive(Clone, Copy, Debug)]
@@ -102,7 +102,7 @@ pub(crate) fn run_watching<'a>(
             Ok(()) => thread::sleep(rt, watched.every),
             Err(Parting::Gone(reason)) => {
                 tell(rt, &reason);
-                thread::sleep(rt, asked.patience.limit().unwrap_or(PAUSE));
+                thread::sleep(rt, asked.patience.limit().unwrap_or(Duration::from_secs(PAUSE)));
             }
             Err(Parting::Over(ending)) => return Err(ending),
         }
@@ -134,7 +134,7 @@ impl<'a> Watching<'a, '_, '_> {
                 Ok(reply) => self.take(reply)?,
                 Err(stop) => return Err(self.parting(stop, &source, &sink)),
             }
-            if self.taken >= self.watched.count || self.watched.every > LONGEST_SILENCE {
+            if self.taken >= self.watched.count || self.watched.every > Duration::from_secs(LONGEST_SILENCE) {
                 break;
             }
             thread::sleep(self.rt, self.watched.every);

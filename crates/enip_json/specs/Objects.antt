@@ -1,5 +1,5 @@
 -- What devices say, as data of JSON. Members stand in the order of their names.
-use Rattle.std.specs.Prelude.{◌≡◌, ⊤, ⊥, ℕ, ℤ, pos, negsuc, List, [], ◌∷◌, ◌++◌, codes, slice_index, Some}
+use Rattle.std.specs.Prelude.{◌≡◌, ⊤, ℕ, ℤ, pos, negsuc, List, [], ◌∷◌, ◌++◌, codes, slice_index, Some}
 use Rattle.std.specs.Char.{encode_utf8}
 use Rattle.std.specs.Fmt.{decimal}
 use Rattle.std.specs.List.{flat_map}

@@ -1,5 +1,5 @@
 -- What is printed of identities as JSON: an object on a line for each.
-use Rattle.std.specs.Prelude.{ℕ, List, [], Option, Result, Ok, Err, ⊥}
+use Rattle.std.specs.Prelude.{ℕ, List, [], Option, Result, Ok, Err}
 use Rattle.std.specs.List.{flat_map}
 use Rattle.std.specs.Io.KnownBytes.{Appends}
 use Rattle.serde_json.specs.Written.{compact_text}
