@@ -102,7 +102,10 @@ pub(crate) fn run_watching<'a>(
             Ok(()) => thread::sleep(rt, watched.every),
             Err(Parting::Gone(reason)) => {
                 tell(rt, &reason);
-                thread::sleep(rt, asked.patience.limit().unwrap_or(Duration::from_secs(PAUSE)));
+                thread::sleep(
+                    rt,
+                    asked.patience.limit().unwrap_or(Duration::from_secs(PAUSE)),
+                );
             }
             Err(Parting::Over(ending)) => return Err(ending),
         }
@@ -134,7 +137,9 @@ impl<'a> Watching<'a, '_, '_> {
                 Ok(reply) => self.take(reply)?,
                 Err(stop) => return Err(self.parting(stop, &source, &sink)),
             }
-            if self.taken >= self.watched.count || self.watched.every > Duration::from_secs(LONGEST_SILENCE) {
+            if self.taken >= self.watched.count
+                || self.watched.every > Duration::from_secs(LONGEST_SILENCE)
+            {
                 break;
             }
             thread::sleep(self.rt, self.watched.every);
@@ -171,11 +176,7 @@ impl<'a> Watching<'a, '_, '_> {
                 self.replied = replied;
                 Ok(())
             }
-            Err(stop) => Err(Parting::Over(ending_of(
-                stop,
-                self.asked.address,
-                output.reason(),
-            ))),
+            Err(stop) => Err(Parting::Over(ending_of(stop, self.asked.address, output.reason()))),
         }
     }
 
@@ -186,10 +187,10 @@ impl<'a> Watching<'a, '_, '_> {
         source: &SocketSource<'_, C>,
         sink: &SocketSink<'_>,
     ) -> Parting<'a> {
-        let lost = source
-            .lost()
-            .or(sink.lost())
-            .map(|lost| lost.reason(self.asked.address, self.asked.patience));
+        let lost = source.lost().or(sink.lost()).map(|lost| lost.reason(
+            self.asked.address,
+            self.asked.patience,
+        ));
         parting_of(ending_of(stop, self.asked.address, lost))
     }
 }

@@ -44,7 +44,13 @@ fn real_of(alloc: Global, value: Value<'_>) -> Result<Json, AllocError>
         is_list: false,
     };
     let values = [value];
-    let text = format!(in alloc; "{}", ValuesText { value_type, values: &values })?;
+    let text = format!(in alloc;
+        "{}",
+        ValuesText {
+            value_type,
+            values: &values
+        }
+    )?;
     match text.parse::<f64>() {
         Ok(number) if number.is_finite() => Ok(Json::from(number)),
         _ => Ok(Json::String(text)),

@@ -97,11 +97,7 @@ fn print_objects<O: Write>(
 }
 
 /// Prints the object of an identity. A service has none.
-fn print_object<O: Write>(
-    alloc: Global,
-    output: &mut O,
-    entry: ListEntry<'_>,
-) -> Result<(), Fault>
+fn print_object<O: Write>(alloc: Global, output: &mut O, entry: ListEntry<'_>) -> Result<(), Fault>
     ensures printed { OnOk result (Appends (O.contents output.old) (O.contents output.new)
         (object_line (entry_shown entry.entry))) }
     ensures refused { IfErr result IsOfDevices }

@@ -82,7 +82,11 @@ pub fn print_reading<O: Write + Drop>(
     let mut output = BufWriter::new(alloc, output).map_err(Fault::from)?;
     let replied = if style.is_json {
         let object = reply_object(alloc, style, reply)?;
-        writeln!(output, "{}", timed_line(alloc, moment, object.text.as_str())?)?;
+        writeln!(
+            output,
+            "{}",
+            timed_line(alloc, moment, object.text.as_str())?
+        )?;
         object.replied
     } else {
         let (seconds, rest) = (moment / SECOND, moment % SECOND);

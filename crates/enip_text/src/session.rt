@@ -117,11 +117,7 @@ impl Session {
     }
 
     /// Opens the connection.
-    fn open<R: Source, W: Sink>(
-        &mut self,
-        reader: &mut R,
-        writer: &mut W,
-    ) -> Result<(), AskFault> {
+    fn open<R: Source, W: Sink>(&mut self, reader: &mut R, writer: &mut W) -> Result<(), AskFault> {
         let frame = self.client.open()?;
         send(writer, frame)?;
         hear(&mut self.client, reader, &mut self.reply)
@@ -223,7 +219,9 @@ fn keep(heard: Heard<'_>, reply: &mut ReplyBuf) -> Result<bool, AskFault> {
     match heard {
         Heard::Nothing => Ok(false),
         Heard::Registered | Heard::Opened | Heard::Closed => Ok(true),
-        Heard::Refused(status, extended) => Err(AskFault::Client(ClientFault::Refused(status, extended))),
+        Heard::Refused(status, extended) => Err(AskFault::Client(ClientFault::Refused(
+            status, extended,
+        ))),
         Heard::Reply(bytes) | Heard::Accepted(bytes) => {
             // the room of a reply (ours)
             if bytes.len() > REPLY_LIMIT {

@@ -56,11 +56,7 @@ pub(crate) fn print_data<O: Write>(
 /// # Errors
 ///
 /// `Shape` where they are no values of the type, `Program` where memory was refused.
-pub(crate) fn data_object(
-    alloc: Global,
-    style: Style,
-    bytes: &[u8],
-) -> Result<String, AskingStop>
+pub(crate) fn data_object(alloc: Global, style: Style, bytes: &[u8]) -> Result<String, AskingStop>
     ensures { IfErr result (IsUnprinted style bytes.now) }
 {
     match style.value_type {

@@ -626,14 +626,15 @@ fn words<'a>(alloc: Global) -> Arg<'a> {
         .required(true)
         .num_args(1..)
         .allow_negative_numbers(true)
-        .help("The data in hexadecimal digits, perhaps with spaces, as one word; with --as the words of their values")
+        .help(
+            "The data in hexadecimal digits, perhaps with spaces, as one word; with --as the words of their values",
+        )
 }
 
 fn type_name<'a>(alloc: Global) -> Arg<'a> {
-    Arg::new(alloc, "as")
-        .long("as")
-        .value_name("TYPE")
-        .help("The type of the data, as UINT, or UINT[] for any number of values")
+    Arg::new(alloc, "as").long("as").value_name("TYPE").help(
+        "The type of the data, as UINT, or UINT[] for any number of values",
+    )
 }
 
 fn json<'a>(alloc: Global) -> Arg<'a> {

@@ -66,7 +66,13 @@ fn an_answer_goes_out_before_more_is_read(rt: HostRuntime) -> Result<(), Fail> {
         Call::Later,
     ];
     // A peer that is not woken has no turn.
-    let rounds = [(0, false, 3, 0), (1, false, 3, 0), (2, true, 4, 0), (3, true, 7, 0), (4, false, 7, 0)];
+    let rounds = [
+        (0, false, 3, 0),
+        (1, false, 3, 0),
+        (2, true, 4, 0),
+        (3, true, 7, 0),
+        (4, false, 7, 0),
+    ];
     run(&rt, rt.alloc(), NO_LIMIT, &calls, &rounds)
 }
 
@@ -85,7 +91,13 @@ fn each_answer_goes_out_before_the_next_frame_is_fed(rt: HostRuntime) -> Result<
         Call::Takes(ADDED, 54),
         Call::Ends,
     ];
-    let rounds = [(0, false, 1, 0), (0, false, 5, 0), (0, true, 7, 0), (0, false, 9, 0), (0, false, 10, 1)];
+    let rounds = [
+        (0, false, 1, 0),
+        (0, false, 5, 0),
+        (0, true, 7, 0),
+        (0, false, 9, 0),
+        (0, false, 10, 1),
+    ];
     run(&rt, rt.alloc(), NO_LIMIT, &calls, &rounds)
 }
 
@@ -103,7 +115,12 @@ fn what_was_read_is_fed_at_the_moment_of_its_round(rt: HostRuntime) -> Result<()
         Call::Later,
     ];
     // 8,000,000 microseconds after its last item the connection is over, and one on it has no answer.
-    let rounds = [(0, false, 4, 0), (7_999_999, false, 6, 0), (15_999_999, false, 7, 0), (15_999_999, false, 8, 0)];
+    let rounds = [
+        (0, false, 4, 0),
+        (7_999_999, false, 6, 0),
+        (15_999_999, false, 7, 0),
+        (15_999_999, false, 8, 0),
+    ];
     run(&rt, rt.alloc(), NO_LIMIT, &calls, &rounds)
 }
 
@@ -129,26 +146,76 @@ fn a_peer_that_the_adapter_closed_is_read_for_a_second(rt: HostRuntime) -> Resul
     ];
     run(&rt, rt.alloc(), NO_LIMIT, &calls, &rounds)?;
     // One that leaves is ended at once.
-    let calls = [Call::Gives(LONG), Call::Takes(REFUSED, 24), Call::Shuts, Call::Ends];
-    run(&rt, rt.alloc(), NO_LIMIT, &calls, &[(0, false, 2, 0), (1, false, 4, 1)])
+    let calls = [
+        Call::Gives(LONG),
+        Call::Takes(REFUSED, 24),
+        Call::Shuts,
+        Call::Ends,
+    ];
+    run(
+        &rt,
+        rt.alloc(),
+        NO_LIMIT,
+        &calls,
+        &[(0, false, 2, 0), (1, false, 4, 1)],
+    )
 }
 
 #[test]
 fn a_silent_peer_is_ended(rt: HostRuntime) -> Result<(), Fail> {
     let calls = [Call::Later, Call::Gives(&REGISTER[..5]), Call::Later];
-    let rounds = [(0, false, 1, 0), (99, true, 2, 0), (150, true, 3, 0), (198, true, 3, 0), (199, true, 3, 1)];
+    let rounds = [
+        (0, false, 1, 0),
+        (99, true, 2, 0),
+        (150, true, 3, 0),
+        (198, true, 3, 0),
+        (199, true, 3, 1),
+    ];
     run(&rt, rt.alloc(), 100, &calls[..3], &rounds[..3])?;
-    run(&rt, rt.alloc(), 100, &calls[..1], &[(0, false, 1, 0), (99, false, 1, 0), (100, true, 1, 1), (101, true, 1, 0)])?;
-    run(&rt, rt.alloc(), NO_LIMIT, &calls[..1], &[(0, false, 1, 0), (u64::MAX - 1, false, 1, 0)])
+    run(
+        &rt,
+        rt.alloc(),
+        100,
+        &calls[..1],
+        &[
+            (0, false, 1, 0),
+            (99, false, 1, 0),
+            (100, true, 1, 1),
+            (101, true, 1, 0),
+        ],
+    )?;
+    run(
+        &rt,
+        rt.alloc(),
+        NO_LIMIT,
+        &calls[..1],
+        &[(0, false, 1, 0), (u64::MAX - 1, false, 1, 0)],
+    )
 }
 
 #[test]
 fn a_peer_whose_wire_fails_is_ended(rt: HostRuntime) -> Result<(), Fail> {
-    run(&rt, rt.alloc(), NO_LIMIT, &[Call::Ends], &[(0, false, 1, 1), (1, true, 1, 0)])?;
-    run(&rt, rt.alloc(), NO_LIMIT, &[Call::Fails], &[(0, false, 1, 1)])?;
+    run(
+        &rt,
+        rt.alloc(),
+        NO_LIMIT,
+        &[Call::Ends],
+        &[(0, false, 1, 1), (1, true, 1, 0)],
+    )?;
+    run(
+        &rt,
+        rt.alloc(),
+        NO_LIMIT,
+        &[Call::Fails],
+        &[(0, false, 1, 1)],
+    )?;
     let calls = [Call::Gives(REGISTER), Call::Refuses(REGISTERED)];
     run(&rt, rt.alloc(), NO_LIMIT, &calls, &[(0, false, 2, 1)])?;
-    let calls = [Call::Gives(REGISTER), Call::Takes(REGISTERED, 1), Call::Refuses(&REGISTERED[1..])];
+    let calls = [
+        Call::Gives(REGISTER),
+        Call::Takes(REGISTERED, 1),
+        Call::Refuses(&REGISTERED[1..]),
+    ];
     run(&rt, rt.alloc(), NO_LIMIT, &calls, &[(0, false, 3, 1)])
 }
 
@@ -157,14 +224,20 @@ fn places_are_taken_and_freed(rt: HostRuntime) -> Result<(), Fail> {
     let made = Cell::new(0);
     let mut peers = peers(rt.alloc(), NO_LIMIT)?;
     for place in 0..9 {
-        assert_eq!(rt; peers.come(0, ScriptedWire::new(&[Call::Later], &made)), Ok(place));
+        assert_eq!(rt;
+            peers.come(0, ScriptedWire::new(&[Call::Later], &made)),
+            Ok(place)
+        );
         made.set(0);
         assert_eq!(rt; peers.round(0), 0);
         assert_eq!(rt; made.get(), 1);
     }
     assert_eq!(rt; peers.first_free(), None);
     made.set(0);
-    assert_eq!(rt; peers.come(0, ScriptedWire::new(&[], &made)), Err(Full::Places));
+    assert_eq!(rt;
+        peers.come(0, ScriptedWire::new(&[], &made)),
+        Err(Full::Places)
+    );
     assert_eq!(rt; (peers.round(0), made.get()), (0, 0));
     Ok(())
 }
@@ -178,9 +251,21 @@ fn each_ready_peer_has_one_turn_a_round(rt: HostRuntime) -> Result<(), Fail> {
     }
     let made = [Cell::new(0), Cell::new(0), Cell::new(0)];
     let calls = [
-        [Call::Gives(REGISTER), Call::Takes(&texts[0], 28), Call::Later],
-        [Call::Gives(REGISTER), Call::Takes(&texts[1], 28), Call::Later],
-        [Call::Gives(REGISTER), Call::Takes(&texts[2], 28), Call::Ends],
+        [
+            Call::Gives(REGISTER),
+            Call::Takes(&texts[0], 28),
+            Call::Later,
+        ],
+        [
+            Call::Gives(REGISTER),
+            Call::Takes(&texts[1], 28),
+            Call::Later,
+        ],
+        [
+            Call::Gives(REGISTER),
+            Call::Takes(&texts[2], 28),
+            Call::Ends,
+        ],
     ];
     let mut peers = peers(rt.alloc(), NO_LIMIT)?;
     for (calls, made) in calls.iter().zip(&made) {
@@ -202,8 +287,14 @@ fn the_next_moment_is_the_earliest(rt: HostRuntime) -> Result<(), Fail> {
     let made = [Cell::new(0), Cell::new(0)];
     let mut peers = peers(rt.alloc(), 1_000)?;
     assert_eq!(rt; peers.next_moment(), None);
-    assert_eq!(rt; peers.come(10, ScriptedWire::new(&[Call::Later], &made[0])), Ok(0));
-    assert_eq!(rt; peers.come(5, ScriptedWire::new(&[Call::Later], &made[1])), Ok(1));
+    assert_eq!(rt;
+        peers.come(10, ScriptedWire::new(&[Call::Later], &made[0])),
+        Ok(0)
+    );
+    assert_eq!(rt;
+        peers.come(5, ScriptedWire::new(&[Call::Later], &made[1])),
+        Ok(1)
+    );
     assert_eq!(rt; peers.next_moment(), Some(1_005));
     assert_eq!(rt; peers.round(1_005), 1);
     assert_eq!(rt; peers.next_moment(), Some(1_010));

@@ -143,9 +143,7 @@ fn asked_over<R: Source, W: Sink, O: Write + Drop>(
     if reader.failures() == u64::MAX || writer.failures() == u64::MAX {
         return Err(Fail::from("devices that can fail once more"));
     }
-    Ok(ask_over(
-        alloc, reader, writer, request, connected, DIGITS, output,
-    ))
+    Ok(ask_over(alloc, reader, writer, request, connected, DIGITS, output))
 }
 
 /// The same of a question, and its exit status.
