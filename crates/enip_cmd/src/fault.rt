@@ -21,6 +21,9 @@ pub enum Fault {
     /// A line of the input is refused, or a device or memory failed.
     #[error("{0}")]
     Run(enip_text::Fault),
+    /// A word is no value of the type of a request's data.
+    #[error("value")]
+    Value,
     /// A device that was asked gave no reply.
     #[error("{0}")]
     Asking(AskingStop),
@@ -32,6 +35,7 @@ impl Fault {
         ensures { result ≡ exit_status self }
     {
         match self {
+            Fault::Value => 2,
             Fault::Configuration(_) => 3,
             Fault::Setup => ReplayStop::Setup.exit_status(),
             Fault::Run(fault) => fault.exit_status(),

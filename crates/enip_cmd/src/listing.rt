@@ -7,7 +7,7 @@ use crate::place::{Patience, Place};
 use crate::reason::{Ending, Reason};
 use crate::socket::{SocketSink, SocketSource};
 use enip_client::{ListCommand, Sent, write_list};
-use enip_text::{AskingStop, list_over, print_devices};
+use enip_text::{AskingStop, identities_over, list_over, print_device_objects, print_devices};
 use std::io::{ErrorKind, Write};
 use std::net::UdpSocket;
 use std::time::Instant;
@@ -28,6 +28,7 @@ const CLOCK: &str = "the clock";
 pub(crate) fn run_list<'a>(
     rt: &HostRuntime,
     command: ListCommand,
+    is_json: bool,
     address: &'a str,
     patience: Patience<'a>,
 ) -> Result<u8, Ending<'a>> {
@@ -37,7 +38,12 @@ pub(crate) fn run_list<'a>(
     let mut output = Noted::new(OUTPUT, rt.stdout());
     let mut source = SocketSource::new(&stream, rt, start);
     let mut sink = SocketSink::new(&stream);
-    match list_over(rt.alloc(), &mut source, &mut sink, command, &mut output) {
+    let listed = if is_json {
+        identities_over(rt.alloc(), &mut source, &mut sink, &mut output)
+    } else {
+        list_over(rt.alloc(), &mut source, &mut sink, command, &mut output)
+    };
+    match listed {
         Ok(()) => Ok(0),
         Err(stop) => {
             let lost = source
@@ -64,6 +70,7 @@ fn ending_of<'a>(stop: AskingStop, device: Reason<'a>) -> Ending<'a> {
 /// status of the program.
 pub(crate) fn run_discovery<'a>(
     rt: &HostRuntime,
+    is_json: bool,
     address: &'a str,
     patience: Patience<'a>,
 ) -> Result<u8, Ending<'a>> {
@@ -76,7 +83,13 @@ pub(crate) fn run_discovery<'a>(
         let Some(size) = next_datagram(rt, &socket, place, patience, start, &mut block)? else {
             break;
         };
-        print_devices(&mut output, &block[..size]).map_err(ending_of_output)?;
+        let datagram = &block[..size];
+        let printed = if is_json {
+            print_device_objects(rt.alloc(), &mut output, datagram)
+        } else {
+            print_devices(&mut output, datagram)
+        };
+        printed.map_err(ending_of_output)?;
     }
     output
         .flush()

@@ -16,6 +16,7 @@ mod noted;
 mod place;
 mod readiness;
 mod reason;
+mod refused;
 pub mod replay;
 pub mod serve;
 mod served;
@@ -25,6 +26,7 @@ mod status_words;
 mod tests;
 mod watch;
 mod watched_wire;
+mod watching;
 mod wire;
 
 use asking::{Asked, run_asking};
@@ -41,12 +43,14 @@ use named::{Named, ending_of_run};
 use noted::Noted;
 use place::{Patience, Place};
 use reason::{Ending, Reason};
+use refused::RefusedWord;
 use serve::{Serving, Sockets, serve_connections};
 use std::io;
 use std::net::TcpListener;
 use std::process::ExitCode;
 use std::time::Instant;
 use watch::Unwatched;
+use watching::{Watched, run_watching};
 
 /// The exit status where the words are refused.
 const WORDS_REFUSED: u8 = 2;
@@ -161,14 +165,15 @@ fn run_listing<'a>(
     listing: Listing,
     matches: &ArgMatches<'a>,
 ) -> Result<u8, Ending<'a>> {
-    let word = matches.get_str("timeout").unwrap_or("");
-    let Some(patience) = Patience::of(word) else {
-        return Ok(refuse_seconds(rt, word));
+    let patience = match Patience::of(matches.get_str("timeout").unwrap_or("")) {
+        Ok(patience) => patience,
+        Err(refused) => return Ok(refuse(rt, refused)),
     };
+    let is_json = matches.get_flag("json");
     let address = matches.get_str("ADDRESS").unwrap_or("");
     match listing {
-        Listing::Of(command) => run_list(rt, command, address, patience),
-        Listing::Devices => run_discovery(rt, address, patience),
+        Listing::Of(command) => run_list(rt, command, is_json, address, patience),
+        Listing::Devices => run_discovery(rt, is_json, address, patience),
     }
 }
 
@@ -194,28 +199,32 @@ fn run_check<'a>(
     }
 }
 
-/// `enip get`, `enip set` and `enip call`: asks with a service.
+/// `enip get`, `enip set` and `enip call`: asks with a service, once or again and again.
 fn run_client<'a>(
     rt: &HostRuntime,
     service: Option<u8>,
     matches: &ArgMatches<'a>,
 ) -> Result<u8, Ending<'a>> {
-    let word = matches.get_str("timeout").unwrap_or("");
-    let Some(patience) = Patience::of(word) else {
-        return Ok(refuse_seconds(rt, word));
-    };
-    match Asked::of(service, matches, patience) {
-        Some(asked) => run_asking(rt, asked),
-        None => Ok(WORDS_REFUSED),
+    match asked_of(service, matches) {
+        Ok((asked, None)) => run_asking(rt, asked),
+        Ok((asked, Some(watched))) => run_watching(rt, asked, watched),
+        Err(refused) => Ok(refuse(rt, refused)),
     }
 }
 
-/// Says that the word of `--timeout` is refused, and gives the exit status.
-fn refuse_seconds(rt: &HostRuntime, word: &str) -> u8 {
-    let _ = eprintln!(rt;
-        "error: invalid value '{word}' for '--timeout <SECONDS>': it is a number from 0 to 3600, with \
-        up to six digits behind a point\n\nFor more information, try '--help'."
-    );
+/// What the words ask with a service, and how often, where it is more than once.
+fn asked_of<'a, 'm>(
+    service: Option<u8>,
+    matches: &'m ArgMatches<'a>,
+) -> Result<(Asked<'a, 'm>, Option<Watched>), RefusedWord<'a>> {
+    let patience = Patience::of(matches.get_str("timeout").unwrap_or(""))?;
+    let watched = Watched::of(matches)?;
+    Ok((Asked::of(service, matches, patience)?, watched))
+}
+
+/// Says why a word is refused, and gives the exit status.
+fn refuse(rt: &HostRuntime, refused: RefusedWord<'_>) -> u8 {
+    let _ = eprintln!(rt; "error: {refused}\n\nFor more information, try '--help'.");
     WORDS_REFUSED
 }
 

@@ -2,8 +2,8 @@
 
 use crate::listing::request;
 use crate::reason::{DeviceWords, Ending, Reason};
+use crate::refused::{RefusedWord, seconds_of};
 use enip_client::ListCommand;
-use enip_words::microseconds_of;
 use std::io::{self, ErrorKind};
 use std::net::{HostAddrs, IpAddr, SocketAddr, TcpListener, TcpStream, ToSocketAddrs, UdpSocket};
 use std::time::{Duration, Instant};
@@ -138,13 +138,15 @@ pub(crate) struct Patience<'a> {
 }
 
 impl<'a> Patience<'a> {
-    /// The patience of so many seconds, a decimal fraction: 0 is without a limit. `None` where the word says none.
-    pub(crate) fn of(word: &'a str) -> Option<Patience<'a>> {
-        let limit = match microseconds_of(word)? {
-            0 => None,
-            microseconds => Some(Duration::from_micros(microseconds)),
+    /// The patience of so many seconds, a decimal fraction: 0 is without a limit.
+    pub(crate) fn of(word: &'a str) -> Result<Patience<'a>, RefusedWord<'a>> {
+        let seconds = seconds_of("timeout", word)?;
+        let limit = if seconds.is_zero() {
+            None
+        } else {
+            Some(seconds)
         };
-        Some(Patience { word, limit })
+        Ok(Patience { word, limit })
     }
 
     /// How long a read may last.

@@ -2,6 +2,7 @@
 
 use crate::fault::Fault;
 use crate::status_words::StatusWords;
+use cip_values::{ValueFault, ValueType};
 use enip_config::Explanation;
 use enip_text::LineFault;
 use std::fmt;
@@ -41,6 +42,12 @@ pub(crate) enum Reason<'a> {
     /// A word is no hexadecimal digits.
     #[error("{0}: no hexadecimal digits, two for each byte")]
     Hex(&'a str),
+    /// A word is no value of the type that was said.
+    #[error("{0}")]
+    Value(ValueFault<'a>),
+    /// The data of a reply are no values of the type that was said.
+    #[error("the data are no {0}: {1}")]
+    Shape(ValueType, ValueFault<'static>),
     /// The device refused the session, with this encapsulation status.
     #[error("the device refused the session ({0:#06x})")]
     Session(u32),
@@ -122,6 +129,11 @@ impl<'a> Ending<'a> {
     /// The end where memory was refused.
     pub(crate) fn of_memory() -> Ending<'a> {
         Ending::new(Fault::Run(enip_text::Fault::Memory), Reason::Memory)
+    }
+
+    /// Why.
+    pub(crate) fn into_reason(self) -> Reason<'a> {
+        self.reason
     }
 
     /// Prints both on standard error, and gives the exit status.

@@ -7,3 +7,6 @@ pub mod Outcome
 pub mod Replay
 pub mod Listing
 pub mod Ladder
+pub mod Styles
+pub mod Identities
+pub mod Readings

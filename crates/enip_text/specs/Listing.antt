@@ -18,7 +18,7 @@ use Rattle.enip_client.specs.declared.lists.ListCommand.TheVariants as lists
 use Rattle.enip_text.specs.Replay.{ended}
 use Rattle.enip_text.specs.Statuses.{IsOfDevices}
 use Rattle.enip_text.specs.declared.asking.AskingStop.{AskingStop}
-use Rattle.enip_text.specs.declared.asking.AskingStop.TheVariants.{Hex, Session, Client, Program}
+use Rattle.enip_text.specs.declared.asking.AskingStop.TheVariants.{Hex, Session, Client, Shape, Program}
 
 -- Two and four bytes of a number, in digits.
 abbrev pub hex_word : ℕ → List ℕ
@@ -106,6 +106,7 @@ IsListTold command old new before after (Ok done) =
 IsListTold command old new before after (Err Hex) = ⊥
 IsListTold command old new before after (Err (Session status)) = ⊥
 IsListTold command old new before after (Err (Client fault)) = IsListed command old new (Err (ask.Client fault))
+IsListTold command old new before after (Err (Shape value_type fault)) = ⊥
 IsListTold command old new before after (Err (Program fault)) = IsOfDevices fault
 
 -- The same of who asks, wherever the answer is printed.
@@ -114,4 +115,5 @@ IsListAsked command old new (Ok done) = (entries : List Entry) × IsListed comma
 IsListAsked command old new (Err Hex) = ⊥
 IsListAsked command old new (Err (Session status)) = ⊥
 IsListAsked command old new (Err (Client fault)) = IsListed command old new (Err (ask.Client fault))
+IsListAsked command old new (Err (Shape value_type fault)) = ⊥
 IsListAsked command old new (Err (Program fault)) = IsOfDevices fault

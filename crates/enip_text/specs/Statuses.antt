@@ -28,6 +28,7 @@ abbrev pub asking_stop_status : AskingStop → ℕ
 asking_stop_status asking.Hex = 2
 asking_stop_status (asking.Session status) = 7
 asking_stop_status (asking.Client fault) = 7
+asking_stop_status (asking.Shape value_type fault) = 7
 asking_stop_status (asking.Program fault) = exit_status fault
 
 -- The exit status of a program that asked: that of what was told, or of why nothing was.

@@ -160,7 +160,22 @@ const ABOUT_GET: &str = "Reads an attribute of an object of a device
 
   enip get 127.0.0.1:44818 1 1 1
 
-reads the vendor: class 1 (Identity), instance 1, attribute 1. Without an attribute all of them are read at once.";
+reads the vendor: class 1 (Identity), instance 1, attribute 1. Without an attribute all of them are read at once. With
+--as the data are printed as values of a type:
+
+  enip get 127.0.0.1:44818 1 1 7 --as SHORT_STRING
+
+prints the name, Demo.
+
+With --every the device is asked again and again in one session, with --connected on one connection. There is a line for
+the first value, and for each that differs from the one before, or with --all for each: the seconds since the beginning,
+and the value, as
+
+  0.002117 01020304
+  4.002391 05020304
+
+A device that goes away is told on standard error, and tried again after the seconds of --timeout. In a list the values of
+a type have a space between them, and each SHORT_STRING stands between quotes.";
 
 const ABOUT_IDENTITY: &str = "Asks a device what it is, without a session (ListIdentity)
 
@@ -176,7 +191,7 @@ Prints a line for each field; several identities are divided by an empty line:
   state 3
   address 127.0.0.1:44818
 
-Bytes of the name that can't be printed are told as \\xNN.";
+Bytes of the name that can't be printed are told as \\xNN. With --json each identity is one object on one line.";
 
 const ABOUT_SERVICES: &str =
     "Asks a device which encapsulation services it offers, without a session (ListServices)
@@ -194,7 +209,9 @@ Prints a line for each device that answers within the seconds of --timeout:
 
   127.0.0.1:44818 Demo vendor 4660 product 7 serial 0x01020304
 
-A datagram that is no whole answer is left out. Exit status, and the last line on standard error:
+A datagram that is no whole answer is left out. With --json each device is one object on one line.
+
+Exit status, and the last line on standard error
 
   0                     the time is over, whoever answered
   2  an explanation     the words are refused
@@ -223,7 +240,12 @@ const ABOUT_SET: &str = "Sets an attribute of an object of a device
 
   enip set 127.0.0.1:44818 4 100 3 01020304
 
-sets the data of an assembly: class 4 (Assembly), instance 100, attribute 3, to the bytes 01 02 03 04.";
+sets the data of an assembly: class 4 (Assembly), instance 100, attribute 3, to the bytes 01 02 03 04. With --as the data
+are told as values of a type, a word for each of a list:
+
+  enip set 127.0.0.1:44818 4 100 3 --as UINT[] 513 1027
+
+A word that begins with a minus sign and is no number stands behind `--`.";
 
 const ABOUT_CALL: &str = "Calls a service of an object of a device
 
@@ -243,11 +265,24 @@ Prints
   refused 0xGG           the device refused: the general status
   refused 0xGG 0xEEEE    the same, with the first additional word
 
+or with --json an object on one line: `status` 0 and `data`, with --as also `type` and `values`; of a refusal `status` and
+`extended`, the first additional word or 0.
+
+TYPE is a type of the standard, or a list of its values where [] stands behind it, as UINT[]:
+
+  BOOL                      0 or 1; false and true are taken too
+  SINT INT DINT LINT        decimal numbers of 1, 2, 4 and 8 bytes, perhaps negative
+  USINT UINT UDINT ULINT    decimal numbers of 1, 2, 4 and 8 bytes
+  BYTE WORD DWORD LWORD     bits, as 0x and hexadecimal digits; decimal numbers are taken too
+  REAL                      a decimal number, perhaps with an exponent, or inf or NaN
+  SHORT_STRING              up to 255 characters; what is no printable character of ASCII is \\xNN, a backslash \\\\
+
 Exit status, and the last line on standard error; in front of it stands why, in words
 
   0                     the request was done
   2  an explanation     the words are refused
   2  hex                HEX is no hexadecimal digits
+  2  value              a word is no value of TYPE, or out of its range
   5  device             the device could not be reached, read or written, did not answer in time, or left before its
                         reply
   5  memory             there was no memory
@@ -259,7 +294,7 @@ What `fault N` means
   1    the request was not possible
   2    the device answered with an encapsulation status
   4    a frame was too long
-  6    the reply has another shape
+  6    the reply has another shape, or its data are no values of TYPE
   7    the request is too long: over 504 bytes, or 498 with --connected";
 
 /// What a command asks for.
@@ -280,16 +315,21 @@ enum Argument {
     Instance,
     Attribute,
     OptionalAttribute,
-    Digits,
+    Words,
     OptionalDigits,
+    As,
+    Json,
+    Every,
+    Readings,
+    All,
     Connected,
     Timeout,
     Answers,
 }
 
 impl Argument {
-    fn arg<'a>(self, alloc: Global) -> Arg<'a> {
-        match self {
+    fn arg<'a>(self, alloc: Global) -> Result<Arg<'a>, AllocError> {
+        Ok(match self {
             Argument::Config => config(alloc),
             Argument::Script => script(alloc),
             Argument::Ladder => ladder(alloc),
@@ -305,12 +345,17 @@ impl Argument {
             Argument::Instance => instance(alloc),
             Argument::Attribute => attribute(alloc).required(true),
             Argument::OptionalAttribute => attribute(alloc),
-            Argument::Digits => digits(alloc).required(true),
+            Argument::Words => words(alloc),
             Argument::OptionalDigits => digits(alloc),
+            Argument::As => type_name(alloc),
+            Argument::Json => json(alloc),
+            Argument::Every => every(alloc),
+            Argument::Readings => readings(alloc)?,
+            Argument::All => all(alloc)?,
             Argument::Connected => connected(alloc),
             Argument::Timeout => timeout(alloc).default_value("5"),
             Argument::Answers => timeout(alloc).default_value("1"),
-        }
+        })
     }
 }
 
@@ -373,7 +418,7 @@ static COMMANDS: [Row; 11] = [
         about: "Asks a device what it is",
         long_about: ABOUT_IDENTITY,
         after: Some(AFTER_LISTING),
-        arguments: &[Argument::Device, Argument::Timeout],
+        arguments: &[Argument::Device, Argument::Json, Argument::Timeout],
     },
     Row {
         name: "services",
@@ -387,7 +432,7 @@ static COMMANDS: [Row; 11] = [
         about: "Looks for the devices of a network",
         long_about: ABOUT_DISCOVER,
         after: None,
-        arguments: &[Argument::Network, Argument::Answers],
+        arguments: &[Argument::Network, Argument::Json, Argument::Answers],
     },
     Row {
         name: "get",
@@ -399,6 +444,11 @@ static COMMANDS: [Row; 11] = [
             Argument::Class,
             Argument::Instance,
             Argument::OptionalAttribute,
+            Argument::As,
+            Argument::Json,
+            Argument::Every,
+            Argument::Readings,
+            Argument::All,
             Argument::Connected,
             Argument::Timeout,
         ],
@@ -413,7 +463,8 @@ static COMMANDS: [Row; 11] = [
             Argument::Class,
             Argument::Instance,
             Argument::Attribute,
-            Argument::Digits,
+            Argument::Words,
+            Argument::As,
             Argument::Connected,
             Argument::Timeout,
         ],
@@ -429,6 +480,7 @@ static COMMANDS: [Row; 11] = [
             Argument::Class,
             Argument::Instance,
             Argument::OptionalDigits,
+            Argument::Json,
             Argument::Connected,
             Argument::Timeout,
         ],
@@ -456,7 +508,7 @@ fn command<'a>(alloc: Global, row: &Row) -> Result<Command<'a>, AllocError> {
         command = command.after_long_help(text);
     }
     for argument in row.arguments {
-        command = command.arg(argument.arg(alloc))?;
+        command = command.arg(argument.arg(alloc)?)?;
     }
     Ok(command)
 }
@@ -567,6 +619,54 @@ fn digits<'a>(alloc: Global) -> Arg<'a> {
     Arg::new(alloc, "HEX").help(
         "The data of the request in hexadecimal digits, perhaps with spaces",
     )
+}
+
+fn words<'a>(alloc: Global) -> Arg<'a> {
+    Arg::new(alloc, "HEX")
+        .required(true)
+        .num_args(1..)
+        .allow_negative_numbers(true)
+        .help(
+            "The data in hexadecimal digits, perhaps with spaces, as one word; with --as the words of their values",
+        )
+}
+
+fn type_name<'a>(alloc: Global) -> Arg<'a> {
+    Arg::new(alloc, "as").long("as").value_name("TYPE").help(
+        "The type of the data, as UINT, or UINT[] for any number of values",
+    )
+}
+
+fn json<'a>(alloc: Global) -> Arg<'a> {
+    Arg::new(alloc, "json")
+        .long("json")
+        .action(ArgAction::SetTrue)
+        .help("Prints an object of JSON on one line")
+}
+
+fn every<'a>(alloc: Global) -> Arg<'a> {
+    // 0 to 3,600 seconds (ours)
+    Arg::new(alloc, "every")
+        .long("every")
+        .value_name("SECONDS")
+        .help("Reads again and again, so long after each reply, a decimal fraction to 3600")
+}
+
+fn readings<'a>(alloc: Global) -> Result<Arg<'a>, AllocError> {
+    Arg::new(alloc, "count")
+        .long("count")
+        .value_name("N")
+        .value_parser(value_parser!(u32).range(1..))
+        .help("How many replies to take until it ends; without an end, where it is left out")
+        .requires_arg("every")
+}
+
+fn all<'a>(alloc: Global) -> Result<Arg<'a>, AllocError> {
+    Arg::new(alloc, "all")
+        .long("all")
+        .action(ArgAction::SetTrue)
+        .help("Prints each value, and not those alone that differ")
+        .requires_arg("every")
 }
 
 fn connected<'a>(alloc: Global) -> Arg<'a> {

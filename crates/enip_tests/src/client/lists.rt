@@ -3,7 +3,7 @@
 ghost use Rattle.std.specs.Prelude.{None};
 
 use enip_client::{
-    AskFault, ClientFault, IdentityView, ListCommand, ListEntries, ListEntry, LONGEST_SENT, Sent,
+    AskFault, ClientFault, IdentityView, LONGEST_SENT, ListCommand, ListEntries, ListEntry, Sent,
     ServiceView, ask_list, read_list, write_list,
 };
 use enip_wire::{Failed, FrameReader, MemorySink, MemorySource, Sink, Source};
@@ -311,7 +311,20 @@ fn bytes_of(alloc: Global, answer: &Answer<'_>) -> Result<Vec<u8>, Fail> {
     }
     let size = u8::try_from(data.len()).ok().ok_or("short data")?;
     let mut bytes = Vec::new(alloc);
-    bytes.extend_from_slice(&[answer.number, 0, size, 0, 0, 0, 0, 0, answer.status, 0, 0, 0])?;
+    bytes.extend_from_slice(&[
+        answer.number,
+        0,
+        size,
+        0,
+        0,
+        0,
+        0,
+        0,
+        answer.status,
+        0,
+        0,
+        0,
+    ])?;
     bytes.extend_from_slice(&[answer.context, 0, 0, 0, 0, 0, 0, 0, 0, 0, 0, 0])?;
     bytes.extend_from_slice(data.as_slice())?;
     Ok(bytes)
@@ -536,7 +549,12 @@ fn check_exchange<A: Abort>(rt: &A, alloc: Global, row: &Exchange<'_>) -> Result
         .with_failure_after(row.writes);
     let told = asked(rt, &mut frames, &mut reader, &mut writer);
     assert_eq!(rt; told, row.told, "{}", row.name);
-    assert_eq!(rt; Some(writer.written()), LIST_IDENTITY.get(..row.count), "{}", row.name);
+    assert_eq!(rt;
+        Some(writer.written()),
+        LIST_IDENTITY.get(..row.count),
+        "{}",
+        row.name
+    );
     assert_eq!(rt; reader.reads(), row.made, "{}", row.name);
     Ok(())
 }

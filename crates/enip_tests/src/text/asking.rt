@@ -2,7 +2,7 @@
 
 use super::streams::BrokenWriter;
 use cip_message::Path;
-use enip_text::{AskingStop, Question, Replied, ask_over, end_asking};
+use enip_text::{AskingStop, DIGITS, Question, Replied, ask_over, end_asking};
 use enip_wire::{MemorySink, MemorySource, Sink, Source};
 use std::alloc::Global;
 use std::io::Write;
@@ -140,7 +140,7 @@ fn asked_over<R: Source, W: Sink, O: Write + Drop>(
     if reader.failures() == u64::MAX || writer.failures() == u64::MAX {
         return Err(Fail::from("devices that can fail once more"));
     }
-    Ok(ask_over(alloc, reader, writer, request, connected, output))
+    Ok(ask_over(alloc, reader, writer, request, connected, DIGITS, output))
 }
 
 /// The same of a question, and its exit status.

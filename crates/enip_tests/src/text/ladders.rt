@@ -10,7 +10,8 @@ use std::test::Fail;
 const UNTOUCHED: &str = "counter 0 100 0\nassembly 100 00000000\nclient idle\n";
 
 /// The first line.
-const HEAD: &str = "            client                                 wire                               adapter\n";
+const HEAD: &str =
+    "            client                                 wire                               adapter\n";
 
 /// The last line.
 const SAME: &str = "both worlds show the same: what a world without counts or kept replies shows\n";
@@ -114,8 +115,12 @@ fn a_line_that_is_refused(rt: HostRuntime) -> Result<(), Fail> {
     let adapter = demo_adapter(rt.alloc())?;
     let mut written = Vec::new(rt.alloc());
     let ended = draw_replay(rt.alloc(), adapter, b"giveup\nreach x\n", &mut written);
-    assert_eq!(rt; ended, Err(ReplayStop::Program(Fault::Line(2, LineFault::Reach))));
-    let line = "               | giveup                                                                   |\n";
+    assert_eq!(rt;
+        ended,
+        Err(ReplayStop::Program(Fault::Line(2, LineFault::Reach)))
+    );
+    let line =
+        "               | giveup                                                                   |\n";
     let want = format!(in rt.alloc(); "{HEAD}{line}")?;
     assert_eq!(rt; written.as_slice(), want.as_bytes());
     Ok(())

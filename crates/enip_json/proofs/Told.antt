@@ -1,0 +1,27 @@
+-- Values that are told one after the other.
+use Rattle.std.proofs.Common.{◌≡◌, ℕ, ◌+◌, ◌<◌, List, [], ◌∷◌, ◌++◌, length, map, take, get_or, sym, ap, subst, ◌∙◌}
+use Rattle.std.proofs.lemmas.List.{take_more, map-append}
+use Rattle.cip_values.specs.Values.{Value, value_in}
+use Rattle.cip_values.specs.declared.value.Value.{Value as ValueInCode}
+use Rattle.serde_json.specs.Data.{Data, Items}
+use Rattle.serde_json.specs.View.{view, items_of, items_view}
+use Rattle.serde_json.specs.declared.value.Value.{Value as Json}
+use Rattle.enip_json.specs.Objects.{IsTold, EachTold}
+
+told-append : (values : List Value) (told : List Data) (value : Value) (d : Data) → EachTold values (items_of told) → IsTold value d
+    → EachTold (values ++ value ∷ []) (items_of (told ++ d ∷ []))
+told-append [] [] value d h k = (k, tt)
+told-append [] (e ∷ told) value d h k = absurd h
+told-append (v ∷ values) [] value d h k = absurd h
+told-append (v ∷ values) (e ∷ told) value d h k = (h.0, told-append values told value d h.1 k)
+
+pub told_more : (values : List ValueInCode) (place : ℕ) (default_ : ValueInCode) (list : List Json) (json : Json) → place < length values
+    → EachTold (map value_in (take place values)) (items_view list) → IsTold (value_in (get_or values place default_)) (view json)
+    → EachTold (map value_in (take (place + 1) values)) (items_view (list ++ json ∷ []))
+told_more values place default_ list json inside h k =
+    let shown : map value_in (take (place + 1) values) ≡ map value_in (take place values) ++ value_in (get_or values place default_) ∷ [] =
+    ap (map value_in) (take_more values place default_ inside) ∙ map-append value_in (take place values) (get_or values place default_ ∷ []) in
+    let seen : items_view (list ++ json ∷ []) ≡ items_of (map view list ++ view json ∷ []) = ap items_of (map-append view list (json ∷ [])) in
+    subst (λ (vs : List Value). EachTold vs (items_view (list ++ json ∷ []))) (sym shown)
+    (subst (EachTold (map value_in (take place values) ++ value_in (get_or values place default_) ∷ [])) (sym seen)
+    (told-append (map value_in (take place values)) (map view list) (value_in (get_or values place default_)) (view json) h k))
