@@ -178,7 +178,10 @@ impl<W: Watch + Drop> Server<W> {
                         discovery.report();
                     }
                 }
-                place => self.peers.wake(place),
+                place => {
+                    let ends = event.is_read_closed() || event.is_error();
+                    self.peers.wake(place, ends);
+                }
             }
         }
         Ok(())

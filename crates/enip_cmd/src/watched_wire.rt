@@ -147,7 +147,8 @@ impl<R: Eprint + Clock> Wire for WatchedWire<'_, R> {
 
     fn read(&mut self, into: &mut [u8]) -> Came {
         self.finish();
-        let came = self.wire.read(into);
+        // another read follows this one's frames, at which those that were not answered are told
+        let came = self.wire.read_on(into);
         if let Came::Bytes(size) = came {
             self.hear(&into[..size]);
         }

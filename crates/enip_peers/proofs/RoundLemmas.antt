@@ -62,18 +62,18 @@ pub all_free : {W : Type 0} (p : Peers W) (adapter : AdapterState) (silence plac
 all_free p adapter silence places counter a s free all is =
     state_by p adapter silence _ a s (is ∙ ap (λ n. replicate n None) (all ∙ free))
 
-woken_none : {W : Type 0} (lines : List (Option (Line W))) (place : ℕ) (o : Option (Option (Line W)))
-    → slice_get lines place ≡ o → o ≡ Some None → woken_line lines place o ≡ lines
-woken_none lines place o is none = subst (λ x. woken_line lines place x ≡ lines) (sym none) refl
+woken_none : {W : Type 0} (ends : Bool) (lines : List (Option (Line W))) (place : ℕ) (o : Option (Option (Line W)))
+    → slice_get lines place ≡ o → o ≡ Some None → woken_line ends lines place o ≡ lines
+woken_none ends lines place o is none = subst (λ x. woken_line ends lines place x ≡ lines) (sym none) refl
 
 -- a place that is free stays as it is
-pub woken_free : {W : Type 0} (p q : Peers W) (place : ℕ) (found d : Option (Line W)) → q.adapter ≡ p.adapter
+pub woken_free : {W : Type 0} (ends : Bool) (p q : Peers W) (place : ℕ) (found d : Option (Line W)) → q.adapter ≡ p.adapter
     → q.silence ≡ p.silence → boxed_slice_items q.lines ≡ slice_set (boxed_slice_items p.lines) place found
     → place < length (boxed_slice_items p.lines) → found ≡ get_or (boxed_slice_items p.lines) place d → found ≡ None
-    → state_of q ≡ record (state_of p) { lines = woken (boxed_slice_items p.lines) place }
-woken_free p q place found d a s l within is none =
+    → state_of q ≡ record (state_of p) { lines = woken ends (boxed_slice_items p.lines) place }
+woken_free ends p q place found d a s l within is none =
     state_by q p.adapter p.silence _ a s
     (l ∙ ap (λ x. slice_set (boxed_slice_items p.lines) place x) is
     ∙ set-get_or (boxed_slice_items p.lines) place d
-    ∙ sym (woken_none (boxed_slice_items p.lines) place _ refl
+    ∙ sym (woken_none ends (boxed_slice_items p.lines) place _ refl
     (slice_get-within (boxed_slice_items p.lines) place d within ∙ ap Some (sym is ∙ none))))

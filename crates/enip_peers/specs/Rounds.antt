@@ -54,8 +54,9 @@ pub record HasTurn {W : Type 0} (left written : W → Option (List ℕ)) (tally 
   pub came_to : Turn
   pub turn : IsTurn now line.peer (desk_of left written tally a line) (desk_of left written tally b after)
   pub told : IsToldBy (desk_of left written tally b after) came_to
-  pub tells : IsToldOf came_to (tally line.wire) (tally after.wire)
+  pub tells : IsToldOf line.ending after.closed came_to (tally line.wire) (tally after.wire)
   pub peer : after.peer ≡ line.peer
+  pub ending : after.ending ≡ line.ending
   pub ready : after.ready ≡ is_more came_to
   pub over : goes_on ≡ not (is_over came_to)
 
@@ -126,6 +127,7 @@ new_line peer wire now = record {
   peer = peer;
   wire = wire;
   ready = true;
+  ending = false;
   heard = now;
   closed = None;
   inbox = [];
@@ -150,14 +152,17 @@ IsCome now wire old new (Err full) =
     ⊎ (((call_answer old.adapter Begins_peer).said ≡ Refuses full)
     × (new ≡ record old { adapter = after_call old.adapter Begins_peer }))
 
--- The wire of a place may be ready.
-abbrev pub woken_line : {W : Type 0} → List (Option (Line W)) → ℕ → Option (Option (Line W)) → List (Option (Line W))
-woken_line lines place None = lines
-woken_line lines place (Some None) = lines
-woken_line lines place (Some (Some line)) = slice_set lines place (Some (record line { ready = true }))
+-- The wire of a place may be ready, and the end of its stream may be reported with that.
+abbrev pub woken_to : {W : Type 0} → Bool → Line W → Line W
+woken_to ends line = record line { ready = true; ending = if ends then true else line.ending }
 
-abbrev pub woken : {W : Type 0} → List (Option (Line W)) → ℕ → List (Option (Line W))
-woken lines place = woken_line lines place (slice_get lines place)
+abbrev pub woken_line : {W : Type 0} → Bool → List (Option (Line W)) → ℕ → Option (Option (Line W)) → List (Option (Line W))
+woken_line ends lines place None = lines
+woken_line ends lines place (Some None) = lines
+woken_line ends lines place (Some (Some line)) = slice_set lines place (Some (woken_to ends line))
+
+abbrev pub woken : {W : Type 0} → Bool → List (Option (Line W)) → ℕ → List (Option (Line W))
+woken ends lines place = woken_line ends lines place (slice_get lines place)
 
 -- Whether a wire may be ready.
 abbrev pub is_ready : {W : Type 0} → Option (Line W) → Bool

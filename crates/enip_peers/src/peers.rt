@@ -71,15 +71,19 @@ impl<W: Wire + Drop> Peers<W> {
         Ok(place)
     }
 
-    /// The wire of a place may be ready. Nothing is changed where the place is free.
-    pub fn wake(&mut self, place: usize)
-        ensures { state_of self.new ≡ record (state_of self.old) { lines = woken (state_of self.old).lines place } }
+    /// The wire of a place may be ready. `ends` says that the end of its stream is reported, or that it failed: it is read
+    /// on to then, since that may be reported once. Nothing is changed where the place is free.
+    pub fn wake(&mut self, place: usize, ends: bool)
+        ensures { state_of self.new ≡ record (state_of self.old) { lines = woken ends (state_of self.old).lines place } }
     {
         if place >= self.lines.len() {
             return;
         }
         if let Some(line) = &mut self.lines[place] {
             line.ready = true;
+            if ends {
+                line.ending = true;
+            }
         }
     }
 
