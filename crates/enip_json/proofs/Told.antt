@@ -1,12 +1,13 @@
 -- Values that are told one after the other.
-use Rattle.std.proofs.Common.{◌≡◌, ℕ, ◌+◌, ◌<◌, List, [], ◌∷◌, ◌++◌, length, map, take, get_or, sym, ap, subst, ◌∙◌}
-use Rattle.std.proofs.lemmas.List.{take_more, map-append}
+use Rattle.std.proofs.Common.{◌≡◌, ℕ, ◌+◌, ◌<◌, ◌≤◌, List, [], ◌∷◌, ◌++◌, length, map, take, get_or, sym, ap, subst, ◌∙◌, Vec, Global}
+use Rattle.std.proofs.lemmas.List.{take_more, take_all, map-append}
 use Rattle.cip_values.specs.Values.{Value, value_in}
 use Rattle.cip_values.specs.declared.value.Value.{Value as ValueInCode}
 use Rattle.serde_json.specs.Data.{Data, Items}
 use Rattle.serde_json.specs.View.{view, items_of, items_view}
-use Rattle.serde_json.specs.declared.value.Value.{Value as Json}
-use Rattle.enip_json.specs.Objects.{IsTold, EachTold}
+use Rattle.serde_json.specs.declared.value.Value.{Value as Json, Array}
+use Rattle.enip_json.specs.Objects.{IsTold, EachTold, AreTold}
+use Rattle.serde_json.proofs.Views.{view-Array}
 
 told-append : (values : List Value) (told : List Data) (value : Value) (d : Data) → EachTold values (items_of told) → IsTold value d
     → EachTold (values ++ value ∷ []) (items_of (told ++ d ∷ []))
@@ -25,3 +26,8 @@ told_more values place default_ list json inside h k =
     subst (λ (vs : List Value). EachTold vs (items_view (list ++ json ∷ []))) (sym shown)
     (subst (EachTold (map value_in (take place values) ++ value_in (get_or values place default_) ∷ [])) (sym seen)
     (told-append (map value_in (take place values)) (map view list) (value_in (get_or values place default_)) (view json) h k))
+
+pub told_all : (values : List ValueInCode) (place : ℕ) (list : Vec Json Global) → length values ≤ place
+    → EachTold (map value_in (take place values)) (items_view list.items) → AreTold (map value_in values) (view (Array list))
+told_all values place list done h =
+    rw (view-Array list) (subst (λ (vs : List ValueInCode). EachTold (map value_in vs) (items_view list.items)) (take_all place values done) h)
