@@ -26,12 +26,22 @@ fn identity_object(alloc: Global, identity: &IdentityView<'_>) -> Result<Value, 
     let name = latin_text(alloc, identity.name)?;
     let mut members = Map::new(alloc);
     put(&mut members, alloc, "address", Value::from(host))?;
-    put(&mut members, alloc, "device_type", Value::from(identity.device_type))?;
+    put(
+        &mut members,
+        alloc,
+        "device_type",
+        Value::from(identity.device_type),
+    )?;
     put(&mut members, alloc, "major", Value::from(identity.major))?;
     put(&mut members, alloc, "minor", Value::from(identity.minor))?;
     put(&mut members, alloc, "name", Value::from(name))?;
     put(&mut members, alloc, "port", Value::from(identity.port))?;
-    put(&mut members, alloc, "product_code", Value::from(identity.product_code))?;
+    put(
+        &mut members,
+        alloc,
+        "product_code",
+        Value::from(identity.product_code),
+    )?;
     put(&mut members, alloc, "serial", Value::from(identity.serial))?;
     put(&mut members, alloc, "state", Value::from(identity.state))?;
     put(&mut members, alloc, "status", Value::from(identity.status))?;

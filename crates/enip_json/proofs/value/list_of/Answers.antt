@@ -1,5 +1,3 @@
-use Rattle.std.proofs.Common.{arith}
-use Rattle.cip_values.specs.declared.value.Value.TheVariants.{Bool}
 use Rattle.enip_json.proofs.Told.{told_more, told_all}
 use Rattle.enip_json.proofs.value.list_of.Goals as goal
 
