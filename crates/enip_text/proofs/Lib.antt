@@ -5,3 +5,4 @@ pub mod OutcomeLemmas
 pub mod PathLemmas
 pub mod ReplayLemmas
 pub mod ListingLemmas
+pub mod AskingLemmas
