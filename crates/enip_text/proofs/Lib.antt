@@ -5,4 +5,3 @@ pub mod OutcomeLemmas
 pub mod PathLemmas
 pub mod ReplayLemmas
 pub mod ListingLemmas
-pub mod AskingLemmas
