@@ -1,5 +1,7 @@
 //! `enip identity`, `enip services` and `enip discover`: what devices say of themselves, without a session.
 
+ghost use Rattle.std.specs.Prelude.{◌≤◌, length, IfOk, IfSome};
+
 use crate::asking::reason_of_client;
 use crate::fault::Fault;
 use crate::noted::Noted;
@@ -113,7 +115,9 @@ fn next_datagram<'a>(
     patience: Patience<'a>,
     start: Instant,
     block: &mut [u8],
-) -> Result<Option<usize>, Ending<'a>> {
+) -> Result<Option<usize>, Ending<'a>>
+    ensures { IfOk result (λ came. IfSome came (λ size. size ≤ length block.new)) }
+{
     let elapsed = start
         .elapsed(rt)
         .map_err(|error| Ending::of_device(CLOCK, error))?;

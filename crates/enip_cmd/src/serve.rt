@@ -1,7 +1,7 @@
 //! `enip serve`: the adapter's peers on the sockets of the machine.
 //!
-//! In a round the system is asked which sockets may be ready, then one datagram is answered, each peer that may be ready
-//! has one turn, and one connection is taken. All of it has one moment, in microseconds since the beginning.
+//! In a round the system is asked which sockets may be ready, then one datagram is answered, each peer that may be
+//! ready has one turn, and one connection is taken. All of it has one moment, in microseconds since the beginning.
 
 ghost use Rattle.std.specs.Prelude.{◌≡◌, ◌≤◌, ◌<◌, ◌⊎◌, ◌↔◌, Some, IfSome, IsSomeAnd, IfErr, IsTrue};
 ghost use Rattle.enip_text.specs.Statuses.{IsOfDevices};

@@ -17,7 +17,8 @@ const OUTPUT: &str = "standard output";
 
 const CLOCK: &str = "the clock";
 
-/// The seconds of the longest time between two requests of a session (ours): a device may end one that is silent for longer.
+/// The seconds of the longest time between two requests of a session (ours): a device may end one that is silent for
+/// longer.
 const LONGEST_SILENCE: u64 = 60;
 
 /// How many seconds a device that went away is left alone where the patience has no limit.
@@ -150,7 +151,7 @@ impl<'a> Watching<'a, '_, '_> {
 
     /// Takes a reply, and prints it where it is to be.
     fn take(&mut self, reply: &[u8]) -> Result<(), Parting<'a>> {
-        self.taken += 1;
+        self.taken = self.taken.saturating_add(1);
         let is_news = self.readings.is_news(reply)?;
         if !is_news && !self.watched.all {
             return Ok(());
@@ -195,7 +196,8 @@ impl<'a> Watching<'a, '_, '_> {
     }
 }
 
-/// What follows where the program would end so, had it asked once: want of memory ends it, else the device is tried again.
+/// What follows where the program would end so, had it asked once: want of memory ends it, else the device is tried
+/// again.
 fn parting_of<'a>(ending: Ending<'a>) -> Parting<'a> {
     match ending.into_reason() {
         Reason::Memory => Parting::Over(Ending::of_memory()),
