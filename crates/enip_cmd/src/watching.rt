@@ -161,7 +161,7 @@ impl<'a> Watching<'a, '_, '_> {
             .elapsed(self.rt)
             .map_err(|error| Parting::Over(Ending::of_device(CLOCK, error)))?;
         let moment = u64::try_from(elapsed.as_micros()).unwrap_or(u64::MAX);
-        let mut output = Noted::new(OUTPUT, self.rt.stdout());
+        let mut output = Noted::new(self.rt.stdout());
         let printed = print_reading(
             self.rt.alloc(),
             &mut output,
@@ -177,7 +177,11 @@ impl<'a> Watching<'a, '_, '_> {
                 self.replied = replied;
                 Ok(())
             }
-            Err(stop) => Err(Parting::Over(ending_of(stop, self.asked.address, output.reason()))),
+            Err(stop) => Err(Parting::Over(ending_of(
+                stop,
+                self.asked.address,
+                output.reason(OUTPUT),
+            ))),
         }
     }
 
