@@ -124,8 +124,8 @@ IsToldBy d Reads = (d.outbox ≡ []) × (d.inbox ≡ [])
 IsToldBy d Writes = d.outbox ≢ []
 IsToldBy d Over = ⊤
 
--- What a turn comes to by a read of it, once all that came is fed. Where nothing more has come the system is waited for,
--- but not where it has reported the end of the stream: it does so once.
+-- What a turn comes to by a read of it, once all that came is fed. Where nothing more has come the system is waited
+-- for, but not where it has reported the end of the stream: it does so once.
 abbrev pub turn_after : Came → Bool → Turn
 turn_after (Bytes size) ending = More
 turn_after (All size) false = Reads
@@ -142,11 +142,11 @@ IsThrough old new = (new.waits ≡ old.waits) × (new.ends ≡ old.ends)
 abbrev pub GoesOn : Tally → Tally → Type 0
 GoesOn old new = (new.drained ≡ old.drained) × (new.waits ≡ old.waits) × (new.ends ≡ old.ends)
 
--- What a turn came to, by how the calls of the wire went. Where more may have come none of them had to wait, and no read
--- said that nothing more had come, unless the end of the stream was reported or the adapter closed the peer. Where the
--- wire is waited for until it can be read, one read said that nothing more had come, and where the end of the stream was
--- reported it had to wait. Where it is waited for until it can be written, one call had to wait. Where the stream is over
--- one of them was at its end or failed.
+-- What a turn came to, by how the calls of the wire went. Where more may have come none of them had to wait, and no
+-- read said that nothing more had come, unless the end of the stream was reported or the adapter closed the peer. Where
+-- the wire is waited for until it can be read, one read said that nothing more had come, and where the end of the
+-- stream was reported it had to wait. Where it is waited for until it can be written, one call had to wait. Where the
+-- stream is over one of them was at its end or failed.
 abbrev pub IsToldOf : Bool → Option ℕ → Turn → Tally → Tally → Type 0
 IsToldOf ending closed More old new =
     IsThrough old new × (ending ≡ false → closed ≡ None → new.drained ≡ old.drained)

@@ -1,6 +1,6 @@
 -- The peers of an adapter, and what a round does to them.
 use Rattle.std.specs.Prelude.{ℕ, ◌+◌, ◌-◌, ◌^◌, min, ◌≡◌, ◌<◌, ◌≤◌, ◌⊎◌, List, [], ◌∷◌, length, replicate, Bool, true, false, not}
-use Rattle.std.specs.Prelude.{◌==◌, if◌then◌else◌, Option, Some, None, is_none, slice_get, slice_set, unwrap_or, Result, Ok, Err}
+use Rattle.std.specs.Prelude.{◌==◌, ◌||◌, if◌then◌else◌, Option, Some, None, is_none, slice_get, slice_set, unwrap_or, Result, Ok, Err}
 use Rattle.std.specs.Box.{boxed_slice_items}
 use Rattle.std.specs.List.{position}
 use Rattle.cip_manager.specs.Connection.{earliest_deadline}
@@ -11,6 +11,7 @@ use Rattle.enip_adapter.specs.Calls.Call.{Begins_peer, Ends_peer, Ticks}
 use Rattle.enip_adapter.specs.Turn.Said.{Begins, Refuses}
 use Rattle.enip_peers.specs.declared.line.Line.{Line}
 use Rattle.enip_peers.specs.declared.line.Turn.{Turn}
+use Rattle.enip_peers.specs.declared.peers.Due.{Due}
 use Rattle.enip_peers.specs.declared.peers.Peers.{Peers}
 use Rattle.enip_peers.specs.declared.line.Turn.TheVariants.{More, Reads, Writes, Over}
 use Rattle.enip_peers.specs.declared.tally.Tally.{Tally}
@@ -174,6 +175,18 @@ abbrev pub earliest_of : {W : Type 0} → ℕ → ℕ → List (Option (Line W))
 earliest_of silence moment [] = moment
 earliest_of silence moment (None ∷ lines) = earliest_of silence moment lines
 earliest_of silence moment (Some line ∷ lines) = earliest_of silence (min moment (last_moment silence line)) lines
+
+-- When lines are to be served again, with one place more and with some more.
+abbrev pub due_with : {W : Type 0} → ℕ → Due → Option (Line W) → Due
+due_with silence due None = due
+due_with silence due (Some line) = record {
+  ready = due.ready || line.ready;
+  moment = min due.moment (last_moment silence line);
+}
+
+abbrev pub due_by : {W : Type 0} → ℕ → Due → List (Option (Line W)) → Due
+due_by silence due [] = due
+due_by silence due (place ∷ places) = due_by silence (due_with silence due place) places
 
 -- A moment that never comes is none.
 abbrev pub moment_or_none : ℕ → Option ℕ

@@ -27,8 +27,8 @@ pub(crate) enum Turn {
 }
 
 impl Turn {
-    /// What a turn comes to by a read of it, once all that came is fed. `ending` says that the system has reported the end
-    /// of the stream: it does so once, so that is read on to.
+    /// What a turn comes to by a read of it, once all that came is fed. `ending` says that the system has reported the
+    /// end of the stream: it does so once, so that is read on to.
     fn after(came: Came, ending: bool) -> Turn
         ensures { result ≡ turn_after came ending }
     {
@@ -167,8 +167,8 @@ impl<W: Wire> Line<W> {
         Turn::after(came, self.ending)
     }
 
-    /// Feeds what was read, frame by frame. Answers `None` where nothing is left, and what the turn came to where an answer
-    /// is not out, or the adapter closed the peer.
+    /// Feeds what was read, frame by frame. Answers `None` where nothing is left, and what the turn came to where an
+    /// answer is not out, or the adapter closed the peer.
     fn feed_all(&mut self, adapter: &mut Adapter, now: u64) -> Option<Turn>
         requires out { self.old.outbox ≡ [] }
         requires open { self.old.closed ≡ None }

@@ -5,9 +5,9 @@ ghost use Rattle.enip_peers.specs.Wires.{after_read, after_write};
 
 use crate::wire::Came;
 
-/// How many reads were made, after how many of them nothing more had come, and how many calls had to wait, or were at an
-/// end or failed. Whoever calls a wire can so answer that it waits or is over only where a call of the wire said so. The
-/// numbers begin again at 2^64.
+/// How many reads were made, after how many of them nothing more had come, and how many calls had to wait, or were at
+/// an end or failed. Whoever calls a wire can so answer that it waits or is over only where a call of the wire said so.
+/// The numbers begin again at 2^64.
 #[derive(Clone, Copy, Debug, PartialEq, Eq)]
 pub struct Tally {
     reads: u64,

@@ -10,8 +10,8 @@ ghost use Rattle.enip_peers.specs.Wires.{IsRead, size_taken, after_read, after_w
 pub enum Came {
     /// So many bytes, one at least. More may have come.
     Bytes(usize),
-    /// So many bytes, one at least, and nothing more has come: the system reports what comes from now on. Of an end of the
-    /// stream that it has reported already this says nothing.
+    /// So many bytes, one at least, and nothing more has come: the system reports what comes from now on. It says
+    /// nothing of an end of the stream that was reported already.
     All(usize),
     /// Nothing yet.
     Later,

@@ -47,7 +47,13 @@ fn run<A: Abort>(
         if *woken {
             peers.wake(0, false);
         }
-        assert_eq!(rt; peers.round(*moment), *ended, "{moment}");
+        let end = peers.round(*moment);
+        assert_eq!(rt; end.ended, *ended, "{moment}");
+        assert_eq!(rt;
+            (end.ready, end.next),
+            (peers.is_any_ready(), peers.next_moment()),
+            "{moment}"
+        );
         assert_eq!(rt; made.get(), *by_then, "{moment}");
     }
     assert_eq!(rt; made.get(), calls.len());
@@ -175,7 +181,7 @@ fn an_end_that_was_reported_with_the_last_bytes_is_read(rt: HostRuntime) -> Resu
     assert_eq!(rt; peers.come(0, ScriptedWire::new(&calls, &made)), Ok(0));
     peers.wake(0, true);
     for (ended, by_then) in [(0, 2), (1, 3), (0, 3)] {
-        assert_eq!(rt; peers.round(0), ended);
+        assert_eq!(rt; peers.round(0).ended, ended);
         assert_eq!(rt; made.get(), by_then);
     }
     Ok(())
@@ -286,7 +292,7 @@ fn places_are_taken_and_freed(rt: HostRuntime) -> Result<(), Fail> {
             Ok(place)
         );
         made.set(0);
-        assert_eq!(rt; peers.round(0), 0);
+        assert_eq!(rt; peers.round(0).ended, 0);
         assert_eq!(rt; made.get(), 1);
     }
     assert_eq!(rt; peers.first_free(), None);
@@ -295,7 +301,7 @@ fn places_are_taken_and_freed(rt: HostRuntime) -> Result<(), Fail> {
         peers.come(0, ScriptedWire::new(&[], &made)),
         Err(Full::Places)
     );
-    assert_eq!(rt; (peers.round(0), made.get()), (0, 0));
+    assert_eq!(rt; (peers.round(0).ended, made.get()), (0, 0));
     Ok(())
 }
 
@@ -330,7 +336,7 @@ fn each_ready_peer_has_one_turn_a_round(rt: HostRuntime) -> Result<(), Fail> {
     }
     for (ended, by_then) in [(0, 2), (1, 3), (0, 3)] {
         assert!(rt; peers.is_any_ready() == (by_then < 3 || ended == 1));
-        assert_eq!(rt; peers.round(0), ended);
+        assert_eq!(rt; peers.round(0).ended, ended);
         for made in &made {
             assert_eq!(rt; made.get(), by_then);
         }
@@ -353,7 +359,7 @@ fn the_next_moment_is_the_earliest(rt: HostRuntime) -> Result<(), Fail> {
         Ok(1)
     );
     assert_eq!(rt; peers.next_moment(), Some(1_005));
-    assert_eq!(rt; peers.round(1_005), 1);
+    assert_eq!(rt; peers.round(1_005).ended, 1);
     assert_eq!(rt; peers.next_moment(), Some(1_010));
     Ok(())
 }
