@@ -3,7 +3,8 @@
 //   serve PLACES                    prints its port, and answers each whole frame of its peers as a device of one
 //                                   object would that is written by hand: it reads header, session, items and path,
 //                                   and answers RegisterSession and a get of an attribute of Identity. One read of
-//                                   4,096 bytes a peer and round, one write an answer. It ends when standard input does
+//                                   4,096 bytes a peer and round, and no other where it did not fill its room (unless the
+//                                   end of the stream is reported); one write an answer. It ends when standard input does
 //   load PORT PEERS ROUNDS          that many peers ask for the vendor at once, each as often, and compare each answer:
 //                                   prints the round trips a second
 //   wait PORT ROUNDS                one peer asks: prints the median and the 99th percentile of a round trip, and the
@@ -32,7 +33,7 @@ enum { REGISTER = 28, REQUEST = 48, ANSWER = 46 };
 static const unsigned char REGISTERING[REGISTER] = {0x65, 0, 4, 0, [24] = 1};
 
 typedef struct {
-    int socket, ready;
+    int socket, ready, ends;
     size_t held;
     unsigned char bytes[ROOM + HEADER];
 } Peer;
@@ -151,6 +152,8 @@ static int turn(Peer *peer) {
     ssize_t got = recv(peer->socket, peer->bytes + peer->held, ROOM - peer->held, 0);
     if (got < 0 && errno == EAGAIN) return peer->ready = 0, 1;
     if (got <= 0) return 0;
+    // a read that did not fill its room took all that had come; of an end that was reported already this says nothing
+    if ((size_t)got < ROOM - peer->held && !peer->ends) peer->ready = 0;
     size_t at = 0, size = peer->held + got;
     while (size - at >= HEADER) {
         unsigned frame = HEADER + peer->bytes[at + 2] + 256 * peer->bytes[at + 3];
@@ -215,7 +218,10 @@ static int serve(int places) {
         for (int i = 0; i < count; i++) {
             if (events[i].data.u32 > LISTENER) return 0;
             if (events[i].data.u32 == LISTENER) admit(poll, listener, places);
-            else peers[events[i].data.u32].ready = 1;
+            else {
+                peers[events[i].data.u32].ready = 1;
+                if (events[i].events & EPOLLRDHUP) peers[events[i].data.u32].ends = 1;
+            }
         }
         ready = round_of_turns(places);
     }
