@@ -13,3 +13,7 @@ pub mod CutLemmas
 pub mod AskLemmas
 pub mod HearingLemmas
 pub mod AskedLemmas
+pub mod IdentityLemmas
+pub mod ServiceLemmas
+pub mod ListsLemmas
+pub mod ListingLemmas

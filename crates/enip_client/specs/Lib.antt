@@ -7,3 +7,7 @@ pub mod Client
 pub mod Runs
 pub mod Asking
 pub mod AskSteps
+pub mod Identity
+pub mod Service
+pub mod Lists
+pub mod Listing

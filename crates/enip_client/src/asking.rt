@@ -12,7 +12,7 @@ use cip_objects::ReplyBuf;
 use enip_wire::{Sink, Source};
 
 /// The most bytes of a read (ours).
-const LONGEST_READ: usize = 4_096;
+pub(crate) const LONGEST_READ: usize = 4_096;
 
 /// Asks once: registers, opens a connection where that is asked for, sends the request, hears its reply, closes the
 /// connection and unregisters. Each is sent as soon as the one before was answered, before a further frame is heard.
@@ -61,7 +61,10 @@ pub fn ask<R: Source, W: Sink>(
 /// # Errors
 ///
 /// `Spent`, `Ended` or `Read`.
-fn read<R: Source>(reader: &mut R, into: &mut [u8; LONGEST_READ]) -> Result<usize, AskFault>
+pub(crate) fn read<R: Source>(
+    reader: &mut R,
+    into: &mut [u8; LONGEST_READ],
+) -> Result<usize, AskFault>
     requires { R.failures reader.old < u64.MAX }
     ensures bytes { IsRead (R.left reader.old) (R.left reader.new) (R.reads reader.old) (R.reads reader.new)
         into.new result }

@@ -63,6 +63,7 @@ impl Client {
     ghost use Rattle.enip_client.specs.Client.{new_client, with_state, news_in, IsBetween};
     ghost use Rattle.enip_client.specs.Calls.{registers, opens, asks, submits, closes, unregisters, resends};
     ghost use Rattle.enip_client.specs.Calls.{gives_up, after_giving_up, stage_in};
+    ghost use Rattle.enip_client.specs.State.{is_registered};
     ghost use Rattle.enip_client.specs.contracts.client.Client.{the_row};
 
     /// A client that is not registered and has no connection. All its memory is taken here.
@@ -226,6 +227,13 @@ impl Client {
             Link::Open(_) => Some(self.state.originator.stage()),
             _ => None,
         }
+    }
+
+    /// Whether the session is registered.
+    pub fn is_registered(&self) -> bool
+        ensures { result ≡ is_registered self.now.state.registration }
+    {
+        matches!(self.state.registration, Registration::Registered(_))
     }
 
     /// The fault that lasts.

@@ -64,7 +64,7 @@ const LONGEST_MANAGER_REQUEST: usize = 50;
 pub(crate) type ManagerRequest = ArrayVec<u8, LONGEST_MANAGER_REQUEST>;
 
 /// Writes the header of a frame with so many bytes of data.
-fn begin_frame(command: Command, session: u32, number: u64, size: usize, sent: &mut Sent)
+pub(crate) fn begin_frame(command: Command, session: u32, number: u64, size: usize, sent: &mut Sent)
     requires { size ≤ LONGEST_DATA }
     ensures header { sent.new.items ≡ header_spelling (sent_header command session number size) }
     ensures size { array_vec_len sent.new ≡ 24 }

@@ -12,7 +12,7 @@ use Rattle.enip_text.specs.declared.replaying.ReplayStop.{ReplayStop}
 use Rattle.enip_text.specs.declared.replaying.ReplayStop.TheVariants as stops
 use Rattle.enip_text.specs.Replay.{IsStopOf}
 use Rattle.enip_cmd.specs.declared.fault.Fault.{Fault}
-use Rattle.enip_cmd.specs.declared.fault.Fault.TheVariants.{Configuration as Refused, Setup, Run}
+use Rattle.enip_cmd.specs.declared.fault.Fault.TheVariants.{Configuration as Refused, Setup, Run, Value, Asking}
 use Rattle.enip_cmd.specs.Statuses.{exit_status, fault_of_configuration, fault_of_replay, IsStatus, IsReplayStatus}
 use Rattle.enip_cmd.specs.Statuses.{IsFaultOf, IsReplayFaultOf, IsOpeningRefused}
 
@@ -28,7 +28,7 @@ unread_ends text refused (Err f) gives so = rw gives.1 (of_unread text refused s
 
 -- What a run meets once the configuration is taken.
 of_run : (text : List ℕ) (ended : TextFault) → IsAccepted text → IsFaultOf text (Run ended)
-of_run text (texts.Line number) taken = taken
+of_run text (texts.Line number why) taken = taken
 of_run text texts.Device taken = tt
 of_run text texts.Memory taken = tt
 
@@ -41,7 +41,9 @@ run_ends text ended (Err f) gives taken = rw gives.1 (of_run text ended taken)
 pub status_told : (text : List ℕ) (fault : Fault) → IsFaultOf text fault → IsStatus (exit_status fault)
 status_told text (Refused check) so = inr (inl refl)
 status_told text Setup so = absurd so
-status_told text (Run (texts.Line number)) so = inr (inr (inl refl))
+status_told text Value so = absurd so
+status_told text (Asking stop) so = absurd so
+status_told text (Run (texts.Line number why)) so = inr (inr (inl refl))
 status_told text (Run texts.Device) so = inr (inr (inr refl))
 status_told text (Run texts.Memory) so = inr (inr (inr refl))
 
@@ -49,7 +51,9 @@ status_told text (Run texts.Memory) so = inr (inr (inr refl))
 pub line_refused : (text : List ℕ) (fault : Fault) → IsFaultOf text fault → exit_status fault ≡ 4 → IsAccepted text
 line_refused text (Refused check) so four = absurd (omega (arith, four))
 line_refused text Setup so four = absurd so
-line_refused text (Run (texts.Line number)) so four = so
+line_refused text Value so four = absurd so
+line_refused text (Asking stop) so four = absurd so
+line_refused text (Run (texts.Line number why)) so four = so
 line_refused text (Run texts.Device) so four = absurd (omega (arith, four))
 line_refused text (Run texts.Memory) so four = absurd (omega (arith, four))
 
@@ -57,7 +61,9 @@ line_refused text (Run texts.Memory) so four = absurd (omega (arith, four))
 pub configuration_refused : (text : List ℕ) (fault : Fault) → IsFaultOf text fault → exit_status fault ≡ 3 → (refusal : Refusal) × IsRefused text refusal
 configuration_refused text (Refused refusal) so three = (refusal, so)
 configuration_refused text Setup so three = absurd so
-configuration_refused text (Run (texts.Line number)) so three = absurd (omega (arith, three))
+configuration_refused text Value so three = absurd so
+configuration_refused text (Asking stop) so three = absurd so
+configuration_refused text (Run (texts.Line number why)) so three = absurd (omega (arith, three))
 configuration_refused text (Run texts.Device) so three = absurd (omega (arith, three))
 configuration_refused text (Run texts.Memory) so three = absurd (omega (arith, three))
 
@@ -65,6 +71,8 @@ configuration_refused text (Run texts.Memory) so three = absurd (omega (arith, t
 of_fault : (text : List ℕ) (fault : Fault) → IsFaultOf text fault → IsReplayFaultOf text fault
 of_fault text (Refused check) so = so
 of_fault text Setup so = absurd so
+of_fault text Value so = absurd so
+of_fault text (Asking stop) so = absurd so
 of_fault text (Run ended) so = so
 
 pub replay_unread : {T : Type 0} (text : List ℕ) (refused : ConfigurationFault) (r : Result T Fault)
@@ -86,21 +94,27 @@ replay_ends text adapter stop (Err f) gives told taken so = rw gives.1 (of_repla
 pub replay_status_told : (text : List ℕ) (fault : Fault) → IsReplayFaultOf text fault → IsReplayStatus (exit_status fault)
 replay_status_told text (Refused check) so = inl (status_told text (Refused check) so)
 replay_status_told text Setup so = inr refl
+replay_status_told text Value so = absurd so
+replay_status_told text (Asking stop) so = absurd so
 replay_status_told text (Run ended) so = inl (status_told text (Run ended) so)
 
 pub replay_line_refused : (text : List ℕ) (fault : Fault) → IsReplayFaultOf text fault → exit_status fault ≡ 4 → IsAccepted text
 replay_line_refused text (Refused check) so four = line_refused text (Refused check) so four
 replay_line_refused text Setup so four = absurd (omega (arith, four))
+replay_line_refused text Value so four = absurd so
+replay_line_refused text (Asking stop) so four = absurd so
 replay_line_refused text (Run ended) so four = line_refused text (Run ended) so four
 
 pub replay_configuration_refused : (text : List ℕ) (fault : Fault) → IsReplayFaultOf text fault → exit_status fault ≡ 3
     → (refusal : Refusal) × IsRefused text refusal
 replay_configuration_refused text (Refused check) so three = configuration_refused text (Refused check) so three
 replay_configuration_refused text Setup so three = absurd (omega (arith, three))
+replay_configuration_refused text Value so three = absurd so
+replay_configuration_refused text (Asking stop) so three = absurd so
 replay_configuration_refused text (Run ended) so three = configuration_refused text (Run ended) so three
 
 not_six : (ended : TextFault) → exit_status (Run ended) ≡ 6 → ⊥
-not_six (texts.Line number) six = omega (arith, six)
+not_six (texts.Line number why) six = omega (arith, six)
 not_six texts.Device six = omega (arith, six)
 not_six texts.Memory six = omega (arith, six)
 
@@ -108,4 +122,6 @@ not_six texts.Memory six = omega (arith, six)
 pub replay_setup : (text : List ℕ) (fault : Fault) → IsReplayFaultOf text fault → exit_status fault ≡ 6 → IsOpeningRefused text
 replay_setup text (Refused check) so six = absurd (omega (arith, six))
 replay_setup text Setup so six = so
+replay_setup text Value so six = absurd so
+replay_setup text (Asking stop) so six = absurd so
 replay_setup text (Run ended) so six = absurd (not_six ended six)

@@ -9,15 +9,17 @@ use Rattle.enip_text.specs.declared.fault.Fault.TheVariants as texts
 use Rattle.enip_text.specs.declared.replaying.ReplayStop.{ReplayStop}
 use Rattle.enip_text.specs.declared.replaying.ReplayStop.TheVariants as stops
 use Rattle.enip_text.specs.Replay.{IsOpeningRefused as refuses_opening}
-use Rattle.enip_text.specs.Statuses.{exit_status as run_status}
+use Rattle.enip_text.specs.Statuses.{exit_status as run_status, asking_stop_status}
 use Rattle.enip_cmd.specs.declared.fault.Fault.{Fault}
-use Rattle.enip_cmd.specs.declared.fault.Fault.TheVariants.{Configuration as Refused, Setup, Run}
+use Rattle.enip_cmd.specs.declared.fault.Fault.TheVariants.{Configuration as Refused, Setup, Run, Value, Asking}
 
 -- The exit status of a program that ends so.
 abbrev pub exit_status : Fault → ℕ
 exit_status (Refused check) = 3
 exit_status Setup = 6
+exit_status Value = 2
 exit_status (Run fault) = run_status fault
+exit_status (Asking stop) = asking_stop_status stop
 
 -- The exit statuses of `enip answer`, once its words are read.
 abbrev pub IsStatus : ℕ → Type 0
@@ -41,7 +43,9 @@ fault_of_replay (stops.Program fault) = Run fault
 abbrev pub IsFaultOf : List ℕ → Fault → Type 0
 IsFaultOf text (Refused refusal) = IsRefused text refusal
 IsFaultOf text Setup = ⊥
-IsFaultOf text (Run (texts.Line number)) = IsAccepted text
+IsFaultOf text Value = ⊥
+IsFaultOf text (Asking stop) = ⊥
+IsFaultOf text (Run (texts.Line number why)) = IsAccepted text
 IsFaultOf text (Run _) = ⊤
 
 -- The adapter that a text tells refuses the opening between it and the program's client.

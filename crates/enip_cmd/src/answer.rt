@@ -53,7 +53,8 @@ pub fn answer_bytes<R: Read + Drop, W: Write + Drop, E: Write + Drop>(
     }
 }
 
-fn run<R: Read + Drop, W: Write + Drop>(
+/// As `answer_bytes`, and answers why it ended early.
+pub(crate) fn run<R: Read + Drop, W: Write + Drop>(
     alloc: Global,
     config: &[u8],
     input: R,

@@ -1,8 +1,9 @@
 //! Clients that look for devices, by datagrams of UDP.
 
 use crate::readiness::Readiness;
+use crate::watch::Watch;
 use enip_adapter::DiscoveryRoom;
-use enip_peers::{Peers, Wire};
+use enip_peers::Peers;
 use mio::net::UdpSocket;
 use std::alloc::{AllocError, Global};
 
@@ -47,15 +48,17 @@ impl Discovery {
 
     /// Takes one datagram at a moment, in microseconds, where there is one, and sends what answers it to its sender. An
     /// answer that cannot be sent is dropped.
-    pub(crate) fn answer_one<W: Wire + Drop>(&mut self, peers: &Peers<W>, now: u64) {
+    pub(crate) fn answer_one<W: Watch>(&mut self, peers: &Peers<W::Wire>, watch: &W, now: u64) {
         if !self.readiness.is_due(now) {
             return;
         }
         match self.socket.recv_from(&mut self.block) {
             Ok((size, sender)) => {
                 self.readiness = Readiness::Ready;
-                if let Some(answer) = peers.discover(&self.block[..size], &mut self.room) {
+                let datagram = &self.block[..size];
+                if let Some(answer) = peers.discover(datagram, &mut self.room) {
                     let _ = self.socket.send_to(answer, sender);
+                    watch.answered(sender, datagram, answer);
                 }
             }
             Err(error) => self.readiness = Readiness::after(&error, now),

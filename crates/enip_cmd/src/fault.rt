@@ -4,7 +4,7 @@ ghost use Rattle.std.specs.Prelude.{◌≡◌};
 ghost use Rattle.enip_cmd.specs.Statuses.{exit_status};
 
 use enip_config::Refusal;
-use enip_text::ReplayStop;
+use enip_text::{AskingStop, ReplayStop};
 use std::alloc::AllocError;
 use std::io;
 use thiserror::Error;
@@ -21,6 +21,12 @@ pub enum Fault {
     /// A line of the input is refused, or a device or memory failed.
     #[error("{0}")]
     Run(enip_text::Fault),
+    /// A word is no value of the type of a request's data.
+    #[error("value")]
+    Value,
+    /// A device that was asked gave no reply.
+    #[error("{0}")]
+    Asking(AskingStop),
 }
 
 impl Fault {
@@ -29,9 +35,11 @@ impl Fault {
         ensures { result ≡ exit_status self }
     {
         match self {
+            Fault::Value => 2,
             Fault::Configuration(_) => 3,
             Fault::Setup => ReplayStop::Setup.exit_status(),
             Fault::Run(fault) => fault.exit_status(),
+            Fault::Asking(stop) => stop.exit_status(),
         }
     }
 }

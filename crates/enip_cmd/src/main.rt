@@ -4,31 +4,53 @@
 ghost use Rattle.std.specs.Prelude.{◌≡◌, ◌<◌, ◌*◌, ◌-◌, ◌^◌};
 
 pub mod answer;
+mod asking;
+mod checking;
 mod discovery;
 mod door;
 pub mod fault;
+mod journal;
+mod listing;
+mod named;
+mod noted;
+mod place;
 mod readiness;
+mod reason;
+mod refused;
 pub mod replay;
 pub mod serve;
+mod served;
 pub mod socket;
+mod status_words;
 #[cfg(test)]
 mod tests;
+mod watch;
+mod watched_wire;
+mod watching;
 mod wire;
 
-use cip_message::Path;
+use asking::{Asked, run_asking};
+use checking::print_device;
 use clap::ArgMatches;
 use clap::error::ErrorKind;
+use enip_client::ListCommand;
 use enip_peers::NO_LIMIT;
-use enip_text::{AskingStop, Question, Replied};
-use enip_words::{PROGRAM, Word, program, read_file, words};
-use fault::Fault;
+use enip_words::{PROGRAM, Word, program, words};
+use journal::Journal;
+use listing::{run_discovery, run_list};
 use mio::net::UdpSocket;
+use named::{Named, ending_of_run};
+use noted::Noted;
+use place::{Patience, Place};
+use reason::{Ending, Reason};
+use refused::RefusedWord;
 use serve::{Serving, Sockets, serve_connections};
-use socket::{SocketSink, SocketSource};
 use std::io;
-use std::net::{TcpListener, TcpStream};
+use std::net::TcpListener;
 use std::process::ExitCode;
 use std::time::Instant;
+use watch::Unwatched;
+use watching::{Watched, run_watching};
 
 /// The exit status where the words are refused.
 const WORDS_REFUSED: u8 = 2;
@@ -37,65 +59,215 @@ const WORDS_REFUSED: u8 = 2;
 const SECOND: u64 = 1_000_000;
 
 /// Services of all objects. (Volume 1, common services.)
+const GET_ATTRIBUTES_ALL: u8 = 0x01;
+
 const GET_ATTRIBUTE_SINGLE: u8 = 0x0e;
 
 const SET_ATTRIBUTE_SINGLE: u8 = 0x10;
 
-/// Runs the command that was asked for.
-fn run(rt: &HostRuntime, words: &[Word], matches: &ArgMatches<'_>) -> Result<u8, Fault> {
-    match matches.subcommand() {
-        Some(("answer", matches)) => run_answer(rt, words, matches),
-        Some(("replay", matches)) => run_replay(rt, words, matches),
-        Some(("serve", matches)) => run_serve(rt, words, matches),
-        Some(("show", _)) => Ok(enip_text::show(rt.alloc(), rt.stdin(), rt.stdout(), rt.stderr())),
-        Some(("get", matches)) => Ok(run_asking(rt, Some(GET_ATTRIBUTE_SINGLE), matches)),
-        Some(("set", matches)) => Ok(run_asking(rt, Some(SET_ATTRIBUTE_SINGLE), matches)),
-        Some(("call", matches)) => Ok(run_asking(rt, matches.get_one("SERVICE"), matches)),
-        _ => Ok(WORDS_REFUSED),
+/// The names of the program's streams.
+const INPUT: &str = "standard input";
+
+const OUTPUT: &str = "standard output";
+
+const ERRORS: &str = "standard error";
+
+/// Runs the command that was asked for, and answers the exit status.
+fn run<'a>(rt: &HostRuntime, words: &[Word], matches: &ArgMatches<'a>) -> Result<u8, Ending<'a>> {
+    let Some((command, matches)) = matches.subcommand() else {
+        return Ok(WORDS_REFUSED);
+    };
+    match command {
+        "answer" => return run_answer(rt, words, matches),
+        "replay" => return run_replay(rt, words, matches),
+        "check" => return run_check(rt, words, matches),
+        "serve" => return run_serve(rt, words, matches),
+        "show" => return run_show(rt),
+        "identity" => return run_listing(rt, Inquiry::Of(ListCommand::Identity), matches),
+        "services" => return run_listing(rt, Inquiry::Of(ListCommand::Services), matches),
+        "discover" => return run_listing(rt, Inquiry::Devices, matches),
+        "get" => return run_client(rt, Some(service_of_get(matches)), matches),
+        "set" => return run_client(rt, Some(SET_ATTRIBUTE_SINGLE), matches),
+        "call" => return run_client(rt, matches.get_one("SERVICE"), matches),
+        _ => {}
     }
+    Ok(WORDS_REFUSED)
 }
 
 /// `enip answer`.
-fn run_answer(rt: &HostRuntime, words: &[Word], matches: &ArgMatches<'_>) -> Result<u8, Fault> {
-    let config = read_file(rt.alloc(), words, matches.get_str("CONFIG").unwrap_or(""))?;
-    Ok(answer::answer_bytes(
-        rt.alloc(),
-        config.as_slice(),
-        rt.stdin(),
-        rt.stdout(),
-        rt.stderr(),
-    ))
+fn run_answer<'a>(
+    rt: &HostRuntime,
+    words: &[Word],
+    matches: &ArgMatches<'a>,
+) -> Result<u8, Ending<'a>> {
+    let config = Named::read(rt.alloc(), words, matches, "CONFIG")?;
+    let mut input = Noted::new(rt.stdin());
+    let mut output = Noted::new(rt.stdout());
+    let ran = answer::run(rt.alloc(), config.bytes(), &mut input, &mut output);
+    match ran {
+        Ok(()) => Ok(0),
+        Err(fault) => {
+            let device = output.reason(OUTPUT).or(input.reason(INPUT));
+            Err(ending_of_run(rt.alloc(), fault, &config, INPUT, device))
+        }
+    }
 }
 
 /// `enip replay`.
-fn run_replay(rt: &HostRuntime, words: &[Word], matches: &ArgMatches<'_>) -> Result<u8, Fault> {
-    let config = read_file(rt.alloc(), words, matches.get_str("CONFIG").unwrap_or(""))?;
-    let script = read_file(rt.alloc(), words, matches.get_str("SCRIPT").unwrap_or(""))?;
-    Ok(replay::replay_bytes(
-        rt.alloc(),
-        config.as_slice(),
-        script.as_slice(),
-        rt.stdout(),
-        rt.stderr(),
-    ))
+fn run_replay<'a>(
+    rt: &HostRuntime,
+    words: &[Word],
+    matches: &ArgMatches<'a>,
+) -> Result<u8, Ending<'a>> {
+    let config = Named::read(rt.alloc(), words, matches, "CONFIG")?;
+    let script = Named::read(rt.alloc(), words, matches, "SCRIPT")?;
+    let mut output = Noted::new(rt.stdout());
+    let ran = if matches.get_flag("ladder") {
+        replay::draw(rt.alloc(), config.bytes(), script.bytes(), &mut output)
+    } else {
+        replay::run(rt.alloc(), config.bytes(), script.bytes(), &mut output)
+    };
+    match ran {
+        Ok(()) => Ok(0),
+        Err(fault) => Err(ending_of_run(
+            rt.alloc(),
+            fault,
+            &config,
+            script.name(),
+            output.reason(OUTPUT),
+        )),
+    }
+}
+
+/// `enip show`.
+fn run_show<'a>(rt: &HostRuntime) -> Result<u8, Ending<'a>> {
+    let mut input = Noted::new(rt.stdin());
+    let mut output = Noted::new(rt.stdout());
+    let shown = enip_text::show_frames(rt.alloc(), &mut input, &mut output);
+    match shown {
+        Ok(()) => Ok(0),
+        Err(enip_text::Fault::Memory) => Err(Ending::of_memory()),
+        Err(_) => {
+            let device = output.reason(OUTPUT).or(input.reason(INPUT));
+            Err(Ending::of_reason(device.unwrap_or(Reason::Failed(INPUT))))
+        }
+    }
+}
+
+/// What is asked for without a session.
+#[derive(Clone, Copy)]
+enum Inquiry {
+    /// A list of a device.
+    Of(ListCommand),
+    /// The devices that there are.
+    Devices,
+}
+
+/// `enip identity`, `enip services` and `enip discover`.
+fn run_listing<'a>(
+    rt: &HostRuntime,
+    inquiry: Inquiry,
+    matches: &ArgMatches<'a>,
+) -> Result<u8, Ending<'a>> {
+    let patience = match Patience::of(matches.get_str("timeout").unwrap_or("")) {
+        Ok(patience) => patience,
+        Err(refused) => return Ok(refuse(rt, refused)),
+    };
+    let is_json = matches.get_flag("json");
+    let address = matches.get_str("ADDRESS").unwrap_or("");
+    match inquiry {
+        Inquiry::Of(command) => run_list(rt, command, is_json, address, patience),
+        Inquiry::Devices => run_discovery(rt, is_json, address, patience),
+    }
+}
+
+/// The service of `enip get`: of all attributes where none is said.
+fn service_of_get(matches: &ArgMatches<'_>) -> u8 {
+    match matches.get_one::<u16>("ATTRIBUTE") {
+        Some(_) => GET_ATTRIBUTE_SINGLE,
+        None => GET_ATTRIBUTES_ALL,
+    }
+}
+
+/// `enip check`.
+fn run_check<'a>(
+    rt: &HostRuntime,
+    words: &[Word],
+    matches: &ArgMatches<'a>,
+) -> Result<u8, Ending<'a>> {
+    let config = Named::read(rt.alloc(), words, matches, "CONFIG")?;
+    let configuration = config.configuration(rt.alloc())?;
+    match print_device(rt.alloc(), &configuration, rt.stdout()) {
+        Ok(()) => Ok(0),
+        Err(error) => Err(Ending::of_device(OUTPUT, error)),
+    }
+}
+
+/// `enip get`, `enip set` and `enip call`: asks with a service, once or again and again.
+fn run_client<'a>(
+    rt: &HostRuntime,
+    service: Option<u8>,
+    matches: &ArgMatches<'a>,
+) -> Result<u8, Ending<'a>> {
+    match asked_of(service, matches) {
+        Ok((asked, None)) => run_asking(rt, asked),
+        Ok((asked, Some(watched))) => run_watching(rt, asked, watched),
+        Err(refused) => Ok(refuse(rt, refused)),
+    }
+}
+
+/// What the words ask with a service, and how often, where it is more than once.
+fn asked_of<'a, 'm>(
+    service: Option<u8>,
+    matches: &'m ArgMatches<'a>,
+) -> Result<(Asked<'a, 'm>, Option<Watched>), RefusedWord<'a>> {
+    let patience = Patience::of(matches.get_str("timeout").unwrap_or(""))?;
+    let watched = Watched::of(matches)?;
+    Ok((Asked::of(service, matches, patience)?, watched))
+}
+
+/// Says why a word is refused, and gives the exit status.
+fn refuse(rt: &HostRuntime, refused: RefusedWord<'_>) -> u8 {
+    let _ = eprintln!(rt; "error: {refused}\n\nFor more information, try '--help'.");
+    WORDS_REFUSED
 }
 
 /// `enip serve`.
-fn run_serve(rt: &HostRuntime, words: &[Word], matches: &ArgMatches<'_>) -> Result<u8, Fault> {
+fn run_serve<'a>(
+    rt: &HostRuntime,
+    words: &[Word],
+    matches: &ArgMatches<'a>,
+) -> Result<u8, Ending<'a>> {
     // all that come, where it is not said: more than can come
     let count = matches.get_one::<u16>("count").map_or(u64::MAX, u64::from);
     let Some(seconds) = matches.get_one("idle") else {
         return Ok(WORDS_REFUSED);
     };
     let silence = silence_of(seconds);
-    let config = read_file(rt.alloc(), words, matches.get_str("CONFIG").unwrap_or(""))?;
-    let adapter = enip_config::adapter_from(rt.alloc(), config.as_slice())?;
-    let address = matches.get_str("ADDRESS").unwrap_or("");
-    let sockets = bind_at(rt, address, matches.get_flag("discovery"))?;
+    let config = Named::read(rt.alloc(), words, matches, "CONFIG")?;
+    let adapter = config.adapter(rt.alloc())?;
+    let place = Place::of(matches.get_str("ADDRESS").unwrap_or(""))?;
+    let sockets = bind_at(rt, place, matches.get_flag("discovery"))?;
+    print_listening(rt, &sockets).map_err(|error| Ending::of_device(ERRORS, error))?;
+    let serving = Serving { count, silence };
+    let served = if matches.get_flag("log") {
+        let start = Instant::now(rt).map_err(|error| Ending::of_device("the clock", error))?;
+        let journal = Journal::new(rt, rt.alloc(), start);
+        serve_connections(rt, rt.alloc(), sockets, adapter, serving, &journal)
+    } else {
+        serve_connections(rt, rt.alloc(), sockets, adapter, serving, Unwatched)
+    };
+    match served {
+        Ok(()) => Ok(0),
+        Err(enip_text::Fault::Memory) => Err(Ending::of_memory()),
+        Err(_) => Err(Ending::of_reason(Reason::Failed(place.word()))),
+    }
+}
+
+/// Prints where the device listens.
+fn print_listening(rt: &HostRuntime, sockets: &Sockets) -> io::Result<()> {
     let listening = sockets.listener.local_addr()?;
-    eprintln!(rt; "listening on {listening}")?;
-    serve_connections(rt, rt.alloc(), sockets, adapter, Serving { count, silence })?;
-    Ok(0)
+    eprintln!(rt; "listening on {listening}")
 }
 
 /// How long a peer may be silent, in microseconds, where so many seconds are said.
@@ -109,9 +281,14 @@ fn silence_of(seconds: u16) -> u64
     }
 }
 
-/// The sockets of a device at an address, with one for datagrams where they are to be heard.
-fn bind_at(rt: &HostRuntime, address: &str, discovery: bool) -> io::Result<Sockets> {
-    let listener = TcpListener::bind(rt, address)?;
+/// The sockets of a device at a place, with one for datagrams where they are to be heard.
+fn bind_at<'a>(rt: &HostRuntime, place: Place<'a>, discovery: bool) -> Result<Sockets, Ending<'a>> {
+    let listener = place.bind(rt)?;
+    sockets_of(rt, listener, discovery).map_err(|error| Ending::of_device(place.word(), error))
+}
+
+/// The sockets of a device that listens so.
+fn sockets_of(rt: &HostRuntime, listener: TcpListener, discovery: bool) -> io::Result<Sockets> {
     listener.set_nonblocking(true)?;
     let bound = listener.local_addr()?;
     let mut datagrams = None;
@@ -124,79 +301,29 @@ fn bind_at(rt: &HostRuntime, address: &str, discovery: bool) -> io::Result<Socke
     })
 }
 
-/// `enip get`, `enip set` and `enip call`: asks with a service.
-fn run_asking(rt: &HostRuntime, service: Option<u8>, matches: &ArgMatches<'_>) -> u8 {
-    let Some(question) = question_of(service, matches) else {
-        return WORDS_REFUSED;
-    };
-    let address = matches.get_str("ADDRESS").unwrap_or("");
-    let told = ask_address(rt, address, &question, matches.get_flag("connected"));
-    enip_text::end_asking(told, rt.stderr())
-}
-
-/// What the words ask. None where a word is missing.
-fn question_of<'a>(service: Option<u8>, matches: &ArgMatches<'a>) -> Option<Question<'a>> {
-    Some(Question {
-        service: service?,
-        path: Path {
-            class: matches.get_one("CLASS")?,
-            instance: matches.get_one("INSTANCE")?,
-            attribute: matches.get_one("ATTRIBUTE"),
-            member: None,
-        },
-        digits: matches.get_str("HEX").unwrap_or(""),
-    })
-}
-
-/// Connects to a device, and asks once.
-fn ask_address(
-    rt: &HostRuntime,
-    address: &str,
-    question: &Question<'_>,
-    connected: bool,
-) -> Result<Replied, AskingStop> {
-    let request = question.request(rt.alloc())?;
-    let start = Instant::now(rt)?;
-    let stream = TcpStream::connect(rt, address)?;
-    // The requests are small.
-    let _ = stream.set_nodelay(true);
-    enip_text::ask_over(
-        rt.alloc(),
-        &mut SocketSource::new(&stream, rt, start),
-        &mut SocketSink::new(&stream),
-        request.as_slice(),
-        connected,
-        rt.stdout(),
-    )
-}
-
-/// Reads the words of the command line, and runs the command.
-fn run_words(rt: &HostRuntime) -> Result<u8, Fault> {
+/// Reads the words of the command line, runs the command, and gives the exit status.
+fn run_words(rt: &HostRuntime) -> u8 {
     let alloc = rt.alloc();
-    let words = words(rt, alloc, PROGRAM)?;
-    match program(alloc)?.try_get_matches_from(words.as_slice()) {
-        Ok(matches) => run(rt, words.as_slice(), &matches),
-        Err(error) if error.kind() == ErrorKind::OutOfMemory => Err(Fault::Run(
-            enip_text::Fault::Memory,
-        )),
+    let (Ok(words), Ok(program)) = (words(rt, alloc, PROGRAM), program(alloc)) else {
+        return Ending::of_memory().tell(rt);
+    };
+    match program.try_get_matches_from(words.as_slice()) {
+        Ok(matches) => match run(rt, words.as_slice(), &matches) {
+            Ok(status) => status,
+            Err(ending) => ending.tell(rt),
+        },
+        Err(error) if error.kind() == ErrorKind::OutOfMemory => Ending::of_memory().tell(rt),
         Err(error) if error.use_stderr() => {
             let _ = error.print(rt);
-            Ok(WORDS_REFUSED)
+            WORDS_REFUSED
         }
-        Err(error) => {
-            error.print(rt)?;
-            Ok(0)
-        }
+        Err(error) => match error.print(rt) {
+            Ok(()) => 0,
+            Err(error) => Ending::of_device(OUTPUT, error).tell(rt),
+        },
     }
 }
 
 fn main(rt: HostRuntime) -> ExitCode {
-    let status = match run_words(&rt) {
-        Ok(status) => status,
-        Err(fault) => {
-            let _ = eprintln!(&rt; "{fault}");
-            fault.exit_status()
-        }
-    };
-    ExitCode::from(status)
+    ExitCode::from(run_words(&rt))
 }

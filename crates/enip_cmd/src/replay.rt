@@ -56,11 +56,32 @@ pub fn replay_bytes<W: Write + Drop, E: Write + Drop>(
     }
 }
 
-fn run<W: Write + Drop>(alloc: Global, config: &[u8], script: &[u8], output: W) -> Result<(), Fault>
+/// As `replay_bytes`, and answers why it ended early.
+pub(crate) fn run<W: Write + Drop>(
+    alloc: Global,
+    config: &[u8],
+    script: &[u8],
+    output: W,
+) -> Result<(), Fault>
     ensures accepted { IfOk result (λ _. IsAccepted config.now) }
     ensures refused { IfErr result (IsReplayFaultOf config.now) }
 {
     let adapter = adapter_from(alloc, config)?;
     enip_text::replay(alloc, adapter, script, output)?;
+    Ok(())
+}
+
+/// As `replay_bytes`, with the run drawn as a picture, and the fault in place of a status and a line.
+pub fn draw<W: Write + Drop>(
+    alloc: Global,
+    config: &[u8],
+    script: &[u8],
+    output: W,
+) -> Result<(), Fault>
+    ensures accepted { IfOk result (λ _. IsAccepted config.now) }
+    ensures refused { IfErr result (IsReplayFaultOf config.now) }
+{
+    let adapter = adapter_from(alloc, config)?;
+    enip_text::draw_replay(alloc, adapter, script, output)?;
     Ok(())
 }

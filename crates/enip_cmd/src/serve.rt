@@ -1,14 +1,14 @@
 //! `enip serve`: the adapter's peers on the sockets of the machine.
 //!
-//! In a round the system is asked which sockets may be ready, then one datagram is answered, each peer that may be ready
-//! has one turn, and one connection is taken. All of it has one moment, in microseconds since the beginning.
+//! In a round the system is asked which sockets may be ready, then one datagram is answered, each peer that may be
+//! ready has one turn, and one connection is taken. All of it has one moment, in microseconds since the beginning.
 
 ghost use Rattle.std.specs.Prelude.{◌≡◌, ◌≤◌, ◌<◌, ◌⊎◌, ◌↔◌, Some, IfSome, IsSomeAnd, IfErr, IsTrue};
 ghost use Rattle.enip_text.specs.Statuses.{IsOfDevices};
 
 use crate::discovery::Discovery;
 use crate::door::Door;
-use crate::wire::TcpWire;
+use crate::watch::Watch;
 use enip_adapter::Adapter;
 use enip_peers::{Peers, RoundEnd};
 use enip_text::Fault;
@@ -49,17 +49,18 @@ pub(crate) struct Serving {
 }
 
 /// Serves the connections that come, until so many as are taken were taken and are over. One that fails ends alone.
-pub(crate) fn serve_connections<R: Clock + Net>(
+pub(crate) fn serve_connections<R: Clock + Net, W: Watch + Drop>(
     rt: &R,
     alloc: Global,
     sockets: Sockets,
     adapter: Adapter,
     serving: Serving,
+    watch: W,
 ) -> Result<(), Fault>
     ensures { IfErr result IsOfDevices }
 {
     let start = Instant::now(rt)?;
-    let mut server = Server::new(rt, alloc, sockets, adapter, serving)?;
+    let mut server = Server::new(rt, alloc, sockets, adapter, serving, watch)?;
     let mut now = 0;
     for _ in 0..u64::MAX {
         if server.is_done() {
@@ -95,13 +96,15 @@ fn earlier(first: Option<u64>, second: Option<u64>) -> Option<u64>
 
 /// The peers and the sockets of a device that is served.
 #[derive(Drop)]
-struct Server {
+struct Server<W: Watch + Drop> {
     poll: Poll,
     events: Events,
     /// Where connections come in, while they are taken.
     door: Option<Door>,
     discovery: Option<Discovery>,
-    peers: Peers<TcpWire>,
+    peers: Peers<W::Wire>,
+    /// Who watches the connections.
+    watch: W,
     /// What the last round came to; a peer that came since may be ready.
     last: RoundEnd,
     /// How many connections are taken.
@@ -114,7 +117,7 @@ struct Server {
     held: u32,
 }
 
-impl Server {
+impl<W: Watch + Drop> Server<W> {
     /// A device's peers, of which there are none yet, and its sockets, which the system reports from now on.
     fn new<N: Net>(
         net: &N,
@@ -122,7 +125,8 @@ impl Server {
         sockets: Sockets,
         adapter: Adapter,
         serving: Serving,
-    ) -> Result<Server, Fault>
+        watch: W,
+    ) -> Result<Server<W>, Fault>
         ensures { IfErr result IsOfDevices }
     {
         let Sockets {
@@ -149,6 +153,7 @@ impl Server {
             door: Some(Door::new(listener)),
             discovery,
             peers,
+            watch,
             last,
             count: serving.count,
             taken: 0,
@@ -212,7 +217,7 @@ impl Server {
     /// One round: a datagram, a turn for each peer that may be ready, and a connection.
     fn round(&mut self, now: u64) {
         if let Some(discovery) = &mut self.discovery {
-            discovery.answer_one(&self.peers, now);
+            discovery.answer_one(&self.peers, &self.watch, now);
         }
         self.last = self.peers.round(now);
         if self.last.ended > 0 {
@@ -264,6 +269,7 @@ impl Server {
     fn seat(&mut self, now: u64, stream: TcpStream) -> bool {
         let mut stream = stream;
         let Some(place) = self.peers.first_free() else {
+            self.watch.turned_away(stream);
             return false;
         };
         let interests = Interest::READABLE | Interest::WRITABLE;
@@ -274,7 +280,10 @@ impl Server {
         if registered.is_err() {
             return false;
         }
-        if self.peers.come(now, TcpWire::new(stream)).is_err() {
+        let Some(wire) = self.watch.wire(stream) else {
+            return false;
+        };
+        if self.peers.come(now, wire).is_err() {
             return false;
         }
         self.last.ready = true;

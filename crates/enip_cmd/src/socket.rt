@@ -1,15 +1,36 @@
 //! A client's connection of TCP as a source and a sink of bytes, whose calls wait.
 
-ghost use Rattle.std.specs.Prelude.{◌≡◌, ◌≤◌, length, None, IfSome};
+ghost use Rattle.std.specs.Prelude.{◌≡◌, ◌≤◌, length, None, IfOk};
 
+use crate::place::Patience;
+use crate::reason::Reason;
 use enip_wire::{Failed, Sink, Source};
-use std::io::{ErrorKind, Read, Write};
+use std::io::{self, ErrorKind, Read, Write};
 use std::net::TcpStream;
 use std::rt::Clock;
 use std::time::Instant;
 
 /// How often a read or a write is tried that a signal interrupts.
 const INTERRUPTIONS: u32 = 64;
+
+/// Why nothing more comes from a connection, or goes out.
+#[derive(Clone, Copy, Debug)]
+pub(crate) enum Lost {
+    /// The other end shut its writing side.
+    Ended,
+    /// The system failed it.
+    Failed(io::Error),
+}
+
+impl Lost {
+    /// Why, of the connection to an address that was waited for so long.
+    pub(crate) fn reason<'a>(self, address: &'a str, patience: Patience<'a>) -> Reason<'a> {
+        match self {
+            Lost::Ended => Reason::Left(address),
+            Lost::Failed(error) => patience.reason(address, error),
+        }
+    }
+}
 
 /// The reading side of a connection, with the microseconds since a start.
 #[derive(Drop)]
@@ -20,6 +41,7 @@ pub(crate) struct SocketSource<'a, C> {
     moment: u64,
     reads: u64,
     failures: u64,
+    lost: Option<Lost>,
 }
 
 impl<'a, C: Clock> SocketSource<'a, C> {
@@ -35,7 +57,13 @@ impl<'a, C: Clock> SocketSource<'a, C> {
             moment: 0,
             reads: 0,
             failures: 0,
+            lost: None,
         }
+    }
+
+    /// Why nothing more comes, where the last read gave nothing.
+    pub(crate) fn lost(&self) -> Option<Lost> {
+        self.lost
     }
 }
 
@@ -52,12 +80,16 @@ impl<C: Clock> Source for SocketSource<'_, C> {
         self.reads += 1;
         let count = read_some(self.stream, into);
         match (count, self.start.elapsed(self.clock)) {
-            (Some(0), _) => Ok(0),
-            (Some(count), Ok(elapsed)) => {
+            (Ok(0), _) => {
+                self.lost = Some(Lost::Ended);
+                Ok(0)
+            }
+            (Ok(count), Ok(elapsed)) => {
                 self.moment = u64::try_from(elapsed.as_micros()).unwrap_or(u64::MAX);
                 Ok(count)
             }
-            _ => {
+            (Err(error), _) | (Ok(_), Err(error)) => {
+                self.lost = Some(Lost::Failed(error));
                 self.failures += 1;
                 Err(Failed)
             }
@@ -82,6 +114,7 @@ impl<C: Clock> Source for SocketSource<'_, C> {
 pub(crate) struct SocketSink<'a> {
     stream: &'a TcpStream,
     failures: u64,
+    lost: Option<Lost>,
 }
 
 impl<'a> SocketSink<'a> {
@@ -92,7 +125,13 @@ impl<'a> SocketSink<'a> {
         SocketSink {
             stream,
             failures: 0,
+            lost: None,
         }
+    }
+
+    /// Why nothing more goes out, where the last write failed.
+    pub(crate) fn lost(&self) -> Option<Lost> {
+        self.lost
     }
 }
 
@@ -102,13 +141,14 @@ impl Sink for SocketSink<'_> {
     ghost failures = { λ s. s.failures };
 
     fn write(&mut self, from: &[u8]) -> Result<usize, Failed> {
-        match write_some(self.stream, from) {
-            Some(count) if count > 0 || from.is_empty() => Ok(count),
-            _ => {
-                self.failures += 1;
-                Err(Failed)
-            }
-        }
+        let error = match write_some(self.stream, from) {
+            Ok(count) if count > 0 || from.is_empty() => return Ok(count),
+            Ok(_) => io::Error::from(ErrorKind::WriteZero),
+            Err(error) => error,
+        };
+        self.lost = Some(Lost::Failed(error));
+        self.failures += 1;
+        Err(Failed)
     }
 
     fn failures(&self) -> u64 {
@@ -116,32 +156,30 @@ impl Sink for SocketSink<'_> {
     }
 }
 
-/// Reads what has come, `None` where that fails.
-fn read_some(stream: &TcpStream, into: &mut [u8]) -> Option<usize>
-    ensures { IfSome result (λ n. n ≤ length into.new) }
+/// Reads what has come.
+fn read_some(stream: &TcpStream, into: &mut [u8]) -> io::Result<usize>
+    ensures { IfOk result (λ n. n ≤ length into.new) }
 {
     let mut stream = stream;
     for _ in 0..INTERRUPTIONS {
         match stream.read(into) {
-            Ok(count) => return Some(count),
             Err(error) if error.kind() == ErrorKind::Interrupted => {}
-            Err(_) => return None,
+            read => return read,
         }
     }
-    None
+    Err(io::Error::from(ErrorKind::Interrupted))
 }
 
-/// Writes a front of these bytes, `None` where that fails.
-fn write_some(stream: &TcpStream, from: &[u8]) -> Option<usize>
-    ensures { IfSome result (λ n. n ≤ length from.now) }
+/// Writes a front of these bytes.
+fn write_some(stream: &TcpStream, from: &[u8]) -> io::Result<usize>
+    ensures { IfOk result (λ n. n ≤ length from.now) }
 {
     let mut stream = stream;
     for _ in 0..INTERRUPTIONS {
         match stream.write(from) {
-            Ok(count) => return Some(count),
             Err(error) if error.kind() == ErrorKind::Interrupted => {}
-            Err(_) => return None,
+            written => return written,
         }
     }
-    None
+    Err(io::Error::from(ErrorKind::Interrupted))
 }

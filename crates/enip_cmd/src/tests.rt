@@ -1,11 +1,12 @@
-//! Worked rows through `answer`, `replay` and `show`, a configuration and a script that are no text, the program's words,
-//! and a connection on a socket.
+//! Worked rows through `answer`, `replay` and `show`, a configuration and a script that are no text, the program's
+//! words, and a connection on a socket.
 
 mod rows;
 
 use super::answer::{answer, answer_bytes};
 use super::replay::{replay, replay_bytes};
 use super::serve::{Serving, Sockets, serve_connections};
+use super::watch::Unwatched;
 use clap::error::ErrorKind;
 use enip_config::adapter_from;
 use enip_peers::NO_LIMIT;
@@ -134,7 +135,7 @@ fn on_a_socket(rt: HostRuntime) -> Result<(), Fail> {
         count: 1,
         silence: NO_LIMIT,
     };
-    assert!(rt; serve_connections(&rt, rt.alloc(), sockets, adapter, serving).is_ok());
+    assert!(rt; serve_connections(&rt, rt.alloc(), sockets, adapter, serving, Unwatched).is_ok());
     let mut answer = Vec::new(rt.alloc());
     peer.read_to_end(&mut answer)?;
     let registered =

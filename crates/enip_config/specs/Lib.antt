@@ -3,3 +3,4 @@ pub mod Known
 pub mod Refusals
 pub mod Told
 pub mod Configured
+pub mod Explained

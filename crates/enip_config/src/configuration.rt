@@ -62,7 +62,7 @@ impl Configuration {
     }
 
     /// The configuration that a table tells, each of whose keys is known.
-    fn from_table(alloc: Global, text: &Table) -> Result<Configuration, Fault>
+    pub(crate) fn from_table(alloc: Global, text: &Table) -> Result<Configuration, Fault>
         ensures read { IfOk result (HasValues (table_view text.now)) }
         ensures refused { IfErr result (IsUnread (table_view text.now)) }
     {

@@ -12,7 +12,7 @@ use toml::{Table, Value};
 
 /// A kind of table, by where it stands.
 #[derive(Clone, Copy)]
-enum TableKind {
+pub(crate) enum TableKind {
     /// The text itself, but for its tables.
     Text,
     /// The table `counter`.
@@ -22,7 +22,7 @@ enum TableKind {
 }
 
 /// The keys of the text whose values are numbers.
-static TEXT_NUMBERS: [NumberKey; 13] = [
+pub(crate) static TEXT_NUMBERS: [NumberKey; 13] = [
     NumberKey::Vendor,
     NumberKey::DeviceType,
     NumberKey::ProductCode,
@@ -40,7 +40,7 @@ static TEXT_NUMBERS: [NumberKey; 13] = [
 
 impl TableKind {
     /// Whether a key is known here.
-    fn knows(self, name: &str) -> bool
+    pub(crate) fn knows(self, name: &str) -> bool
         ensures { result ≡ is_among (keys_of self) name.now }
     {
         match self {
@@ -140,7 +140,7 @@ fn are_other_keys(table: &Table, kind: TableKind) -> bool
 
 /// Whether a value has a key within it, at any depth.
 #[cycle(keys)]
-fn has_key(value: &Value) -> bool
+pub(crate) fn has_key(value: &Value) -> bool
     ensures { result ≡ has_key (view value.now) }
 {
     match value {

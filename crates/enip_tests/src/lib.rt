@@ -18,4 +18,6 @@ mod peers;
 #[cfg(test)]
 mod text;
 #[cfg(test)]
+mod values;
+#[cfg(test)]
 mod wire;

@@ -4,6 +4,8 @@ mod answering;
 mod asking;
 mod configuration;
 mod demo;
+mod exchanges;
+mod ladders;
 mod replaying;
 mod showing;
 mod streams;

@@ -4,3 +4,4 @@ pub mod LineLemmas
 pub mod OutcomeLemmas
 pub mod PathLemmas
 pub mod ReplayLemmas
+pub mod ListingLemmas

@@ -1,5 +1,5 @@
 -- One request to a device, and what is told of its reply.
-use Rattle.std.specs.Prelude.{◌≡◌, ◌==◌, ℕ, List, Some, Ok, ⊤, if◌then◌else◌}
+use Rattle.std.specs.Prelude.{◌≡◌, ◌==◌, ℕ, List, Some, Ok, ⊤, if◌then◌else◌, slice_get, unwrap_or}
 use Rattle.cip_message.specs.PathWriting.{short}
 use Rattle.cip_message.specs.Request.{request}
 use Rattle.cip_message.specs.Reply.{Reply, reply_of}
@@ -10,10 +10,12 @@ use Rattle.enip_text.specs.declared.asking.Question.{Question}
 use Rattle.enip_text.specs.declared.asking.Replied.{Replied}
 use Rattle.enip_text.specs.declared.asking.Replied.TheVariants.{Done, Refused}
 use Rattle.enip_text.specs.declared.asking.AskingStop.{AskingStop}
-use Rattle.enip_text.specs.declared.asking.AskingStop.TheVariants.{Hex, Client, Program}
+use Rattle.enip_text.specs.declared.asking.AskingStop.TheVariants.{Hex, Session, Client, Shape, Program}
 use Rattle.enip_text.specs.declared.fault.Fault.TheVariants.{Device, Memory}
+use Rattle.enip_text.specs.declared.style.Style.{Style}
 use Rattle.enip_text.specs.Digits.{bytes_spelled}
 use Rattle.enip_text.specs.Statuses.{IsOfDevices}
+use Rattle.enip_text.specs.Styles.{IsUnprinted}
 
 -- The bytes that ask this: service, the shortest path, and the data that the digits spell.
 abbrev pub IsRequested : Question → List ℕ → Type 0
@@ -39,19 +41,24 @@ IsOfDevice _ = ⊥
 -- The exchange failed, a device or memory did.
 abbrev pub IsOfExchange : AskingStop → Type 0
 IsOfExchange Hex = ⊥
+IsOfExchange (Session status) = ⊤
 IsOfExchange (Client fault) = ⊤
+IsOfExchange (Shape value_type fault) = ⊤
 IsOfExchange (Program fault) = IsOfDevices fault
 
--- What is told of a reply: general status 0 is success.
+-- What is told of a reply: general status 0 is success, another is told with the first additional word, or 0.
 abbrev pub told_of : Reply → Replied
-told_of a = if a.status == 0 then Done else Refused
+told_of a = if a.status == 0 then Done else Refused a.status (unwrap_or (slice_get a.additional 0) 0)
 
 -- These bytes are a reply, of which this is told.
 abbrev pub IsReplyTold : List ℕ → Replied → Type 0
 IsReplyTold bytes replied = (a : Reply) × (reply_of bytes ≡ Ok a) × (replied ≡ told_of a)
 
--- These bytes are no reply, or else a device or memory failed.
-abbrev pub IsUntold : List ℕ → AskingStop → Type 0
-IsUntold bytes Hex = ⊥
-IsUntold bytes (Client fault) = (fault ≡ client.Malformed) × ((a : Reply) → reply_of bytes ≡ Ok a → ⊥)
-IsUntold bytes (Program fault) = IsOfDevices fault
+-- These bytes are no reply, or one whose data are no values of the style's type, or else a device or memory failed.
+abbrev pub IsUntold : Style → List ℕ → AskingStop → Type 0
+IsUntold style bytes Hex = ⊥
+IsUntold style bytes (Session status) = ⊥
+IsUntold style bytes (Client fault) = (fault ≡ client.Malformed) × ((a : Reply) → reply_of bytes ≡ Ok a → ⊥)
+IsUntold style bytes (Shape value_type fault) =
+    (a : Reply) × (reply_of bytes ≡ Ok a) × IsUnprinted style a.«data» (Shape value_type fault)
+IsUntold style bytes (Program fault) = IsOfDevices fault

@@ -5,3 +5,8 @@ pub mod Asking
 pub mod Script
 pub mod Outcome
 pub mod Replay
+pub mod Listing
+pub mod Ladder
+pub mod Styles
+pub mod Identities
+pub mod Readings

@@ -15,18 +15,20 @@ use Rattle.enip_text.specs.declared.showing.ShowingStop.TheVariants.{Program}
 
 -- The exit status of a program that ends so.
 abbrev pub exit_status : Fault → ℕ
-exit_status (Line number) = 4
+exit_status (Line number why) = 4
 exit_status Device = 5
 exit_status Memory = 5
 
 -- The exit status of a program that told a reply, and of one that told none.
 abbrev pub replied_status : Replied → ℕ
 replied_status replied.Done = 0
-replied_status replied.Refused = 6
+replied_status (replied.Refused status extended) = 6
 
 abbrev pub asking_stop_status : AskingStop → ℕ
 asking_stop_status asking.Hex = 2
+asking_stop_status (asking.Session status) = 7
 asking_stop_status (asking.Client fault) = 7
+asking_stop_status (asking.Shape value_type fault) = 7
 asking_stop_status (asking.Program fault) = exit_status fault
 
 -- The exit status of a program that asked: that of what was told, or of why nothing was.
@@ -47,12 +49,12 @@ IsOfDevices _ = ⊥
 
 -- This line is refused, which is so only where it may be, or else a device or memory failed.
 abbrev pub EndsAt : Type 0 → ℕ → Fault → Type 0
-EndsAt refused number (Line n) = (n ≡ number) × refused
+EndsAt refused number (Line n why) = (n ≡ number) × refused
 EndsAt refused number fault = IsOfDevices fault
 
 -- The same, of a line of some number and text.
 abbrev pub EndsBy : (ℕ → List ℕ → Type 0) → Fault → Type 0
-EndsBy refuses (Line number) = (text : List ℕ) × refuses number text
+EndsBy refuses (Line number why) = (text : List ℕ) × refuses number text
 EndsBy refuses fault = IsOfDevices fault
 
 -- What a stream that fails is to the program: want of memory, or a device that failed.

@@ -8,6 +8,7 @@ ghost use Rattle.enip_text.specs.Statuses.{IsOfDevices, EndsBy};
 use crate::digits::decode;
 use crate::fault::Fault;
 use crate::input_lines::{TakeLines, read_lines};
+use crate::line_fault::LineFault;
 use crate::lines::Line;
 use crate::number::Number;
 use enip_adapter::{Adapter, Full, LONGEST_ANSWER, Peer};
@@ -158,7 +159,7 @@ impl<W: Write + Drop> TakeLines for Desk<W> {
         if self.run_line(text)? {
             Ok(())
         } else {
-            Err(Fault::Line(number))
+            Err(Fault::Line(number, LineFault::of_input(text)))
         }
     }
 

@@ -2,16 +2,20 @@
 
 ghost use Rattle.std.specs.Prelude.{◌≡◌, ◌<◌, None, IfOk, IfErr};
 ghost use Rattle.cip_message.specs.PathWriting.{short};
+ghost use Rattle.cip_message.specs.Request.{request};
 ghost use Rattle.enip_text.specs.Asking.{IsRequested, IsReplyTold, IsUntold, IsOfDevice, IsOfExchange};
 ghost use Rattle.enip_text.specs.Digits.{bytes_spelled};
 ghost use Rattle.enip_text.specs.Statuses.{asking_status, replied_status, asking_stop_status};
 
-use crate::digits::{decode, print_digits};
+use crate::digits::decode;
 use crate::fault::Fault;
+use crate::style::{Style, data_object, print_data};
 use arrayvec::ArrayVec;
 use cip_message::{Path, ReplyView, write_path};
 use cip_objects::ReplyBuf;
+use cip_values::{ValueFault, ValueType};
 use enip_client::{AskFault, Client, ClientFault, Wants, ask};
+use enip_json::refusal_line;
 use enip_wire::{Sink, Source};
 use std::alloc::{AllocError, Global};
 use std::io::{self, BufWriter, Write};
@@ -59,14 +63,27 @@ impl Question<'_> {
         if !decode(self.digits.as_bytes(), &mut digits, &mut data)? {
             return Err(AskingStop::Hex);
         }
-        let path = path_bytes(self.path);
-        let mut request = Vec::new(alloc);
-        // the path is counted in words of two bytes (message router)
-        request.extend_from_slice(&[self.service, (path.len() / 2) as u8])?;
-        request.extend_from_slice(path.as_slice())?;
-        request.extend_from_slice(data.as_slice())?;
-        Ok(request)
+        Ok(spell_request(alloc, self.service, self.path, data.as_slice())?)
     }
+}
+
+/// The bytes of a request: service, the shortest path, and data.
+pub(crate) fn spell_request(
+    alloc: Global,
+    service: u8,
+    path: Path,
+    bytes: &[u8],
+) -> Result<Vec<u8>, AllocError>
+    ensures { IfOk result (λ spelled. spelled.items
+        ≡ request (record { service = service; path = short path; «data» = bytes.now })) }
+{
+    let path = path_bytes(path);
+    let mut request = Vec::new(alloc);
+    // the path is counted in words of two bytes (message router)
+    request.extend_from_slice(&[service, (path.len() / 2) as u8])?;
+    request.extend_from_slice(path.as_slice())?;
+    request.extend_from_slice(bytes)?;
+    Ok(request)
 }
 
 /// The shortest spelling of a path.
@@ -84,8 +101,8 @@ fn path_bytes(path: Path) -> ArrayVec<u8, LONGEST_PATH>
 pub enum Replied {
     /// The request was done.
     Done,
-    /// It was refused.
-    Refused,
+    /// It was refused: the general status, and the first additional word or 0.
+    Refused(u8, u16),
 }
 
 impl Replied {
@@ -95,7 +112,7 @@ impl Replied {
     {
         match self {
             Replied::Done => 0,
-            Replied::Refused => 6,
+            Replied::Refused(..) => 6,
         }
     }
 }
@@ -106,9 +123,15 @@ pub enum AskingStop {
     /// The data of the request are no hexadecimal digits.
     #[error("hex")]
     Hex,
+    /// The device answered RegisterSession with this encapsulation status, 32 bits.
+    #[error("fault {}", ClientFault::Status(*.0).number())]
+    Session(u32),
     /// The exchange met this fault.
     #[error("fault {}", .0.number())]
     Client(ClientFault),
+    /// The data of the reply are no values of this type.
+    #[error("fault {}", ClientFault::Malformed.number())]
+    Shape(ValueType, ValueFault<'static>),
     /// The program itself failed.
     #[error("{0}")]
     Program(Fault),
@@ -121,7 +144,7 @@ impl AskingStop {
     {
         match self {
             AskingStop::Hex => 2,
-            AskingStop::Client(_) => 7,
+            AskingStop::Session(_) | AskingStop::Client(_) | AskingStop::Shape(..) => 7,
             AskingStop::Program(fault) => fault.exit_status(),
         }
     }
@@ -176,20 +199,21 @@ impl From<AskFault> for AskingStop {
     }
 }
 
-/// Asks once over a reader and a writer, on a connection or not, and prints the reply on `output`: its data in
-/// hexadecimal digits, `ok` where there are none, or `refused 0xGG`, with ` 0xEEEE` where the first additional word is
-/// not 0.
+/// Asks once over a reader and a writer, on a connection or not, and prints the reply on `output` in a style: its
+/// data, or `refused 0xGG`, with ` 0xEEEE` where the first additional word is not 0.
 ///
 /// # Errors
 ///
-/// `Client` with the client's fault, with `Request` where the connection refuses the request, with `Malformed` where
-/// the reply is none; `Program` where a device failed, the input ended, or memory was refused.
+/// `Session` where the device refuses the session; `Client` with the client's fault, with `Request` where the
+/// connection refuses the request, with `Malformed` where the reply is none; `Shape` where its data are no values of
+/// the style's type; `Program` where a device failed, the input ended, or memory was refused.
 pub fn ask_over<R: Source, W: Sink, O: Write + Drop>(
     alloc: Global,
     reader: &mut R,
     writer: &mut W,
     request: &[u8],
     connected: bool,
+    style: Style,
     output: O,
 ) -> Result<Replied, AskingStop>
     requires reads { R.failures reader.old < u64.MAX }
@@ -204,10 +228,13 @@ pub fn ask_over<R: Source, W: Sink, O: Write + Drop>(
     let mut reply = ReplyBuf::new();
     let asked = ask(&mut client, reader, writer, request, connected, &mut reply);
     let replied = match asked {
-        Ok(()) => print_reply(&mut output, reply.as_slice())?,
+        Ok(()) => print_reply(alloc, &mut output, style, reply.as_slice())?,
         // the connection was not opened or not closed
         Err(AskFault::Client(ClientFault::Refused(status, extended))) => {
-            print_refused(&mut output, status, extended)?
+            print_refusal(alloc, &mut output, style, status, extended)?
+        }
+        Err(AskFault::Client(ClientFault::Status(status))) if !client.is_registered() => {
+            return Err(AskingStop::Session(status));
         }
         Err(fault) => return Err(AskingStop::from(fault)),
     };
@@ -215,11 +242,21 @@ pub fn ask_over<R: Source, W: Sink, O: Write + Drop>(
     Ok(replied)
 }
 
-/// Prints a reply.
-fn print_reply<O: Write>(output: &mut O, bytes: &[u8]) -> Result<Replied, AskingStop>
+/// Prints a reply in a style.
+pub(crate) fn print_reply<O: Write>(
+    alloc: Global,
+    output: &mut O,
+    style: Style,
+    bytes: &[u8],
+) -> Result<Replied, AskingStop>
     ensures told { IfOk result (IsReplyTold bytes.now) }
-    ensures untold { IfErr result (IsUntold bytes.now) }
+    ensures untold { IfErr result (IsUntold style bytes.now) }
 {
+    if style.is_json {
+        let line = reply_object(alloc, style, bytes)?;
+        writeln!(output, "{}", line.text)?;
+        return Ok(line.replied);
+    }
     let Ok(reply) = ReplyView::read(bytes) else {
         return Err(AskingStop::Client(ClientFault::Malformed));
     };
@@ -228,18 +265,63 @@ fn print_reply<O: Write>(output: &mut O, bytes: &[u8]) -> Result<Replied, Asking
         let extended = reply.additional_word(0).unwrap_or(0);
         return print_refused(output, reply.status, extended);
     }
-    if reply.data.is_empty() {
-        output.write_all(b"ok")?;
-    } else {
-        print_digits(output, reply.data)?;
-    }
-    output.write_all(b"\n")?;
+    print_data(alloc, output, style, reply.data)?;
     Ok(Replied::Done)
+}
+
+/// The object of a reply, and how the reply was told by it.
+#[derive(Drop)]
+pub(crate) struct ReplyObject {
+    pub(crate) replied: Replied,
+    pub(crate) text: String,
+}
+
+/// The object of a reply.
+pub(crate) fn reply_object(
+    alloc: Global,
+    style: Style,
+    bytes: &[u8],
+) -> Result<ReplyObject, AskingStop>
+    ensures told { IfOk result (λ told. IsReplyTold bytes.now told.replied) }
+    ensures untold { IfErr result (IsUntold style bytes.now) }
+{
+    let Ok(reply) = ReplyView::read(bytes) else {
+        return Err(AskingStop::Client(ClientFault::Malformed));
+    };
+    if reply.status != 0 {
+        let extended = reply.additional_word(0).unwrap_or(0);
+        return Ok(ReplyObject {
+            replied: Replied::Refused(reply.status, extended),
+            text: refusal_line(alloc, reply.status, extended)?,
+        });
+    }
+    Ok(ReplyObject {
+        replied: Replied::Done,
+        text: data_object(alloc, style, reply.data)?,
+    })
+}
+
+/// Prints a refusal in a style.
+fn print_refusal<O: Write>(
+    alloc: Global,
+    output: &mut O,
+    style: Style,
+    status: u8,
+    extended: u16,
+) -> Result<Replied, AskingStop>
+    ensures told { IfOk result (λ replied. replied ≡ Replied.Refused status extended) }
+    ensures untold { IfErr result IsOfDevice }
+{
+    if style.is_json {
+        writeln!(output, "{}", refusal_line(alloc, status, extended)?)?;
+        return Ok(Replied::Refused(status, extended));
+    }
+    print_refused(output, status, extended)
 }
 
 /// Prints that a request was refused: `refused 0xGG`, with ` 0xEEEE` where the first additional word is not 0.
 fn print_refused<O: Write>(output: &mut O, status: u8, extended: u16) -> Result<Replied, AskingStop>
-    ensures told { IfOk result (λ replied. replied ≡ Replied.Refused) }
+    ensures told { IfOk result (λ replied. replied ≡ Replied.Refused status extended) }
     ensures untold { IfErr result IsOfDevice }
 {
     write!(output, "refused {status:#04x}")?;
@@ -247,7 +329,7 @@ fn print_refused<O: Write>(output: &mut O, status: u8, extended: u16) -> Result<
         write!(output, " {extended:#06x}")?;
     }
     output.write_all(b"\n")?;
-    Ok(Replied::Refused)
+    Ok(Replied::Refused(status, extended))
 }
 
 /// The exit status of the program, with a line on `errors` where no reply was told.

@@ -3,6 +3,7 @@
 ghost use Rattle.std.specs.Prelude.{◌≡◌};
 ghost use Rattle.enip_text.specs.Statuses.{exit_status};
 
+use crate::line_fault::LineFault;
 use std::alloc::{AllocError, AllocFailed};
 use std::io;
 use thiserror::Error;
@@ -10,9 +11,9 @@ use thiserror::Error;
 /// Why a command ends early. Its text goes to standard error.
 #[derive(Clone, Copy, Debug, PartialEq, Eq, Error)]
 pub enum Fault {
-    /// A line of the input is refused, by its number from 1. The lines before it were run.
+    /// A line of the input is refused, by its number from 1, and why. The lines before it were run.
     #[error("line {0}")]
-    Line(u64),
+    Line(u64, LineFault),
     /// A file or a stream could not be read or written.
     #[error("device")]
     Device,
@@ -27,7 +28,7 @@ impl Fault {
         ensures { result ≡ exit_status self }
     {
         match self {
-            Fault::Line(_) => 4,
+            Fault::Line(..) => 4,
             Fault::Device | Fault::Memory => 5,
         }
     }

@@ -13,6 +13,7 @@ ghost use Rattle.enip_text.specs.Statuses.{EndsBy, IsOfDevices, replay_stop_stat
 use crate::asking::WANTS;
 use crate::fault::Fault;
 use crate::input_lines::{TakeLines, read_lines};
+use crate::line_fault::LineFault;
 use crate::outcome::{AssemblyData, Counter, Outcome, Standing};
 use crate::script::{event_of, is_skipped};
 use cip_bytes::protocol::ASSEMBLY;
@@ -125,7 +126,7 @@ impl From<BenchFault> for ReplayStop {
 }
 
 /// An adapter and a client with its connection open.
-fn bench_of(alloc: Global, adapter: Adapter) -> Result<Bench, ReplayStop>
+pub(crate) fn bench_of(alloc: Global, adapter: Adapter) -> Result<Bench, ReplayStop>
     requires { IsNewAdapter adapter }
     ensures made { IfOk result (IsOpeningOf adapter) }
     ensures refused { IfErr result (IsStopOf adapter) }
@@ -197,7 +198,7 @@ impl<W: Write + Drop> TakeLines for Player<W> {
         if self.run_line(text)? {
             Ok(())
         } else {
-            Err(Fault::Line(number))
+            Err(Fault::Line(number, LineFault::of_script(text)))
         }
     }
 
@@ -208,7 +209,7 @@ impl<W: Write + Drop> TakeLines for Player<W> {
 }
 
 /// Prints the counter, and the data of each assembly, by rising instance.
-fn print_objects<W: Write>(output: &mut W, objects: &Objects) -> Result<(), Fault>
+pub(crate) fn print_objects<W: Write>(output: &mut W, objects: &Objects) -> Result<(), Fault>
     ensures printed { OnOk result (Appends (W.contents output.old) (W.contents output.new)
         (objects_printed objects.now)) }
     ensures refused { IfErr result IsOfDevices }

@@ -31,7 +31,7 @@ pub fn show<R: Read + Drop, W: Write + Drop, E: Write + Drop>(
     ensures { (result ≡ 0) ⊎ (result ≡ 5) }
 {
     let mut errors = errors;
-    match run(alloc, input, output) {
+    match show_frames(alloc, input, output) {
         Ok(()) => 0,
         Err(fault) => {
             let _ = writeln!(errors, "{fault}");
@@ -40,7 +40,16 @@ pub fn show<R: Read + Drop, W: Write + Drop, E: Write + Drop>(
     }
 }
 
-fn run<R: Read + Drop, W: Write + Drop>(alloc: Global, input: R, output: W) -> Result<(), Fault>
+/// As `show`, and answers why it ended early.
+///
+/// # Errors
+///
+/// `Device` where the input could not be read or the output written. `Memory` where memory is refused.
+pub fn show_frames<R: Read + Drop, W: Write + Drop>(
+    alloc: Global,
+    input: R,
+    output: W,
+) -> Result<(), Fault>
     ensures { IfErr result IsOfDevices }
 {
     let mut printer = Printer {

@@ -1,214 +1,17 @@
 //! The words that the program takes, and what it says of them.
 
-use clap::{Arg, ArgAction, Command, value_parser};
+use crate::arguments::Argument;
+use crate::texts::{
+    ABOUT_ANSWER, ABOUT_CALL, ABOUT_CHECK, ABOUT_DISCOVER, ABOUT_GET, ABOUT_IDENTITY, ABOUT_REPLAY,
+    ABOUT_SERVE, ABOUT_SERVICES, ABOUT_SET, ABOUT_SHOW, AFTER_ASKING, AFTER_LISTING,
+};
+use clap::Command;
 use std::alloc::{AllocError, Global};
 
 /// The name of the program.
 pub const PROGRAM: &str = "enip";
 
 const VERSION: &str = "0.1.0";
-
-const ABOUT_ANSWER: &str = "Answers frames that are given as lines of hexadecimal digits
-
-Reads lines from standard input, and prints the answers of an adapter:
-
-  P HEX    a piece of the stream of peer P, a digit from 1 to 9, who begins at its first line
-  end P    the end of peer P
-  now N    the moment of the pieces that follow, in microseconds
-
-HEX may have spaces. Empty lines and lines that begin with # are skipped.
-
-Prints
-
-  P hex       an answer to peer P; `cut -c3- | enip show` shows what was answered, and what was asked
-  P closed    the adapter closed the connection of peer P, whose later pieces print nothing
-  P full N    P cannot begin: all places are taken (1), or all session handles were given out (2)
-
-Exit status, and the line on standard error
-
-  0                     all lines were run
-  2  an explanation     the words are refused
-  3  configuration N    the configuration is refused
-  4  line N             line N of the input, from 1, is refused; those before it were run
-  5  device             a file or a stream could not be read or written
-  5  memory             there was no memory
-
-What `configuration N` means, by the first that holds of
-
-  7    it is no TOML
-  9    a key is unknown
-  8    a key is missing, or its value is of another type or out of its range
-  1    `name` is over 32 bytes, or has a byte that can't be printed
-  2    there are over 16 tables `assembly`, or the `members` of one have 0 or over 3,900 bytes
-  3    the `members` of an assembly are over 64, or one has 0 bytes
-  4    the `instance` of an assembly is 0, or stands twice
-  5    `value` of the counter is over its `limit`";
-
-const ABOUT_REPLAY: &str = "Moves a client and an adapter side by side by the lines of a script
-
-The client has registered and opened its connection, and a second session is registered. Each frame that is sent, in
-either direction, has a position in it, from 0. Reads the lines of the file SCRIPT, and prints for each what became of
-it:
-
-  line          printed
-  submit HEX    submit N sent K      the client's request N, from 0, was sent at position K
-                submit refused R     one waits (1), it is too long (2), it is no request (3), 65,535 were submitted since
-                                     the last accepted reply (5)
-  resend        resend K             the request that waits was sent once more, at position K
-                resend none          no request waits
-  reach K       reach K back J       what was sent at K reached the adapter, whose answer was sent back at position J
-                reach K none         it reached the adapter, which did not answer
-                reach K impossible   nothing was sent at K, or what was sent behind it was delivered
-  back J        back J accepted HEX  what was sent back at J reached the client, which accepted this reply
-                back J ignored       the client did not wait for it
-                back J impossible    as of `reach`
-  other HEX     other done           the second session had this request executed, without a connection
-                other impossible     it has under 2 or over 504 bytes
-  shut          shut                 the time of the connection is over
-  giveup        giveup               the client gave up the request that waits, and can submit another
-
-K and J are decimal. HEX may have spaces. Empty lines and lines that begin with # are skipped. At the end it prints
-
-  counter VALUE LIMIT ADDITIONS
-  assembly N HEX                     for each assembly, by rising N
-  client idle                        or `client waiting`, or `client given up`
-
-An example: with the lines
-
-  submit 32022064240105000000
-  reach 0
-  reach 0
-  back 0
-  back 1
-
-the request to add 5 to the counter reaches the adapter twice, and so does its reply the client. The counter moved
-once, and one reply was accepted:
-
-  submit 0 sent 0
-  reach 0 back 0
-  reach 0 back 1
-  back 0 accepted b200000005000000
-  back 1 ignored
-  counter 5 100 1
-  assembly 100 00000000
-  client idle
-
-Exit status, and the line on standard error
-
-  0                     all lines were run
-  2  an explanation     the words are refused
-  3  configuration N    the configuration is refused, as of `enip answer`
-  4  line N             line N of the script, from 1, is refused; those before it were run, and nothing is printed behind
-  5  device             a file or a stream could not be read or written
-  5  memory             there was no memory
-  6  setup              the configuration has no place for both sessions, or for the connection";
-
-const ABOUT_SERVE: &str = "Serves the device on a socket, to several clients at once
-
-Prints where it listens on standard error, once it does. There are as many places as the configuration has `peers`. A
-client for whom there is no place, or no session handle any more, is closed at once.
-
-A client that resets, sends garbage or leaves in mid-frame ends its own connection alone. One that does not send or does
-not read keeps no other waiting; it is ended once it was silent for as long as --idle says.
-
-With --discovery datagrams of UDP at the same address and port are heard as well: a ListIdentity, a ListServices or a
-ListInterfaces without data is answered as over TCP, any other is dropped. At 0.0.0.0 that hears broadcasts too.
-
-Exit status, and the line on standard error, as of `enip answer`; 5 `device` also where the address cannot be bound.";
-
-const ABOUT_SHOW: &str = "Prints the fields of frames that are given as lines of hexadecimal digits
-
-Reads a frame a line from standard input, and prints its header, its items and its request or reply, up to the
-first fault.";
-
-const ABOUT_GET: &str = "Reads an attribute of an object of a device
-
-  enip get 127.0.0.1:44818 1 1 1
-
-reads the vendor: class 1 (Identity), instance 1, attribute 1.";
-
-const ABOUT_SET: &str = "Sets an attribute of an object of a device
-
-  enip set 127.0.0.1:44818 4 100 3 01020304
-
-sets the data of an assembly: class 4 (Assembly), instance 100, attribute 3, to the bytes 01 02 03 04.";
-
-const ABOUT_CALL: &str = "Calls a service of an object of a device
-
-  enip call 127.0.0.1:44818 50 100 1 05000000
-
-calls service 50 (0x32) of class 100, instance 1, with the data 05 00 00 00: of the demo it adds 5 to the counter.";
-
-const AFTER_ASKING: &str =
-    "One request is sent in a session of its own, with --connected on a class 3 connection of its own. There is no
-time-out: a device that does not answer is not waited for beyond what TCP does. Numbers are decimal, and lie in HEX
-least byte first.
-
-Prints
-
-  hex                    the data of the reply
-  ok                     it has none
-  refused 0xGG           the device refused: the general status
-  refused 0xGG 0xEEEE    the same, with the first additional word
-
-Exit status, and the line on standard error
-
-  0                     the request was done
-  2  an explanation     the words are refused
-  2  hex                HEX is no hexadecimal digits
-  5  device             the device could not be reached, read or written, or left before its reply
-  5  memory             there was no memory
-  6                     the device refused
-  7  fault N            there was no reply
-
-What `fault N` means
-
-  1    the request was not possible
-  2    the device answered with an encapsulation status
-  4    a frame was too long
-  6    the reply has another shape
-  7    the request is too long: over 504 bytes, or 498 with --connected";
-
-/// What a command asks for.
-#[derive(Clone, Copy)]
-enum Argument {
-    Config,
-    Script,
-    Listen,
-    Count,
-    Idle,
-    Discovery,
-    Device,
-    Service,
-    Class,
-    Instance,
-    Attribute,
-    Digits,
-    OptionalDigits,
-    Connected,
-}
-
-impl Argument {
-    fn arg<'a>(self, alloc: Global) -> Arg<'a> {
-        match self {
-            Argument::Config => config(alloc),
-            Argument::Script => script(alloc),
-            Argument::Listen => listen(alloc),
-            Argument::Count => count(alloc),
-            Argument::Idle => idle(alloc),
-            Argument::Discovery => discovery(alloc),
-            Argument::Device => device(alloc),
-            Argument::Service => service(alloc),
-            Argument::Class => class(alloc),
-            Argument::Instance => instance(alloc),
-            Argument::Attribute => attribute(alloc),
-            Argument::Digits => digits(alloc).required(true),
-            Argument::OptionalDigits => digits(alloc),
-            Argument::Connected => connected(alloc),
-        }
-    }
-}
-
 /// A command of the program.
 struct Row {
     name: &'static str,
@@ -220,7 +23,7 @@ struct Row {
     arguments: &'static [Argument],
 }
 
-static COMMANDS: [Row; 7] = [
+static COMMANDS: [Row; 11] = [
     Row {
         name: "answer",
         about: "Answers frames that are given as lines of hexadecimal digits",
@@ -229,11 +32,18 @@ static COMMANDS: [Row; 7] = [
         arguments: &[Argument::Config],
     },
     Row {
+        name: "check",
+        about: "Says which device a configuration tells, or what is wrong with it",
+        long_about: ABOUT_CHECK,
+        after: None,
+        arguments: &[Argument::Config],
+    },
+    Row {
         name: "replay",
         about: "Moves a client and an adapter side by side by the lines of a script",
         long_about: ABOUT_REPLAY,
         after: None,
-        arguments: &[Argument::Config, Argument::Script],
+        arguments: &[Argument::Config, Argument::Script, Argument::Ladder],
     },
     Row {
         name: "serve",
@@ -246,6 +56,7 @@ static COMMANDS: [Row; 7] = [
             Argument::Count,
             Argument::Idle,
             Argument::Discovery,
+            Argument::Log,
         ],
     },
     Row {
@@ -256,16 +67,43 @@ static COMMANDS: [Row; 7] = [
         arguments: &[],
     },
     Row {
+        name: "identity",
+        about: "Asks a device what it is",
+        long_about: ABOUT_IDENTITY,
+        after: Some(AFTER_LISTING),
+        arguments: &[Argument::Device, Argument::Json, Argument::Timeout],
+    },
+    Row {
+        name: "services",
+        about: "Asks a device which encapsulation services it offers",
+        long_about: ABOUT_SERVICES,
+        after: Some(AFTER_LISTING),
+        arguments: &[Argument::Device, Argument::Timeout],
+    },
+    Row {
+        name: "discover",
+        about: "Looks for the devices of a network",
+        long_about: ABOUT_DISCOVER,
+        after: None,
+        arguments: &[Argument::Network, Argument::Json, Argument::Answers],
+    },
+    Row {
         name: "get",
-        about: "Reads an attribute of an object of a device",
+        about: "Reads an attribute of an object of a device, or all",
         long_about: ABOUT_GET,
         after: Some(AFTER_ASKING),
         arguments: &[
             Argument::Device,
             Argument::Class,
             Argument::Instance,
-            Argument::Attribute,
+            Argument::OptionalAttribute,
+            Argument::As,
+            Argument::Json,
+            Argument::Every,
+            Argument::Readings,
+            Argument::All,
             Argument::Connected,
+            Argument::Timeout,
         ],
     },
     Row {
@@ -278,8 +116,10 @@ static COMMANDS: [Row; 7] = [
             Argument::Class,
             Argument::Instance,
             Argument::Attribute,
-            Argument::Digits,
+            Argument::Words,
+            Argument::As,
             Argument::Connected,
+            Argument::Timeout,
         ],
     },
     Row {
@@ -293,7 +133,9 @@ static COMMANDS: [Row; 7] = [
             Argument::Class,
             Argument::Instance,
             Argument::OptionalDigits,
+            Argument::Json,
             Argument::Connected,
+            Argument::Timeout,
         ],
     },
 ];
@@ -319,101 +161,7 @@ fn command<'a>(alloc: Global, row: &Row) -> Result<Command<'a>, AllocError> {
         command = command.after_long_help(text);
     }
     for argument in row.arguments {
-        command = command.arg(argument.arg(alloc))?;
+        command = command.arg(argument.arg(alloc)?)?;
     }
     Ok(command)
-}
-
-fn config<'a>(alloc: Global) -> Arg<'a> {
-    Arg::new(alloc, "CONFIG")
-        .required(true)
-        .help("The configuration of the device, a TOML file")
-}
-
-fn script<'a>(alloc: Global) -> Arg<'a> {
-    Arg::new(alloc, "SCRIPT")
-        .required(true)
-        .help("The lines of what happens, a file")
-}
-
-fn listen<'a>(alloc: Global) -> Arg<'a> {
-    Arg::new(alloc, "ADDRESS").required(true).help(
-        "Where to listen, as 127.0.0.1:44818; port 0 takes a free one",
-    )
-}
-
-fn count<'a>(alloc: Global) -> Arg<'a> {
-    // 1 to 65,535 (ours)
-    Arg::new(alloc, "count")
-        .long("count")
-        .value_name("N")
-        .value_parser(value_parser!(u16).range(1..))
-        .help(
-            "How many connections to take, those closed at once too, until it ends; all that come, where it is left out",
-        )
-}
-
-fn idle<'a>(alloc: Global) -> Arg<'a> {
-    // 0 to 3,600 seconds, 120 where it is not said (TCP/IP Interface, Encapsulation Inactivity Timeout)
-    Arg::new(alloc, "idle")
-        .long("idle")
-        .value_name("SECONDS")
-        .value_parser(value_parser!(u16).range(..=3_600))
-        .default_value("120")
-        .help("How long a client may send nothing, 0 to 3600; 0 is without a limit")
-}
-
-fn discovery<'a>(alloc: Global) -> Arg<'a> {
-    Arg::new(alloc, "discovery")
-        .long("discovery")
-        .action(ArgAction::SetTrue)
-        .help("Answers over UDP to clients that look for devices")
-}
-
-fn device<'a>(alloc: Global) -> Arg<'a> {
-    Arg::new(alloc, "ADDRESS")
-        .required(true)
-        .help("Where the device listens, as 127.0.0.1:44818")
-}
-
-fn service<'a>(alloc: Global) -> Arg<'a> {
-    // bit 7 marks a reply (message router)
-    Arg::new(alloc, "SERVICE")
-        .required(true)
-        .value_parser(value_parser!(u8).range(..0x80))
-        .help("The service, 0 to 127")
-}
-
-fn class<'a>(alloc: Global) -> Arg<'a> {
-    Arg::new(alloc, "CLASS")
-        .required(true)
-        .value_parser(value_parser!(u16))
-        .help("The class of the object, 0 to 65535")
-}
-
-fn instance<'a>(alloc: Global) -> Arg<'a> {
-    Arg::new(alloc, "INSTANCE")
-        .required(true)
-        .value_parser(value_parser!(u32))
-        .help("Its instance, 0 to 4294967295; 0 is the class itself")
-}
-
-fn attribute<'a>(alloc: Global) -> Arg<'a> {
-    Arg::new(alloc, "ATTRIBUTE")
-        .required(true)
-        .value_parser(value_parser!(u16))
-        .help("The attribute, 0 to 65535")
-}
-
-fn digits<'a>(alloc: Global) -> Arg<'a> {
-    Arg::new(alloc, "HEX").help(
-        "The data of the request in hexadecimal digits, perhaps with spaces",
-    )
-}
-
-fn connected<'a>(alloc: Global) -> Arg<'a> {
-    Arg::new(alloc, "connected")
-        .long("connected")
-        .action(ArgAction::SetTrue)
-        .help("Asks on a class 3 connection")
 }

@@ -4,7 +4,7 @@ use super::demo::demo_adapter;
 use super::streams::{
     BrokenReader, BrokenWriter, CountingWriter, FullWriter, PieceReader, WatchingReader,
 };
-use enip_text::{Fault, answer};
+use enip_text::{Fault, LineFault, answer};
 use std::alloc::Global;
 use std::cell::Cell;
 use std::io::{Read, Write};
@@ -132,7 +132,7 @@ fn megabytes_of_long_lines(rt: HostRuntime) -> Result<(), Fail> {
     let got = run(rt.alloc(), input.as_str())?;
     let want = "1 65000400010000000000000001020304050607080000000001000000\n\
         1 65000400020000000000000001020304050607080000000001000000\n";
-    assert_eq!(rt; got.0, Some(Fault::Line(24)));
+    assert_eq!(rt; got.0, Some(Fault::Line(24, LineFault::Piece)));
     assert_eq!(rt; got.1.as_slice(), want.as_bytes());
     Ok(())
 }
@@ -148,12 +148,20 @@ fn lines_over_several_reads(rt: HostRuntime) -> Result<(), Fail> {
         (
             &[front, "01000000\r", "\nend 1\n1 0g"],
             REGISTERED,
-            Some(Fault::Line(3)),
+            Some(Fault::Line(3, LineFault::Piece)),
         ),
         // The last line has no end.
         (&[front, end], REGISTERED, None),
-        (&["end 1\n", "\n", "en", "d 1x"], "", Some(Fault::Line(3))),
-        (&["1 0", "g\n", REGISTER], "", Some(Fault::Line(1))),
+        (
+            &["end 1\n", "\n", "en", "d 1x"],
+            "",
+            Some(Fault::Line(3, LineFault::End)),
+        ),
+        (
+            &["1 0", "g\n", REGISTER],
+            "",
+            Some(Fault::Line(1, LineFault::Piece)),
+        ),
     ];
     for (place, (texts, output, fault)) in rows.into_iter().enumerate() {
         let mut pieces = Vec::new(rt.alloc());
@@ -205,7 +213,7 @@ fn output_that_does_not_leave(rt: HostRuntime) -> Result<(), Fail> {
 #[test]
 fn why_lines_end(rt: HostRuntime) -> Result<(), Fail> {
     let rows = [
-        (Fault::Line(3), 4, "line 3"),
+        (Fault::Line(3, LineFault::Input), 4, "line 3"),
         (Fault::Device, 5, "device"),
         (Fault::Memory, 5, "memory"),
     ];

@@ -1,0 +1,174 @@
+-- Numbers of any size and their bytes, two's complement among them.
+use Rattle.std.proofs.Common.{◌≡◌, ℕ, zero, suc, ◌+◌, ◌-◌, ◌*◌, ◌/◌, ◌%◌, ◌^◌, ◌<◌, ◌≤◌, true, false, List, [], ◌∷◌, ◌++◌, length, get_or, slice_index, take, drop, refl, sym, ap, ◌∙◌, arith, inl, inr, ℤ, pos, negsuc, ◌-ℤ◌, nat_lt, w64, of_z}
+use Rattle.std.proofs.Math.Nat.{div-div-eq-div-mul, div-one, pow-succ', mod-lt, mod-eq_of_lt, mul-add-mod_self_right, one-le-pow}
+use Rattle.std.proofs.lemmas.Nat.{pow-add}
+use Rattle.std.proofs.lemmas.Int.{ints}
+use Rattle.std.proofs.lemmas.Bool.{cases_lt}
+use Rattle.std.proofs.lemmas.List.{drop_all, append-nil, length-take-le, take-append-drop}
+use Rattle.std.specs.Int.{byte_at, bytes_low_first}
+use Rattle.byteorder.proofs.Bytes.{pow256, sign_bit}
+use Rattle.byteorder.specs.Endian.{little_from, twos_complement}
+use Rattle.byteorder.specs.Numbers.{little_from-lt, little_from-bytes, length-bytes_low_first}
+use Rattle.cip_bytes.specs.Numbers.{le, AreBytes}
+use Rattle.cip_bytes.proofs.Bytes.{cells, drop-cells, AreBytes-take, AreBytes-tail}
+use Rattle.cip_values.specs.Types.{IsSized, size_of}
+use Rattle.cip_values.specs.Values.{Value, Truth, Signed, Unsigned, Bits, Real, Text, IsOf, spelled, IsFront, complement, IsSignedOf}
+use Rattle.cip_values.specs.declared.element.Form.{Form}
+use Rattle.cip_values.specs.declared.element.Form.TheVariants as forms
+
+-- a byte further up is a byte of what is left above the lowest
+byte_at_above : (j x : ℕ) → byte_at (suc j) x ≡ byte_at j (x / 256)
+byte_at_above zero x = refl
+byte_at_above (suc j) x =
+    ap (λ (p : ℕ). x / p % 256) (pow-succ' 256 (suc j)) ∙ ap (λ (y : ℕ). y % 256) (sym (div-div-eq-div-mul x 256 (256 ^ suc j)))
+
+bytes_above : (k j x : ℕ) → bytes_low_first (suc j) k x ≡ bytes_low_first j k (x / 256)
+bytes_above zero j x = refl
+bytes_above (suc k) j x = rw (byte_at_above j x, bytes_above k (suc j) x) refl
+
+-- the bytes of a number are its lowest, and those of what is left
+pub le-suc : (n a m : ℕ) → a < 256 → le (suc n) (a + 256 * m) ≡ a ∷ le n m
+le-suc n a m h =
+    let low : (a + 256 * m) % 256 ≡ a = omega arith in
+    let high : (a + 256 * m) / 256 ≡ m = omega arith in
+    rw (low, bytes_above n 0 (a + 256 * m), high) refl
+
+-- the bytes of the number that stands in bytes are those bytes
+pub le-little_from : (n i : ℕ) (xs : List ℕ) → AreBytes xs → le n (little_from i n xs) ≡ cells n i xs
+le-little_from zero i xs fits = refl
+le-little_from (suc n) i xs fits =
+    le-suc n (get_or xs i 0) (little_from (suc i) n xs) (fits i) ∙ ap (λ r. get_or xs i 0 ∷ r) (le-little_from n (suc i) xs fits)
+
+pub le-front : (n : ℕ) (front : List ℕ) → AreBytes front → length front ≡ n → le n (little_from 0 n front) ≡ front
+le-front n front fits e =
+    let parts = drop-cells n 0 front (omega arith) in
+    let none : drop (0 + n) front ≡ [] = drop_all (0 + n) front (omega arith) in
+    le-little_from n 0 front fits ∙ sym (parts ∙ ap (λ r. cells n 0 front ++ r) none ∙ append-nil (cells n 0 front))
+
+-- bytes are bytes, and so many
+byte_at-lt : (j x : ℕ) → byte_at j x < 256
+byte_at-lt zero x = mod-lt x (omega arith)
+byte_at-lt (suc j) x = mod-lt (x / 256 ^ suc j) (omega arith)
+
+AreBytes-bytes : (k j x : ℕ) → AreBytes (bytes_low_first j k x)
+AreBytes-bytes zero j x i = omega arith
+AreBytes-bytes (suc k) j x zero = byte_at-lt j x
+AreBytes-bytes (suc k) j x (suc i) = AreBytes-bytes k (suc j) x i
+
+pub AreBytes-le : (n x : ℕ) → AreBytes (le n x)
+AreBytes-le n x = AreBytes-bytes n 0 x
+
+-- n bytes tell a number apart from others below 256 ^ n alone
+pub le-mod : (n x : ℕ) → le n (x % 256 ^ n) ≡ le n x
+le-mod n x =
+    let back = little_from-bytes n 0 x [] in
+    let same : little_from 0 n (le n x) ≡ x % 256 ^ n =
+    ap (little_from 0 n) (sym (append-nil (le n x))) ∙ back ∙ ap (λ (y : ℕ). y % 256 ^ n) (div-one x) in
+    ap (le n) (sym same) ∙ le-front n (le n x) (AreBytes-le n x) (length-bytes_low_first 0 n x)
+
+-- ---- two's complement
+
+-- a multiple less so much has the same rest as one time less so much
+mod_below : (q m k : ℕ) → 0 < q → k < m → (q * m - suc k) % m ≡ m - suc k
+mod_below zero m k h lt = absurd (omega arith)
+mod_below (suc q) m k h lt =
+    let step : suc q * m - suc k ≡ q * m + (m - suc k) = let e : suc q * m ≡ q * m + m = omega arith in omega arith in
+    ap (λ (y : ℕ). y % m) step ∙ mul-add-mod_self_right q m (m - suc k) ∙ mod-eq_of_lt (omega arith)
+
+-- the low bytes of the two's complement of 64 bits are those of n bytes
+pub le-complement : (n : ℕ) (z : ℤ) → 1 ≤ n → n ≤ 8 → IsSignedOf n z → le n (of_z w64 z) ≡ le n (complement n z)
+le-complement n (pos k) low high h = refl
+le-complement n (negsuc k) low high h =
+    let half : k < 2 ^ (8 * n - 1) = h in
+    let twice = (sign_bit n low high).2 in
+    let whole = pow256 n in
+    let exponent : 64 - 8 * n + 8 * n ≡ 64 = omega arith in
+    let times : 2 ^ (64 - 8 * n) * 2 ^ (8 * n) ≡ 2 ^ 64 = sym (pow-add 2 (64 - 8 * n) (8 * n)) ∙ ap (λ (e : ℕ). 2 ^ e) exponent in
+    let some : 1 ≤ 2 ^ (64 - 8 * n) = one-le-pow (64 - 8 * n) 2 (omega arith) in
+    let below : k < 2 ^ (8 * n) = omega arith in
+    let rest : (2 ^ 64 - suc k) % 2 ^ (8 * n) ≡ 2 ^ (8 * n) - suc k =
+    ap (λ (y : ℕ). (y - suc k) % 2 ^ (8 * n)) (sym times) ∙ mod_below (2 ^ (64 - 8 * n)) (2 ^ (8 * n)) k some below in
+    sym (le-mod n (2 ^ 64 - suc k)) ∙ ap (λ (m : ℕ). le n ((2 ^ 64 - suc k) % m)) whole ∙ ap (le n) rest
+
+-- what n bytes read as in two's complement is in range, and its complement is their number
+pub complement-twos_complement : (n x : ℕ) → 1 ≤ n → n ≤ 8 → x < 256 ^ n
+    → IsSignedOf n (twos_complement n x) × (complement n (twos_complement n x) ≡ x)
+complement-twos_complement n x low high h =
+    let twice = (sign_bit n low high).2 in
+    let whole = pow256 n in
+    elim (cases_lt x (2 ^ (8 * n - 1))) [
+      | inl lt ↦
+          let yes_ : nat_lt x (2 ^ (8 * n - 1)) ≡ true = grind arith in
+          rw yes_ (lt, refl)
+      | inr le ↦
+          let no_ : nat_lt x (2 ^ (8 * n - 1)) ≡ false = grind arith in
+          let below : x < 2 ^ (8 * n) = omega arith in
+          let e : pos x -ℤ pos (2 ^ (8 * n)) ≡ negsuc (2 ^ (8 * n) - suc x) = omega (arith, ints) in
+          rw (no_, e) (omega arith, omega arith)
+    ]
+
+-- ---- values
+
+pub spelled-signed : (form : Form) (z : ℤ) → IsSized form → IsOf form (Signed z) → le (size_of form) (of_z w64 z) ≡ spelled (size_of form) (Signed z)
+spelled-signed forms.Bool z sized h = absurd h
+spelled-signed (forms.Signed n) z sized h = le-complement n z sized.0 sized.1 h
+spelled-signed (forms.Unsigned n) z sized h = absurd h
+spelled-signed (forms.Bits n) z sized h = absurd h
+spelled-signed forms.Real z sized h = absurd h
+spelled-signed forms.Text z sized h = absurd h
+
+-- what stands in the first bytes, as a value
+at_front : (n : ℕ) (bytes : List ℕ) → AreBytes bytes → n ≤ length bytes
+    → bytes ≡ le n (little_from 0 n (take n bytes)) ++ drop n bytes
+at_front n bytes fits room =
+    let front = le-front n (take n bytes) (AreBytes-take n bytes fits) (length-take-le n bytes room) in
+    sym (ap (λ (r : List ℕ). r ++ drop n bytes) front ∙ take-append-drop n bytes)
+
+number-lt : (n : ℕ) (bytes : List ℕ) → AreBytes bytes → little_from 0 n (take n bytes) < 256 ^ n
+number-lt n bytes fits = little_from-lt 0 n (take n bytes) (AreBytes-take n bytes fits)
+
+-- What the code reads of a form, from what it splits off, is the value at the front.
+pub record Splits (form : Form) (bytes front rest : List ℕ) : Type 0 where
+  pub fits : AreBytes bytes
+  pub room : size_of form ≤ length bytes
+  pub front_is : front ≡ take (size_of form) bytes
+  pub rest_is : rest ≡ drop (size_of form) bytes
+
+pub signed_front : (n : ℕ) (bytes front rest : List ℕ) (z : ℤ) → Splits (forms.Signed n) bytes front rest → 1 ≤ n → n ≤ 8
+    → z ≡ twos_complement n (little_from 0 n front) → IsFront (forms.Signed n) bytes (Signed z) rest
+signed_front n bytes front rest z h low high e =
+    let read = complement-twos_complement n (little_from 0 n (take n bytes)) low high (number-lt n bytes h.fits) in
+    rw (e, h.front_is, h.rest_is) (record {
+      of_type = read.0;
+      bytes_of = at_front n bytes h.fits h.room ∙ ap (λ (x : ℕ). le n x ++ drop n bytes) (sym read.1);
+    })
+
+pub unsigned_front : (n : ℕ) (bytes front rest : List ℕ) (x : ℕ) → Splits (forms.Unsigned n) bytes front rest
+    → x ≡ little_from 0 n front → IsFront (forms.Unsigned n) bytes (Unsigned x) rest
+unsigned_front n bytes front rest x h e = rw (e, h.front_is, h.rest_is) (record {
+  of_type = rw (sym (pow256 n)) (number-lt n bytes h.fits);
+  bytes_of = at_front n bytes h.fits h.room;
+})
+
+pub bits_front : (n : ℕ) (bytes front rest : List ℕ) (x : ℕ) → Splits (forms.Bits n) bytes front rest
+    → x ≡ little_from 0 n front → IsFront (forms.Bits n) bytes (Bits x) rest
+bits_front n bytes front rest x h e = rw (e, h.front_is, h.rest_is) (record {
+  of_type = rw (sym (pow256 n)) (number-lt n bytes h.fits);
+  bytes_of = at_front n bytes h.fits h.room;
+})
+
+pub text_front : (bytes front rest text behind : List ℕ) → Splits forms.Text bytes front rest
+    → get_or front 0 0 ≤ length rest → text ≡ take (get_or front 0 0) rest → behind ≡ drop (get_or front 0 0) rest
+    → IsFront forms.Text bytes (Text text) behind
+text_front [] front rest text behind h room e f = absurd (omega (arith, h.room))
+text_front (size ∷ more) front rest text behind h room e f =
+    let first : get_or front 0 0 ≡ size = rw h.front_is refl in
+    let all : rest ≡ more = h.rest_is in
+    let within : size ≤ length more = rw (first, all) at room in
+    let count : length (take size more) ≡ size = length-take-le size more within in
+    let byte : size < 256 = h.fits 0 in
+    rw (e, f, first, all) (record {
+      of_type = (omega arith, AreBytes-take size more (AreBytes-tail size more h.fits));
+      bytes_of = ap (λ (r : List ℕ). size ∷ r) (sym (take-append-drop size more))
+          ∙ ap (λ (k : ℕ). k ∷ (take size more ++ drop size more)) (sym count);
+    })

@@ -1,0 +1,4 @@
+pub mod Types
+pub mod Values
+pub mod Words
+pub mod Texts

@@ -1,0 +1,62 @@
+-- The elementary data types (Volume 1, data types): their names, and what their values are.
+use Rattle.std.specs.Prelude.{◌<◌, ◌≤◌, ⊤, ℕ, Bool, true, false, List, [], ◌++◌, codes, if◌then◌else◌}
+use Rattle.cip_values.specs.declared.element.ElementaryType.{ElementaryType}
+use Rattle.cip_values.specs.declared.element.ElementaryType.TheVariants as types
+use Rattle.cip_values.specs.declared.element.Form.{Form}
+use Rattle.cip_values.specs.declared.element.Form.TheVariants as forms
+use Rattle.cip_values.specs.declared.element.ValueType.{ValueType}
+
+abbrev pub name_of : ElementaryType → List ℕ
+name_of types.Bool = codes "BOOL"
+name_of types.Sint = codes "SINT"
+name_of types.Int = codes "INT"
+name_of types.Dint = codes "DINT"
+name_of types.Lint = codes "LINT"
+name_of types.Usint = codes "USINT"
+name_of types.Uint = codes "UINT"
+name_of types.Udint = codes "UDINT"
+name_of types.Ulint = codes "ULINT"
+name_of types.Byte = codes "BYTE"
+name_of types.Word = codes "WORD"
+name_of types.Dword = codes "DWORD"
+name_of types.Lword = codes "LWORD"
+name_of types.Real = codes "REAL"
+name_of types.ShortString = codes "SHORT_STRING"
+
+-- a list of a type has its name, and brackets
+abbrev pub type_name_of : ValueType → List ℕ
+type_name_of value_type = name_of value_type.element ++ (if value_type.is_list then codes "[]" else [])
+
+-- what the values of a type are, and their bytes
+abbrev pub form_of : ElementaryType → Form
+form_of types.Bool = forms.Bool
+form_of types.Sint = forms.Signed 1
+form_of types.Int = forms.Signed 2
+form_of types.Dint = forms.Signed 4
+form_of types.Lint = forms.Signed 8
+form_of types.Usint = forms.Unsigned 1
+form_of types.Uint = forms.Unsigned 2
+form_of types.Udint = forms.Unsigned 4
+form_of types.Ulint = forms.Unsigned 8
+form_of types.Byte = forms.Bits 1
+form_of types.Word = forms.Bits 2
+form_of types.Dword = forms.Bits 4
+form_of types.Lword = forms.Bits 8
+form_of types.Real = forms.Real
+form_of types.ShortString = forms.Text
+
+-- numbers have 1 to 8 bytes
+abbrev pub IsSized : Form → Type 0
+IsSized (forms.Signed size) = (1 ≤ size) × (size ≤ 8)
+IsSized (forms.Unsigned size) = (1 ≤ size) × (size ≤ 8)
+IsSized (forms.Bits size) = (1 ≤ size) × (size ≤ 8)
+IsSized form = ⊤
+
+-- how many bytes a value has, that of a text without its characters
+abbrev pub size_of : Form → ℕ
+size_of forms.Bool = 1
+size_of (forms.Signed size) = size
+size_of (forms.Unsigned size) = size
+size_of (forms.Bits size) = size
+size_of forms.Real = 4
+size_of forms.Text = 1

@@ -1,0 +1,126 @@
+-- Values of elementary types, and their bytes (Volume 1, data types).
+use Rattle.std.specs.Prelude.{◌≡◌, ◌≢◌, ◌+◌, ◌-◌, ◌*◌, ◌^◌, ◌<◌, ◌≤◌, ⊤, suc, ℕ, ℤ, pos, negsuc, Bool, true, false, List, [], ◌∷◌, ◌++◌, length, slice_index, MatchBool}
+use Rattle.std.specs.List.{flat_map, AllByRecursion}
+use Rattle.cip_bytes.specs.Numbers.{le, AreBytes}
+use Rattle.cip_values.specs.Types.{size_of, form_of}
+use Rattle.cip_values.specs.declared.element.Form.{Form}
+use Rattle.cip_values.specs.declared.element.ValueType.{ValueType}
+use Rattle.cip_values.specs.declared.element.Form.TheVariants as forms
+use Rattle.cip_values.specs.declared.value.Value.{Value as ValueInCode}
+use Rattle.cip_values.specs.declared.value.Value.TheVariants as values
+use Rattle.cip_values.specs.declared.fault.ValueFault.{ValueFault}
+use Rattle.cip_values.specs.declared.fault.ValueFault.TheVariants as faults
+
+-- a value of an elementary type
+pub data Value : Type 0 where
+  -- a BOOL
+  Truth : (truth : Bool) → Value
+  -- a SINT, INT, DINT or LINT
+  Signed : (number : ℤ) → Value
+  -- a USINT, UINT, UDINT or ULINT
+  Unsigned : (number : ℕ) → Value
+  -- a BYTE, WORD, DWORD or LWORD, as the number of its bits
+  Bits : (number : ℕ) → Value
+  -- a REAL, by its bits
+  Real : (bits : ℕ) → Value
+  -- the bytes of a SHORT_STRING
+  Text : (bytes : List ℕ) → Value
+
+-- the same of the code's
+abbrev pub value_in : ValueInCode → Value
+value_in (values.Bool truth) = Truth truth
+value_in (values.Signed number) = Signed number
+value_in (values.Unsigned number) = Unsigned number
+value_in (values.Bits number) = Bits number
+value_in (values.Real bits) = Real bits
+value_in (values.Text bytes) = Text bytes.now
+
+-- two's complement of n bytes has one sign bit: from -2^(8n-1) to below 2^(8n-1)
+abbrev pub IsSignedOf : ℕ → ℤ → Type 0
+IsSignedOf n (pos k) = k < 2 ^ (8 * n - 1)
+IsSignedOf n (negsuc k) = k < 2 ^ (8 * n - 1)
+
+-- an unsigned integer of n bytes
+abbrev pub IsUnsignedOf : ℕ → ℤ → Type 0
+IsUnsignedOf n (pos k) = k < 2 ^ (8 * n)
+IsUnsignedOf n (negsuc k) = ⊥
+
+-- a value is one of a type, and in its range
+abbrev pub IsOf : Form → Value → Type 0
+IsOf forms.Bool (Truth truth) = ⊤
+IsOf (forms.Signed n) (Signed number) = IsSignedOf n number
+IsOf (forms.Unsigned n) (Unsigned number) = number < 2 ^ (8 * n)
+IsOf (forms.Bits n) (Bits number) = number < 2 ^ (8 * n)
+IsOf forms.Real (Real bits) = bits < 2 ^ 32
+IsOf forms.Text (Text bytes) = (length bytes ≤ 255) × AreBytes bytes
+IsOf form value = ⊥
+
+-- the number that stands for an integer in two's complement of n bytes: for a negative one, 2^(8n) more
+abbrev pub complement : ℕ → ℤ → ℕ
+complement n (pos k) = k
+complement n (negsuc k) = 2 ^ (8 * n) - suc k
+
+-- the bytes of a value, that of a number in n bytes
+abbrev pub spelled : ℕ → Value → List ℕ
+spelled n (Truth false) = 0 ∷ []
+spelled n (Truth true) = 1 ∷ []
+spelled n (Signed number) = le n (complement n number)
+spelled n (Unsigned number) = le n number
+spelled n (Bits number) = le n number
+spelled n (Real bits) = le 4 bits
+spelled n (Text bytes) = length bytes ∷ bytes
+
+-- a value stands at the front of bytes, and the rest behind it
+pub record IsFront (form : Form) (bytes : List ℕ) (value : Value) (rest : List ℕ) : Type 0 where
+  pub of_type : IsOf form value
+  pub bytes_of : bytes ≡ spelled (size_of form) value ++ rest
+
+-- how many bytes the value at the front has
+abbrev pub needed : Form → List ℕ → ℕ
+needed forms.Text (size ∷ rest) = 1 + size
+needed form bytes = size_of form
+
+-- why no value stands at the front of bytes
+abbrev pub IsUnread : Form → List ℕ → ValueFault → Type 0
+IsUnread form bytes faults.Short = length bytes < needed form bytes
+IsUnread form bytes (faults.NoBool byte) = (form ≡ forms.Bool) × (slice_index bytes 0 ≡ byte) × (2 ≤ byte)
+IsUnread form bytes fault = ⊥
+
+-- the bytes of values, one after the other
+abbrev pub joined : Form → List Value → List ℕ
+joined form values = flat_map (spelled (size_of form)) values
+
+-- values stand at the front of bytes, one after the other, and the rest behind them
+pub record StandBefore (form : Form) (bytes : List ℕ) (values : List Value) (rest : List ℕ) : Type 0 where
+  pub of_type : AllByRecursion (IsOf form) values
+  pub bytes_of : bytes ≡ joined form values ++ rest
+
+-- bytes are these values of a type, any number for a list, else one
+pub record AreBytesOf (value_type : ValueType) (bytes : List ℕ) (values : List Value) : Type 0 where
+  pub stand : StandBefore (form_of value_type.element) bytes values []
+  pub one : value_type.is_list ≡ false → length values ≡ 1
+
+-- why bytes are not one value
+abbrev pub IsNotOne : Form → List ℕ → ValueFault → Type 0
+IsNotOne form bytes (faults.Leftover count) =
+    (0 < count) × ((value : Value) × ((rest : List ℕ) × (IsFront form bytes value rest × (length rest ≡ count))))
+IsNotOne form bytes faults.Memory = ⊤
+IsNotOne form bytes fault = IsUnread form bytes fault
+
+-- behind the values that stand at the front of bytes there are more, and no further value stands at theirs
+pub record IsCutOff (form : Form) (bytes : List ℕ) (fault : ValueFault) : Type 0 where
+  pub values : List Value
+  pub rest : List ℕ
+  pub stand : StandBefore form bytes values rest
+  pub more : 0 < length rest
+  pub unread : IsUnread form rest fault
+
+-- why bytes are not values one after the other
+abbrev pub IsNoList : Form → List ℕ → ValueFault → Type 0
+IsNoList form bytes faults.Memory = ⊤
+IsNoList form bytes fault = IsCutOff form bytes fault
+
+-- why bytes are not values of a type
+abbrev pub IsUnreadable : ValueType → List ℕ → ValueFault → Type 0
+IsUnreadable value_type bytes fault =
+    MatchBool value_type.is_list (IsNoList (form_of value_type.element) bytes fault) (IsNotOne (form_of value_type.element) bytes fault)

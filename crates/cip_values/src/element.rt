@@ -1,0 +1,220 @@
+//! The elementary data types, by their names. (Volume 1, data types.)
+
+ghost use Rattle.std.specs.Prelude.{◌≡◌, ◌≤◌, IfSome, None};
+ghost use Rattle.cip_values.specs.declared.element.ElementaryType.{ElementaryType};
+ghost use Rattle.cip_values.specs.Types.{name_of, form_of, IsSized};
+
+use std::fmt;
+
+/// An elementary data type of the standard. Integers and bit strings stand least byte first.
+#[derive(Clone, Copy, Debug, PartialEq, Eq)]
+pub enum ElementaryType {
+    /// Yes or no, a byte 1 or 0.
+    Bool,
+    /// A signed integer of 1 byte.
+    Sint,
+    /// A signed integer of 2 bytes.
+    Int,
+    /// A signed integer of 4 bytes.
+    Dint,
+    /// A signed integer of 8 bytes.
+    Lint,
+    /// An unsigned integer of 1 byte.
+    Usint,
+    /// An unsigned integer of 2 bytes.
+    Uint,
+    /// An unsigned integer of 4 bytes.
+    Udint,
+    /// An unsigned integer of 8 bytes.
+    Ulint,
+    /// A string of 8 bits.
+    Byte,
+    /// A string of 16 bits.
+    Word,
+    /// A string of 32 bits.
+    Dword,
+    /// A string of 64 bits.
+    Lword,
+    /// A number of IEEE 754 in 32 bits.
+    Real,
+    /// Up to 255 characters of a byte each, behind a byte that counts them.
+    ShortString,
+}
+
+/// What the values of an elementary type are, and of how many bytes.
+#[derive(Clone, Copy, Debug, PartialEq, Eq)]
+pub(crate) enum Form {
+    Bool,
+    Signed(usize),
+    Unsigned(usize),
+    Bits(usize),
+    Real,
+    Text,
+}
+
+impl Form {
+    ghost use Rattle.cip_values.specs.Types.{size_of};
+
+    /// How many bytes a value has, that of a text without its characters.
+    pub(crate) fn size(self) -> usize
+        requires { IsSized self }
+        ensures value { result ≡ size_of self }
+        ensures most { result ≤ 8 }
+    {
+        match self {
+            Form::Signed(size) | Form::Unsigned(size) | Form::Bits(size) => size,
+            Form::Real => 4,
+            Form::Bool | Form::Text => 1,
+        }
+    }
+}
+
+impl ElementaryType {
+    /// The type of a name of the standard, in capitals.
+    pub fn from_name(name: &str) -> Option<ElementaryType>
+        ensures named { IfSome result (λ element. name_of element ≡ name.now) }
+        ensures other { result ≡ None → (element : ElementaryType) → name_of element ≡ name.now → ⊥ }
+    {
+        match name {
+            "BOOL" => Some(ElementaryType::Bool),
+            "SINT" => Some(ElementaryType::Sint),
+            "INT" => Some(ElementaryType::Int),
+            "DINT" => Some(ElementaryType::Dint),
+            "LINT" => Some(ElementaryType::Lint),
+            "USINT" => Some(ElementaryType::Usint),
+            "UINT" => Some(ElementaryType::Uint),
+            "UDINT" => Some(ElementaryType::Udint),
+            "ULINT" => Some(ElementaryType::Ulint),
+            "BYTE" => Some(ElementaryType::Byte),
+            "WORD" => Some(ElementaryType::Word),
+            "DWORD" => Some(ElementaryType::Dword),
+            "LWORD" => Some(ElementaryType::Lword),
+            "REAL" => Some(ElementaryType::Real),
+            "SHORT_STRING" => Some(ElementaryType::ShortString),
+            _ => None,
+        }
+    }
+
+    /// Its name in the standard.
+    pub fn name(self) -> &'static str
+        ensures { result.now ≡ name_of self }
+    {
+        match self {
+            ElementaryType::Bool => "BOOL",
+            ElementaryType::Sint => "SINT",
+            ElementaryType::Int => "INT",
+            ElementaryType::Dint => "DINT",
+            ElementaryType::Lint => "LINT",
+            ElementaryType::Usint => "USINT",
+            ElementaryType::Uint => "UINT",
+            ElementaryType::Udint => "UDINT",
+            ElementaryType::Ulint => "ULINT",
+            ElementaryType::Byte => "BYTE",
+            ElementaryType::Word => "WORD",
+            ElementaryType::Dword => "DWORD",
+            ElementaryType::Lword => "LWORD",
+            ElementaryType::Real => "REAL",
+            ElementaryType::ShortString => "SHORT_STRING",
+        }
+    }
+
+    /// The range of its numbers, in words.
+    pub(crate) fn range(self) -> &'static str {
+        match self {
+            ElementaryType::Bool => "0 to 1",
+            ElementaryType::Sint => "-128 to 127",
+            ElementaryType::Int => "-32768 to 32767",
+            ElementaryType::Dint => "-2147483648 to 2147483647",
+            ElementaryType::Lint => "-9223372036854775808 to 9223372036854775807",
+            ElementaryType::Usint => "0 to 255",
+            ElementaryType::Uint => "0 to 65535",
+            ElementaryType::Udint => "0 to 4294967295",
+            ElementaryType::Ulint => "0 to 18446744073709551615",
+            ElementaryType::Byte => "0x00 to 0xff",
+            ElementaryType::Word => "0x0000 to 0xffff",
+            ElementaryType::Dword => "0x00000000 to 0xffffffff",
+            ElementaryType::Lword => "0x0000000000000000 to 0xffffffffffffffff",
+            ElementaryType::Real => "-3.4028235e38 to 3.4028235e38",
+            ElementaryType::ShortString => "0 to 255 bytes",
+        }
+    }
+
+    /// What its values are.
+    pub(crate) fn form(self) -> Form
+        ensures form { result ≡ form_of self }
+        ensures sized { IsSized result }
+    {
+        match self {
+            ElementaryType::Bool => Form::Bool,
+            ElementaryType::Sint => Form::Signed(1),
+            ElementaryType::Int => Form::Signed(2),
+            ElementaryType::Dint => Form::Signed(4),
+            ElementaryType::Lint => Form::Signed(8),
+            ElementaryType::Usint => Form::Unsigned(1),
+            ElementaryType::Uint => Form::Unsigned(2),
+            ElementaryType::Udint => Form::Unsigned(4),
+            ElementaryType::Ulint => Form::Unsigned(8),
+            ElementaryType::Byte => Form::Bits(1),
+            ElementaryType::Word => Form::Bits(2),
+            ElementaryType::Dword => Form::Bits(4),
+            ElementaryType::Lword => Form::Bits(8),
+            ElementaryType::Real => Form::Real,
+            ElementaryType::ShortString => Form::Text,
+        }
+    }
+}
+
+impl fmt::Display for ElementaryType {
+    ghost use Rattle.std.specs.Prelude.{Some};
+    ghost use Rattle.cip_values.specs.Types.{name_of};
+
+    ghost output = { λ element. Some (name_of element) };
+
+    fn fmt<W: fmt::Write>(&self, f: &mut fmt::Formatter<W>) -> fmt::Result {
+        f.write_str(self.name())
+    }
+}
+
+/// What is read or written at once: one value of a type, or a list of them.
+#[derive(Clone, Copy, Debug, PartialEq, Eq)]
+pub struct ValueType {
+    /// The type of each value.
+    pub element: ElementaryType,
+    /// Whether there may be any number of them.
+    pub is_list: bool,
+}
+
+impl ValueType {
+    ghost use Rattle.cip_values.specs.declared.element.ValueType.{ValueType};
+    ghost use Rattle.cip_values.specs.Types.{type_name_of};
+
+    /// The type of a name, as `UINT` or, for a list, `UINT[]`.
+    pub fn from_name(name: &str) -> Option<ValueType>
+        ensures named { IfSome result (λ value_type. type_name_of value_type ≡ name.now) }
+        ensures other { result ≡ None → (value_type : ValueType) → type_name_of value_type ≡ name.now → ⊥ }
+    {
+        let (element, is_list) = match name.strip_suffix("[]") {
+            Some(element) => (element, true),
+            None => (name, false),
+        };
+        Some(ValueType {
+            element: ElementaryType::from_name(element)?,
+            is_list,
+        })
+    }
+}
+
+impl fmt::Display for ValueType {
+    ghost use Rattle.std.specs.Prelude.{Some};
+    ghost use Rattle.cip_values.specs.Types.{type_name_of};
+
+    ghost output = { λ value_type. Some (type_name_of value_type) };
+
+    fn fmt<W: fmt::Write>(&self, f: &mut fmt::Formatter<W>) -> fmt::Result {
+        f.write_str(self.element.name())?;
+        if self.is_list {
+            return f.write_str("[]");
+        }
+        Ok(())
+    }
+}

@@ -1,0 +1,18 @@
+//! What follows from the definitions of values and their bytes.
+//!
+//! The functions do nothing: each one's clauses are the law.
+
+ghost use Rattle.std.specs.Prelude.{◌≡◌, ℕ, List};
+ghost use Rattle.cip_values.specs.Values.{Value, AreBytesOf, IsUnreadable};
+ghost use Rattle.cip_values.specs.declared.element.ValueType.{ValueType};
+ghost use Rattle.cip_values.specs.declared.fault.ValueFault.{ValueFault};
+
+/// Bytes are values of a type in one way at most, and where they are, they are not refused.
+///
+/// So what was written is read as the values that were written, unless memory is refused.
+pub fn one_reading()
+    ensures same { (value_type : ValueType) (bytes : List ℕ) (values others : List Value) →
+        AreBytesOf value_type bytes values → AreBytesOf value_type bytes others → values ≡ others }
+    ensures read { (value_type : ValueType) (bytes : List ℕ) (values : List Value) (fault : ValueFault) →
+        AreBytesOf value_type bytes values → IsUnreadable value_type bytes fault → fault ≡ ValueFault.Memory }
+{}

@@ -1,0 +1,180 @@
+//! The text of a value.
+
+ghost use Rattle.std.specs.Prelude.{◌<◌, length, IfSome};
+
+use crate::element::{ElementaryType, ValueType};
+use crate::value::Value;
+use ryu::Buffer;
+use std::alloc::{AllocError, Global};
+use std::fmt;
+use std::num::f32_from_bits_with_nan;
+
+/// Values that are printed as text, with a space between two of them.
+///
+/// A BOOL is `0` or `1`, an integer decimal, a bit string `0x` and all of its hexadecimal digits, a REAL a short
+/// decimal number that is read as the same bits (every NaN as one). Of a SHORT_STRING what is printable ASCII stands as
+/// it is, but for `\\`; any other byte is `\xNN`. In a list each stands between quotes, and a quote in it is `\"`.
+#[derive(Clone, Copy, Debug, PartialEq, Eq)]
+pub struct ValuesText<'a, 'b> {
+    /// The type of the values.
+    pub value_type: ValueType,
+    /// The values.
+    pub values: &'b [Value<'a>],
+}
+
+impl fmt::Display for ValuesText<'_, '_> {
+    fn fmt<W: fmt::Write>(&self, f: &mut fmt::Formatter<W>) -> fmt::Result {
+        let element = self.value_type.element;
+        let is_quoted = self.value_type.is_list;
+        for (index, value) in self.values.iter().enumerate() {
+            if index != 0 {
+                f.write_str(" ")?;
+            }
+            let text = ValueText {
+                element,
+                value: *value,
+                is_quoted,
+            };
+            write!(f, "{text}")?;
+        }
+        Ok(())
+    }
+}
+
+/// One value that is printed as text.
+#[derive(Clone, Copy)]
+struct ValueText<'a> {
+    element: ElementaryType,
+    value: Value<'a>,
+    is_quoted: bool,
+}
+
+impl fmt::Display for ValueText<'_> {
+    ghost use Rattle.cip_values.specs.Types.{form_of};
+    ghost use Rattle.cip_values.specs.Values.{value_in};
+    ghost use Rattle.cip_values.specs.Texts.{text_of};
+
+    ghost output = { λ t. text_of (form_of t.element) t.is_quoted (value_in t.value) };
+
+    fn fmt<W: fmt::Write>(&self, f: &mut fmt::Formatter<W>) -> fmt::Result {
+        match self.value {
+            Value::Bool(truth) => f.write_str(if truth { "1" } else { "0" }),
+            Value::Signed(number) => write!(f, "{number}"),
+            Value::Unsigned(number) => write!(f, "{number}"),
+            Value::Bits(number) => {
+                let width = 2 * self.element.form().size();
+                write!(f, "0x{number:0width$x}")
+            }
+            Value::Real(bits) => write!(f, "{}", RealText(bits)),
+            Value::Text(text) if self.is_quoted => write!(
+                f,
+                "\"{}\"",
+                Escaped {
+                    text,
+                    is_quoted: true
+                }
+            ),
+            Value::Text(text) => write!(
+                f,
+                "{}",
+                Escaped {
+                    text,
+                    is_quoted: false
+                }
+            ),
+        }
+    }
+}
+
+/// A REAL by its bits.
+#[derive(Clone, Copy)]
+struct RealText(u32);
+
+impl fmt::Display for RealText {
+    fn fmt<W: fmt::Write>(&self, f: &mut fmt::Formatter<W>) -> fmt::Result {
+        let mut buffer = Buffer::new();
+        f.write_str(buffer.format(f32_from_bits_with_nan(self.0)))
+    }
+}
+
+/// The bytes of a text, each as it is or escaped.
+#[derive(Clone, Copy)]
+struct Escaped<'a> {
+    text: &'a [u8],
+    is_quoted: bool,
+}
+
+impl fmt::Display for Escaped<'_> {
+    ghost use Rattle.std.specs.Prelude.{Some};
+    ghost use Rattle.cip_values.specs.Texts.{escaped};
+
+    ghost output = { λ e. Some (escaped e.is_quoted e.text.now) };
+
+    fn fmt<W: fmt::Write>(&self, f: &mut fmt::Formatter<W>) -> fmt::Result {
+        for byte in self.text {
+            match *byte {
+                b'\\' => f.write_str("\\\\")?,
+                b'"' if self.is_quoted => f.write_str("\\\"")?,
+                b' '..=b'~' => write!(f, "{}", char::from(*byte))?,
+                other => write!(f, "\\x{other:02x}")?,
+            }
+        }
+        Ok(())
+    }
+}
+
+/// What stands between the quotes of a word, or the word itself where it has none.
+pub(crate) fn unquoted(word: &str) -> &str {
+    match word.strip_prefix("\"") {
+        Some(behind) => match behind.strip_suffix("\"") {
+            Some(inner) => inner,
+            None => word,
+        },
+        None => word,
+    }
+}
+
+/// The bytes of an escaped text, or `None` where a backslash stands before something else than a backslash, a quote or
+/// `x` and two hexadecimal digits.
+pub(crate) fn unescaped(alloc: Global, text: &str) -> Result<Option<Vec<u8>>, AllocError> {
+    let mut bytes = Vec::new(alloc);
+    let mut rest = text.as_bytes();
+    while !rest.is_empty() {
+        let Some((byte, behind)) = first_byte(rest) else {
+            return Ok(None);
+        };
+        bytes.push(byte)?;
+        rest = behind;
+    }
+    Ok(Some(bytes))
+}
+
+/// The byte that the front of an escaped text tells, and what stands behind it.
+fn first_byte(text: &[u8]) -> Option<(u8, &[u8])>
+    ensures { IfSome result (λ read. length read.1.now < length text.now) }
+{
+    match text {
+        [b'\\', escaped @ ..] => escaped_byte(escaped),
+        [byte, rest @ ..] => Some((*byte, rest)),
+        [] => None,
+    }
+}
+
+/// The byte that is told behind a backslash, and what stands behind it.
+fn escaped_byte(text: &[u8]) -> Option<(u8, &[u8])>
+    ensures { IfSome result (λ read. length read.1.now < length text.now) }
+{
+    match text {
+        [b'x', high, low, rest @ ..] => Some((hexadecimal(*high, *low)?, rest)),
+        [b'\\', rest @ ..] => Some((b'\\', rest)),
+        [b'"', rest @ ..] => Some((b'"', rest)),
+        _ => None,
+    }
+}
+
+/// The byte of two hexadecimal digits.
+fn hexadecimal(high: u8, low: u8) -> Option<u8> {
+    let high = char::from(high).to_digit(16)?;
+    let low = char::from(low).to_digit(16)?;
+    Some((16 * high + low) as u8)
+}

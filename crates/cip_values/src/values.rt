@@ -1,0 +1,160 @@
+//! Values of a type: read from bytes, and written as bytes.
+
+ghost use Rattle.std.specs.Prelude.{◌≡◌, ◌≢◌, ◌≤◌, [], ◌++◌, List, map, length, IfOk, IfErr, OnOk, ⊤};
+ghost use Rattle.cip_values.specs.Types.{IsSized, form_of};
+ghost use Rattle.cip_values.specs.Values.{value_in, StandBefore, AreBytesOf, IsNotOne, IsNoList, IsUnreadable};
+ghost use Rattle.cip_values.specs.Words.{Appends, IsAppended, AreWritten, AreMistold, IsMistold};
+
+use crate::element::{Form, ValueType};
+use crate::fault::ValueFault;
+use crate::text::{unescaped, unquoted};
+use crate::value::Value;
+use crate::word::value_of;
+use std::alloc::{AllocError, Global};
+
+/// How many bytes a SHORT_STRING has at most.
+const LONGEST: usize = 255;
+
+/// Reads bytes as values of a type: all of them, any number for a list, else one.
+///
+/// # Errors
+///
+/// `Short` where the bytes end within a value, `Leftover` where bytes stand behind the one value, `NoBool` where a
+/// BOOL is neither 0 nor 1, `Memory` where memory is refused.
+pub fn read_values<'a>(
+    alloc: Global,
+    value_type: ValueType,
+    bytes: &'a [u8],
+) -> Result<Vec<Value<'a>>, ValueFault<'static>>
+    ensures read { IfOk result (λ values. AreBytesOf value_type bytes.now (map value_in values.items)) }
+    ensures refused { IfErr result (IsUnreadable value_type bytes.now) }
+{
+    let form = value_type.element.form();
+    if value_type.is_list {
+        read_list(alloc, form, bytes)
+    } else {
+        read_one(alloc, form, bytes)
+    }
+}
+
+/// Reads bytes as one value.
+fn read_one<'a>(
+    alloc: Global,
+    form: Form,
+    bytes: &'a [u8],
+) -> Result<Vec<Value<'a>>, ValueFault<'static>>
+    requires { IsSized form }
+    ensures read { IfOk result (λ values. StandBefore form bytes.now (map value_in values.items) []) }
+    ensures one { IfOk result (λ values. length (map value_in values.items) ≡ 1) }
+    ensures refused { IfErr result (IsNotOne form bytes.now) }
+{
+    let (value, rest) = Value::read(form, bytes)?;
+    if !rest.is_empty() {
+        return Err(ValueFault::Leftover(rest.len()));
+    }
+    let mut values = Vec::new(alloc);
+    values.push(value)?;
+    Ok(values)
+}
+
+/// Reads bytes as any number of values.
+fn read_list<'a>(
+    alloc: Global,
+    form: Form,
+    bytes: &'a [u8],
+) -> Result<Vec<Value<'a>>, ValueFault<'static>>
+    requires { IsSized form }
+    ensures read { IfOk result (λ values. StandBefore form bytes.now (map value_in values.items) []) }
+    ensures refused { IfErr result (IsNoList form bytes.now) }
+{
+    let mut values = Vec::new(alloc);
+    let mut rest = bytes;
+    while !rest.is_empty() {
+        let (value, behind) = Value::read(form, rest)?;
+        values.push(value)?;
+        rest = behind;
+    }
+    Ok(values)
+}
+
+/// Writes words as the bytes of values of a type: any number of words for a list, else one.
+///
+/// # Errors
+///
+/// `Count` where there is not one word for a type of one value, `Form` where a word is no value of the type, `Range`
+/// where its number is out of the type's range, `TooLong` where it is over 255 bytes of a SHORT_STRING, `Memory` where
+/// memory is refused.
+pub fn write_values<'a>(
+    alloc: Global,
+    value_type: ValueType,
+    words: &[&'a str],
+) -> Result<Vec<u8>, ValueFault<'a>>
+    ensures written { IfOk result (λ bytes. AreWritten value_type (map (λ word. word.now) words.now) bytes.items) }
+    ensures refused { IfErr result (AreMistold value_type (length words.now)) }
+{
+    if !value_type.is_list && words.len() != 1 {
+        return Err(ValueFault::Count(value_type.element, words.len()));
+    }
+    let mut bytes = Vec::new(alloc);
+    for word in words {
+        match append_word(alloc, value_type, *word, &mut bytes) {
+            Ok(()) => {}
+            Err(fault) => return Err(fault),
+        }
+    }
+    Ok(bytes)
+}
+
+/// Appends the bytes of the value that a word tells.
+fn append_word<'a>(
+    alloc: Global,
+    value_type: ValueType,
+    word: &'a str,
+    out: &mut Vec<u8>,
+) -> Result<(), ValueFault<'a>>
+    ensures written { OnOk result (Appends value_type.element word.now out.old.items out.new.items) }
+    ensures refused { IfErr result (IsMistold value_type.element word.now) }
+{
+    let element = value_type.element;
+    match element.form() {
+        Form::Text => append_text(alloc, value_type, word, out),
+        form => {
+            value_of(element, word)?.append(form, out)?;
+            Ok(())
+        }
+    }
+}
+
+/// Appends the bytes of the SHORT_STRING that a word tells.
+fn append_text<'a>(
+    alloc: Global,
+    value_type: ValueType,
+    word: &'a str,
+    out: &mut Vec<u8>,
+) -> Result<(), ValueFault<'a>>
+    requires { form_of value_type.element ≡ Form.Text }
+    ensures written { OnOk result (Appends value_type.element word.now out.old.items out.new.items) }
+    ensures refused { IfErr result (IsMistold value_type.element word.now) }
+{
+    let inner = if value_type.is_list {
+        unquoted(word)
+    } else {
+        word
+    };
+    let Some(text) = unescaped(alloc, inner)? else {
+        return Err(ValueFault::Form(word, value_type.element));
+    };
+    if text.len() > LONGEST {
+        return Err(ValueFault::TooLong(text.len()));
+    }
+    append_string(text.as_slice(), out)?;
+    Ok(())
+}
+
+/// Appends the bytes of a SHORT_STRING.
+fn append_string(text: &[u8], out: &mut Vec<u8>) -> Result<(), AllocError>
+    requires { length text.now ≤ 255 }
+    ensures { OnOk result (IsAppended text.now out.old.items out.new.items) }
+{
+    Value::Text(text).append(Form::Text, out)
+}

@@ -1,0 +1,191 @@
+//! What a device tells of itself without a session. (Volume 2, ListServices and ListIdentity.)
+
+ghost use Rattle.std.specs.Prelude.{◌≡◌, ◌↔◌, List, Ok};
+ghost use Rattle.std.specs.List.{list_all};
+ghost use Rattle.std.specs.Option.{option_map};
+ghost use Rattle.cip_bytes.specs.Reading.{seen_by};
+ghost use Rattle.enip_wire.specs.Frames.{frame};
+ghost use Rattle.enip_wire.specs.Items.{item_of};
+ghost use Rattle.enip_wire.specs.Stream.{frame_of, sight_of};
+ghost use Rattle.enip_client.specs.Lists.{Entry, IsAnswer, list_command, item_kind, list_frame, entry_shown, entry_of};
+ghost use Rattle.enip_client.specs.Lists.{entry_in, entries_left, is_sound, is_reply_to, answered_with, answer_in};
+
+use crate::fault::ClientFault;
+use crate::identity::IdentityView;
+use crate::sending::{Sent, begin_frame};
+use crate::service::ServiceView;
+use byteorder::{ByteOrder, LittleEndian};
+use cip_bytes::protocol::Command;
+use enip_wire::{FrameView, Header, Held, ItemView, Items, cpf_items, see};
+
+/// A list that a device gives of itself, without a session. (Volume 2, encapsulation commands.)
+#[derive(Clone, Copy, Debug, PartialEq, Eq)]
+pub enum ListCommand {
+    /// What it serves.
+    Services,
+    /// What it is.
+    Identity,
+}
+
+impl ListCommand {
+    /// The command that asks for it.
+    fn command(self) -> Command
+        ensures { result ≡ list_command self }
+    {
+        match self {
+            ListCommand::Services => Command::ListServices,
+            ListCommand::Identity => Command::ListIdentity,
+        }
+    }
+
+    /// The type of its items. (Volume 2, common packet format.)
+    fn item_kind(self) -> u16
+        ensures { result ≡ item_kind self }
+    {
+        match self {
+            ListCommand::Services => 0x0100,
+            ListCommand::Identity => 0x000c,
+        }
+    }
+
+    /// Whether a frame with this header is the reply.
+    fn is_replied(self, header: &Header) -> bool
+        ensures { result ≡ is_reply_to self header.now }
+    {
+        // a reply repeats command and context of what asked (encapsulation header)
+        header.command == self.command().number() && LittleEndian::read_u64(&header.context) == 0
+    }
+
+    /// The entry that an item has. Those of another type say nothing (ours).
+    fn entry(self, item: ItemView<'_>) -> Option<ListEntry<'_>>
+        ensures { option_map entry_shown result ≡ entry_in self (item_of item.entry) }
+    {
+        if item.kind == self.item_kind() {
+            ListEntry::read(self, item.bytes)
+        } else {
+            None
+        }
+    }
+
+    /// Whether an item has an entry, or another type.
+    fn is_sound(self, item: ItemView<'_>) -> bool
+        ensures { result ≡ is_sound self (item_of item.entry) }
+    {
+        item.kind != self.item_kind() || ListEntry::read(self, item.bytes).is_some()
+    }
+}
+
+/// An entry of a list, lent.
+#[derive(Clone, Copy, Debug, PartialEq, Eq)]
+pub enum ListEntry<'a> {
+    /// A service that the device has.
+    Service(ServiceView<'a>),
+    /// What the device is.
+    Identity(IdentityView<'a>),
+}
+
+impl<'a> ListEntry<'a> {
+    /// The entry of a list that the bytes of an item spell.
+    fn read(command: ListCommand, bytes: &'a [u8]) -> Option<ListEntry<'a>>
+        ensures { option_map entry_shown result ≡ entry_of command bytes.now }
+    {
+        match command {
+            ListCommand::Services => Some(ListEntry::Service(ServiceView::read(bytes)?)),
+            ListCommand::Identity => Some(ListEntry::Identity(IdentityView::read(bytes)?)),
+        }
+    }
+}
+
+/// The entries of a list, one after the other.
+#[derive(Debug, Drop)]
+pub struct ListEntries<'a> {
+    command: ListCommand,
+    items: Items<'a>,
+}
+
+impl<'a> Iterator for ListEntries<'a> {
+    ghost use Rattle.std.specs.Iterator.{YieldsFirstBy, item_count};
+    ghost use Rattle.enip_client.specs.Lists.{entries_left, entry_shown};
+
+    type Item = ListEntry<'a>;
+
+    ghost next_gives = { YieldsFirstBy entry_shown entries_left };
+
+    ghost remaining = { item_count entries_left };
+
+    fn next(&mut self) -> Option<ListEntry<'a>> {
+        loop {
+            let item = self.items.next()?;
+            if let Some(entry) = self.command.entry(item) {
+                return Some(entry);
+            }
+        }
+    }
+}
+
+/// Writes the frame that asks for a list, 24 bytes, in place of what `sent` had.
+pub fn write_list(command: ListCommand, sent: &mut Sent)
+    ensures { sent.new.items ≡ frame (list_frame command) }
+{
+    begin_frame(command.command(), 0, 0, 0, sent);
+}
+
+/// The entries that a device answers in these bytes, which are one whole frame: what came over TCP, or a datagram. They
+/// are lent. Items of another type say nothing (ours).
+///
+/// # Errors
+///
+/// `TooLong` for a header whose length is over 65,511, `Status` where the reply has one, else `Malformed` where the bytes
+/// are no such reply.
+pub fn read_list(command: ListCommand, bytes: &[u8]) -> Result<ListEntries<'_>, ClientFault>
+    // What is read is spelled so, and what is spelled so is read.
+    ensures spelled { (entries : List Entry) →
+        (seen_by entries_left result ≡ Ok entries) ↔ IsAnswer command bytes.now entries }
+    ensures exact { seen_by entries_left result ≡ answer_in command (sight_of bytes.now) }
+{
+    list_in(command, bytes)
+}
+
+/// The entries of a whole frame, as a computation.
+fn list_in(command: ListCommand, bytes: &[u8]) -> Result<ListEntries<'_>, ClientFault>
+    ensures { seen_by entries_left result ≡ answer_in command (sight_of bytes.now) }
+{
+    match see(bytes) {
+        Held::Frame(frame) => list_by(command, frame),
+        Held::TooLong(_) => Err(ClientFault::TooLong),
+        Held::More => Err(ClientFault::Malformed),
+    }
+}
+
+/// The entries of a frame.
+fn list_by(command: ListCommand, frame: FrameView<'_>) -> Result<ListEntries<'_>, ClientFault>
+    ensures { seen_by entries_left result ≡ answered_with command (frame_of frame.entry) }
+{
+    if !command.is_replied(&frame.header) {
+        return Err(ClientFault::Malformed);
+    }
+    // a status that is not 0 refuses (encapsulation status)
+    if frame.header.status != 0 {
+        return Err(ClientFault::Status(frame.header.status));
+    }
+    let (Ok(items), Ok(again)) = (cpf_items(frame.body), cpf_items(frame.body)) else {
+        return Err(ClientFault::Malformed);
+    };
+    if are_sound(command, again) {
+        Ok(ListEntries { command, items })
+    } else {
+        Err(ClientFault::Malformed)
+    }
+}
+
+/// Whether each item has an entry, or another type.
+fn are_sound(command: ListCommand, items: Items<'_>) -> bool
+    ensures { result ≡ list_all (is_sound command) items.entry }
+{
+    for item in items {
+        if !command.is_sound(item) {
+            return false;
+        }
+    }
+    true
+}

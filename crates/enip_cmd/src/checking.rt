@@ -1,0 +1,76 @@
+//! `enip check`: says which device a configuration tells.
+
+use cip_objects::{AssemblyConfig, Config};
+use enip_config::Configuration;
+use std::alloc::Global;
+use std::io::{self, BufWriter, Write};
+
+/// Prints the device that a configuration tells, a line for each thing: its identity, its objects, and its places.
+pub(crate) fn print_device<W: Write + Drop>(
+    alloc: Global,
+    configuration: &Configuration,
+    output: W,
+) -> io::Result<()> {
+    let mut output = BufWriter::new(alloc, output)?;
+    print_identity(&mut output, &configuration.objects)?;
+    let [first, second, third, last] = configuration.address;
+    let port = configuration.port;
+    writeln!(output, "address {first}.{second}.{third}.{last}:{port}")?;
+    let counter = configuration.objects.counter;
+    let (value, limit) = (counter.value, counter.limit);
+    writeln!(output, "counter {value}, limit {limit}")?;
+    for assembly in &configuration.objects.assemblies {
+        print_assembly(&mut output, assembly)?;
+    }
+    let peers = configuration.peers;
+    let connections = configuration.connections;
+    writeln!(
+        output,
+        "places for {peers} peers and {connections} connections"
+    )?;
+    let (handle, id) = (configuration.first_handle, configuration.first_id);
+    writeln!(
+        output,
+        "first session handle {handle}, first connection ID {id}"
+    )?;
+    output.flush()
+}
+
+/// Prints the Identity object. (Volume 1, Identity.)
+fn print_identity<W: Write>(output: &mut W, objects: &Config) -> io::Result<()> {
+    let (vendor, device_type) = (objects.vendor, objects.device_type);
+    writeln!(output, "vendor {vendor}")?;
+    writeln!(output, "device type {device_type}")?;
+    let (product_code, major, minor) = (objects.product_code, objects.major, objects.minor);
+    writeln!(output, "product code {product_code}")?;
+    writeln!(output, "revision {major}.{minor}")?;
+    let (status, serial) = (objects.status, objects.serial);
+    writeln!(output, "status {status:#06x}")?;
+    writeln!(output, "serial {serial:#010x}")?;
+    let (name, state) = (objects.name.as_str(), objects.state);
+    writeln!(output, "name {name}")?;
+    writeln!(output, "state {state}")
+}
+
+/// Prints an assembly: its instance, whether it can be set, its bytes, and the sizes of its members. (Volume 1,
+/// Assembly.)
+fn print_assembly<W: Write>(output: &mut W, assembly: &AssemblyConfig) -> io::Result<()> {
+    let instance = assembly.instance;
+    let access = if assembly.settable {
+        "settable"
+    } else {
+        "read-only"
+    };
+    let bytes = assembly
+        .members
+        .iter()
+        .fold(0u64, |sum, size| sum.saturating_add(u64::from(*size)));
+    write!(
+        output,
+        "assembly {instance}, {access}, {bytes} bytes, members of"
+    )?;
+    for size in &assembly.members {
+        write!(output, " {size}")?;
+    }
+    writeln!(output)
+}

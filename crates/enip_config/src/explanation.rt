@@ -1,0 +1,185 @@
+//! What is wrong with a configuration that is refused, in words, and the line where it is.
+
+ghost use Rattle.std.specs.Prelude.{◌≡◌, IfOk, IfSome};
+ghost use Rattle.enip_config.specs.Explained.{refusal_of};
+ghost use Rattle.enip_config.specs.Told.{IsRefused};
+
+use crate::configuration::Configuration;
+use crate::fault::{Fault, Refusal};
+use crate::wrong_objects::wrong_objects;
+use crate::wrong_text::{no_toml, unknown_key};
+use crate::wrong_value::bad_value;
+use std::alloc::{AllocError, Global};
+use std::fmt;
+use thiserror::Error;
+use toml::{Table, Value};
+
+/// How many bytes are read at most to find a line: the lines up to each one are read from the beginning, which are as many
+/// as this for some 300 lines of a configuration. Where that is not enough no line is told.
+const MOST_READ: usize = 1 << 20;
+
+/// What is wrong with a configuration that is refused. Its text is one line: the line of the file, where that is known,
+/// and what is wrong there.
+#[derive(Debug, Drop)]
+pub struct Explanation {
+    refusal: Refusal,
+    line: Option<usize>,
+    wrong: Wrong,
+}
+
+impl Explanation {
+    /// The check that refuses the configuration.
+    pub fn refusal(&self) -> Refusal
+        ensures { result ≡ refusal_of self.now }
+    {
+        self.refusal
+    }
+}
+
+impl fmt::Display for Explanation {
+    fn fmt<W: fmt::Write>(&self, f: &mut fmt::Formatter<W>) -> fmt::Result {
+        if let Some(line) = self.line {
+            write!(f, "line {line}: ")?;
+        }
+        write!(f, "{}", self.wrong)
+    }
+}
+
+/// What is wrong.
+#[derive(Debug, Drop, Error)]
+pub(crate) enum Wrong {
+    #[error("{}", .0.message())]
+    NoToml(toml::de::Error),
+    #[error("{0} is no key")]
+    NoKey(String),
+    #[error("{0} has keys, and takes none")]
+    Keys(String),
+    #[error("{0} is missing")]
+    Missing(&'static str),
+    #[error("{0} is {1}, and goes from {2} to {3}")]
+    Range(&'static str, i64, u32, u32),
+    #[error("{0} is no {1}")]
+    Type(&'static str, &'static str),
+    #[error("settable is neither true nor false")]
+    Settable,
+    #[error("name has {0} bytes, and takes up to 32, each from 0x20 to 0x7e")]
+    Name(usize),
+    #[error("there are {0} assemblies, and at most 16")]
+    Assemblies(usize),
+    #[error("assembly {0} has {1} bytes, and takes 1 to 3900")]
+    Size(u16, u64),
+    #[error("assembly {0} has {1} members, and takes up to 64")]
+    Members(u16, usize),
+    #[error("assembly {0} has a member of 0 bytes")]
+    EmptyMember(u16),
+    #[error("an assembly has instance 0, which is the class")]
+    NoInstance,
+    #[error("assembly {0} stands twice")]
+    Twice(u16),
+    #[error("counter.value is {0}, and its limit {1}")]
+    Limit(u32, u32),
+}
+
+/// Where something stands in a configuration: in the text, its table `counter`, or one of its tables `assembly`, from 0.
+#[derive(Clone, Copy, Debug)]
+pub(crate) enum Spot<'a> {
+    Text(&'a str),
+    Counter(&'a str),
+    Assembly(usize),
+    InAssembly(usize, &'a str),
+}
+
+impl Spot<'_> {
+    /// Whether it stands in a text.
+    fn is_in(self, text: &Table) -> bool {
+        match self {
+            Spot::Text(key) => text.get(key).is_some(),
+            Spot::Counter(key) => text
+                .get("counter")
+                .is_some_and(|told| told.get(key).is_some()),
+            Spot::Assembly(place) => assembly_at(text, place).is_some(),
+            Spot::InAssembly(place, key) => {
+                assembly_at(text, place).is_some_and(|told| told.get(key).is_some())
+            }
+        }
+    }
+}
+
+/// The table `assembly` at a place, from 0.
+pub(crate) fn assembly_at(text: &Table, place: usize) -> Option<&Value> {
+    match text.get("assembly") {
+        Some(Value::Array(values)) => values.get(place),
+        Some(value) if place == 0 => Some(value),
+        _ => None,
+    }
+}
+
+/// What is wrong with the bytes of a configuration. `None` where nothing is.
+///
+/// # Errors
+///
+/// `AllocError` where memory is refused.
+pub fn explain(alloc: Global, bytes: &[u8]) -> Result<Option<Explanation>, AllocError>
+    ensures { IfOk result (λ told. IfSome told (λ explanation. IsRefused bytes.now (refusal_of explanation))) }
+{
+    let refusal = match Configuration::from_bytes(alloc, bytes) {
+        Ok(_) => return Ok(None),
+        Err(Fault::Memory) => return Err(AllocError),
+        Err(Fault::Refused(refusal)) => refusal,
+    };
+    let Some((line, wrong)) = wrong_in(alloc, bytes)? else {
+        return Ok(None);
+    };
+    Ok(Some(Explanation {
+        refusal,
+        line,
+        wrong,
+    }))
+}
+
+/// What is first found to be wrong, and its line.
+fn wrong_in(alloc: Global, bytes: &[u8]) -> Result<Option<(Option<usize>, Wrong)>, AllocError> {
+    let text = match toml::table_from_slice(alloc, bytes) {
+        Ok(text) => text,
+        Err(error) if error.is_memory() => return Err(AllocError),
+        Err(error) => return Ok(Some(no_toml(bytes, error))),
+    };
+    if let Some((spot, wrong)) = unknown_key(alloc, &text)? {
+        return Ok(Some((line_of(alloc, bytes, spot), wrong)));
+    }
+    if let Some((spot, wrong)) = bad_value(&text) {
+        return Ok(Some((line_of(alloc, bytes, spot), wrong)));
+    }
+    match wrong_objects(alloc, &text)? {
+        Some((spot, wrong)) => Ok(Some((line_of(alloc, bytes, spot), wrong))),
+        None => Ok(None),
+    }
+}
+
+/// The line, from 1, with which something stands in a configuration: the first lines that are a text in which it stands.
+fn line_of(alloc: Global, bytes: &[u8], spot: Spot<'_>) -> Option<usize> {
+    let mut number: usize = 1;
+    let mut read: usize = 0;
+    for end in 1..bytes.len() + 1 {
+        if end < bytes.len() && bytes[end - 1] != b'\n' {
+            continue;
+        }
+        read = read.saturating_add(end);
+        if read > MOST_READ {
+            return None;
+        }
+        if is_in_text(alloc, &bytes[..end], spot) {
+            return Some(number);
+        }
+        number = number.saturating_add(1);
+    }
+    None
+}
+
+/// Whether bytes are a text in which something stands.
+fn is_in_text(alloc: Global, bytes: &[u8], spot: Spot<'_>) -> bool {
+    match toml::table_from_slice(alloc, bytes) {
+        Ok(text) => spot.is_in(&text),
+        Err(_) => false,
+    }
+}

@@ -1,0 +1,89 @@
+-- What devices say, as data of JSON. Members stand in the order of their names.
+use Rattle.std.specs.Prelude.{◌≡◌, ⊤, ℕ, ℤ, pos, negsuc, List, [], ◌∷◌, ◌++◌, codes, slice_index, Some}
+use Rattle.std.specs.Char.{encode_utf8}
+use Rattle.std.specs.Fmt.{decimal}
+use Rattle.std.specs.List.{flat_map}
+use Rattle.hex.specs.Hex.{encode_lower}
+use Rattle.cip_values.specs.Values.{Value, Truth, Signed, Unsigned, Bits, Real, Text}
+use Rattle.cip_values.specs.Types.{type_name_of}
+use Rattle.cip_values.specs.declared.element.ValueType.{ValueType}
+use Rattle.enip_client.specs.Identity.{Identity}
+use Rattle.serde_json.specs.Read.{read}
+use Rattle.serde_json.specs.Data.{Data, boolean, number, unsigned, negative, string, array, object, Items, no_items, item, member, no_members, depth}
+
+-- a number that is not negative
+abbrev pub count : ℕ → Data
+count n = number (unsigned n)
+
+-- a text of a device, whose characters have a byte each (ISO 8859-1)
+abbrev pub latin : List ℕ → List ℕ
+latin bytes = flat_map encode_utf8 bytes
+
+-- an address as it is written, without a port
+abbrev pub host_text : List ℕ → List ℕ
+host_text address =
+    decimal (slice_index address 0) ++ codes "." ++ decimal (slice_index address 1) ++ codes "."
+    ++ decimal (slice_index address 2) ++ codes "." ++ decimal (slice_index address 3)
+
+-- what a device says of itself
+abbrev pub identity_data : Identity → Data
+identity_data i =
+    object (member (codes "address") (string (host_text i.address))
+    (member (codes "device_type") (count i.device_type)
+    (member (codes "major") (count i.major)
+    (member (codes "minor") (count i.minor)
+    (member (codes "name") (string (latin i.name))
+    (member (codes "port") (count i.port)
+    (member (codes "product_code") (count i.product_code)
+    (member (codes "serial") (count i.serial)
+    (member (codes "state") (count i.state)
+    (member (codes "status") (count i.status)
+    (member (codes "vendor") (count i.vendor) no_members)))))))))))
+
+-- a reply, by the digits of its data
+abbrev pub data_told : List ℕ → Data
+data_told bytes = object (member (codes "data") (string (encode_lower bytes)) (member (codes "status") (count 0) no_members))
+
+-- a refusal: the general status, and the first additional word or 0
+abbrev pub refusal_told : ℕ → ℕ → Data
+refusal_told status extended =
+    object (member (codes "extended") (count extended) (member (codes "status") (count status) no_members))
+
+-- an integer
+abbrev pub integer : ℤ → Data
+integer (pos n) = number (unsigned n)
+integer (negsuc n) = number (negative (negsuc n))
+
+-- What a value is as data. Of a REAL it is not said which number, or which text where JSON has no such number.
+abbrev pub IsTold : Value → Data → Type 0
+IsTold (Truth truth) d = d ≡ boolean truth
+IsTold (Signed z) d = d ≡ integer z
+IsTold (Unsigned n) d = d ≡ count n
+IsTold (Bits n) d = d ≡ count n
+IsTold (Real bits) d = depth d ≡ 0
+IsTold (Text bytes) d = d ≡ string (latin bytes)
+
+-- values are told one by one, in their order
+abbrev pub EachTold : List Value → Items → Type 0
+EachTold [] no_items = ⊤
+EachTold (value ∷ values) (item d ds) = IsTold value d × EachTold values ds
+EachTold values items = ⊥
+
+abbrev pub AreTold : List Value → Data → Type 0
+AreTold values (array items) = EachTold values items
+AreTold values other = ⊥
+
+-- A reply, by the digits of its data, their type and the values that they are.
+abbrev pub values_told : List ℕ → ValueType → Data → Data
+values_told bytes value_type list =
+    object (member (codes "data") (string (encode_lower bytes))
+    (member (codes "status") (count 0)
+    (member (codes "type") (string (type_name_of value_type))
+    (member (codes "values") list no_members))))
+
+abbrev pub AreValuesTold : List ℕ → ValueType → List Value → Data → Type 0
+AreValuesTold bytes value_type values d = (list : Data) × AreTold values list × (d ≡ values_told bytes value_type list)
+
+-- The line is read as that.
+abbrev pub IsValuesLine : List ℕ → ValueType → List Value → List ℕ → Type 0
+IsValuesLine bytes value_type values line = (d : Data) × AreValuesTold bytes value_type values d × (read line ≡ Some d)

@@ -1,0 +1,550 @@
+//! Values of the elementary data types, as words, bytes and text. (Volume 1, data type encoding: two's complement, IEEE 754
+//! singles, the least byte first.)
+
+use cip_values::{
+    ElementaryType, Value, ValueFault, ValueType, ValuesText, read_values, write_values,
+};
+use std::alloc::Global;
+use std::process::Abort;
+use std::test::Fail;
+
+/// A type, the words of values, their bytes, and the text of those where it isn't the words.
+type Row = (
+    &'static str,
+    &'static [&'static str],
+    &'static [u8],
+    &'static str,
+);
+
+fn type_of(name: &str) -> Result<ValueType, Fail> {
+    Ok(ValueType::from_name(name).ok_or("no type")?)
+}
+
+/// Asserts what bytes are read as, and printed.
+fn check_read(
+    rt: &impl Abort,
+    alloc: Global,
+    name: &str,
+    bytes: &[u8],
+    text: &str,
+) -> Result<(), Fail> {
+    let value_type = type_of(name)?;
+    let values = read_values(alloc, value_type, bytes)?;
+    let values = values.as_slice();
+    let printed = format!(in alloc; "{}", ValuesText { value_type, values })?;
+    assert!(rt;
+        printed.as_str() == text,
+        "{name}: {text} is {}",
+        printed.as_str()
+    );
+    Ok(())
+}
+
+/// Asserts which bytes words are written as, and that those are printed as the words, or the text.
+fn check(rt: &impl Abort, alloc: Global, row: Row) -> Result<(), Fail> {
+    let (name, words, bytes, text) = row;
+    let written = write_values(alloc, type_of(name)?, words)?;
+    assert!(rt; written.as_slice() == bytes, "{name}: {text}");
+    check_read(rt, alloc, name, bytes, text)
+}
+
+/// The least and the greatest value of each type, and others.
+static ROWS: [Row; 50] = [
+    ("BOOL", &["0"], &[0], "0"),
+    ("BOOL", &["1"], &[1], "1"),
+    ("BOOL", &["false"], &[0], "0"),
+    ("BOOL", &["true"], &[1], "1"),
+    ("SINT", &["-128"], &[0x80], "-128"),
+    ("SINT", &["-1"], &[0xff], "-1"),
+    ("SINT", &["127"], &[0x7f], "127"),
+    ("INT", &["-32768"], &[0x00, 0x80], "-32768"),
+    ("INT", &["-2"], &[0xfe, 0xff], "-2"),
+    ("INT", &["32767"], &[0xff, 0x7f], "32767"),
+    ("DINT", &["-2147483648"], &[0, 0, 0, 0x80], "-2147483648"),
+    ("DINT", &["16909060"], &[4, 3, 2, 1], "16909060"),
+    (
+        "DINT",
+        &["2147483647"],
+        &[0xff, 0xff, 0xff, 0x7f],
+        "2147483647",
+    ),
+    (
+        "LINT",
+        &["-9223372036854775808"],
+        &[0, 0, 0, 0, 0, 0, 0, 0x80],
+        "-9223372036854775808",
+    ),
+    (
+        "LINT",
+        &["-2"],
+        &[0xfe, 0xff, 0xff, 0xff, 0xff, 0xff, 0xff, 0xff],
+        "-2",
+    ),
+    (
+        "LINT",
+        &["9223372036854775807"],
+        &[0xff, 0xff, 0xff, 0xff, 0xff, 0xff, 0xff, 0x7f],
+        "9223372036854775807",
+    ),
+    ("USINT", &["0"], &[0], "0"),
+    ("USINT", &["-0"], &[0], "0"),
+    ("USINT", &["255"], &[0xff], "255"),
+    ("UINT", &["0"], &[0, 0], "0"),
+    ("UINT", &["00513"], &[1, 2], "513"),
+    ("UINT", &["65535"], &[0xff, 0xff], "65535"),
+    ("UDINT", &["0"], &[0, 0, 0, 0], "0"),
+    (
+        "UDINT",
+        &["4294967295"],
+        &[0xff, 0xff, 0xff, 0xff],
+        "4294967295",
+    ),
+    ("ULINT", &["0"], &[0, 0, 0, 0, 0, 0, 0, 0], "0"),
+    (
+        "ULINT",
+        &["18446744073709551615"],
+        &[0xff, 0xff, 0xff, 0xff, 0xff, 0xff, 0xff, 0xff],
+        "18446744073709551615",
+    ),
+    ("BYTE", &["0x0f"], &[0x0f], "0x0f"),
+    ("BYTE", &["15"], &[0x0f], "0x0f"),
+    ("BYTE", &["0xFF"], &[0xff], "0xff"),
+    ("WORD", &["0x102"], &[2, 1], "0x0102"),
+    ("WORD", &["0xffff"], &[0xff, 0xff], "0xffff"),
+    ("DWORD", &["0x01020304"], &[4, 3, 2, 1], "0x01020304"),
+    (
+        "DWORD",
+        &["0xffffffff"],
+        &[0xff, 0xff, 0xff, 0xff],
+        "0xffffffff",
+    ),
+    (
+        "LWORD",
+        &["0x0102030405060708"],
+        &[8, 7, 6, 5, 4, 3, 2, 1],
+        "0x0102030405060708",
+    ),
+    (
+        "LWORD",
+        &["0xffffffffffffffff"],
+        &[0xff, 0xff, 0xff, 0xff, 0xff, 0xff, 0xff, 0xff],
+        "0xffffffffffffffff",
+    ),
+    ("REAL", &["1"], &[0, 0, 0x80, 0x3f], "1.0"),
+    ("REAL", &["-0.15625"], &[0, 0, 0x20, 0xbe], "-0.15625"),
+    ("REAL", &["0.1"], &[0xcd, 0xcc, 0xcc, 0x3d], "0.1"),
+    (
+        "REAL",
+        &["3.4028235e38"],
+        &[0xff, 0xff, 0x7f, 0x7f],
+        "3.4028235e38",
+    ),
+    ("REAL", &["1e-45"], &[1, 0, 0, 0], "1e-45"),
+    ("REAL", &["-inf"], &[0, 0, 0x80, 0xff], "-inf"),
+    ("REAL", &["NaN"], &[0, 0, 0xc0, 0x7f], "NaN"),
+    ("SHORT_STRING", &["Demo"], b"\x04Demo", "Demo"),
+    ("SHORT_STRING", &[""], &[0], ""),
+    (
+        "SHORT_STRING",
+        &["a \"b\" \\\\ \\x00\\x7f\\xff"],
+        b"\x0ba \"b\" \\ \x00\x7f\xff",
+        "a \"b\" \\\\ \\x00\\x7f\\xff",
+    ),
+    ("UINT[]", &["1", "513"], &[1, 0, 1, 2], "1 513"),
+    ("UINT[]", &["1"], &[1, 0], "1"),
+    ("SINT[]", &[], &[], ""),
+    ("BOOL[]", &["1", "false"], &[1, 0], "1 0"),
+    (
+        "SHORT_STRING[]",
+        &["a b", "", "\"c\\\"d\""],
+        b"\x03a b\x00\x03c\"d",
+        "\"a b\" \"\" \"c\\\"d\"",
+    ),
+];
+
+#[test]
+fn rows(rt: HostRuntime) -> Result<(), Fail> {
+    for row in ROWS {
+        check(&rt, rt.alloc(), row)?;
+    }
+    Ok(())
+}
+
+/// What is printed of one value is read as it again; a NaN's sign and payload are not printed.
+#[test]
+fn other_nan(rt: HostRuntime) -> Result<(), Fail> {
+    check_read(&rt, rt.alloc(), "REAL", &[1, 0, 0x80, 0xff], "NaN")
+}
+
+/// Every byte of a text, alone and in a list, is read again from what is printed of it.
+#[test]
+fn every_byte_of_a_text(rt: HostRuntime) -> Result<(), Fail> {
+    for byte in 0..=255u8 {
+        for name in ["SHORT_STRING", "SHORT_STRING[]"] {
+            let value_type = type_of(name)?;
+            let bytes = [2, byte, b'x'];
+            let values = read_values(rt.alloc(), value_type, &bytes)?;
+            let values = values.as_slice();
+            let text = format!(in rt.alloc(); "{}", ValuesText { value_type, values })?;
+            let again = write_values(rt.alloc(), value_type, &[text.as_str()])?;
+            assert!(rt; again.as_slice() == bytes.as_slice(), "{name} {byte}");
+        }
+    }
+    Ok(())
+}
+
+/// A type, words, and why they are refused.
+type Refused = (&'static str, &'static [&'static str], &'static str);
+
+static REFUSED: [Refused; 50] = [
+    ("BOOL", &["2"], "2 is no BOOL"),
+    ("BOOL", &["TRUE"], "TRUE is no BOOL"),
+    (
+        "SINT",
+        &["-129"],
+        "-129 is out of the range of SINT, -128 to 127",
+    ),
+    (
+        "SINT",
+        &["128"],
+        "128 is out of the range of SINT, -128 to 127",
+    ),
+    (
+        "INT",
+        &["-32769"],
+        "-32769 is out of the range of INT, -32768 to 32767",
+    ),
+    (
+        "INT",
+        &["32768"],
+        "32768 is out of the range of INT, -32768 to 32767",
+    ),
+    (
+        "DINT",
+        &["-2147483649"],
+        "-2147483649 is out of the range of DINT, -2147483648 to 2147483647",
+    ),
+    (
+        "DINT",
+        &["2147483648"],
+        "2147483648 is out of the range of DINT, -2147483648 to 2147483647",
+    ),
+    (
+        "LINT",
+        &["-9223372036854775809"],
+        "-9223372036854775809 is out of the range of LINT, -9223372036854775808 to 9223372036854775807",
+    ),
+    (
+        "LINT",
+        &["9223372036854775808"],
+        "9223372036854775808 is out of the range of LINT, -9223372036854775808 to 9223372036854775807",
+    ),
+    (
+        "USINT",
+        &["-1"],
+        "-1 is out of the range of USINT, 0 to 255",
+    ),
+    (
+        "USINT",
+        &["300"],
+        "300 is out of the range of USINT, 0 to 255",
+    ),
+    (
+        "USINT",
+        &["256"],
+        "256 is out of the range of USINT, 0 to 255",
+    ),
+    (
+        "UINT",
+        &["65536"],
+        "65536 is out of the range of UINT, 0 to 65535",
+    ),
+    (
+        "UDINT",
+        &["4294967296"],
+        "4294967296 is out of the range of UDINT, 0 to 4294967295",
+    ),
+    (
+        "ULINT",
+        &["18446744073709551616"],
+        "18446744073709551616 is out of the range of ULINT, 0 to 18446744073709551615",
+    ),
+    (
+        "ULINT",
+        &["999999999999999999999999999999999999999999999999"],
+        "999999999999999999999999999999999999999999999999 is out of the range of ULINT, 0 to 18446744073709551615",
+    ),
+    (
+        "ULINT",
+        &["-999999999999999999999999999999999999999999999999"],
+        "-999999999999999999999999999999999999999999999999 is out of the range of ULINT, 0 to 18446744073709551615",
+    ),
+    (
+        "BYTE",
+        &["0x100"],
+        "0x100 is out of the range of BYTE, 0x00 to 0xff",
+    ),
+    (
+        "BYTE",
+        &["256"],
+        "256 is out of the range of BYTE, 0x00 to 0xff",
+    ),
+    (
+        "WORD",
+        &["0x10000"],
+        "0x10000 is out of the range of WORD, 0x0000 to 0xffff",
+    ),
+    (
+        "DWORD",
+        &["0x100000000"],
+        "0x100000000 is out of the range of DWORD, 0x00000000 to 0xffffffff",
+    ),
+    (
+        "LWORD",
+        &["0x10000000000000000"],
+        "0x10000000000000000 is out of the range of LWORD, 0x0000000000000000 to 0xffffffffffffffff",
+    ),
+    (
+        "LWORD",
+        &["-1"],
+        "-1 is out of the range of LWORD, 0x0000000000000000 to 0xffffffffffffffff",
+    ),
+    (
+        "REAL",
+        &["1e39"],
+        "1e39 is out of the range of REAL, -3.4028235e38 to 3.4028235e38",
+    ),
+    (
+        "REAL",
+        &["-1e39"],
+        "-1e39 is out of the range of REAL, -3.4028235e38 to 3.4028235e38",
+    ),
+    ("UINT", &[""], " is no UINT"),
+    ("UINT", &["-"], "- is no UINT"),
+    ("UINT", &["+1"], "+1 is no UINT"),
+    ("UINT", &["--1"], "--1 is no UINT"),
+    ("UINT", &["1x"], "1x is no UINT"),
+    ("UINT", &[" 1"], " 1 is no UINT"),
+    ("UINT", &["0x01"], "0x01 is no UINT"),
+    ("UINT", &["1.0"], "1.0 is no UINT"),
+    (
+        "UINT",
+        &["999999999999999999999999999999999999999999999999x"],
+        "999999999999999999999999999999999999999999999999x is no UINT",
+    ),
+    ("WORD", &["0x"], "0x is no WORD"),
+    ("WORD", &["0x+1"], "0x+1 is no WORD"),
+    ("WORD", &["0x-1"], "0x-1 is no WORD"),
+    ("WORD", &["-0x1"], "-0x1 is no WORD"),
+    ("WORD", &["0X01"], "0X01 is no WORD"),
+    ("WORD", &["0x1g"], "0x1g is no WORD"),
+    ("WORD", &["ff"], "ff is no WORD"),
+    ("REAL", &["1,5"], "1,5 is no REAL"),
+    ("REAL", &[""], " is no REAL"),
+    ("SHORT_STRING", &["\\n"], "\\n is no SHORT_STRING"),
+    ("SHORT_STRING", &["\\x0"], "\\x0 is no SHORT_STRING"),
+    ("SHORT_STRING", &["\\x0g"], "\\x0g is no SHORT_STRING"),
+    ("UINT", &[], "UINT takes one value, and not 0"),
+    ("UINT", &["1", "513"], "UINT takes one value, and not 2"),
+    (
+        "UINT[]",
+        &["1", "65536"],
+        "65536 is out of the range of UINT, 0 to 65535",
+    ),
+];
+
+#[test]
+fn refused_words(rt: HostRuntime) -> Result<(), Fail> {
+    for (name, words, why) in REFUSED {
+        let Err(fault) = write_values(rt.alloc(), type_of(name)?, words) else {
+            return Err("the words are written")?;
+        };
+        let text = format!(in rt.alloc(); "{fault}")?;
+        assert!(rt;
+            text.as_str() == why,
+            "{name}: {why}, and not {}",
+            text.as_str()
+        );
+    }
+    Ok(())
+}
+
+/// A text of 255 bytes is written, one of 256 is refused.
+#[test]
+fn longest_text(rt: HostRuntime) -> Result<(), Fail> {
+    let short_string = type_of("SHORT_STRING")?;
+    let mut word = String::new(rt.alloc());
+    for _ in 0..255 {
+        word.push_str("x")?;
+    }
+    let bytes = write_values(rt.alloc(), short_string, &[word.as_str()])?;
+    assert_eq!(rt; bytes.len(), 256);
+    assert_eq!(rt; bytes.first().copied(), Some(255));
+    word.push_str("x")?;
+    let words = [word.as_str()];
+    assert_eq!(rt;
+        write_values(rt.alloc(), short_string, &words).err(),
+        Some(ValueFault::TooLong(256))
+    );
+    Ok(())
+}
+
+/// A type, bytes, and why they are no values.
+type Broken = (
+    &'static str,
+    &'static [u8],
+    ValueFault<'static>,
+    &'static str,
+);
+
+static BROKEN: [Broken; 14] = [
+    (
+        "BOOL",
+        &[2],
+        ValueFault::NoBool(2),
+        "2 is no BOOL, which is 0 or 1",
+    ),
+    (
+        "BOOL",
+        &[],
+        ValueFault::Short,
+        "the data end within a value",
+    ),
+    (
+        "BOOL[]",
+        &[1, 0xff],
+        ValueFault::NoBool(255),
+        "255 is no BOOL, which is 0 or 1",
+    ),
+    (
+        "SINT",
+        &[],
+        ValueFault::Short,
+        "the data end within a value",
+    ),
+    (
+        "INT",
+        &[1],
+        ValueFault::Short,
+        "the data end within a value",
+    ),
+    (
+        "LINT",
+        &[1, 2, 3, 4, 5, 6, 7],
+        ValueFault::Short,
+        "the data end within a value",
+    ),
+    (
+        "REAL",
+        &[1, 2, 3],
+        ValueFault::Short,
+        "the data end within a value",
+    ),
+    (
+        "USINT",
+        &[1, 2, 3, 4],
+        ValueFault::Leftover(3),
+        "3 bytes are left over",
+    ),
+    (
+        "UINT",
+        &[1, 2, 3],
+        ValueFault::Leftover(1),
+        "1 byte is left over",
+    ),
+    (
+        "UINT[]",
+        &[1, 2, 3],
+        ValueFault::Short,
+        "the data end within a value",
+    ),
+    (
+        "SHORT_STRING",
+        &[],
+        ValueFault::Short,
+        "the data end within a value",
+    ),
+    (
+        "SHORT_STRING",
+        &[3, b'a', b'b'],
+        ValueFault::Short,
+        "the data end within a value",
+    ),
+    (
+        "SHORT_STRING",
+        &[1, b'a', b'b'],
+        ValueFault::Leftover(1),
+        "1 byte is left over",
+    ),
+    (
+        "SHORT_STRING[]",
+        &[1, b'a', 1],
+        ValueFault::Short,
+        "the data end within a value",
+    ),
+];
+
+#[test]
+fn refused_bytes(rt: HostRuntime) -> Result<(), Fail> {
+    for (name, bytes, wanted, why) in BROKEN {
+        let Err(fault) = read_values(rt.alloc(), type_of(name)?, bytes) else {
+            return Err("the bytes are read")?;
+        };
+        assert!(rt; fault == wanted, "{name}: {why}");
+        let text = format!(in rt.alloc(); "{fault}")?;
+        assert!(rt;
+            text.as_str() == why,
+            "{name}: {why}, and not {}",
+            text.as_str()
+        );
+    }
+    Ok(())
+}
+
+/// The names of the types, and what is none.
+#[test]
+fn names(rt: HostRuntime) -> Result<(), Fail> {
+    let names = [
+        "BOOL",
+        "SINT",
+        "INT",
+        "DINT",
+        "LINT",
+        "USINT",
+        "UINT",
+        "UDINT",
+        "ULINT",
+        "BYTE",
+        "WORD",
+        "DWORD",
+        "LWORD",
+        "REAL",
+        "SHORT_STRING",
+    ];
+    for name in names {
+        let one = type_of(name)?;
+        assert!(rt; !one.is_list, "{name}");
+        assert_eq!(rt; one.element.name(), name);
+        let list = format!(in rt.alloc(); "{name}[]")?;
+        let many = type_of(list.as_str())?;
+        assert!(rt; many.is_list && many.element == one.element, "{name}");
+        let told = format!(in rt.alloc(); "{one} {many}")?;
+        let wanted = format!(in rt.alloc(); "{name} {name}[]")?;
+        assert_eq!(rt; told.as_str(), wanted.as_str());
+    }
+    for name in ["", "uint", "UINT ", "UINT[][]", "[]", "UINT[", "STRING"] {
+        assert!(rt; ValueType::from_name(name).is_none(), "{name}");
+    }
+    assert!(rt; ElementaryType::from_name("UINT[]").is_none());
+    Ok(())
+}
+
+/// The values that bytes are read as.
+#[test]
+fn values_read(rt: HostRuntime) -> Result<(), Fail> {
+    let signed = read_values(rt.alloc(), type_of("INT[]")?, &[0xfe, 0xff, 1, 2])?;
+    assert!(rt; signed.as_slice() == [Value::Signed(-2), Value::Signed(513)].as_slice());
+    let text = read_values(rt.alloc(), type_of("SHORT_STRING")?, &[2, b'h', b'i'])?;
+    assert!(rt; text.as_slice() == [Value::Text(b"hi")].as_slice());
+    Ok(())
+}
