@@ -4,7 +4,8 @@
 //                                   object would that is written by hand: it reads header, session, items and path,
 //                                   and answers RegisterSession and a get of an attribute of Identity. One read of
 //                                   4,096 bytes a peer and round, and no other where it did not fill its room (unless the
-//                                   end of the stream is reported); one write an answer. It ends when standard input does
+//                                   end of the stream is reported); one write an answer. A peer that is silent for 120 seconds
+//                                   is ended. The server ends when standard input does
 //   load PORT PEERS ROUNDS          that many peers ask for the vendor at once, each as often, and compare each answer:
 //                                   prints the round trips a second
 //   wait PORT ROUNDS                one peer asks: prints the median and the 99th percentile of a round trip, and the
@@ -27,6 +28,9 @@
 
 enum { HEADER = 24, PACKET = 16, LONGEST_REPLY = 40, ROOM = 4096, MOST_PEERS = 64, LISTENER = MOST_PEERS };
 
+// The seconds for which a peer may be silent.
+enum { SILENCE = 120 };
+
 // What the peers of both send and get: RegisterSession, a get of the vendor, and its answer.
 enum { REGISTER = 28, REQUEST = 48, ANSWER = 46 };
 
@@ -34,11 +38,15 @@ static const unsigned char REGISTERING[REGISTER] = {0x65, 0, 4, 0, [24] = 1};
 
 typedef struct {
     int socket, ready, ends;
+    double heard;
     size_t held;
     unsigned char bytes[ROOM + HEADER];
 } Peer;
 
 static Peer peers[MOST_PEERS];
+
+// The moment of the round.
+static double moment;
 
 static double now_in_seconds(void) {
     struct timespec now;
@@ -152,6 +160,7 @@ static int turn(Peer *peer) {
     ssize_t got = recv(peer->socket, peer->bytes + peer->held, ROOM - peer->held, 0);
     if (got < 0 && errno == EAGAIN) return peer->ready = 0, 1;
     if (got <= 0) return 0;
+    peer->heard = moment;
     // a read that did not fill its room took all that had come; of an end that was reported already this says nothing
     if ((size_t)got < ROOM - peer->held && !peer->ends) peer->ready = 0;
     size_t at = 0, size = peer->held + got;
@@ -175,18 +184,29 @@ static void admit(int poll, int listener, int places) {
             continue;
         }
         no_delay(socket);
-        peers[place] = (Peer){.socket = socket, .ready = 1};
+        peers[place] = (Peer){.socket = socket, .ready = 1, .heard = moment};
         struct epoll_event event = {.events = EPOLLIN | EPOLLOUT | EPOLLRDHUP | EPOLLET, .data.u32 = place};
         epoll_ctl(poll, EPOLL_CTL_ADD, socket, &event);
     }
 }
 
-// One round: each peer that may be ready has a turn. Answers whether one may be ready still.
+// The milliseconds after which a peer has been silent for too long; -1 where there is none.
+static int until_silence(int places) {
+    double earliest = 0;
+    for (int place = 0; place < places; place++) {
+        Peer *peer = &peers[place];
+        if (peer->socket > 0 && (earliest == 0 || peer->heard < earliest)) earliest = peer->heard;
+    }
+    return earliest == 0 ? -1 : (int)((earliest + SILENCE - moment) * 1000) + 1;
+}
+
+// One round: each peer that may be ready has a turn, and one that was silent for too long is ended. Answers whether one
+// may be ready still.
 static int round_of_turns(int places) {
     int ready = 0;
     for (int place = 0; place < places; place++) {
         Peer *peer = &peers[place];
-        if (peer->socket > 0 && peer->ready && !turn(peer)) {
+        if (peer->socket > 0 && (moment >= peer->heard + SILENCE || (peer->ready && !turn(peer)))) {
             close(peer->socket);
             peer->socket = 0;
         }
@@ -213,8 +233,8 @@ static int serve(int places) {
     if (listener < 0 || epoll_ctl(poll, EPOLL_CTL_ADD, listener, &listening)) return 1;
     epoll_ctl(poll, EPOLL_CTL_ADD, 0, &input);
     for (;;) {
-        int count = epoll_wait(poll, events, 32, ready ? 0 : -1);
-        now_in_seconds();
+        int count = epoll_wait(poll, events, 32, ready ? 0 : until_silence(places));
+        moment = now_in_seconds();
         for (int i = 0; i < count; i++) {
             if (events[i].data.u32 > LISTENER) return 0;
             if (events[i].data.u32 == LISTENER) admit(poll, listener, places);
