@@ -18,6 +18,7 @@
 #include <string.h>
 #include <sys/epoll.h>
 #include <sys/socket.h>
+#include <sys/syscall.h>
 #include <sys/time.h>
 #include <time.h>
 #include <unistd.h>
@@ -50,13 +51,14 @@ __attribute__((constructor)) static void begin(void) {
     }
 }
 
+// Tells a line, with no memory, since a sanitizer may look at the clock while it gives some.
 static void tell(const char *form, ...) {
     char line[128];
     va_list words;
     va_start(words, form);
     int size = vsnprintf(line, sizeof line, form, words);
     va_end(words);
-    if (told >= 0) dprintf(told, "%.*s", size, line);
+    if (told >= 0 && size > 0) syscall(SYS_write, told, line, (size_t)size);
 }
 
 static int peer_of(int socket) {
@@ -170,10 +172,10 @@ int setsockopt(int socket, int level, int name, const void *value, socklen_t len
     return answers(rule_of(rule, socket), &answer) ? (int)answer : next(socket, level, name, value, length);
 }
 
+// Finds no function by its name, since a sanitizer may look at the clock while it does.
 int clock_gettime(clockid_t clock, struct timespec *time) {
-    NEXT(clock_gettime);
     long answer;
-    return answers(rule_of("clock", -1), &answer) ? (int)answer : next(clock, time);
+    return answers(rule_of("clock", -1), &answer) ? (int)answer : (int)syscall(SYS_clock_gettime, clock, time);
 }
 
 int nanosleep(const struct timespec *asked, struct timespec *left) {
