@@ -1,8 +1,11 @@
-// What bench/peers measures beside: a server with epoll that reads and writes as `enip serve` does, and the peers of both.
+// What bench/peers measures beside: a server with epoll that reads and writes as `enip serve` does, and peers of both.
 //
-//   serve PLACES                    prints its port, and answers each whole frame of its peers: RegisterSession by a
-//                                   session, any other by the vendor, 46 bytes. One read of 4,096 bytes a peer and round,
-//                                   one write an answer. It ends when standard input does
+//   serve PLACES                    prints its port, and answers each whole frame of its peers as a device of one
+//                                   object would that is written by hand: it reads header, session, items and path,
+//                                   and answers RegisterSession and a get of an attribute of Identity. One read of
+//                                   4,096 bytes a peer and round, and no other where it did not fill its room (unless the
+//                                   end of the stream is reported); one write an answer. A peer that is silent for 120 seconds
+//                                   is ended. The server ends when standard input does
 //   load PORT PEERS ROUNDS          that many peers ask for the vendor at once, each as often, and compare each answer:
 //                                   prints the round trips a second
 //   wait PORT ROUNDS                one peer asks: prints the median and the 99th percentile of a round trip, and the
@@ -23,19 +26,27 @@
 #include <time.h>
 #include <unistd.h>
 
-enum { HEADER = 24, ROOM = 4096, MOST_PEERS = 64, REGISTER = 28, REQUEST = 48, ANSWER = 46, LISTENER = MOST_PEERS };
+enum { HEADER = 24, PACKET = 16, LONGEST_REPLY = 40, ROOM = 4096, MOST_PEERS = 64, LISTENER = MOST_PEERS };
+
+// The seconds for which a peer may be silent.
+enum { SILENCE = 120 };
+
+// What the peers of both send and get: RegisterSession, a get of the vendor, and its answer.
+enum { REGISTER = 28, REQUEST = 48, ANSWER = 46 };
 
 static const unsigned char REGISTERING[REGISTER] = {0x65, 0, 4, 0, [24] = 1};
 
-static const unsigned char VENDOR[ANSWER] = {0x6f, 0, 22, [30] = 2, [36] = 0xb2, [38] = 6, [40] = 0x8e, [44] = 0x34, 0x12};
-
 typedef struct {
-    int socket, ready;
+    int socket, ready, ends;
+    double heard;
     size_t held;
     unsigned char bytes[ROOM + HEADER];
 } Peer;
 
 static Peer peers[MOST_PEERS];
+
+// The moment of the round.
+static double moment;
 
 static double now_in_seconds(void) {
     struct timespec now;
@@ -48,15 +59,100 @@ static void no_delay(int socket) {
     setsockopt(socket, IPPROTO_TCP, TCP_NODELAY, &on, sizeof on);
 }
 
-static int answer(Peer *peer, unsigned char *frame, unsigned size) {
-    unsigned char bytes[ANSWER];
-    if (frame[0] == 0x65) {
-        frame[4] = 1 + (peer - peers);
-        return send(peer->socket, frame, size, MSG_NOSIGNAL) == (ssize_t)size;
+static unsigned number(const unsigned char *at, int size) {
+    unsigned value = 0;
+    for (int i = size - 1; i >= 0; i--) value = value << 8 | at[i];
+    return value;
+}
+
+static unsigned char *put(unsigned char *at, unsigned value, int size) {
+    for (int i = 0; i < size; i++) *at++ = value >> 8 * i;
+    return at;
+}
+
+typedef struct {
+    unsigned class, instance, attribute;
+} Path;
+
+// Logical segments of 8 and 16 bits. Answers whether there is no other.
+static int read_path(const unsigned char *at, const unsigned char *end, Path *path) {
+    for (int wide; at < end; at += wide ? 4 : 2) {
+        wide = *at & 3;
+        if (wide > 1 || end - at < (wide ? 4 : 2)) return 0;
+        unsigned value = wide ? number(at + 2, 2) : at[1];
+        switch (*at & 0xfc) {
+        case 0x20: path->class = value; break;
+        case 0x24: path->instance = value; break;
+        case 0x30: path->attribute = value; break;
+        default: return 0;
+        }
     }
-    memcpy(bytes, VENDOR, ANSWER);
-    memcpy(bytes + 4, frame + 4, 16);
-    return send(peer->socket, bytes, ANSWER, MSG_NOSIGNAL) == ANSWER;
+    return 1;
+}
+
+// An attribute of Identity. Answers where it ends, and null where there is none.
+static unsigned char *put_attribute(unsigned char *at, unsigned attribute) {
+    switch (attribute) {
+    case 1: return put(at, 0x1234, 2);
+    case 2: return put(at, 43, 2);
+    case 3: return put(at, 7, 2);
+    case 4: return put(put(at, 2, 1), 5, 1);
+    case 5: return put(at, 0, 2);
+    case 6: return put(at, 0x01020304, 4);
+    case 7: return memcpy(put(at, 4, 1), "Demo", 4), at + 5;
+    default: return NULL;
+    }
+}
+
+// The reply to a request of the message router: how long it is.
+static size_t reply_to(const unsigned char *request, size_t size, unsigned char *reply) {
+    Path path = {0};
+    unsigned char *end = NULL;
+    unsigned status = 0;
+    if (size < 2 || 2 + 2 * (size_t)request[1] > size || !read_path(request + 2, request + 2 + 2 * request[1], &path)) {
+        status = 0x04;
+    } else if (path.class != 1 || path.instance != 1) {
+        status = 0x05;
+    } else if (request[0] != 0x0e) {
+        status = 0x08;
+    } else if (!(end = put_attribute(reply + 4, path.attribute))) {
+        status = 0x14;
+    }
+    put(put(reply, request[0] | 0x80, 2), status, 2);
+    return status ? 4 : (size_t)(end - reply);
+}
+
+// The answer to an unconnected request: its null address, its one item of data, and what the router replies. Answers
+// how long the data are, and 0 where they are no such packet.
+static size_t answer_packet(const unsigned char *data, size_t size, unsigned char *answer) {
+    if (size < PACKET || number(data, 4) || number(data + 6, 2) != 2 || number(data + 8, 4)) return 0;
+    if (number(data + 12, 2) != 0xb2 || number(data + 14, 2) != size - PACKET) return 0;
+    size_t reply = reply_to(data + PACKET, size - PACKET, answer + PACKET);
+    unsigned char *at = put(put(put(answer, 0, 6), 2, 2), 0, 4);
+    put(put(at, 0xb2, 2), reply, 2);
+    return PACKET + reply;
+}
+
+// Answers a frame of a peer. Answers whether it goes on.
+static int answer(Peer *peer, const unsigned char *frame, size_t size) {
+    unsigned char bytes[HEADER + PACKET + LONGEST_REPLY];
+    unsigned handle = 1 + (peer - peers), session = number(frame + 4, 4), status = 0;
+    size_t data = 0;
+    if (number(frame + 8, 4) || number(frame + 20, 4)) return 1;
+    if (number(frame, 2) == 0x65) {
+        status = size != REGISTER || number(frame + HEADER, 4) != 1 ? 0x69 : 0;
+        memcpy(bytes + HEADER, frame + HEADER, data = 4);
+        session = handle;
+    } else if (number(frame, 2) != 0x6f) {
+        status = 0x01;
+    } else if (session != handle) {
+        status = 0x64;
+    } else if (!(data = answer_packet(frame + HEADER, size - HEADER, bytes + HEADER))) {
+        status = 0x03;
+    }
+    put(put(put(put(bytes, number(frame, 2), 2), data, 2), session, 4), status, 4);
+    memcpy(bytes + 12, frame + 12, 12);
+    return send(peer->socket, bytes, HEADER + data, MSG_NOSIGNAL) == (ssize_t)(HEADER + data);
 }
 
 // One turn of a peer: a read, and an answer to each frame that is whole. Answers whether it goes on.
@@ -64,6 +160,9 @@ static int turn(Peer *peer) {
     ssize_t got = recv(peer->socket, peer->bytes + peer->held, ROOM - peer->held, 0);
     if (got < 0 && errno == EAGAIN) return peer->ready = 0, 1;
     if (got <= 0) return 0;
+    peer->heard = moment;
+    // a read that did not fill its room took all that had come; of an end that was reported already this says nothing
+    if ((size_t)got < ROOM - peer->held && !peer->ends) peer->ready = 0;
     size_t at = 0, size = peer->held + got;
     while (size - at >= HEADER) {
         unsigned frame = HEADER + peer->bytes[at + 2] + 256 * peer->bytes[at + 3];
@@ -85,18 +184,29 @@ static void admit(int poll, int listener, int places) {
             continue;
         }
         no_delay(socket);
-        peers[place] = (Peer){.socket = socket, .ready = 1};
+        peers[place] = (Peer){.socket = socket, .ready = 1, .heard = moment};
         struct epoll_event event = {.events = EPOLLIN | EPOLLOUT | EPOLLRDHUP | EPOLLET, .data.u32 = place};
         epoll_ctl(poll, EPOLL_CTL_ADD, socket, &event);
     }
 }
 
-// One round: each peer that may be ready has a turn. Answers whether one may be ready still.
+// The milliseconds after which a peer has been silent for too long; -1 where there is none.
+static int until_silence(int places) {
+    double earliest = 0;
+    for (int place = 0; place < places; place++) {
+        Peer *peer = &peers[place];
+        if (peer->socket > 0 && (earliest == 0 || peer->heard < earliest)) earliest = peer->heard;
+    }
+    return earliest == 0 ? -1 : (int)((earliest + SILENCE - moment) * 1000) + 1;
+}
+
+// One round: each peer that may be ready has a turn, and one that was silent for too long is ended. Answers whether one
+// may be ready still.
 static int round_of_turns(int places) {
     int ready = 0;
     for (int place = 0; place < places; place++) {
         Peer *peer = &peers[place];
-        if (peer->socket > 0 && peer->ready && !turn(peer)) {
+        if (peer->socket > 0 && (moment >= peer->heard + SILENCE || (peer->ready && !turn(peer)))) {
             close(peer->socket);
             peer->socket = 0;
         }
@@ -123,12 +233,15 @@ static int serve(int places) {
     if (listener < 0 || epoll_ctl(poll, EPOLL_CTL_ADD, listener, &listening)) return 1;
     epoll_ctl(poll, EPOLL_CTL_ADD, 0, &input);
     for (;;) {
-        int count = epoll_wait(poll, events, 32, ready ? 0 : -1);
-        now_in_seconds();
+        int count = epoll_wait(poll, events, 32, ready ? 0 : until_silence(places));
+        moment = now_in_seconds();
         for (int i = 0; i < count; i++) {
             if (events[i].data.u32 > LISTENER) return 0;
             if (events[i].data.u32 == LISTENER) admit(poll, listener, places);
-            else peers[events[i].data.u32].ready = 1;
+            else {
+                peers[events[i].data.u32].ready = 1;
+                if (events[i].events & EPOLLRDHUP) peers[events[i].data.u32].ends = 1;
+            }
         }
         ready = round_of_turns(places);
     }

@@ -1,8 +1,8 @@
 //! Values of the standard's elementary data types (Volume 1, data types), as bytes and as text.
 //!
-//! A [`ValueType`] is an [`ElementaryType`], as `UINT`, or a list of its values, as `UINT[]`. [`read_values`] reads bytes as
-//! values, each of which is printed by its [`ValueText`]; [`write_values`] reads words as values and gives their bytes.
-//! Both are one definition, `spelled` in `specs/Values.antt`.
+//! A [`ValueType`] is an [`ElementaryType`], as `UINT`, or a list of its values, as `UINT[]`. [`read_values`] reads bytes
+//! as values, which a [`ValuesText`] prints; [`write_values`] reads words as values and gives their bytes. Both are one
+//! definition, `spelled` in `specs/Values.antt`.
 #![tactic(auto)]
 
 mod element;

@@ -11,9 +11,9 @@ use std::num::f32_from_bits_with_nan;
 
 /// Values that are printed as text, with a space between two of them.
 ///
-/// A BOOL is `0` or `1`, an integer decimal, a bit string `0x` and all of its hexadecimal digits, a REAL a short decimal
-/// number that is read as the same bits (every NaN as one). Of a SHORT_STRING what is printable ASCII stands as it is, but
-/// for `\\`; any other byte is `\xNN`. In a list each stands between quotes, and a quote in it is `\"`.
+/// A BOOL is `0` or `1`, an integer decimal, a bit string `0x` and all of its hexadecimal digits, a REAL a short
+/// decimal number that is read as the same bits (every NaN as one). Of a SHORT_STRING what is printable ASCII stands as
+/// it is, but for `\\`; any other byte is `\xNN`. In a list each stands between quotes, and a quote in it is `\"`.
 #[derive(Clone, Copy, Debug, PartialEq, Eq)]
 pub struct ValuesText<'a, 'b> {
     /// The type of the values.
@@ -134,8 +134,8 @@ pub(crate) fn unquoted(word: &str) -> &str {
     }
 }
 
-/// The bytes of an escaped text, or `None` where a backslash stands before something else than a backslash, a quote or `x`
-/// and two hexadecimal digits.
+/// The bytes of an escaped text, or `None` where a backslash stands before something else than a backslash, a quote or
+/// `x` and two hexadecimal digits.
 pub(crate) fn unescaped(alloc: Global, text: &str) -> Result<Option<Vec<u8>>, AllocError> {
     let mut bytes = Vec::new(alloc);
     let mut rest = text.as_bytes();

@@ -81,9 +81,9 @@ fn read_list<'a>(
 ///
 /// # Errors
 ///
-/// `Count` where there is not one word for a type of one value, `Form` where a word is no value of the type, `Range` where
-/// its number is out of the type's range, `TooLong` where it is over 255 bytes of a SHORT_STRING, `Memory` where memory is
-/// refused.
+/// `Count` where there is not one word for a type of one value, `Form` where a word is no value of the type, `Range`
+/// where its number is out of the type's range, `TooLong` where it is over 255 bytes of a SHORT_STRING, `Memory` where
+/// memory is refused.
 pub fn write_values<'a>(
     alloc: Global,
     value_type: ValueType,

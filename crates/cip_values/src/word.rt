@@ -25,8 +25,8 @@ pub(crate) enum Miss {
 /// The value of a word, of a type other than SHORT_STRING.
 ///
 /// A BOOL is `0`, `1`, `false` or `true`. An integer is decimal digits, behind a minus sign where it is negative. A bit
-/// string is `0x` and hexadecimal digits, or an integer. A REAL is a decimal number, with or without an exponent, `inf` or
-/// `nan`.
+/// string is `0x` and hexadecimal digits, or an integer. A REAL is a decimal number, with or without an exponent, `inf`
+/// or `nan`.
 ///
 /// # Errors
 ///

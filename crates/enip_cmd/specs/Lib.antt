@@ -1,2 +1,3 @@
 pub mod Readiness
+pub mod Reads
 pub mod Statuses

@@ -37,7 +37,7 @@ pub(crate) struct Asked<'a, 'm> {
     pub(crate) patience: Patience<'a>,
 }
 
-impl<'a, 'm> Asked<'a, 'm> {
+impl<'a: 'm, 'm> Asked<'a, 'm> {
     /// What the words ask with a service, with this patience.
     pub(crate) fn of(
         service: Option<u8>,
@@ -45,7 +45,10 @@ impl<'a, 'm> Asked<'a, 'm> {
         patience: Patience<'a>,
     ) -> Result<Asked<'a, 'm>, RefusedWord<'a>> {
         let value_type = type_of(matches.get_str("as"))?;
-        let content = content_of(value_type, matches.get_strs("HEX").unwrap_or(&[]))?;
+        let content = match matches.get_strs("HEX") {
+            Some(words) => content_of(value_type, words)?,
+            None => Content::Digits(""),
+        };
         match path_of(matches) {
             Some(path) => Ok(Asked {
                 address: matches.get_str("ADDRESS").unwrap_or(""),
@@ -105,7 +108,7 @@ fn path_of(matches: &ArgMatches<'_>) -> Option<Path> {
 }
 
 /// The data that the words tell: values of a type where one is said, else the digits of one word.
-fn content_of<'a, 'm>(
+fn content_of<'a: 'm, 'm>(
     value_type: Option<ValueType>,
     words: &'m [&'a str],
 ) -> Result<Content<'a, 'm>, RefusedWord<'a>> {
@@ -157,7 +160,7 @@ fn ask_address<'a>(
     let place = Place::of(asked.address)?;
     let start = Instant::now(rt).map_err(|error| Ending::of_device("the clock", error))?;
     let stream = place.dial(rt, asked.patience)?;
-    let mut output = Noted::new("standard output", rt.stdout());
+    let mut output = Noted::new(rt.stdout());
     let mut source = SocketSource::new(&stream, rt, start);
     let mut sink = SocketSink::new(&stream);
     let replied = ask_over(
@@ -172,11 +175,12 @@ fn ask_address<'a>(
     match replied {
         Ok(replied) => Ok(replied),
         Err(stop) => {
-            let lost = source
-                .lost()
-                .or(sink.lost())
-                .map(|lost| lost.reason(place.word(), asked.patience));
-            Err(ending_of(stop, asked.address, output.reason().or(lost)))
+            let lost = match source.lost().or(sink.lost()) {
+                Some(lost) => Some(lost.reason(place.word(), asked.patience)),
+                None => None,
+            };
+            let device = output.reason("standard output").or(lost);
+            Err(ending_of(stop, asked.address, device))
         }
     }
 }

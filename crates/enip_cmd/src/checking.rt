@@ -52,7 +52,8 @@ fn print_identity<W: Write>(output: &mut W, objects: &Config) -> io::Result<()> 
     writeln!(output, "state {state}")
 }
 
-/// Prints an assembly: its instance, whether it can be set, its bytes, and the sizes of its members. (Volume 1, Assembly.)
+/// Prints an assembly: its instance, whether it can be set, its bytes, and the sizes of its members. (Volume 1,
+/// Assembly.)
 fn print_assembly<W: Write>(output: &mut W, assembly: &AssemblyConfig) -> io::Result<()> {
     let instance = assembly.instance;
     let access = if assembly.settable {

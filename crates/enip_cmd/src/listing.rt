@@ -1,5 +1,7 @@
 //! `enip identity`, `enip services` and `enip discover`: what devices say of themselves, without a session.
 
+ghost use Rattle.std.specs.Prelude.{◌≤◌, length, IfOk, IfSome};
+
 use crate::asking::reason_of_client;
 use crate::fault::Fault;
 use crate::noted::Noted;
@@ -35,7 +37,7 @@ pub(crate) fn run_list<'a>(
     let place = Place::of(address)?;
     let start = Instant::now(rt).map_err(|error| Ending::of_device(CLOCK, error))?;
     let stream = place.dial(rt, patience)?;
-    let mut output = Noted::new(OUTPUT, rt.stdout());
+    let mut output = Noted::new(rt.stdout());
     let mut source = SocketSource::new(&stream, rt, start);
     let mut sink = SocketSink::new(&stream);
     let listed = if is_json {
@@ -46,11 +48,14 @@ pub(crate) fn run_list<'a>(
     match listed {
         Ok(()) => Ok(0),
         Err(stop) => {
-            let lost = source
-                .lost()
-                .or(sink.lost())
-                .map(|lost| lost.reason(address, patience));
-            let device = output.reason().or(lost).unwrap_or(Reason::Failed(address));
+            let lost = match source.lost().or(sink.lost()) {
+                Some(lost) => Some(lost.reason(address, patience)),
+                None => None,
+            };
+            let device = output
+                .reason(OUTPUT)
+                .or(lost)
+                .unwrap_or(Reason::Failed(address));
             Err(ending_of(stop, device))
         }
     }
@@ -89,7 +94,9 @@ pub(crate) fn run_discovery<'a>(
         } else {
             print_devices(&mut output, datagram)
         };
-        printed.map_err(ending_of_output)?;
+        if let Err(fault) = printed {
+            return Err(ending_of_output(fault));
+        }
     }
     output
         .flush()
@@ -113,7 +120,9 @@ fn next_datagram<'a>(
     patience: Patience<'a>,
     start: Instant,
     block: &mut [u8],
-) -> Result<Option<usize>, Ending<'a>> {
+) -> Result<Option<usize>, Ending<'a>>
+    ensures { IfOk result (λ came. IfSome came (λ size. size ≤ length block.new)) }
+{
     let elapsed = start
         .elapsed(rt)
         .map_err(|error| Ending::of_device(CLOCK, error))?;

@@ -74,20 +74,24 @@ const ERRORS: &str = "standard error";
 
 /// Runs the command that was asked for, and answers the exit status.
 fn run<'a>(rt: &HostRuntime, words: &[Word], matches: &ArgMatches<'a>) -> Result<u8, Ending<'a>> {
-    match matches.subcommand() {
-        Some(("answer", matches)) => run_answer(rt, words, matches),
-        Some(("replay", matches)) => run_replay(rt, words, matches),
-        Some(("check", matches)) => run_check(rt, words, matches),
-        Some(("serve", matches)) => run_serve(rt, words, matches),
-        Some(("show", _)) => run_show(rt),
-        Some(("identity", matches)) => run_listing(rt, Listing::Of(ListCommand::Identity), matches),
-        Some(("services", matches)) => run_listing(rt, Listing::Of(ListCommand::Services), matches),
-        Some(("discover", matches)) => run_listing(rt, Listing::Devices, matches),
-        Some(("get", matches)) => run_client(rt, Some(service_of_get(matches)), matches),
-        Some(("set", matches)) => run_client(rt, Some(SET_ATTRIBUTE_SINGLE), matches),
-        Some(("call", matches)) => run_client(rt, matches.get_one("SERVICE"), matches),
-        _ => Ok(WORDS_REFUSED),
+    let Some((command, matches)) = matches.subcommand() else {
+        return Ok(WORDS_REFUSED);
+    };
+    match command {
+        "answer" => return run_answer(rt, words, matches),
+        "replay" => return run_replay(rt, words, matches),
+        "check" => return run_check(rt, words, matches),
+        "serve" => return run_serve(rt, words, matches),
+        "show" => return run_show(rt),
+        "identity" => return run_listing(rt, Inquiry::Of(ListCommand::Identity), matches),
+        "services" => return run_listing(rt, Inquiry::Of(ListCommand::Services), matches),
+        "discover" => return run_listing(rt, Inquiry::Devices, matches),
+        "get" => return run_client(rt, Some(service_of_get(matches)), matches),
+        "set" => return run_client(rt, Some(SET_ATTRIBUTE_SINGLE), matches),
+        "call" => return run_client(rt, matches.get_one("SERVICE"), matches),
+        _ => {}
     }
+    Ok(WORDS_REFUSED)
 }
 
 /// `enip answer`.
@@ -97,13 +101,13 @@ fn run_answer<'a>(
     matches: &ArgMatches<'a>,
 ) -> Result<u8, Ending<'a>> {
     let config = Named::read(rt.alloc(), words, matches, "CONFIG")?;
-    let mut input = Noted::new(INPUT, rt.stdin());
-    let mut output = Noted::new(OUTPUT, rt.stdout());
+    let mut input = Noted::new(rt.stdin());
+    let mut output = Noted::new(rt.stdout());
     let ran = answer::run(rt.alloc(), config.bytes(), &mut input, &mut output);
     match ran {
         Ok(()) => Ok(0),
         Err(fault) => {
-            let device = output.reason().or(input.reason());
+            let device = output.reason(OUTPUT).or(input.reason(INPUT));
             Err(ending_of_run(rt.alloc(), fault, &config, INPUT, device))
         }
     }
@@ -117,7 +121,7 @@ fn run_replay<'a>(
 ) -> Result<u8, Ending<'a>> {
     let config = Named::read(rt.alloc(), words, matches, "CONFIG")?;
     let script = Named::read(rt.alloc(), words, matches, "SCRIPT")?;
-    let mut output = Noted::new(OUTPUT, rt.stdout());
+    let mut output = Noted::new(rt.stdout());
     let ran = if matches.get_flag("ladder") {
         replay::draw(rt.alloc(), config.bytes(), script.bytes(), &mut output)
     } else {
@@ -130,21 +134,21 @@ fn run_replay<'a>(
             fault,
             &config,
             script.name(),
-            output.reason(),
+            output.reason(OUTPUT),
         )),
     }
 }
 
 /// `enip show`.
 fn run_show<'a>(rt: &HostRuntime) -> Result<u8, Ending<'a>> {
-    let mut input = Noted::new(INPUT, rt.stdin());
-    let mut output = Noted::new(OUTPUT, rt.stdout());
+    let mut input = Noted::new(rt.stdin());
+    let mut output = Noted::new(rt.stdout());
     let shown = enip_text::show_frames(rt.alloc(), &mut input, &mut output);
     match shown {
         Ok(()) => Ok(0),
         Err(enip_text::Fault::Memory) => Err(Ending::of_memory()),
         Err(_) => {
-            let device = output.reason().or(input.reason());
+            let device = output.reason(OUTPUT).or(input.reason(INPUT));
             Err(Ending::of_reason(device.unwrap_or(Reason::Failed(INPUT))))
         }
     }
@@ -152,7 +156,7 @@ fn run_show<'a>(rt: &HostRuntime) -> Result<u8, Ending<'a>> {
 
 /// What is asked for without a session.
 #[derive(Clone, Copy)]
-enum Listing {
+enum Inquiry {
     /// A list of a device.
     Of(ListCommand),
     /// The devices that there are.
@@ -162,7 +166,7 @@ enum Listing {
 /// `enip identity`, `enip services` and `enip discover`.
 fn run_listing<'a>(
     rt: &HostRuntime,
-    listing: Listing,
+    inquiry: Inquiry,
     matches: &ArgMatches<'a>,
 ) -> Result<u8, Ending<'a>> {
     let patience = match Patience::of(matches.get_str("timeout").unwrap_or("")) {
@@ -171,9 +175,9 @@ fn run_listing<'a>(
     };
     let is_json = matches.get_flag("json");
     let address = matches.get_str("ADDRESS").unwrap_or("");
-    match listing {
-        Listing::Of(command) => run_list(rt, command, is_json, address, patience),
-        Listing::Devices => run_discovery(rt, is_json, address, patience),
+    match inquiry {
+        Inquiry::Of(command) => run_list(rt, command, is_json, address, patience),
+        Inquiry::Devices => run_discovery(rt, is_json, address, patience),
     }
 }
 

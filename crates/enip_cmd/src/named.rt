@@ -52,10 +52,10 @@ impl<'a> Named<'a> {
 
     /// How a command ends to which the file is no configuration.
     fn refused(&self, alloc: Global, fault: enip_config::Fault) -> Ending<'a> {
-        match fault {
-            enip_config::Fault::Memory => Ending::of_memory(),
-            fault => Ending::new(Fault::from(fault), self.explanation(alloc)),
+        if let enip_config::Fault::Memory = fault {
+            return Ending::of_memory();
         }
+        Ending::new(Fault::from(fault), self.explanation(alloc))
     }
 
     /// Why the configuration in the file is refused.

@@ -5,32 +5,30 @@ ghost use Rattle.std.specs.Prelude.{None};
 use crate::reason::{DeviceWords, Reason};
 use std::io::{self, Read, Write};
 
-/// A stream with its name, and the failure that it met last.
+/// A stream, and the failure that it met last.
 #[derive(Drop)]
-pub(crate) struct Noted<'a, S> {
-    name: &'a str,
+pub(crate) struct Noted<S> {
     stream: S,
     failure: Option<io::Error>,
 }
 
-impl<'a, S> Noted<'a, S> {
+impl<S> Noted<S> {
     /// A stream that has not failed.
-    pub(crate) fn new(name: &'a str, stream: S) -> Noted<'a, S> {
+    pub(crate) fn new(stream: S) -> Noted<S> {
         Noted {
-            name,
             stream,
             failure: None,
         }
     }
 
-    /// Why it failed, if it did.
-    pub(crate) fn reason(&self) -> Option<Reason<'a>> {
+    /// Why it failed, if it did, of a stream of this name.
+    pub(crate) fn reason<'a>(&self, name: &'a str) -> Option<Reason<'a>> {
         let error = self.failure?;
-        Some(Reason::Device(self.name, DeviceWords(error)))
+        Some(Reason::Device(name, DeviceWords(error)))
     }
 }
 
-impl<S: Read> Read for Noted<'_, S> {
+impl<S: Read> Read for Noted<S> {
     fn read(&mut self, into: &mut [u8]) -> io::Result<usize> {
         let read = self.stream.read(into);
         if let Err(error) = &read {
@@ -40,7 +38,7 @@ impl<S: Read> Read for Noted<'_, S> {
     }
 }
 
-impl<S: Write> Write for Noted<'_, S> {
+impl<S: Write> Write for Noted<S> {
     fn write(&mut self, from: &[u8]) -> io::Result<usize> {
         let written = self.stream.write(from);
         if let Err(error) = &written {

@@ -89,8 +89,8 @@ impl<'a> Place<'a> {
         Ok(stream)
     }
 
-    /// A socket from which a ListIdentity was sent in a datagram to the first of its addresses, which may be that of all
-    /// machines of a network.
+    /// A socket from which a ListIdentity was sent in a datagram to the first of its addresses, which may be that of
+    /// all machines of a network.
     pub(crate) fn datagrams(self, rt: &HostRuntime) -> Result<UdpSocket, Ending<'a>> {
         for address in self.addresses(rt)? {
             return ask_all(rt, address).map_err(|error| Ending::of_device(self.word, error));

@@ -9,11 +9,12 @@ use thiserror::Error;
 #[derive(Clone, Copy, Debug, Error)]
 pub(crate) enum RefusedWord<'a> {
     /// A word that should say seconds.
-    #[error("invalid value '{1}' for '--{0} <SECONDS>': it is a number from 0 to 3600, with up to six digits behind a point")]
+    #[error("invalid value '{1}' for '--{0} <SECONDS>': it is a number from 0 to 3600, with up to six digits behind \
+        a point")]
     Seconds(&'static str, &'a str),
     /// A word that should name a type.
-    #[error("invalid value '{0}' for '--as <TYPE>': it is BOOL, SINT, INT, DINT, LINT, USINT, UINT, UDINT, ULINT, BYTE, WORD, \
-        DWORD, LWORD, REAL or SHORT_STRING, or one of these and [] for a list")]
+    #[error("invalid value '{0}' for '--as <TYPE>': it is BOOL, SINT, INT, DINT, LINT, USINT, UINT, UDINT, ULINT, BYTE, \
+        WORD, DWORD, LWORD, REAL or SHORT_STRING, or one of these and [] for a list")]
     Type(&'a str),
     /// A further word of digits.
     #[error("unexpected argument '{0}' found: HEX is one word, where no '--as <TYPE>' stands")]

@@ -1,7 +1,7 @@
 //! `enip serve`: the adapter's peers on the sockets of the machine.
 //!
-//! In a round the system is asked which sockets may be ready, then one datagram is answered, each peer that may be ready
-//! has one turn, and one connection is taken. All of it has one moment, in microseconds since the beginning.
+//! In a round the system is asked which sockets may be ready, then one datagram is answered, each peer that may be
+//! ready has one turn, and one connection is taken. All of it has one moment, in microseconds since the beginning.
 
 ghost use Rattle.std.specs.Prelude.{◌≡◌, ◌≤◌, ◌<◌, ◌⊎◌, ◌↔◌, Some, IfSome, IsSomeAnd, IfErr, IsTrue};
 ghost use Rattle.enip_text.specs.Statuses.{IsOfDevices};
@@ -10,7 +10,7 @@ use crate::discovery::Discovery;
 use crate::door::Door;
 use crate::watch::Watch;
 use enip_adapter::Adapter;
-use enip_peers::Peers;
+use enip_peers::{Peers, RoundEnd};
 use enip_text::Fault;
 use mio::net::{TcpListener, TcpStream, UdpSocket};
 use mio::{Events, Interest, Poll, Token};
@@ -105,6 +105,8 @@ struct Server<W: Watch + Drop> {
     peers: Peers<W::Wire>,
     /// Who watches the connections.
     watch: W,
+    /// What the last round came to; a peer that came since may be ready.
+    last: RoundEnd,
     /// How many connections are taken.
     count: u64,
     /// How many were taken.
@@ -139,13 +141,20 @@ impl<W: Watch + Drop> Server<W> {
             registry.register(&mut socket, Token(DATAGRAMS), Interest::READABLE)?;
             discovery = Some(Discovery::new(alloc, socket)?);
         }
+        let peers = Peers::new(alloc, adapter, serving.silence)?;
+        let last = RoundEnd {
+            ended: 0,
+            ready: false,
+            next: peers.next_moment(),
+        };
         Ok(Server {
             poll,
             events: Events::with_capacity(alloc, REPORTS)?,
             door: Some(Door::new(listener)),
             discovery,
-            peers: Peers::new(alloc, adapter, serving.silence)?,
+            peers,
             watch,
+            last,
             count: serving.count,
             taken: 0,
             ended: 0,
@@ -178,7 +187,10 @@ impl<W: Watch + Drop> Server<W> {
                         discovery.report();
                     }
                 }
-                place => self.peers.wake(place),
+                place => {
+                    let ends = event.is_read_closed() || event.is_error();
+                    self.peers.wake(place, ends);
+                }
             }
         }
         Ok(())
@@ -186,10 +198,10 @@ impl<W: Watch + Drop> Server<W> {
 
     /// How long the next wait may last. `None` is without a limit.
     fn timeout(&self, now: u64) -> Option<Duration> {
-        if self.peers.is_any_ready() {
+        if self.last.ready {
             return Some(Duration::ZERO);
         }
-        let mut next = self.peers.next_moment();
+        let mut next = self.last.next;
         if let Some(door) = &self.door {
             next = earlier(next, door.readiness().next_moment());
         }
@@ -207,9 +219,9 @@ impl<W: Watch + Drop> Server<W> {
         if let Some(discovery) = &mut self.discovery {
             discovery.answer_one(&self.peers, &self.watch, now);
         }
-        let ended = self.peers.round(now);
-        if ended > 0 {
-            self.ended = self.ended.saturating_add(ended as u64);
+        self.last = self.peers.round(now);
+        if self.last.ended > 0 {
+            self.ended = self.ended.saturating_add(self.last.ended as u64);
             if let Some(door) = &mut self.door {
                 door.relieve();
             }
@@ -219,7 +231,8 @@ impl<W: Watch + Drop> Server<W> {
 
     /// Takes the next connection, where there is one. It is closed at once where there is no place for it.
     fn admit(&mut self, now: u64) {
-        if self.is_held() {
+        let is_due = matches!(&self.door, Some(door) if door.readiness().is_due(now));
+        if !is_due || self.is_held() {
             return;
         }
         let Some(door) = &mut self.door else {
@@ -237,15 +250,14 @@ impl<W: Watch + Drop> Server<W> {
         }
     }
 
-    /// Whether the next connection waits for the next round: all places are taken, but a peer may be at its end.
+    /// Whether the next connection waits for the next round: all places are taken, but a peer may be at its end. Of one
+    /// that is not ready the system may have more to report, so it is asked once more in any case.
     fn is_held(&mut self) -> bool
         ensures counted { IsTrue result → self.old.held < self.new.held }
         ensures limit { IsTrue result → self.new.held ≤ 16 }
     {
-        if self.held < ROUNDS_HELD
-            && self.peers.first_free().is_none()
-            && self.peers.is_any_ready()
-        {
+        let may_have_ended = self.last.ready || self.held == 0;
+        if may_have_ended && self.held < ROUNDS_HELD && self.peers.first_free().is_none() {
             self.held += 1;
             return true;
         }
@@ -268,9 +280,13 @@ impl<W: Watch + Drop> Server<W> {
         if registered.is_err() {
             return false;
         }
-        match self.watch.wire(stream) {
-            Some(wire) => self.peers.come(now, wire).is_ok(),
-            None => false,
+        let Some(wire) = self.watch.wire(stream) else {
+            return false;
+        };
+        if self.peers.come(now, wire).is_err() {
+            return false;
         }
+        self.last.ready = true;
+        true
     }
 }

@@ -1,5 +1,5 @@
-//! Worked rows through `answer`, `replay` and `show`, a configuration and a script that are no text, the program's words,
-//! and a connection on a socket.
+//! Worked rows through `answer`, `replay` and `show`, a configuration and a script that are no text, the program's
+//! words, and a connection on a socket.
 
 mod rows;
 

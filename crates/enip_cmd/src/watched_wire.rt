@@ -13,17 +13,12 @@ use std::collections::VecDeque;
 use std::net::SocketAddr;
 use std::rt::Clock;
 
-/// The wire of a connection, the frames that were read of it and are not answered yet, and what of the next frame came
-/// in either direction.
+/// The wire of a connection, and what is told of its frames.
 pub(crate) struct WatchedWire<'a, R: Eprint + Clock> {
     wire: TcpWire,
     journal: &'a Journal<'a, R>,
     address: SocketAddr,
-    asked: VecDeque<Asked>,
-    requests: FrameReader,
-    answers: FrameReader,
-    /// Whether what still comes is no frame, since a header was too long.
-    deaf: bool,
+    frames: Frames,
 }
 
 impl<'a, R: Eprint + Clock> WatchedWire<'a, R> {
@@ -41,13 +36,27 @@ impl<'a, R: Eprint + Clock> WatchedWire<'a, R> {
             wire: TcpWire::new(stream),
             journal,
             address,
-            asked: VecDeque::new(alloc),
-            requests,
-            answers,
-            deaf: false,
+            frames: Frames {
+                asked: VecDeque::new(alloc),
+                requests,
+                answers,
+                deaf: false,
+            },
         })
     }
+}
 
+/// The frames that were read of a connection and are not answered yet, and what of the next frame came in either direction.
+#[derive(Drop)]
+struct Frames {
+    asked: VecDeque<Asked>,
+    requests: FrameReader,
+    answers: FrameReader,
+    /// Whether what still comes is no frame, since a header was too long.
+    deaf: bool,
+}
+
+impl Frames {
     /// Keeps what the frames of a piece ask.
     fn hear(&mut self, piece: &[u8]) {
         let mut rest = piece;
@@ -72,7 +81,12 @@ impl<'a, R: Eprint + Clock> WatchedWire<'a, R> {
     }
 
     /// Tells of the frames of a piece that goes out.
-    fn answer(&mut self, piece: &[u8]) {
+    fn answer<R: Eprint + Clock>(
+        &mut self,
+        journal: &Journal<'_, R>,
+        address: SocketAddr,
+        piece: &[u8],
+    ) {
         let mut rest = piece;
         for _ in 0..piece.len() {
             if rest.is_empty() {
@@ -81,17 +95,17 @@ impl<'a, R: Eprint + Clock> WatchedWire<'a, R> {
             let (taken, held) = self.answers.next(rest);
             rest = &rest[taken..];
             if let Held::Frame(frame) = held {
-                tell_answer(self.journal, self.address, &mut self.asked, frame);
+                tell_answer(journal, address, &mut self.asked, frame);
                 self.answers.clear();
             }
         }
     }
 
     /// Tells of the frames that were not answered. All that was read is served before more is read.
-    fn finish(&mut self) {
+    fn finish<R: Eprint + Clock>(&mut self, journal: &Journal<'_, R>, address: SocketAddr) {
         for _ in 0..self.asked.len() {
             if let Some(asked) = self.asked.pop_front() {
-                tell_silence(self.journal, self.address, asked);
+                tell_silence(journal, address, asked);
             }
         }
     }
@@ -124,16 +138,14 @@ fn tell_silence<R: Eprint + Clock>(journal: &Journal<'_, R>, address: SocketAddr
 
 impl<R: Eprint + Clock> Drop for WatchedWire<'_, R> {
     fn drop(mut self) {
-        self.finish();
-        self.journal.tell(self.address, &"ends");
+        let (journal, address) = (self.journal, self.address);
+        self.frames.finish(journal, address);
+        journal.tell(address, &"ends");
         let WatchedWire {
             wire: _,
             journal: _,
             address: _,
-            asked: _,
-            requests: _,
-            answers: _,
-            deaf: _,
+            frames: _,
         } = self;
     }
 }
@@ -146,10 +158,11 @@ impl<R: Eprint + Clock> Wire for WatchedWire<'_, R> {
     ghost tally = { λ w. w.wire.tally };
 
     fn read(&mut self, into: &mut [u8]) -> Came {
-        self.finish();
-        let came = self.wire.read(into);
+        self.frames.finish(self.journal, self.address);
+        // another read follows this one's frames, at which those that were not answered are told
+        let came = self.wire.read_on(into);
         if let Came::Bytes(size) = came {
-            self.hear(&into[..size]);
+            self.frames.hear(&into[..size]);
         }
         came
     }
@@ -157,7 +170,8 @@ impl<R: Eprint + Clock> Wire for WatchedWire<'_, R> {
     fn write(&mut self, from: &[u8]) -> Option<usize> {
         let sent = self.wire.write(from);
         if let Some(size) = sent {
-            self.answer(&from[..size]);
+            self.frames
+                .answer(self.journal, self.address, &from[..size]);
         }
         sent
     }

@@ -17,7 +17,8 @@ const OUTPUT: &str = "standard output";
 
 const CLOCK: &str = "the clock";
 
-/// The seconds of the longest time between two requests of a session (ours): a device may end one that is silent for longer.
+/// The seconds of the longest time between two requests of a session (ours): a device may end one that is silent for
+/// longer.
 const LONGEST_SILENCE: u64 = 60;
 
 /// How many seconds a device that went away is left alone where the patience has no limit.
@@ -150,7 +151,7 @@ impl<'a> Watching<'a, '_, '_> {
 
     /// Takes a reply, and prints it where it is to be.
     fn take(&mut self, reply: &[u8]) -> Result<(), Parting<'a>> {
-        self.taken += 1;
+        self.taken = self.taken.saturating_add(1);
         let is_news = self.readings.is_news(reply)?;
         if !is_news && !self.watched.all {
             return Ok(());
@@ -160,7 +161,7 @@ impl<'a> Watching<'a, '_, '_> {
             .elapsed(self.rt)
             .map_err(|error| Parting::Over(Ending::of_device(CLOCK, error)))?;
         let moment = u64::try_from(elapsed.as_micros()).unwrap_or(u64::MAX);
-        let mut output = Noted::new(OUTPUT, self.rt.stdout());
+        let mut output = Noted::new(self.rt.stdout());
         let printed = print_reading(
             self.rt.alloc(),
             &mut output,
@@ -176,7 +177,11 @@ impl<'a> Watching<'a, '_, '_> {
                 self.replied = replied;
                 Ok(())
             }
-            Err(stop) => Err(Parting::Over(ending_of(stop, self.asked.address, output.reason()))),
+            Err(stop) => Err(Parting::Over(ending_of(
+                stop,
+                self.asked.address,
+                output.reason(OUTPUT),
+            ))),
         }
     }
 
@@ -195,7 +200,8 @@ impl<'a> Watching<'a, '_, '_> {
     }
 }
 
-/// What follows where the program would end so, had it asked once: want of memory ends it, else the device is tried again.
+/// What follows where the program would end so, had it asked once: want of memory ends it, else the device is tried
+/// again.
 fn parting_of<'a>(ending: Ending<'a>) -> Parting<'a> {
     match ending.into_reason() {
         Reason::Memory => Parting::Over(Ending::of_memory()),

@@ -1,7 +1,8 @@
 //! A connection of TCP whose calls never wait, as a peer's wire.
 
-ghost use Rattle.std.specs.Prelude.{◌<◌, ◌≤◌, length, None, IfSome};
-ghost use Rattle.enip_peers.specs.Wires.{IsRead};
+ghost use Rattle.std.specs.Prelude.{◌≡◌, ◌<◌, ◌≤◌, length, None, IfSome};
+ghost use Rattle.enip_cmd.specs.Reads.{IsShortWhereAll};
+ghost use Rattle.enip_peers.specs.Wires.{IsRead, after_read};
 
 use enip_peers::{Came, Tally, Wire};
 use mio::net::TcpStream;
@@ -25,6 +26,20 @@ impl TcpWire {
             stream,
             tally: Tally::new(),
         }
+    }
+
+    /// As `read`, but never told that it took all, so that another read follows once what came is served.
+    pub(crate) fn read_on(&mut self, into: &mut [u8]) -> Came
+        requires { 0 < length into.old }
+        ensures read { IsRead None None result into.new }
+        ensures tally { self.new.tally ≡ after_read result self.old.tally }
+    {
+        let came = match read_now(&mut self.stream, into) {
+            Came::All(size) => Came::Bytes(size),
+            came => came,
+        };
+        self.tally.add_read(came);
+        came
     }
 }
 
@@ -52,14 +67,16 @@ impl Wire for TcpWire {
     }
 }
 
-/// Reads what has come.
+/// Reads what has come. A read that did not fill its room took all of it, and the system reports what comes next.
 fn read_now(stream: &mut TcpStream, into: &mut [u8]) -> Came
     requires { 0 < length into.old }
-    ensures { IsRead None None result into.new }
+    ensures read { IsRead None None result into.new }
+    ensures short { IsShortWhereAll (length into.new) result }
 {
     for _ in 0..INTERRUPTIONS {
         match stream.read(into) {
             Ok(0) => return Came::End,
+            Ok(size) if size < into.len() => return Came::All(size),
             Ok(size) => return Came::Bytes(size),
             Err(error) => match error.kind() {
                 ErrorKind::Interrupted => {}

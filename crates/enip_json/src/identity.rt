@@ -8,7 +8,7 @@ ghost use Rattle.serde_json.specs.Written.{compact_text};
 
 use crate::latin::latin_text;
 use enip_client::IdentityView;
-use serde_json::{Value, json};
+use serde_json::{Map, Value, put};
 use std::alloc::{AllocError, Global};
 
 /// The line of a device: what it says of itself.
@@ -24,19 +24,29 @@ fn identity_object(alloc: Global, identity: &IdentityView<'_>) -> Result<Value, 
 {
     let host = host_of(alloc, identity.address)?;
     let name = latin_text(alloc, identity.name)?;
-    json!(in alloc; {
-        "address": &host,
-        "device_type": identity.device_type,
-        "major": identity.major,
-        "minor": identity.minor,
-        "name": &name,
-        "port": identity.port,
-        "product_code": identity.product_code,
-        "serial": identity.serial,
-        "state": identity.state,
-        "status": identity.status,
-        "vendor": identity.vendor
-    })
+    let mut members = Map::new(alloc);
+    put(&mut members, alloc, "address", Value::from(host))?;
+    put(
+        &mut members,
+        alloc,
+        "device_type",
+        Value::from(identity.device_type),
+    )?;
+    put(&mut members, alloc, "major", Value::from(identity.major))?;
+    put(&mut members, alloc, "minor", Value::from(identity.minor))?;
+    put(&mut members, alloc, "name", Value::from(name))?;
+    put(&mut members, alloc, "port", Value::from(identity.port))?;
+    put(
+        &mut members,
+        alloc,
+        "product_code",
+        Value::from(identity.product_code),
+    )?;
+    put(&mut members, alloc, "serial", Value::from(identity.serial))?;
+    put(&mut members, alloc, "state", Value::from(identity.state))?;
+    put(&mut members, alloc, "status", Value::from(identity.status))?;
+    put(&mut members, alloc, "vendor", Value::from(identity.vendor))?;
+    Ok(Value::Object(members))
 }
 
 /// An address as it is written, without a port.

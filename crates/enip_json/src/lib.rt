@@ -1,7 +1,7 @@
 //! What devices say, as JSON: one object on one line.
 //!
-//! [`identity_line`] tells what a device is, [`data_line`] and [`values_line`] a reply, [`refusal_line`] a refusal. Which
-//! data each line is read as stands in `specs/Objects.antt`. Members stand in the order of their names.
+//! [`identity_line`] tells what a device is, [`data_line`] and [`values_line`] a reply, [`refusal_line`] a refusal.
+//! Which data each line is read as stands in `specs/Objects.antt`. Members stand in the order of their names.
 #![tactic(auto)]
 
 mod identity;

@@ -1,10 +1,10 @@
 -- The peers of an adapter have handles of their own, each below the adapter's next one.
 use Rattle.std.proofs.Common.{◌≡◌, ◌≢◌, ◌<◌, ◌≤◌, ◌+◌, ℕ, zero, suc, List, [], ◌∷◌, replicate, slice_get, slice_set}
-use Rattle.std.proofs.Common.{true, Option, Some, None, refl, sym, subst, arith}
+use Rattle.std.proofs.Common.{Bool, true, Option, Some, None, refl, sym, subst, arith}
 use Rattle.std.specs.Prelude.{◌-◌, length, ⊤}
 use Rattle.enip_adapter.specs.Calls.{AdapterState}
 use Rattle.enip_peers.specs.declared.line.Line.{Line}
-use Rattle.enip_peers.specs.Rounds.{PeersState, new_peers, woken_line}
+use Rattle.enip_peers.specs.Rounds.{PeersState, new_peers, woken_to, woken_line}
 
 -- None of these lines is of this peer.
 abbrev pub HasNone : {W : Type 0} → ℕ → List (Option (Line W)) → Type 0
@@ -181,11 +181,11 @@ module _ {W : Type 0} where
       (is_of_itself first, of_set lines place line after there same)
 
   -- a line is woken
-  pub of_woken : (lines : List (Option (Line W))) (place : ℕ) (found : Option (Option (Line W)))
-      → slice_get lines place ≡ found → AreOf lines (woken_line lines place found)
-  of_woken lines place None is = are_of_themselves lines
-  of_woken lines place (Some None) is = are_of_themselves lines
-  of_woken lines place (Some (Some line)) is = of_set lines place line (record line { ready = true }) is refl
+  pub of_woken : (ends : Bool) (lines : List (Option (Line W))) (place : ℕ) (found : Option (Option (Line W)))
+      → slice_get lines place ≡ found → AreOf lines (woken_line ends lines place found)
+  of_woken ends lines place None is = are_of_themselves lines
+  of_woken ends lines place (Some None) is = are_of_themselves lines
+  of_woken ends lines place (Some (Some line)) is = of_set lines place line (woken_to ends line) is refl
 
 apart_free : (W : Type 0) (n : ℕ) → AreApart {W = W} (replicate n None)
 apart_free W zero = tt

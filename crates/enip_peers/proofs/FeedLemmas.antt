@@ -1,5 +1,7 @@
 -- What was read, fed.
-use Rattle.std.proofs.Common.{◌≡◌, ◌≢◌, ℕ, [], true, false, Option, Some, None, is_some, refl, sym, subst, true≢false}
+use Rattle.std.proofs.Common.{◌≡◌, ◌≢◌, ℕ, List, [], ◌∷◌, length, eqb, true, false, Option, Some, None, is_some}
+use Rattle.std.proofs.Common.{refl, sym, subst, true≢false, arith}
+use Rattle.std.proofs.lemmas.Bool.{eqb-true}
 use Rattle.enip_peers.specs.declared.line.Turn.{Turn}
 use Rattle.enip_peers.specs.declared.line.Turn.TheVariants.{More, Reads, Writes, Over}
 use Rattle.enip_peers.specs.Desks.{Desk, IsFlushed, AreFed, fed_once, IsToldBy, IsWaiting}
@@ -25,6 +27,16 @@ none_there (Some x) is = absurd (true≢false is)
 pub some_there : {X : Type 0} → (o : Option X) → is_some o ≡ true → o ≢ None
 some_there None is none = true≢false (sym is)
 some_there (Some x) is none = cc
+
+-- bytes that wait, and none
+pub some_left : (bytes : List ℕ) → eqb (length bytes) 0 ≡ false → bytes ≢ []
+some_left [] is none = true≢false is
+some_left (byte ∷ bytes) is none = cc
+
+pub none_left : (bytes : List ℕ) → eqb (length bytes) 0 ≡ true → bytes ≡ []
+none_left [] is = refl
+none_left (byte ∷ bytes) is =
+    let none : length (byte ∷ bytes) ≡ 0 = eqb-true (length (byte ∷ bytes)) 0 is in absurd (omega (arith, none))
 
 -- a turn that waits
 pub told_waiting : (d : Desk) (turn : Turn) → d.outbox ≢ [] → IsWaiting turn → IsToldBy d turn

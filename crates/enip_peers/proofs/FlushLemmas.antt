@@ -2,9 +2,9 @@
 use Rattle.std.proofs.Common.{◌≡◌, ◌≢◌, ℕ, zero, suc, List, [], ◌++◌, take, drop, Option, Some, None, refl, sym, ap, subst, ◌∙◌, append_assoc, take-append-drop}
 use Rattle.std.proofs.KnownBytes.{Appends-nil, Appends-trans}
 use Rattle.std.specs.Io.KnownBytes.{Appends}
-use Rattle.enip_peers.specs.declared.line.Turn.TheVariants.{More, Writes}
+use Rattle.enip_peers.specs.declared.line.Turn.TheVariants.{Writes}
 use Rattle.enip_peers.specs.declared.tally.Tally.{Tally}
-use Rattle.enip_peers.specs.Desks.{Desk, IsFlushed, IsToldOf}
+use Rattle.enip_peers.specs.Desks.{Desk, IsFlushed, GoesOn, IsCutShort}
 use Rattle.enip_peers.specs.Wires.{after_write}
 
 -- nothing is written
@@ -49,11 +49,12 @@ write_reads (Some zero) t = refl
 write_reads (Some (suc n)) t = refl
 
 -- a write that took nothing
-pub told_zero : (size : ℕ) (old new : Tally) → size ≡ 0 → new ≡ after_write (Some size) old → IsToldOf Writes old new
-told_zero zero old new none wrote = (ap (λ t. t.waits) wrote, ap (λ t. t.ends) wrote)
-told_zero (suc n) old new none wrote = absurd (cc)
+pub told_zero : (closed : Option ℕ) (size : ℕ) (old new : Tally) → size ≡ 0 → new ≡ after_write (Some size) old
+    → IsCutShort closed Writes old new
+told_zero closed zero old new none wrote = (ap (λ t. t.waits) wrote, ap (λ t. t.ends) wrote)
+told_zero closed (suc n) old new none wrote = absurd (cc)
 
 -- a write that took something
-pub told_some : (size : ℕ) (old new : Tally) → size ≢ 0 → new ≡ after_write (Some size) old → IsToldOf More old new
+pub told_some : (size : ℕ) (old new : Tally) → size ≢ 0 → new ≡ after_write (Some size) old → GoesOn old new
 told_some zero old new some wrote = absurd (some refl)
-told_some (suc n) old new some wrote = (ap (λ t. t.waits) wrote, ap (λ t. t.ends) wrote)
+told_some (suc n) old new some wrote = (ap (λ t. t.drained) wrote, ap (λ t. t.waits) wrote, ap (λ t. t.ends) wrote)

@@ -13,7 +13,7 @@ use Rattle.enip_peers.specs.declared.line.Line.{Line}
 use Rattle.enip_peers.specs.declared.tally.Tally.{Tally}
 use Rattle.enip_peers.specs.Desks.{desk_of}
 use Rattle.enip_peers.specs.Moves.{Moves, GoesOnWith}
-use Rattle.enip_peers.specs.Rounds.{PeersState, new_peers, new_line, first_free, IsCome, woken_line}
+use Rattle.enip_peers.specs.Rounds.{PeersState, new_peers, new_line, first_free, IsCome, woken_to, woken_line}
 use Rattle.enip_peers.specs.Runs.{IsStep, IsRun, Holds, Lives}
 use Rattle.enip_peers.specs.Runs.IsStep.{Comes, Wakes, Rounds}
 use Rattle.enip_peers.specs.Runs.IsRun.{Still, Goes_on}
@@ -77,9 +77,9 @@ module _ {W : Type 0} (left written : W → Option (List ℕ)) (tally : W → Ta
 
   sound_step : (old new : PeersState W) → IsStep left written tally old new → AreSound old → AreSound new
   sound_step old new (Comes now wire result is) sound = sound_comes old new now wire result is sound
-  sound_step old new (Wakes place is) sound =
+  sound_step old new (Wakes place ends is) sound =
       sound_of old new sound
-      (subst (AreOf old.lines) (sym (ap (λ p. p.lines) is)) (of_woken old.lines place (slice_get old.lines place) refl))
+      (subst (AreOf old.lines) (sym (ap (λ p. p.lines) is)) (of_woken ends old.lines place (slice_get old.lines place) refl))
       (omega (arith, ap (λ p. p.adapter.state.next_handle) is))
   sound_step old new (Rounds now is) sound = sound_round left written tally now old new is sound
 
@@ -141,29 +141,29 @@ module _ {W : Type 0} (left written : W → Option (List ℕ)) (tally : W → Ta
       (subst (λ (p : PeersState W). slice_get p.lines place ≡ Some (Some after)) is.1 stays))
 
   -- waking shows in no desk
-  woken_desk : (a : AdapterState) (lines : List (Option (Line W))) (waken place : ℕ) (found : Option (Option (Line W)))
+  woken_desk : (ends : Bool) (a : AdapterState) (lines : List (Option (Line W))) (waken place : ℕ) (found : Option (Option (Line W)))
       → slice_get lines waken ≡ found → (line after : Line W) → slice_get lines place ≡ Some (Some line)
-      → slice_get (woken_line lines waken found) place ≡ Some (Some after) → (here : Bool) → eqb waken place ≡ here
+      → slice_get (woken_line ends lines waken found) place ≡ Some (Some after) → (here : Bool) → eqb waken place ≡ here
       → desk_of left written tally a after ≡ desk_of left written tally a line
-  woken_desk a lines waken place None is line after there stays here at =
+  woken_desk ends a lines waken place None is line after there stays here at =
       ap (desk_of left written tally a) (same_line lines place line after there stays)
-  woken_desk a lines waken place (Some None) is line after there stays here at =
+  woken_desk ends a lines waken place (Some None) is line after there stays here at =
       ap (desk_of left written tally a) (same_line lines place line after there stays)
-  woken_desk a lines waken place (Some (Some found)) is line after there stays false at =
+  woken_desk ends a lines waken place (Some (Some found)) is line after there stays false at =
       ap (desk_of left written tally a)
       (same_line lines place line after there
-      (sym (get_set_other lines waken place (Some (record found { ready = true })) (eqb-false waken place at)) ∙ stays))
-  woken_desk a lines waken place (Some (Some found)) is line after there stays true at =
+      (sym (get_set_other lines waken place (Some (woken_to ends found)) (eqb-false waken place at)) ∙ stays))
+  woken_desk ends a lines waken place (Some (Some found)) is line after there stays true at =
       let same : waken ≡ place = eqb-true waken place at in
-      let set : slice_get (slice_set lines waken (Some (record found { ready = true }))) waken
-      ≡ Some (Some (record found { ready = true }))
-      = get_set_same lines waken (Some (record found { ready = true })) (Some found) is in
-      let new : slice_get (slice_set lines waken (Some (record found { ready = true }))) waken ≡ Some (Some after)
-      = subst (λ n. slice_get (slice_set lines waken (Some (record found { ready = true }))) n ≡ Some (Some after))
+      let set : slice_get (slice_set lines waken (Some (woken_to ends found))) waken
+      ≡ Some (Some (woken_to ends found))
+      = get_set_same lines waken (Some (woken_to ends found)) (Some found) is in
+      let new : slice_get (slice_set lines waken (Some (woken_to ends found))) waken ≡ Some (Some after)
+      = subst (λ n. slice_get (slice_set lines waken (Some (woken_to ends found))) n ≡ Some (Some after))
       (sym same) stays in
       let old : slice_get lines waken ≡ Some (Some line)
       = subst (λ n. slice_get lines n ≡ Some (Some line)) (sym same) there in
-      let is_new : after ≡ record found { ready = true } = cc in
+      let is_new : after ≡ woken_to ends found = cc in
       let is_old : found ≡ line = cc in
       ap (desk_of left written tally a) is_new ∙ ap (desk_of left written tally a) is_old
 
@@ -173,10 +173,10 @@ module _ {W : Type 0} (left written : W → Option (List ℕ)) (tally : W → Ta
       (desk_of left written tally new.adapter after)
   step_moves old new sound (Comes now wire result is) place line after there stays =
       kept_moves old.adapter line new.adapter after (kept_come old new now wire result is place line after there stays)
-  step_moves old new sound (Wakes waken is) place line after there stays =
+  step_moves old new sound (Wakes waken ends is) place line after there stays =
       kept_moves old.adapter line new.adapter after
       (kept_still old.adapter line new.adapter after (ap (λ p. p.adapter) is)
-      (woken_desk new.adapter old.lines waken place (slice_get old.lines waken) refl line after there
+      (woken_desk ends new.adapter old.lines waken place (slice_get old.lines waken) refl line after there
       (subst (λ (p : PeersState W). slice_get p.lines place ≡ Some (Some after)) is stays) (eqb waken place) refl))
   step_moves old new sound (Rounds now is) place line after there stays =
       round_moves left written tally now old new is sound place line after there stays

@@ -9,6 +9,8 @@ use Rattle.enip_peers.specs.declared.line.Line.{Line}
 use Rattle.enip_peers.specs.declared.line.Turn.{Turn}
 use Rattle.enip_peers.specs.declared.line.Turn.TheVariants.{More, Reads, Writes, Over}
 use Rattle.enip_peers.specs.declared.tally.Tally.{Tally}
+use Rattle.enip_peers.specs.declared.wire.Came.{Came}
+use Rattle.enip_peers.specs.declared.wire.Came.TheVariants.{Bytes, All, Later, End, Failed}
 use Rattle.enip_peers.specs.Wires.{one_more}
 
 -- A sum of moments, which stops at the greatest.
@@ -122,13 +124,43 @@ IsToldBy d Reads = (d.outbox ≡ []) × (d.inbox ≡ [])
 IsToldBy d Writes = d.outbox ≢ []
 IsToldBy d Over = ⊤
 
--- What a turn came to, by how the calls of the wire went: where more may have come none of them had to wait; where one
--- had to, that one was the only one; where the stream is over one of them was at its end or failed.
-abbrev pub IsToldOf : Turn → Tally → Tally → Type 0
-IsToldOf More old new = (new.waits ≡ old.waits) × (new.ends ≡ old.ends)
-IsToldOf Reads old new = (new.waits ≡ one_more old.waits) × (new.ends ≡ old.ends)
-IsToldOf Writes old new = (new.waits ≡ one_more old.waits) × (new.ends ≡ old.ends)
-IsToldOf Over old new = (new.waits ≡ old.waits) × (new.ends ≡ one_more old.ends)
+-- What a turn comes to by a read of it, once all that came is fed. Where nothing more has come the system is waited
+-- for, but not where it has reported the end of the stream: it does so once.
+abbrev pub turn_after : Came → Bool → Turn
+turn_after (Bytes size) ending = More
+turn_after (All size) false = Reads
+turn_after (All size) true = More
+turn_after Later ending = Reads
+turn_after End ending = Over
+turn_after Failed ending = Over
+
+-- No call of the wire had to wait, and none was at its end or failed.
+abbrev pub IsThrough : Tally → Tally → Type 0
+IsThrough old new = (new.waits ≡ old.waits) × (new.ends ≡ old.ends)
+
+-- The same, and no read said that nothing more had come.
+abbrev pub GoesOn : Tally → Tally → Type 0
+GoesOn old new = (new.drained ≡ old.drained) × (new.waits ≡ old.waits) × (new.ends ≡ old.ends)
+
+-- What a turn came to, by how the calls of the wire went. Where more may have come none of them had to wait, and no
+-- read said that nothing more had come, unless the end of the stream was reported or the adapter closed the peer. Where
+-- the wire is waited for until it can be read, one read said that nothing more had come, and where the end of the
+-- stream was reported it had to wait. Where it is waited for until it can be written, one call had to wait. Where the
+-- stream is over one of them was at its end or failed.
+abbrev pub IsToldOf : Bool → Option ℕ → Turn → Tally → Tally → Type 0
+IsToldOf ending closed More old new =
+    IsThrough old new × (ending ≡ false → closed ≡ None → new.drained ≡ old.drained)
+IsToldOf ending closed Reads old new = (new.drained ≡ one_more old.drained) × (new.ends ≡ old.ends)
+    × (ending ≡ true → new.waits ≡ one_more old.waits)
+IsToldOf ending closed Writes old new = (new.waits ≡ one_more old.waits) × (new.ends ≡ old.ends)
+IsToldOf ending closed Over old new = (new.waits ≡ old.waits) × (new.ends ≡ one_more old.ends)
+
+-- A turn that ends with writes: the adapter closed the peer, an answer is not out, or a write failed.
+abbrev pub IsCutShort : Option ℕ → Turn → Tally → Tally → Type 0
+IsCutShort closed More old new = (closed ≢ None) × (new.waits ≡ old.waits) × (new.ends ≡ old.ends)
+IsCutShort closed Reads old new = ⊥
+IsCutShort closed Writes old new = (new.waits ≡ one_more old.waits) × (new.ends ≡ old.ends)
+IsCutShort closed Over old new = (new.waits ≡ old.waits) × (new.ends ≡ one_more old.ends)
 
 -- A turn that ends before a read is made: an answer is not out, or a write failed.
 abbrev pub IsWaiting : Turn → Type 0
@@ -137,9 +169,9 @@ IsWaiting Reads = ⊥
 IsWaiting Writes = ⊤
 IsWaiting Over = ⊤
 
--- A turn that ends with a read that gave nothing.
-abbrev pub HasEnded : Turn → Type 0
-HasEnded More = ⊥
-HasEnded Reads = ⊤
-HasEnded Writes = ⊥
-HasEnded Over = ⊤
+-- What a turn comes to by a read.
+abbrev pub IsByRead : Turn → Type 0
+IsByRead More = ⊤
+IsByRead Reads = ⊤
+IsByRead Writes = ⊥
+IsByRead Over = ⊤

@@ -1,6 +1,6 @@
 -- The peers of an adapter, and what a round does to them.
 use Rattle.std.specs.Prelude.{ℕ, ◌+◌, ◌-◌, ◌^◌, min, ◌≡◌, ◌<◌, ◌≤◌, ◌⊎◌, List, [], ◌∷◌, length, replicate, Bool, true, false, not}
-use Rattle.std.specs.Prelude.{◌==◌, if◌then◌else◌, Option, Some, None, is_none, slice_get, slice_set, unwrap_or, Result, Ok, Err}
+use Rattle.std.specs.Prelude.{◌==◌, ◌||◌, if◌then◌else◌, Option, Some, None, is_none, slice_get, slice_set, unwrap_or, Result, Ok, Err}
 use Rattle.std.specs.Box.{boxed_slice_items}
 use Rattle.std.specs.List.{position}
 use Rattle.cip_manager.specs.Connection.{earliest_deadline}
@@ -11,6 +11,7 @@ use Rattle.enip_adapter.specs.Calls.Call.{Begins_peer, Ends_peer, Ticks}
 use Rattle.enip_adapter.specs.Turn.Said.{Begins, Refuses}
 use Rattle.enip_peers.specs.declared.line.Line.{Line}
 use Rattle.enip_peers.specs.declared.line.Turn.{Turn}
+use Rattle.enip_peers.specs.declared.peers.Due.{Due}
 use Rattle.enip_peers.specs.declared.peers.Peers.{Peers}
 use Rattle.enip_peers.specs.declared.line.Turn.TheVariants.{More, Reads, Writes, Over}
 use Rattle.enip_peers.specs.declared.tally.Tally.{Tally}
@@ -54,8 +55,9 @@ pub record HasTurn {W : Type 0} (left written : W → Option (List ℕ)) (tally 
   pub came_to : Turn
   pub turn : IsTurn now line.peer (desk_of left written tally a line) (desk_of left written tally b after)
   pub told : IsToldBy (desk_of left written tally b after) came_to
-  pub tells : IsToldOf came_to (tally line.wire) (tally after.wire)
+  pub tells : IsToldOf line.ending after.closed came_to (tally line.wire) (tally after.wire)
   pub peer : after.peer ≡ line.peer
+  pub ending : after.ending ≡ line.ending
   pub ready : after.ready ≡ is_more came_to
   pub over : goes_on ≡ not (is_over came_to)
 
@@ -126,6 +128,7 @@ new_line peer wire now = record {
   peer = peer;
   wire = wire;
   ready = true;
+  ending = false;
   heard = now;
   closed = None;
   inbox = [];
@@ -150,14 +153,17 @@ IsCome now wire old new (Err full) =
     ⊎ (((call_answer old.adapter Begins_peer).said ≡ Refuses full)
     × (new ≡ record old { adapter = after_call old.adapter Begins_peer }))
 
--- The wire of a place may be ready.
-abbrev pub woken_line : {W : Type 0} → List (Option (Line W)) → ℕ → Option (Option (Line W)) → List (Option (Line W))
-woken_line lines place None = lines
-woken_line lines place (Some None) = lines
-woken_line lines place (Some (Some line)) = slice_set lines place (Some (record line { ready = true }))
+-- The wire of a place may be ready, and the end of its stream may be reported with that.
+abbrev pub woken_to : {W : Type 0} → Bool → Line W → Line W
+woken_to ends line = record line { ready = true; ending = if ends then true else line.ending }
 
-abbrev pub woken : {W : Type 0} → List (Option (Line W)) → ℕ → List (Option (Line W))
-woken lines place = woken_line lines place (slice_get lines place)
+abbrev pub woken_line : {W : Type 0} → Bool → List (Option (Line W)) → ℕ → Option (Option (Line W)) → List (Option (Line W))
+woken_line ends lines place None = lines
+woken_line ends lines place (Some None) = lines
+woken_line ends lines place (Some (Some line)) = slice_set lines place (Some (woken_to ends line))
+
+abbrev pub woken : {W : Type 0} → Bool → List (Option (Line W)) → ℕ → List (Option (Line W))
+woken ends lines place = woken_line ends lines place (slice_get lines place)
 
 -- Whether a wire may be ready.
 abbrev pub is_ready : {W : Type 0} → Option (Line W) → Bool
@@ -169,6 +175,18 @@ abbrev pub earliest_of : {W : Type 0} → ℕ → ℕ → List (Option (Line W))
 earliest_of silence moment [] = moment
 earliest_of silence moment (None ∷ lines) = earliest_of silence moment lines
 earliest_of silence moment (Some line ∷ lines) = earliest_of silence (min moment (last_moment silence line)) lines
+
+-- When lines are to be served again, with one place more and with some more.
+abbrev pub due_with : {W : Type 0} → ℕ → Due → Option (Line W) → Due
+due_with silence due None = due
+due_with silence due (Some line) = record {
+  ready = due.ready || line.ready;
+  moment = min due.moment (last_moment silence line);
+}
+
+abbrev pub due_by : {W : Type 0} → ℕ → Due → List (Option (Line W)) → Due
+due_by silence due [] = due
+due_by silence due (place ∷ places) = due_by silence (due_with silence due place) places
 
 -- A moment that never comes is none.
 abbrev pub moment_or_none : ℕ → Option ℕ

@@ -1,15 +1,15 @@
 -- Lists of calls of the peers, and the life of one peer among them.
-use Rattle.std.specs.Prelude.{ℕ, ◌≡◌, List, Option, Some, Result, slice_get}
+use Rattle.std.specs.Prelude.{ℕ, ◌≡◌, Bool, List, Option, Some, Result, slice_get}
 use Rattle.enip_adapter.specs.declared.adapter.Full.{Full}
 use Rattle.enip_peers.specs.declared.line.Line.{Line}
 use Rattle.enip_peers.specs.declared.tally.Tally.{Tally}
 use Rattle.enip_peers.specs.Rounds.{PeersState, IsRound, IsCome, woken}
 
--- One call of the peers: a peer comes, or is refused; a wire may be ready; a round.
+-- One call of the peers: a peer comes, or is refused; a wire may be ready, or be at the end of its stream; a round.
 pub data IsStep {W : Type 0} (left written : W → Option (List ℕ)) (tally : W → Tally) : PeersState W → PeersState W → Type 0 where
   Comes : {old new : PeersState W} (now : ℕ) (wire : W) (result : Result ℕ Full) → IsCome now wire old new result
       → IsStep left written tally old new
-  Wakes : {old new : PeersState W} (place : ℕ) → new ≡ record old { lines = woken old.lines place }
+  Wakes : {old new : PeersState W} (place : ℕ) (ends : Bool) → new ≡ record old { lines = woken ends old.lines place }
       → IsStep left written tally old new
   Rounds : {old new : PeersState W} (now : ℕ) → IsRound left written tally now old new → IsStep left written tally old new
 

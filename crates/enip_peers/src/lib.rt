@@ -16,7 +16,7 @@ mod tally;
 mod wire;
 
 pub use line::LINGER;
-pub use peers::{NO_LIMIT, Peers};
+pub use peers::{NO_LIMIT, Peers, RoundEnd};
 pub use store::ROOM;
 pub use tally::Tally;
 pub use wire::{Came, Wire};

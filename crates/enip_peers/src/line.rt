@@ -4,7 +4,7 @@ ghost use Rattle.std.specs.Prelude.{◌≡◌, ◌≢◌, ◌≤◌, ◌<◌, []
 ghost use Rattle.enip_adapter.specs.Calls.{AdapterState};
 ghost use Rattle.enip_peers.specs.Rounds.{last_moment, IsServedLine, HasTurn};
 ghost use Rattle.enip_peers.specs.Desks.{desk_of, fed_once, IsFlushed, AreFed, IsThrownAway, IsTurn, IsToldBy, IsToldOf, IsWaiting};
-ghost use Rattle.enip_peers.specs.Desks.{IsFetched, HasEnded};
+ghost use Rattle.enip_peers.specs.Desks.{IsFetched, IsByRead, IsThrough, GoesOn, IsCutShort, turn_after};
 
 use crate::store::Store;
 use crate::wire::{Came, Wire};
@@ -26,6 +26,21 @@ pub(crate) enum Turn {
     Over,
 }
 
+impl Turn {
+    /// What a turn comes to by a read of it, once all that came is fed. `ending` says that the system has reported the
+    /// end of the stream: it does so once, so that is read on to.
+    fn after(came: Came, ending: bool) -> Turn
+        ensures { result ≡ turn_after came ending }
+    {
+        match came {
+            Came::Bytes(_) => Turn::More,
+            Came::All(_) if ending => Turn::More,
+            Came::All(_) | Came::Later => Turn::Reads,
+            Came::End | Came::Failed => Turn::Over,
+        }
+    }
+}
+
 /// A peer that holds a place: its wire, and what waits on it.
 #[derive(Drop)]
 pub(crate) struct Line<W> {
@@ -33,6 +48,8 @@ pub(crate) struct Line<W> {
     pub(crate) wire: W,
     /// Whether the wire may be ready.
     pub(crate) ready: bool,
+    /// Whether the system has reported the end of the stream, which it does once.
+    pub(crate) ending: bool,
     /// The moment at which a byte came last, or at which it began.
     heard: u64,
     /// Where the adapter closed the peer, the moment up to which it is still read.
@@ -50,6 +67,7 @@ impl<W: Wire> Line<W> {
           peer = peer;
           wire = wire;
           ready = true;
+          ending = false;
           heard = now;
           closed = None;
           inbox = [];
@@ -60,6 +78,7 @@ impl<W: Wire> Line<W> {
             peer,
             wire,
             ready: true,
+            ending: false,
             heard: now,
             closed: None,
             inbox: Store::new(),
@@ -106,8 +125,9 @@ impl<W: Wire> Line<W> {
         ensures turn { IsTurn now self.old.peer (desk_of W.left W.written W.tally adapter.old self.old)
             (desk_of W.left W.written W.tally adapter.new self.new) }
         ensures told { IsToldBy (desk_of W.left W.written W.tally adapter.new self.new) result }
-        ensures tells { IsToldOf result (W.tally self.old.wire) (W.tally self.new.wire) }
+        ensures tells { IsToldOf self.old.ending self.new.closed result (W.tally self.old.wire) (W.tally self.new.wire) }
         ensures peer { self.new.peer ≡ self.old.peer }
+        ensures ending { self.new.ending ≡ self.old.ending }
     {
         if let Some(waits) = self.flush() {
             return waits;
@@ -115,57 +135,63 @@ impl<W: Wire> Line<W> {
         if self.closed.is_some() {
             return self.throw_away();
         }
-        if let Some(ends) = self.fetch(now) {
-            return ends;
+        let turn = self.fetch(now);
+        if self.inbox.is_empty() {
+            return turn;
         }
-        self.feed_all(adapter, now)
+        if let Some(cut_short) = self.feed_all(adapter, now) {
+            return cut_short;
+        }
+        turn
     }
 
-    /// Reads once, where nothing waits to be fed. Answers `None` where something waits then.
-    fn fetch(&mut self, now: u64) -> Option<Turn>
+    /// Reads once, where nothing waits to be fed. Answers what the turn comes to once all that waits then is fed.
+    fn fetch(&mut self, now: u64) -> Turn
         ensures fetched { (adapter : AdapterState) → IsFetched now (desk_of W.left W.written W.tally adapter self.old)
             (desk_of W.left W.written W.tally adapter self.new) }
-        ensures none { IfSome result (λ turn. (self.new.inbox ≡ []) × HasEnded turn) }
-        ensures goes_on { IfNone result (IsToldOf Turn.More (W.tally self.old.wire) (W.tally self.new.wire)) }
-        ensures tells { IfSome result (λ turn. IsToldOf turn (W.tally self.old.wire) (W.tally self.new.wire)) }
+        ensures by_read { IsByRead result }
+        ensures some { self.new.inbox ≢ [] → IsThrough (W.tally self.old.wire) (W.tally self.new.wire) }
+        ensures tells { IsToldOf self.old.ending None result (W.tally self.old.wire) (W.tally self.new.wire) }
         ensures peer { self.new.peer ≡ self.old.peer }
+        ensures ending { self.new.ending ≡ self.old.ending }
         ensures outbox { self.new.outbox ≡ self.old.outbox }
         ensures closed { self.new.closed ≡ self.old.closed }
     {
         if !self.inbox.is_empty() {
-            return None;
+            return Turn::More;
         }
-        match self.inbox.fill(&mut self.wire) {
-            Came::Bytes(_) => {
-                self.heard = now;
-                None
-            }
-            Came::Later => Some(Turn::Reads),
-            Came::End | Came::Failed => Some(Turn::Over),
+        let came = self.inbox.fill(&mut self.wire);
+        if let Came::Bytes(_) | Came::All(_) = came {
+            self.heard = now;
         }
+        Turn::after(came, self.ending)
     }
 
-    /// Feeds what was read, frame by frame, until nothing is left, an answer is not out, or the adapter closes.
-    fn feed_all(&mut self, adapter: &mut Adapter, now: u64) -> Turn
+    /// Feeds what was read, frame by frame. Answers `None` where nothing is left, and what the turn came to where an
+    /// answer is not out, or the adapter closed the peer.
+    fn feed_all(&mut self, adapter: &mut Adapter, now: u64) -> Option<Turn>
         requires out { self.old.outbox ≡ [] }
         requires open { self.old.closed ≡ None }
         ensures fed { AreFed now self.old.peer (desk_of W.left W.written W.tally adapter.old self.old)
             (desk_of W.left W.written W.tally adapter.new self.new) }
-        ensures told { IsToldBy (desk_of W.left W.written W.tally adapter.new self.new) result }
-        ensures tells { IsToldOf result (W.tally self.old.wire) (W.tally self.new.wire) }
-        ensures more { result ≢ Turn.Reads }
+        ensures out { IfNone result ((self.new.outbox ≡ []) × (self.new.inbox ≡ [])) }
+        ensures told { IfSome result (IsToldBy (desk_of W.left W.written W.tally adapter.new self.new)) }
+        ensures goes_on { IfNone result (GoesOn (W.tally self.old.wire) (W.tally self.new.wire)) }
+        ensures tells { IfSome result (λ turn.
+            IsCutShort self.new.closed turn (W.tally self.old.wire) (W.tally self.new.wire)) }
         ensures peer { self.new.peer ≡ self.old.peer }
+        ensures ending { self.new.ending ≡ self.old.ending }
     {
         while !self.inbox.is_empty() {
             self.feed_once(adapter, now);
             if let Some(unsent) = self.flush() {
-                return unsent;
+                return Some(unsent);
             }
             if self.closed.is_some() {
-                return Turn::More;
+                return Some(Turn::More);
             }
         }
-        Turn::More
+        None
     }
 
     /// Feeds what was read up to the end of one frame. What answers it waits to be written.
@@ -175,6 +201,7 @@ impl<W: Wire> Line<W> {
         ensures fed { desk_of W.left W.written W.tally adapter.new self.new
             ≡ fed_once now self.old.peer (desk_of W.left W.written W.tally adapter.old self.old) }
         ensures peer { self.new.peer ≡ self.old.peer }
+        ensures ending { self.new.ending ≡ self.old.ending }
         ensures progress { 0 < length self.old.inbox → self.new.closed ≡ None →
             length self.new.inbox < length self.old.inbox }
     {
@@ -195,9 +222,11 @@ impl<W: Wire> Line<W> {
             (desk_of W.left W.written W.tally adapter self.new) }
         ensures out { IfNone result (self.new.outbox ≡ []) }
         ensures waits { IfSome result (λ turn. (self.new.outbox ≢ []) × IsWaiting turn) }
-        ensures goes_on { IfNone result (IsToldOf Turn.More (W.tally self.old.wire) (W.tally self.new.wire)) }
-        ensures tells { IfSome result (λ turn. IsToldOf turn (W.tally self.old.wire) (W.tally self.new.wire)) }
+        ensures goes_on { IfNone result (GoesOn (W.tally self.old.wire) (W.tally self.new.wire)) }
+        ensures tells { IfSome result (λ turn.
+            IsCutShort self.new.closed turn (W.tally self.old.wire) (W.tally self.new.wire)) }
         ensures peer { self.new.peer ≡ self.old.peer }
+        ensures ending { self.new.ending ≡ self.old.ending }
         ensures inbox { self.new.inbox ≡ self.old.inbox }
         ensures closed { self.new.closed ≡ self.old.closed }
     {
@@ -217,16 +246,13 @@ impl<W: Wire> Line<W> {
         ensures thrown { (adapter : AdapterState) → IsThrownAway (desk_of W.left W.written W.tally adapter self.old)
             (desk_of W.left W.written W.tally adapter self.new) }
         ensures told { (adapter : AdapterState) → IsToldBy (desk_of W.left W.written W.tally adapter self.new) result }
-        ensures tells { IsToldOf result (W.tally self.old.wire) (W.tally self.new.wire) }
+        ensures tells { IsToldOf self.old.ending self.new.closed result (W.tally self.old.wire) (W.tally self.new.wire) }
         ensures peer { self.new.peer ≡ self.old.peer }
+        ensures ending { self.new.ending ≡ self.old.ending }
     {
         self.wire.shut();
         let came = self.inbox.fill(&mut self.wire);
         self.inbox.clear();
-        match came {
-            Came::Bytes(_) => Turn::More,
-            Came::Later => Turn::Reads,
-            Came::End | Came::Failed => Turn::Over,
-        }
+        Turn::after(came, self.ending)
     }
 }

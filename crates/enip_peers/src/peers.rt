@@ -6,6 +6,7 @@ ghost use Rattle.std.specs.Option.{option_map};
 ghost use Rattle.enip_adapter.specs.Discovery.{discovered};
 ghost use Rattle.enip_peers.specs.Rounds.{IsPlaceServed, ArePlacesServed, IsRound, has_ended, ended_in};
 ghost use Rattle.enip_peers.specs.Rounds.{state_of, new_peers, first_free, IsCome, woken, is_ready, earliest_of, next_moment};
+ghost use Rattle.enip_peers.specs.Rounds.{due_with, due_by, moment_or_none};
 
 use crate::line::{Line, Turn};
 use crate::wire::Wire;
@@ -15,6 +16,26 @@ use std::boxed::BoxedSlice;
 
 /// A silence without a limit.
 pub const NO_LIMIT: u64 = u64::MAX;
+
+/// What a round came to.
+#[derive(Clone, Copy, Debug, PartialEq, Eq)]
+pub struct RoundEnd {
+    /// How many peers ended: those whose stream was over, and those that were silent for too long.
+    pub ended: usize,
+    /// Whether a wire may be ready.
+    pub ready: bool,
+    /// The earliest moment at which something is to be done without anyone speaking, where there is one.
+    pub next: Option<u64>,
+}
+
+/// When lines are to be served again.
+#[derive(Drop)]
+struct Due {
+    /// Whether a wire may be ready.
+    ready: bool,
+    /// The earliest moment at which a peer is ended if nothing comes of it.
+    moment: u64,
+}
 
 /// An adapter, and a line for each of its places.
 #[derive(Drop)]
@@ -71,26 +92,51 @@ impl<W: Wire + Drop> Peers<W> {
         Ok(place)
     }
 
-    /// The wire of a place may be ready. Nothing is changed where the place is free.
-    pub fn wake(&mut self, place: usize)
-        ensures { state_of self.new ≡ record (state_of self.old) { lines = woken (state_of self.old).lines place } }
+    /// The wire of a place may be ready. `ends` says that the end of its stream is reported, or that it failed: it is
+    /// read on to then, since that may be reported once. Nothing is changed where the place is free.
+    pub fn wake(&mut self, place: usize, ends: bool)
+        ensures { state_of self.new ≡ record (state_of self.old) { lines = woken ends (state_of self.old).lines place } }
     {
         if place >= self.lines.len() {
             return;
         }
         if let Some(line) = &mut self.lines[place] {
             line.ready = true;
+            if ends {
+                line.ending = true;
+            }
         }
     }
 
-    /// A moment comes, and each peer whose wire may be ready has one turn. Answers how many peers ended: those whose
-    /// stream was over, and those that were silent for too long.
-    pub fn round(&mut self, now: u64) -> usize
+    /// A moment comes, and each peer whose wire may be ready has one turn.
+    pub fn round(&mut self, now: u64) -> RoundEnd
+        ensures round { IsRound W.left W.written W.tally now (state_of self.old) (state_of self.new) }
+        ensures ended { result.ended ≡ ended_in (state_of self.old).lines (state_of self.new).lines }
+        ensures ready { result.ready ≡ list_any is_ready (state_of self.new).lines }
+        ensures next { result.next ≡ next_moment (state_of self.new) }
+    {
+        let mut due = Due {
+            ready: false,
+            moment: u64::MAX,
+        };
+        let ended = self.serve_all(now, &mut due);
+        let deadline = self.adapter.deadline().unwrap_or(u64::MAX);
+        RoundEnd {
+            ended,
+            ready: due.ready,
+            next: moment_or_none(deadline.min(due.moment)),
+        }
+    }
+
+    /// A moment comes, and each place is served. Answers how many peers ended; when the others are to be served again
+    /// is added to `due`.
+    fn serve_all(&mut self, now: u64, due: &mut Due) -> usize
         ensures round { IsRound W.left W.written W.tally now (state_of self.old) (state_of self.new) }
         ensures ended { result ≡ ended_in (state_of self.old).lines (state_of self.new).lines }
+        ensures due { due.new ≡ due_by (state_of self.new).silence due.old (state_of self.new).lines }
     {
         self.adapter.tick(now);
-        serve_places(&mut self.lines, &mut self.adapter, now, self.silence)
+        serve_places(&mut self.lines, &mut self.adapter, now, self.silence, due)
     }
 
     /// What answers a datagram, written in `room`: to exactly one ListIdentity, ListServices or ListInterfaces, and `None`
@@ -116,10 +162,7 @@ impl<W: Wire + Drop> Peers<W> {
     pub fn next_moment(&self) -> Option<u64>
         ensures { result ≡ next_moment (state_of self.now) }
     {
-        match self.earliest(self.adapter.deadline().unwrap_or(u64::MAX)) {
-            u64::MAX => None,
-            moment => Some(moment),
-        }
+        moment_or_none(self.earliest(self.adapter.deadline().unwrap_or(u64::MAX)))
     }
 
     /// The earliest of a moment and those at which peers are ended if nothing comes of them.
@@ -136,38 +179,55 @@ impl<W: Wire + Drop> Peers<W> {
     }
 }
 
-/// The places in a round, one after the other. Answers how many peers ended.
+/// A moment, where it is not the one that never comes.
+fn moment_or_none(moment: u64) -> Option<u64>
+    ensures { result ≡ moment_or_none moment }
+{
+    match moment {
+        u64::MAX => None,
+        moment => Some(moment),
+    }
+}
+
+/// The places in a round, one after the other. Answers how many peers ended; when the others are to be served again is
+/// added to `due`.
 fn serve_places<W: Wire + Drop>(
     places: &mut [Option<Line<W>>],
     adapter: &mut Adapter,
     now: u64,
     silence: u64,
+    due: &mut Due,
 ) -> usize
     ensures served { ArePlacesServed W.left W.written W.tally now silence adapter.old places.old adapter.new places.new }
     ensures ended { result ≡ ended_in places.old places.new }
     ensures few { result ≤ length places.old }
+    ensures due { due.new ≡ due_by silence due.old places.new }
 {
     let Some((place, others)) = places.split_first_mut() else {
         return 0;
     };
-    let ended = serve_place(place, adapter, now, silence);
-    usize::from(ended) + serve_places(others, adapter, now, silence)
+    let ended = serve_place(place, adapter, now, silence, due);
+    usize::from(ended) + serve_places(others, adapter, now, silence, due)
 }
 
-/// One place in a round. Answers whether its peer ended.
+/// One place in a round. Answers whether its peer ended; when it is to be served again, if not, is added to `due`.
 fn serve_place<W: Wire + Drop>(
     place: &mut Option<Line<W>>,
     adapter: &mut Adapter,
     now: u64,
     silence: u64,
+    due: &mut Due,
 ) -> bool
     ensures served { IsPlaceServed W.left W.written W.tally now silence adapter.old place.old adapter.new place.new }
     ensures ended { result ≡ has_ended place.old place.new }
+    ensures due { due.new ≡ due_with silence due.old place.new }
 {
     let Some(line) = place else {
         return false;
     };
     if line.serve(adapter, now, silence) {
+        due.ready = due.ready || line.ready;
+        due.moment = due.moment.min(line.last_moment(silence));
         return false;
     }
     adapter.end(line.peer);

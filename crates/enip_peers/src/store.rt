@@ -91,7 +91,7 @@ impl Store {
         let came = wire.read(&mut self.block);
         self.start = 0;
         self.end = match came {
-            Came::Bytes(size) => size,
+            Came::Bytes(size) | Came::All(size) => size,
             Came::Later | Came::End | Came::Failed => 0,
         };
         came

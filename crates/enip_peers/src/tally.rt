@@ -5,11 +5,13 @@ ghost use Rattle.enip_peers.specs.Wires.{after_read, after_write};
 
 use crate::wire::Came;
 
-/// How many reads were made, and how many calls had to wait, or were at an end or failed. Whoever calls a wire can so
-/// answer that it waits or is over only where a call of the wire said so. The numbers begin again at 2^64.
+/// How many reads were made, after how many of them nothing more had come, and how many calls had to wait, or were at
+/// an end or failed. Whoever calls a wire can so answer that it waits or is over only where a call of the wire said so.
+/// The numbers begin again at 2^64.
 #[derive(Clone, Copy, Debug, PartialEq, Eq)]
 pub struct Tally {
     reads: u64,
+    drained: u64,
     waits: u64,
     ends: u64,
 }
@@ -17,10 +19,11 @@ pub struct Tally {
 impl Tally {
     /// No call was made.
     pub fn new() -> Tally
-        ensures { result ≡ record { reads = 0; waits = 0; ends = 0 } }
+        ensures { result ≡ record { reads = 0; drained = 0; waits = 0; ends = 0 } }
     {
         Tally {
             reads: 0,
+            drained: 0,
             waits: 0,
             ends: 0,
         }
@@ -33,7 +36,11 @@ impl Tally {
         self.reads = self.reads.wrapping_add(1);
         match came {
             Came::Bytes(_) => {}
-            Came::Later => self.waits = self.waits.wrapping_add(1),
+            Came::All(_) => self.drained = self.drained.wrapping_add(1),
+            Came::Later => {
+                self.drained = self.drained.wrapping_add(1);
+                self.waits = self.waits.wrapping_add(1);
+            }
             Came::End | Came::Failed => self.ends = self.ends.wrapping_add(1),
         }
     }

@@ -8,8 +8,11 @@ ghost use Rattle.enip_peers.specs.Wires.{IsRead, size_taken, after_read, after_w
 /// What a read came to.
 #[derive(Clone, Copy, Debug, PartialEq, Eq)]
 pub enum Came {
-    /// So many bytes, one at least.
+    /// So many bytes, one at least. More may have come.
     Bytes(usize),
+    /// So many bytes, one at least, and nothing more has come: the system reports what comes from now on. It says
+    /// nothing of an end of the stream that was reported already.
+    All(usize),
     /// Nothing yet.
     Later,
     /// The end of the stream.

@@ -4,6 +4,7 @@ mod answering;
 mod asking;
 mod configuration;
 mod demo;
+mod exchanges;
 mod ladders;
 mod replaying;
 mod showing;

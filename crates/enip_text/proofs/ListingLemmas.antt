@@ -1,18 +1,12 @@
 -- What is printed of a list, piece by piece.
-use Rattle.std.proofs.Common.{◌≡◌, ℕ, ◌+◌, ◌<◌, List, [], ◌∷◌, ◌++◌, length, take, get_or, Option, Result, Ok, Err, refl, sym, ap, subst, ◌∙◌, append-nil, append_assoc}
+use Rattle.std.proofs.Common.{◌≡◌, ℕ, ◌+◌, ◌<◌, List, [], ◌∷◌, ◌++◌, length, take, get_or, Option, refl, sym, ap, subst, ◌∙◌, append-nil, append_assoc}
 use Rattle.std.proofs.KnownBytes.{Appends-nil, Appends-trans}
 use Rattle.std.specs.Io.KnownBytes.{Appends}
 use Rattle.std.specs.List.{flat_map}
 use Rattle.std.proofs.lemmas.List.{take_more}
 use Rattle.std.proofs.lemmas.List.Concat.{flat_map-append}
-use Rattle.std.specs.Result.{IsErr, IsErrAnd}
 use Rattle.enip_client.specs.Lists.{Entry}
-use Rattle.enip_client.specs.Listing.{Sides}
-use Rattle.enip_client.specs.declared.lists.ListCommand.{ListCommand}
-use Rattle.enip_text.specs.Asking.{IsOfDevice}
-use Rattle.enip_text.specs.Listing.{name_byte, name_text, IsListTold, IsListAsked}
-use Rattle.enip_text.specs.declared.asking.AskingStop.{AskingStop}
-use Rattle.enip_text.specs.declared.asking.AskingStop.TheVariants.{Hex, Session, Client, Program}
+use Rattle.enip_text.specs.Listing.{name_byte, name_text}
 
 -- One byte more of a name.
 pub name_text-more : (name : List ℕ) (place : ℕ) → place < length name
@@ -44,24 +38,3 @@ pub printed_all : (text : Entry → List ℕ) (before after : Option (List ℕ))
     → Appends before after (flat_map text whole)
 printed_all text before after whole left p is =
     subst (Appends before after) (sym (append-nil p.done) ∙ ap (λ (l : List Entry). p.done ++ flat_map text l) (sym is) ∙ p.parts) p.printed
-
--- A list that was told was asked for.
-pub told_asked : (command : ListCommand) (old new : Sides) (before after : Option (List ℕ)) (told : Result (Unit {0}) AskingStop)
-    → IsListTold command old new before after told → IsListAsked command old new told
-told_asked command old new before after (Ok done) (entries, listed, printed) = (entries, listed)
-told_asked command old new before after (Err Hex) so = absurd so
-told_asked command old new before after (Err (Session status)) so = absurd so
-told_asked command old new before after (Err (Client fault)) so = so
-told_asked command old new before after (Err (Program fault)) so = so
-
--- A device failed, whatever was asked.
-device_asked : (command : ListCommand) (old new : Sides) (stop : AskingStop) → IsOfDevice stop → IsListAsked command old new (Err stop)
-device_asked command old new Hex so = absurd so
-device_asked command old new (Session status) so = absurd so
-device_asked command old new (Client fault) so = absurd so
-device_asked command old new (Program fault) so = so
-
-pub device_ends : (command : ListCommand) (old new : Sides) (r : Result (Unit {0}) AskingStop) → IsErr r × IsErrAnd r IsOfDevice
-    → IsListAsked command old new r
-device_ends command old new (Ok done) gives = absurd gives.1
-device_ends command old new (Err stop) gives = device_asked command old new stop gives.1

@@ -199,13 +199,14 @@ impl From<AskFault> for AskingStop {
     }
 }
 
-/// Asks once over a reader and a writer, on a connection or not, and prints the reply on `output` in a style: its data, or
-/// `refused 0xGG`, with ` 0xEEEE` where the first additional word is not 0.
+/// Asks once over a reader and a writer, on a connection or not, and prints the reply on `output` in a style: its
+/// data, or `refused 0xGG`, with ` 0xEEEE` where the first additional word is not 0.
 ///
 /// # Errors
 ///
-/// `Session` where the device refuses the session, `Client` with the client's fault, with `Request` where the connection refuses the request, with `Malformed` where
-/// the reply is none; `Shape` where its data are no values of the style's type; `Program` where a device failed, the input ended, or memory was refused.
+/// `Session` where the device refuses the session; `Client` with the client's fault, with `Request` where the
+/// connection refuses the request, with `Malformed` where the reply is none; `Shape` where its data are no values of
+/// the style's type; `Program` where a device failed, the input ended, or memory was refused.
 pub fn ask_over<R: Source, W: Sink, O: Write + Drop>(
     alloc: Global,
     reader: &mut R,

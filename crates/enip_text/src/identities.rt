@@ -59,8 +59,8 @@ fn print_identities<R: Source, W: Sink, O: Write>(
     Ok(())
 }
 
-/// Prints an object for each identity that a datagram answers to ListIdentity. A datagram that is no whole answer is left
-/// out.
+/// Prints an object for each identity that a datagram answers to ListIdentity. A datagram that is no whole answer is
+/// left out.
 ///
 /// # Errors
 ///

@@ -199,8 +199,8 @@ impl fmt::Display for DeviceLine<'_, '_> {
 ///
 /// # Errors
 ///
-/// `Client` with `Status`, `TooLong` or `Malformed` for the answer; `Program` where a device failed, the input ended, or
-/// memory was refused.
+/// `Client` with `Status`, `TooLong` or `Malformed` for the answer; `Program` where a device failed, the input ended,
+/// or memory was refused.
 pub fn list_over<R: Source, W: Sink, O: Write + Drop>(
     alloc: Global,
     reader: &mut R,

@@ -62,13 +62,13 @@ impl Readings {
     }
 }
 
-/// Prints a reply on a line, with the moment at which it came, in microseconds: in front of it as seconds, or in an object
-/// of JSON.
+/// Prints a reply on a line, with the moment at which it came, in microseconds: in front of it as seconds, or in an
+/// object of JSON.
 ///
 /// # Errors
 ///
-/// `Client` with `Malformed` where it is none, `Shape` where its data are no values of the style's type, `Program` where
-/// the output failed or memory was refused.
+/// `Client` with `Malformed` where it is none, `Shape` where its data are no values of the style's type, `Program`
+/// where the output failed or memory was refused.
 pub fn print_reading<O: Write + Drop>(
     alloc: Global,
     output: O,

@@ -68,8 +68,8 @@ impl Session {
     ///
     /// # Errors
     ///
-    /// `Client` with the client's fault, with `Request` where the connection refuses the request; `Program` where a device
-    /// failed or the input ended.
+    /// `Client` with the client's fault, with `Request` where the connection refuses the request; `Program` where a
+    /// device failed or the input ended.
     pub fn ask<R: Source, W: Sink>(
         &mut self,
         reader: &mut R,

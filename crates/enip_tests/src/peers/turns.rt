@@ -45,9 +45,15 @@ fn run<A: Abort>(
     assert_eq!(rt; peers.come(0, ScriptedWire::new(calls, &made)), Ok(0));
     for (moment, woken, by_then, ended) in rounds {
         if *woken {
-            peers.wake(0);
+            peers.wake(0, false);
         }
-        assert_eq!(rt; peers.round(*moment), *ended, "{moment}");
+        let end = peers.round(*moment);
+        assert_eq!(rt; end.ended, *ended, "{moment}");
+        assert_eq!(rt;
+            (end.ready, end.next),
+            (peers.is_any_ready(), peers.next_moment()),
+            "{moment}"
+        );
         assert_eq!(rt; made.get(), *by_then, "{moment}");
     }
     assert_eq!(rt; made.get(), calls.len());
@@ -122,6 +128,63 @@ fn what_was_read_is_fed_at_the_moment_of_its_round(rt: HostRuntime) -> Result<()
         (15_999_999, false, 8, 0),
     ];
     run(&rt, rt.alloc(), NO_LIMIT, &calls, &rounds)
+}
+
+#[test]
+fn a_read_that_took_all_is_the_last_until_more_is_reported(rt: HostRuntime) -> Result<(), Fail> {
+    let read = joined(rt.alloc(), &[REGISTER, OPEN])?;
+    let calls = [
+        Call::GivesAll(read.as_slice()),
+        Call::Takes(REGISTERED, 28),
+        Call::Takes(OPENED, 70),
+        Call::GivesAll(ADD),
+        Call::Takes(ADDED, 0),
+        Call::Takes(ADDED, 54),
+        Call::Later,
+    ];
+    // Where an answer is not out something may have come by the time it is.
+    let rounds = [
+        (0, false, 3, 0),
+        (1, false, 3, 0),
+        (2, true, 5, 0),
+        (3, false, 5, 0),
+        (4, true, 7, 0),
+    ];
+    run(&rt, rt.alloc(), NO_LIMIT, &calls, &rounds)?;
+    // A peer that the adapter closed is shut all the same.
+    let calls = [
+        Call::GivesAll(LONG),
+        Call::Takes(REFUSED, 24),
+        Call::Shuts,
+        Call::GivesAll(REGISTER),
+        Call::Shuts,
+        Call::Ends,
+    ];
+    let rounds = [
+        (0, false, 2, 0),
+        (1, false, 4, 0),
+        (2, false, 4, 0),
+        (3, true, 6, 1),
+    ];
+    run(&rt, rt.alloc(), NO_LIMIT, &calls, &rounds)
+}
+
+#[test]
+fn an_end_that_was_reported_with_the_last_bytes_is_read(rt: HostRuntime) -> Result<(), Fail> {
+    let calls = [
+        Call::GivesAll(REGISTER),
+        Call::Takes(REGISTERED, 28),
+        Call::Ends,
+    ];
+    let made = Cell::new(0);
+    let mut peers = peers(rt.alloc(), NO_LIMIT)?;
+    assert_eq!(rt; peers.come(0, ScriptedWire::new(&calls, &made)), Ok(0));
+    peers.wake(0, true);
+    for (ended, by_then) in [(0, 2), (1, 3), (0, 3)] {
+        assert_eq!(rt; peers.round(0).ended, ended);
+        assert_eq!(rt; made.get(), by_then);
+    }
+    Ok(())
 }
 
 #[test]
@@ -229,7 +292,7 @@ fn places_are_taken_and_freed(rt: HostRuntime) -> Result<(), Fail> {
             Ok(place)
         );
         made.set(0);
-        assert_eq!(rt; peers.round(0), 0);
+        assert_eq!(rt; peers.round(0).ended, 0);
         assert_eq!(rt; made.get(), 1);
     }
     assert_eq!(rt; peers.first_free(), None);
@@ -238,7 +301,7 @@ fn places_are_taken_and_freed(rt: HostRuntime) -> Result<(), Fail> {
         peers.come(0, ScriptedWire::new(&[], &made)),
         Err(Full::Places)
     );
-    assert_eq!(rt; (peers.round(0), made.get()), (0, 0));
+    assert_eq!(rt; (peers.round(0).ended, made.get()), (0, 0));
     Ok(())
 }
 
@@ -273,7 +336,7 @@ fn each_ready_peer_has_one_turn_a_round(rt: HostRuntime) -> Result<(), Fail> {
     }
     for (ended, by_then) in [(0, 2), (1, 3), (0, 3)] {
         assert!(rt; peers.is_any_ready() == (by_then < 3 || ended == 1));
-        assert_eq!(rt; peers.round(0), ended);
+        assert_eq!(rt; peers.round(0).ended, ended);
         for made in &made {
             assert_eq!(rt; made.get(), by_then);
         }
@@ -296,7 +359,7 @@ fn the_next_moment_is_the_earliest(rt: HostRuntime) -> Result<(), Fail> {
         Ok(1)
     );
     assert_eq!(rt; peers.next_moment(), Some(1_005));
-    assert_eq!(rt; peers.round(1_005), 1);
+    assert_eq!(rt; peers.round(1_005).ended, 1);
     assert_eq!(rt; peers.next_moment(), Some(1_010));
     Ok(())
 }

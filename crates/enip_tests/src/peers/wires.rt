@@ -6,8 +6,10 @@ use std::cell::Cell;
 /// A call of a wire, and what it answers.
 #[derive(Clone, Copy, Debug)]
 pub(super) enum Call<'a> {
-    /// A read gives these bytes.
+    /// A read gives these bytes, and more may have come.
     Gives(&'a [u8]),
+    /// A read gives these bytes, and nothing more has come.
+    GivesAll(&'a [u8]),
     /// A read gives nothing yet.
     Later,
     /// A read is at the end.
@@ -56,6 +58,10 @@ impl<'a> ScriptedWire<'a> {
             Some(Call::Gives(bytes)) if bytes.len() <= into.len() => {
                 into[..bytes.len()].copy_from_slice(bytes);
                 Came::Bytes(bytes.len())
+            }
+            Some(Call::GivesAll(bytes)) if bytes.len() <= into.len() => {
+                into[..bytes.len()].copy_from_slice(bytes);
+                Came::All(bytes.len())
             }
             Some(Call::Later) => Came::Later,
             Some(Call::Ends) => Came::End,

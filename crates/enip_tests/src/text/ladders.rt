@@ -62,7 +62,7 @@ fn what_moves_no_frame(rt: HostRuntime) -> Result<(), Fail> {
             "               | resend none                                                              |\n",
         ),
         (
-            "submit 3201",
+            "submit 32",
             "               | submit refused 3                                                         |\n",
         ),
         (

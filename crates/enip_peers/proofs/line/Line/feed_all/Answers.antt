@@ -1,7 +1,7 @@
 use Rattle.std.proofs.Common.{refl, sym, ap, ◌∙◌}
 use Rattle.enip_peers.specs.Desks.{desk_of}
-use Rattle.enip_peers.proofs.TurnLemmas.{told_after_feed}
-use Rattle.enip_peers.proofs.FeedLemmas.{none_fed, one_more, none_there}
+use Rattle.enip_peers.proofs.TurnLemmas.{still_same, still_fed, cut_fed}
+use Rattle.enip_peers.proofs.FeedLemmas.{none_fed, one_more, none_there, some_there}
 use Rattle.enip_peers.specs.declared.line.Turn.TheVariants.{More}
 use Rattle.enip_peers.proofs.line.Line.feed_all.Goals as goal
 
@@ -10,7 +10,8 @@ loop-self-init g c = record {
   peer = refl;
   out = c.requires.out;
   served = c.requires.open;
-  told = (refl, refl);
+  ending = refl;
+  told = still_same (g.W.Wire.tally c.args.self.now.wire) (g.W.Wire.tally c.args.self.now.wire) refl;
   fed = none_fed c.args.now c.args.self.now.peer _;
 }
 
@@ -35,7 +36,8 @@ loop-self-preserved g c = record {
   peer = c.in_default.ensures.peer ∙ c.feed_once.ensures.peer ∙ c.loop-self.invariant.peer;
   out = c.in_default.ensures.out;
   served = none_there c.flush.new.self.closed (sym c.if-is_some.ensures);
-  told = told_after_feed More (g.W.Wire.tally c.args.self.now.wire) (g.W.Wire.tally c.loop-self.self.wire)
+  ending = c.in_default.ensures.ending ∙ c.feed_once.ensures.ending ∙ c.loop-self.invariant.ending;
+  told = still_fed (g.W.Wire.tally c.args.self.now.wire) (g.W.Wire.tally c.loop-self.self.wire)
       (g.W.Wire.tally c.feed_once.new.self.wire) (g.W.Wire.tally c.flush.new.self.wire) c.loop-self.invariant.told
       (ap (λ d. d.tally) c.feed_once.ensures.fed) c.in_default.ensures.goes_on;
   fed =
@@ -49,12 +51,16 @@ loop-self-preserved g c = record {
 
 pub returns-in-Some-clause-tells : goal.returns-in-Some-clause-tells
 returns-in-Some-clause-tells g c =
-    told_after_feed c.in-Some.unsent (g.W.Wire.tally c.args.self.now.wire) (g.W.Wire.tally c.loop-self.self.wire)
+    cut_fed c.flush.new.self.closed c.in-Some.unsent (g.W.Wire.tally c.args.self.now.wire) (g.W.Wire.tally c.loop-self.self.wire)
     (g.W.Wire.tally c.feed_once.new.self.wire) (g.W.Wire.tally c.flush.new.self.wire) c.loop-self.invariant.told
     (ap (λ d. d.tally) c.feed_once.ensures.fed) c.in-Some.ensures.tells
 
 pub returns-then-is_some-clause-tells : goal.returns-then-is_some-clause-tells
 returns-then-is_some-clause-tells g c =
-    told_after_feed More (g.W.Wire.tally c.args.self.now.wire) (g.W.Wire.tally c.loop-self.self.wire)
+    cut_fed c.flush.new.self.closed More (g.W.Wire.tally c.args.self.now.wire) (g.W.Wire.tally c.loop-self.self.wire)
     (g.W.Wire.tally c.feed_once.new.self.wire) (g.W.Wire.tally c.flush.new.self.wire) c.loop-self.invariant.told
-    (ap (λ d. d.tally) c.feed_once.ensures.fed) c.in_default.ensures.goes_on
+    (ap (λ d. d.tally) c.feed_once.ensures.fed) (
+      some_there c.flush.new.self.closed (sym c.if-is_some.ensures),
+      c.in_default.ensures.goes_on.1,
+      c.in_default.ensures.goes_on.2,
+    )

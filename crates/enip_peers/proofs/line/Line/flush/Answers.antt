@@ -2,8 +2,8 @@ use Rattle.std.proofs.Common.{refl, ap, subst, ◌∙◌, take, Some}
 use Rattle.std.specs.Io.KnownBytes.{Appends}
 use Rattle.enip_peers.specs.Desks.{desk_of}
 use Rattle.enip_peers.proofs.FlushLemmas.{more_flushed, write_reads, told_zero, told_some}
-use Rattle.enip_peers.proofs.TurnLemmas.{told_after}
-use Rattle.enip_peers.specs.declared.line.Turn.TheVariants.{More, Writes, Over}
+use Rattle.enip_peers.proofs.TurnLemmas.{still_after, cut_after}
+use Rattle.enip_peers.specs.declared.line.Turn.TheVariants.{Writes, Over}
 use Rattle.enip_peers.proofs.line.Line.flush.Goals as goal
 
 pub returns-in-None-clause-flushed : goal.returns-in-None-clause-flushed
@@ -29,7 +29,8 @@ loop-self-preserved g c = record {
   peer = c.loop-self.invariant.peer;
   inbox = c.loop-self.invariant.inbox;
   closed = c.loop-self.invariant.closed;
-  told = told_after More (g.W.Wire.tally c.args.self.now.wire) (g.W.Wire.tally c.loop-self.self.wire)
+  ending = c.loop-self.invariant.ending;
+  told = still_after (g.W.Wire.tally c.args.self.now.wire) (g.W.Wire.tally c.loop-self.self.wire)
       (g.W.Wire.tally c.write.new.self) c.loop-self.invariant.told
       (told_some c.in-Some.size (g.W.Wire.tally c.loop-self.self.wire) (g.W.Wire.tally c.write.new.self)
       c.in-Some.size-test.1 c.in-Some.ensures.tally);
@@ -44,15 +45,15 @@ loop-self-preserved g c = record {
 
 pub returns-in-None-clause-tells : goal.returns-in-None-clause-tells
 returns-in-None-clause-tells g c =
-    told_after Over (g.W.Wire.tally c.args.self.now.wire) (g.W.Wire.tally c.loop-self.self.wire)
+    cut_after c.loop-self.self.closed Over (g.W.Wire.tally c.args.self.now.wire) (g.W.Wire.tally c.loop-self.self.wire)
     (g.W.Wire.tally c.write.new.self) c.loop-self.invariant.told
     (ap (λ t. t.waits) c.in-None.ensures.tally, ap (λ t. t.ends) c.in-None.ensures.tally)
 
 pub returns-in-Some-eq0-clause-tells : goal.returns-in-Some-eq0-clause-tells
 returns-in-Some-eq0-clause-tells g c =
-    told_after Writes (g.W.Wire.tally c.args.self.now.wire) (g.W.Wire.tally c.loop-self.self.wire)
+    cut_after c.loop-self.self.closed Writes (g.W.Wire.tally c.args.self.now.wire) (g.W.Wire.tally c.loop-self.self.wire)
     (g.W.Wire.tally c.write.new.self) c.loop-self.invariant.told
-    (told_zero c.in-Some-eq0.field-0 (g.W.Wire.tally c.loop-self.self.wire) (g.W.Wire.tally c.write.new.self)
+    (told_zero c.loop-self.self.closed c.in-Some-eq0.field-0 (g.W.Wire.tally c.loop-self.self.wire) (g.W.Wire.tally c.write.new.self)
     c.in-Some-eq0.field-0-test c.in-Some-eq0.ensures.tally)
 
 pub returns-clause-goes_on : goal.returns-clause-goes_on

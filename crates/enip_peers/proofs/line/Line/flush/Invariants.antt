@@ -1,7 +1,6 @@
 use Rattle.std.proofs.Common.{◌≡◌, length}
 use Rattle.enip_adapter.specs.Calls.{AdapterState}
-use Rattle.enip_peers.specs.Desks.{desk_of, IsFlushed, IsToldOf}
-use Rattle.enip_peers.specs.declared.line.Turn.TheVariants.{More}
+use Rattle.enip_peers.specs.Desks.{desk_of, IsFlushed, GoesOn}
 use Rattle.enip_peers.proofs.line.Line.flush.Given as goal
 
 abbrev pub invariant-loop-self : goal.invariant-loop-self
@@ -9,7 +8,8 @@ invariant-loop-self g l = record {
   peer : l.self.peer ≡ l.fn.self.peer;
   inbox : l.self.inbox ≡ l.fn.self.inbox;
   closed : l.self.closed ≡ l.fn.self.closed;
-  told : IsToldOf More (g.W.Wire.tally l.fn.self.wire) (g.W.Wire.tally l.self.wire);
+  ending : l.self.ending ≡ l.fn.self.ending;
+  told : GoesOn (g.W.Wire.tally l.fn.self.wire) (g.W.Wire.tally l.self.wire);
   flushed : (adapter : AdapterState) → IsFlushed (desk_of g.W.Wire.left g.W.Wire.written g.W.Wire.tally adapter l.fn.self)
       (desk_of g.W.Wire.left g.W.Wire.written g.W.Wire.tally adapter l.self);
 }

@@ -6,7 +6,7 @@ use Rattle.enip_peers.proofs.peers.Peers.wake.Goals as goal
 
 pub returns-in_default : goal.returns-in_default
 returns-in_default g c =
-    woken_free c.args.self.now
+    woken_free c.args.ends c.args.self.now
     (let p : Peers g.row.W.Denot = record {
       adapter = c.args.self.now.adapter;
       silence = c.args.self.now.silence;
