@@ -18,6 +18,7 @@ mod readiness;
 mod reason;
 mod refused;
 pub mod replay;
+mod retried;
 pub mod serve;
 mod served;
 pub mod socket;

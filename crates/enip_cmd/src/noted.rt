@@ -3,6 +3,7 @@
 ghost use Rattle.std.specs.Prelude.{None};
 
 use crate::reason::{DeviceWords, Reason};
+use crate::retried::read_some;
 use std::io::{self, Read, Write};
 
 /// A stream, and the failure that it met last.
@@ -30,7 +31,7 @@ impl<S> Noted<S> {
 
 impl<S: Read> Read for Noted<S> {
     fn read(&mut self, into: &mut [u8]) -> io::Result<usize> {
-        let read = self.stream.read(into);
+        let read = read_some(&mut self.stream, into);
         if let Err(error) = &read {
             self.failure = Some(*error);
         }

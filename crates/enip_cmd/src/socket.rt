@@ -1,17 +1,15 @@
 //! A client's connection of TCP as a source and a sink of bytes, whose calls wait.
 
-ghost use Rattle.std.specs.Prelude.{◌≡◌, ◌≤◌, length, None, IfOk};
+ghost use Rattle.std.specs.Prelude.{◌≡◌, None};
 
 use crate::place::Patience;
 use crate::reason::Reason;
+use crate::retried::{read_some, write_some};
 use enip_wire::{Failed, Sink, Source};
-use std::io::{self, ErrorKind, Read, Write};
+use std::io::{self, ErrorKind};
 use std::net::TcpStream;
 use std::rt::Clock;
 use std::time::Instant;
-
-/// How often a read or a write is tried that a signal interrupts.
-const INTERRUPTIONS: u32 = 64;
 
 /// Why nothing more comes from a connection, or goes out.
 #[derive(Clone, Copy, Debug)]
@@ -78,7 +76,8 @@ impl<C: Clock> Source for SocketSource<'_, C> {
 
     fn read(&mut self, into: &mut [u8]) -> Result<usize, Failed> {
         self.reads += 1;
-        let count = read_some(self.stream, into);
+        let mut stream = self.stream;
+        let count = read_some(&mut stream, into);
         match (count, self.start.elapsed(self.clock)) {
             (Ok(0), _) => {
                 self.lost = Some(Lost::Ended);
@@ -141,7 +140,8 @@ impl Sink for SocketSink<'_> {
     ghost failures = { λ s. s.failures };
 
     fn write(&mut self, from: &[u8]) -> Result<usize, Failed> {
-        let error = match write_some(self.stream, from) {
+        let mut stream = self.stream;
+        let error = match write_some(&mut stream, from) {
             Ok(count) if count > 0 || from.is_empty() => return Ok(count),
             Ok(_) => io::Error::from(ErrorKind::WriteZero),
             Err(error) => error,
@@ -154,32 +154,4 @@ impl Sink for SocketSink<'_> {
     fn failures(&self) -> u64 {
         self.failures
     }
-}
-
-/// Reads what has come.
-fn read_some(stream: &TcpStream, into: &mut [u8]) -> io::Result<usize>
-    ensures { IfOk result (λ n. n ≤ length into.new) }
-{
-    let mut stream = stream;
-    for _ in 0..INTERRUPTIONS {
-        match stream.read(into) {
-            Err(error) if error.kind() == ErrorKind::Interrupted => {}
-            read => return read,
-        }
-    }
-    Err(io::Error::from(ErrorKind::Interrupted))
-}
-
-/// Writes a front of these bytes.
-fn write_some(stream: &TcpStream, from: &[u8]) -> io::Result<usize>
-    ensures { IfOk result (λ n. n ≤ length from.now) }
-{
-    let mut stream = stream;
-    for _ in 0..INTERRUPTIONS {
-        match stream.write(from) {
-            Err(error) if error.kind() == ErrorKind::Interrupted => {}
-            written => return written,
-        }
-    }
-    Err(io::Error::from(ErrorKind::Interrupted))
 }

@@ -4,13 +4,12 @@ ghost use Rattle.std.specs.Prelude.{◌≡◌, ◌<◌, ◌≤◌, length, None,
 ghost use Rattle.enip_cmd.specs.Reads.{IsShortWhereAll};
 ghost use Rattle.enip_peers.specs.Wires.{IsRead, after_read};
 
+use crate::retried::{read_some, write_some};
 use enip_peers::{Came, Tally, Wire};
+use enip_wire::Header;
 use mio::net::TcpStream;
-use std::io::{ErrorKind, Read, Write};
+use std::io::ErrorKind;
 use std::net::Shutdown;
-
-/// How often a read or a write is tried that a signal interrupts.
-const INTERRUPTIONS: u32 = 64;
 
 /// A connection of TCP whose calls never wait.
 #[derive(Drop)]
@@ -67,41 +66,30 @@ impl Wire for TcpWire {
     }
 }
 
-/// Reads what has come. A read that did not fill its room took all of it, and the system reports what comes next.
+/// Reads what has come. A read that did not fill its room took all of it, and the system reports what comes next. One
+/// that is shorter than a header is not relied on for that: another read follows, once in a frame at most.
 fn read_now(stream: &mut TcpStream, into: &mut [u8]) -> Came
     requires { 0 < length into.old }
     ensures read { IsRead None None result into.new }
     ensures short { IsShortWhereAll (length into.new) result }
 {
-    for _ in 0..INTERRUPTIONS {
-        match stream.read(into) {
-            Ok(0) => return Came::End,
-            Ok(size) if size < into.len() => return Came::All(size),
-            Ok(size) => return Came::Bytes(size),
-            Err(error) => match error.kind() {
-                ErrorKind::Interrupted => {}
-                ErrorKind::WouldBlock => return Came::Later,
-                _ => return Came::Failed,
-            },
-        }
+    match read_some(stream, into) {
+        Ok(0) => Came::End,
+        Ok(size) if size < into.len() && size >= Header::SIZE => Came::All(size),
+        Ok(size) => Came::Bytes(size),
+        Err(error) if error.kind() == ErrorKind::WouldBlock => Came::Later,
+        Err(_) => Came::Failed,
     }
-    Came::Failed
 }
 
 /// Writes a front of these bytes, and answers how many.
 fn write_now(stream: &mut TcpStream, from: &[u8]) -> Option<usize>
     ensures { IfSome result (λ n. n ≤ length from.now) }
 {
-    for _ in 0..INTERRUPTIONS {
-        match stream.write(from) {
-            Ok(0) if !from.is_empty() => return None,
-            Ok(size) => return Some(size),
-            Err(error) => match error.kind() {
-                ErrorKind::Interrupted => {}
-                ErrorKind::WouldBlock => return Some(0),
-                _ => return None,
-            },
-        }
+    match write_some(stream, from) {
+        Ok(0) if !from.is_empty() => None,
+        Ok(size) => Some(size),
+        Err(error) if error.kind() == ErrorKind::WouldBlock => Some(0),
+        Err(_) => None,
     }
-    None
 }

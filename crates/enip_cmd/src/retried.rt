@@ -1,0 +1,34 @@
+//! Reads and writes that are tried again where a signal interrupts them.
+
+ghost use Rattle.std.specs.Prelude.{◌≤◌, length, IfOk};
+
+use std::io::{self, ErrorKind, Read, Write};
+
+/// How often a read or a write is tried that a signal interrupts.
+const INTERRUPTIONS: u32 = 64;
+
+/// Reads what has come.
+pub(crate) fn read_some<R: Read>(stream: &mut R, into: &mut [u8]) -> io::Result<usize>
+    ensures { IfOk result (λ n. n ≤ length into.new) }
+{
+    for _ in 0..INTERRUPTIONS {
+        match stream.read(into) {
+            Err(error) if error.kind() == ErrorKind::Interrupted => {}
+            read => return read,
+        }
+    }
+    Err(io::Error::from(ErrorKind::Interrupted))
+}
+
+/// Writes a front of these bytes.
+pub(crate) fn write_some<W: Write>(stream: &mut W, from: &[u8]) -> io::Result<usize>
+    ensures { IfOk result (λ n. n ≤ length from.now) }
+{
+    for _ in 0..INTERRUPTIONS {
+        match stream.write(from) {
+            Err(error) if error.kind() == ErrorKind::Interrupted => {}
+            written => return written,
+        }
+    }
+    Err(io::Error::from(ErrorKind::Interrupted))
+}

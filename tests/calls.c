@@ -1,0 +1,229 @@
+// Preloaded into the program by tests/calls. Stands in for calls of the system as the environment's RULES say, and
+// tells each call that is looked at in a line of the file TOLD: its name, whose it is, and what it had or answered.
+//
+// RULES is a list of `NAME PEER FIRST COUNT KIND NUMBER;`. A rule is for the calls of this name on the socket of the
+// PEER-th connection that was accepted, or on any where PEER is 0. Of these it takes COUNT from the FIRST one on, all
+// where COUNT is 0. KIND is e: the call fails with this error; n: it is done with this many bytes at most; r: it is not
+// done, and answers this number; p: it is not done, and answers at once that all is well.
+#define _GNU_SOURCE
+#include <dlfcn.h>
+#include <errno.h>
+#include <fcntl.h>
+#include <netinet/in.h>
+#include <netinet/tcp.h>
+#include <poll.h>
+#include <stdarg.h>
+#include <stdio.h>
+#include <stdlib.h>
+#include <string.h>
+#include <sys/epoll.h>
+#include <sys/socket.h>
+#include <sys/syscall.h>
+#include <sys/time.h>
+#include <time.h>
+#include <unistd.h>
+
+enum { MOST = 32, SOCKETS = 1024 };
+
+struct rule {
+    char name[16], kind;
+    int peer;
+    unsigned long first, count, seen;
+    long number;
+};
+
+static struct rule rules[MOST];
+static int peers[SOCKETS], accepted, told = -1, many;
+
+// Reads the rules, and opens the file at a number that no socket of the program has.
+__attribute__((constructor)) static void begin(void) {
+    const char *text = getenv("RULES"), *name = getenv("TOLD");
+    for (int used = 0; text && many < MOST; many++, text += used) {
+        struct rule *r = &rules[many];
+        int fields = sscanf(text, "%15s %d %lu %lu %c %ld;%n",
+            r->name, &r->peer, &r->first, &r->count, &r->kind, &r->number, &used);
+        if (fields != 6) break;
+    }
+    int file = name ? open(name, O_CREAT | O_WRONLY | O_APPEND, 0600) : -1;
+    if (file >= 0) {
+        told = fcntl(file, F_DUPFD_CLOEXEC, 900);
+        close(file);
+    }
+}
+
+// Tells a line, with no memory, since a sanitizer may look at the clock while it gives some.
+static void tell(const char *form, ...) {
+    char line[128];
+    va_list words;
+    va_start(words, form);
+    int size = vsnprintf(line, sizeof line, form, words);
+    va_end(words);
+    if (told >= 0 && size > 0) syscall(SYS_write, told, line, (size_t)size);
+}
+
+static int peer_of(int socket) {
+    return socket >= 0 && socket < SOCKETS ? peers[socket] : 0;
+}
+
+// The rule that takes this call, which is counted by each rule that it is one of.
+static struct rule *rule_of(const char *name, int socket) {
+    struct rule *found = 0;
+    for (int at = 0; at < many; at++) {
+        struct rule *r = &rules[at];
+        if (strcmp(r->name, name) || (r->peer && r->peer != peer_of(socket))) continue;
+        unsigned long place = ++r->seen;
+        if (!found && place >= r->first && (!r->count || place < r->first + r->count)) found = r;
+    }
+    if (found) tell("%s %d %c %ld\n", name, peer_of(socket), found->kind, found->number);
+    return found;
+}
+
+// Whether a rule answers in place of the system, and what.
+static int answers(struct rule *r, long *answer) {
+    if (!r || r->kind == 'n') return 0;
+    *answer = r->kind == 'r' ? r->number : r->kind == 'p' ? 0 : -1;
+    if (r->kind == 'e') errno = (int)r->number;
+    return 1;
+}
+
+static size_t size_of(struct rule *r, size_t size) {
+    return r && r->kind == 'n' && (size_t)r->number < size ? (size_t)r->number : size;
+}
+
+#define NEXT(name) \
+    static __typeof__(&name) next; \
+    if (!next) next = (__typeof__(&name))dlsym(RTLD_NEXT, #name)
+
+ssize_t recv(int socket, void *into, size_t size, int flags) {
+    NEXT(recv);
+    long answer;
+    struct rule *r = rule_of("recv", socket);
+    return answers(r, &answer) ? answer : next(socket, into, size_of(r, size), flags);
+}
+
+ssize_t send(int socket, const void *from, size_t size, int flags) {
+    NEXT(send);
+    long answer;
+    struct rule *r = rule_of("send", socket);
+    tell("sends %d\n", peer_of(socket));
+    return answers(r, &answer) ? answer : next(socket, from, size_of(r, size), flags);
+}
+
+ssize_t read(int file, void *into, size_t size) {
+    NEXT(read);
+    long answer;
+    struct rule *r = rule_of("read", file);
+    return answers(r, &answer) ? answer : next(file, into, size_of(r, size));
+}
+
+ssize_t write(int file, const void *from, size_t size) {
+    NEXT(write);
+    long answer;
+    struct rule *r = rule_of(file == 2 ? "write2" : "write", file);
+    return answers(r, &answer) ? answer : next(file, from, size_of(r, size));
+}
+
+ssize_t __write(int file, const void *from, size_t size) {
+    return write(file, from, size);
+}
+
+ssize_t recvfrom(int socket, void *restrict into, size_t size, int flags,
+    struct sockaddr *restrict from, socklen_t *restrict length) {
+    NEXT(recvfrom);
+    long answer;
+    return answers(rule_of("recvfrom", socket), &answer) ? answer : next(socket, into, size, flags, from, length);
+}
+
+ssize_t sendto(int socket, const void *from, size_t size, int flags, const struct sockaddr *to, socklen_t length) {
+    NEXT(sendto);
+    long answer;
+    return answers(rule_of("sendto", socket), &answer) ? answer : next(socket, from, size, flags, to, length);
+}
+
+int accept4(int socket, struct sockaddr *restrict from, socklen_t *restrict length, int flags) {
+    NEXT(accept4);
+    long answer;
+    if (answers(rule_of("accept4", socket), &answer)) return (int)answer;
+    int peer = next(socket, from, length, flags);
+    if (peer >= 0 && peer < SOCKETS) {
+        peers[peer] = ++accepted;
+        tell("accepts %d\n", accepted);
+    }
+    return peer;
+}
+
+int connect(int socket, const struct sockaddr *to, socklen_t length) {
+    NEXT(connect);
+    long answer;
+    if (answers(rule_of("connect", socket), &answer)) return (int)answer;
+    tell("connects 0\n");
+    return next(socket, to, length);
+}
+
+int setsockopt(int socket, int level, int name, const void *value, socklen_t length) {
+    NEXT(setsockopt);
+    long answer;
+    const struct timeval *time = value;
+    int peer = peer_of(socket);
+    if (length == sizeof *time) tell("sets %d %d %d %ld.%06ld\n", peer, level, name, time->tv_sec, time->tv_usec);
+    else tell("sets %d %d %d %d\n", peer, level, name, *(const int *)value);
+    const char *rule = name == SO_RCVTIMEO ? "timeout" : "option";
+    if (level == IPPROTO_TCP && name == TCP_NODELAY) rule = "nodelay";
+    return answers(rule_of(rule, socket), &answer) ? (int)answer : next(socket, level, name, value, length);
+}
+
+// Finds no function by its name, since a sanitizer may look at the clock while it does.
+int clock_gettime(clockid_t clock, struct timespec *time) {
+    long answer;
+    return answers(rule_of("clock", -1), &answer) ? (int)answer : (int)syscall(SYS_clock_gettime, clock, time);
+}
+
+int nanosleep(const struct timespec *asked, struct timespec *left) {
+    NEXT(nanosleep);
+    long answer;
+    tell("sleeps %ld.%06ld\n", (long)asked->tv_sec, asked->tv_nsec / 1000);
+    struct rule *r = rule_of("nanosleep", -1);
+    if (!answers(r, &answer)) return next(asked, left);
+    // an interrupted sleep has half of its time left
+    if (answer < 0 && left) *left = (struct timespec){asked->tv_sec / 2, 0};
+    return (int)answer;
+}
+
+int poll(struct pollfd *sockets, nfds_t count, int milliseconds) {
+    NEXT(poll);
+    long answer;
+    return answers(rule_of("poll", -1), &answer) ? (int)answer : next(sockets, count, milliseconds);
+}
+
+int epoll_wait(int poll, struct epoll_event *events, int room, int milliseconds) {
+    NEXT(epoll_wait);
+    long answer;
+    tell("waits %d\n", milliseconds);
+    return answers(rule_of("epoll_wait", -1), &answer) ? (int)answer : next(poll, events, room, milliseconds);
+}
+
+int epoll_ctl(int poll, int what, int socket, struct epoll_event *event) {
+    NEXT(epoll_ctl);
+    long answer;
+    return answers(rule_of("epoll_ctl", socket), &answer) ? (int)answer : next(poll, what, socket, event);
+}
+
+int getpeername(int socket, struct sockaddr *restrict name, socklen_t *restrict length) {
+    NEXT(getpeername);
+    long answer;
+    return answers(rule_of("getpeername", socket), &answer) ? (int)answer : next(socket, name, length);
+}
+
+int shutdown(int socket, int how) {
+    NEXT(shutdown);
+    long answer;
+    tell("shuts %d %d\n", peer_of(socket), how);
+    return answers(rule_of("shutdown", socket), &answer) ? (int)answer : next(socket, how);
+}
+
+int close(int file) {
+    NEXT(close);
+    if (peer_of(file)) tell("closes %d\n", peer_of(file));
+    if (file >= 0 && file < SOCKETS) peers[file] = 0;
+    return next(file);
+}
