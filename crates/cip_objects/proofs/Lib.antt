@@ -22,3 +22,5 @@ pub mod Spans
 pub mod Members
 pub mod OtherMembers
 pub mod Whole
+pub mod IdentityWrites
+pub mod DeviceLemmas

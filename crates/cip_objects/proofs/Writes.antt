@@ -86,7 +86,7 @@ first_above (b ∷ bs) i (suc k) d h f =
     first_above bs i k d h.1 (record { within = omega (arith, f.within); here = f.here; before = λ j e lt. f.before (suc j) e (omega arith) })
 
 -- all entries, with these numbers for the class of the assemblies, these entries of the assemblies and these of the counter
-abbrev assembled : IdentityValues → ℕ → ℕ → Entries → Entries → Entries
+abbrev pub assembled : IdentityValues → ℕ → ℕ → Entries → Entries → Entries
 assembled d greatest number blocks counter =
     entries_at IDENTITY 0 (class_attributes 1 1 1)
     ++ (entries_at IDENTITY 1 (identity_attributes d)
@@ -124,7 +124,7 @@ assembled_counter d g n a v bs old new u =
     (updates_back q v (blocks_of bs) _ _ (absent_blocks a bs)
     (updates_back q v (entries_at COUNTER 0 (class_attributes 1 1 1)) _ _ (absent_at q COUNTER 0 (class_attributes 1 1 1) refl) u))))
 
-written : (old new : Entries) (m : Contents) (q : Key) (v : List ℕ) (shapes : List Shape) → Updates q v old new → m.values ≡ from_entries old → shapes ≡ m.shapes → ◌≡◌ {A = Contents} (record { values = from_entries new; shapes = shapes; device = m.device }) (record m { values = insert m.values q v })
+pub written : (old new : Entries) (m : Contents) (q : Key) (v : List ℕ) (shapes : List Shape) → Updates q v old new → m.values ≡ from_entries old → shapes ≡ m.shapes → ◌≡◌ {A = Contents} (record { values = from_entries new; shapes = shapes; device = m.device }) (record m { values = insert m.values q v })
 written old new m q v shapes u e f = λ i. record {
   values = (sym (insert_updates q v old new u) ∙ ap (λ x. insert x q v) (sym e)) i;
   shapes = f i;

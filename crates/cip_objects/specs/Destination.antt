@@ -64,6 +64,11 @@ services_at destinations.Counter =
 abbrev pub IsPlace : List Shape → ℕ → Type 0
 IsPlace shapes place = IsFirst (λ s. s.instance) shapes (number_at shapes place) place
 
+-- the assembly of this instance number, the first of it, stands at this place
+pub record StandsAt (shapes : List Shape) (instance place : ℕ) : Type 0 where
+  pub number : instance ≡ number_at shapes place
+  pub there : IsPlace shapes place
+
 -- it has this service
 abbrev pub Has : Destination → Service → Type 0
 Has destination service = service_in (service_code service) (services_at destination) ≡ Some service

@@ -24,3 +24,4 @@ pub mod Objects
 pub mod Assembly
 pub mod Lists
 pub mod Members
+pub mod DeviceWrites
