@@ -41,10 +41,10 @@ shape-get (b ∷ bs) (suc k) d = shape-get bs k d
 
 -- an assembly of a shape, without data
 abbrev with_shape : Shape → Block
-with_shape s = record { instance = s.instance; settable = s.settable; members = s.members; content = [] }
+with_shape s = record { instance = s.instance; settable = s.settable; members = s.members; content = []; changes = 0 }
 
 abbrev no_block : Block
-no_block = record { instance = 0; settable = false; members = []; content = [] }
+no_block = record { instance = 0; settable = false; members = []; content = []; changes = 0 }
 
 -- the first assembly of a number has the first shape of it
 first_shape : (bs : List Block) (i k : ℕ) → IsFirstBlock bs i k → IsFirstShape (map shape_of bs) i k

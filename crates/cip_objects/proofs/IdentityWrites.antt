@@ -7,7 +7,7 @@ use Rattle.cip_bytes.specs.declared.protocol.TheConstants.{IDENTITY, ASSEMBLY, C
 use Rattle.cip_objects.specs.ObjectMap.{key}
 use Rattle.cip_objects.specs.Contents.{with_value}
 use Rattle.cip_objects.specs.DeviceWrites.{with_device_status, with_device_state}
-use Rattle.cip_objects.specs.Entries.{IdentityValues, Block, CounterValues, Attributes, Entries, entries_at, attribute_in, class_attributes, identity_attributes, counter_attributes, greatest_of, entries_of, contents_of, shape_of, device_of}
+use Rattle.cip_objects.specs.Entries.{IdentityValues, Block, CounterValues, Attributes, Entries, entries_at, attribute_in, class_attributes, identity_attributes, counter_attributes, greatest_of, entries_of, contents_of, shape_of, tally_of, device_of}
 use Rattle.cip_objects.proofs.Lookup.{blocks_of}
 use Rattle.cip_objects.proofs.Map.{Updates, updates_front, updates_back, absent_at, updates_at}
 use Rattle.cip_objects.proofs.Writes.{assembled, written}
@@ -42,12 +42,12 @@ identity_written d e bs c a v h same =
     let q = key IDENTITY 1 a in
     let old = assembled d (greatest_of bs) (length bs) (blocks_of bs) (entries_at COUNTER 1 (counter_attributes c)) in
     let new = assembled e (greatest_of bs) (length bs) (blocks_of bs) (entries_at COUNTER 1 (counter_attributes c)) in
-    ap (λ k. record { values = from_entries new; shapes = map shape_of bs; device = k }) same
-    ∙ written old new (contents_of d bs c) q v (map shape_of bs)
+    ap (λ k. record { values = from_entries new; shapes = map shape_of bs; device = k; changes = map tally_of bs }) same
+    ∙ written old new (contents_of d bs c) q v (map shape_of bs) (map tally_of bs)
     (updates_back q v (entries_at IDENTITY 0 (class_attributes 1 1 1)) _ _ (absent_at q IDENTITY 0 (class_attributes 1 1 1) refl)
     (updates_front q v (entries_at IDENTITY 1 (identity_attributes d)) (entries_at IDENTITY 1 (identity_attributes e)) _
     (updates_at IDENTITY 1 a v (identity_attributes d) (identity_attributes e) h)))
-    refl refl
+    refl refl refl
 
 -- vendor, device type, product code and revision stand before the status
 abbrev before_status : IdentityValues → Attributes

@@ -24,3 +24,5 @@ pub mod OtherMembers
 pub mod Whole
 pub mod IdentityWrites
 pub mod DeviceLemmas
+pub mod Counting
+pub mod ChangeCounts

@@ -5,7 +5,8 @@ ghost use Rattle.std.specs.Box.{boxed_slice_items};
 ghost use Rattle.std.specs.List.{All};
 ghost use Rattle.cip_objects.specs.Configuration.{fault_of, contents_of_config, block_of};
 ghost use Rattle.byteorder.specs.Endian.{little_bytes};
-ghost use Rattle.cip_objects.specs.Contents.{value_at, bytes_at, udint_at, with_value};
+ghost use Rattle.cip_objects.specs.Contents.{value_at, bytes_at, udint_at, with_value, counted};
+ghost use Rattle.cip_objects.specs.Changes.{changes_of};
 ghost use Rattle.cip_objects.specs.ChangeServices.{with_bytes_at};
 ghost use Rattle.cip_objects.specs.Destination.{LeadTo, HasNoValue, IsThere, IsPlace, CanBeSet};
 ghost use Rattle.cip_objects.specs.Destination.{services_at, class_at, instance_at, number_at, value_to, data_at};
@@ -199,7 +200,8 @@ impl Objects {
 
     /// Writes bytes into the data of an assembly from `offset` on, whether peers can set it or not, and answers whether
     /// it did: `false` where there is no such assembly or the bytes go past the end of its data, and then nothing
-    /// changes. It is how the device itself writes what its peers read. Takes no memory.
+    /// changes. It is how the device itself writes what its peers read, and no change
+    /// is counted. Takes no memory.
     pub fn write_data(&mut self, instance: u32, offset: usize, bytes: &[u8]) -> bool
         ensures written { self.new ≡ unwrap_or (device_write self.old instance offset bytes.now) self.old }
         ensures told { result ≡ is_some (device_write self.old instance offset bytes.now) }
@@ -228,6 +230,19 @@ impl Objects {
         ensures { self.new ≡ with_device_state self.old state }
     {
         self.identity.set_state(state);
+    }
+
+    /// How often peers have written data of this assembly, modulo 2^32: each Set_Attribute_Single of its data and each
+    /// Set_Member that was executed counts once. A request that was refused, a repeat on a class 3 connection and
+    /// `write_data` count nothing. `None` where there is no such assembly. Takes no memory.
+    ///
+    /// So a device sees that something came without comparing bytes.
+    pub fn changes(&self, instance: u32) -> Option<u32>
+        ensures changes { result ≡ changes_of instance self.now.changes }
+        ensures there { is_some result ≡ is_some (shape_at instance self.now.shapes) }
+    {
+        let place = position(&self.assemblies, instance)?;
+        Some(self.assemblies[place].changes())
     }
 
     /// The place of the assembly of this instance number, if there is one.
@@ -292,6 +307,14 @@ impl Objects {
             (with_bytes_at (data_at self.old place) offset bytes.now) }
     {
         self.assemblies[place].write(offset, bytes);
+    }
+
+    /// Counts that a peer wrote data of the assembly at this place.
+    pub(crate) fn count_change(&mut self, place: usize)
+        requires { IsPlace self.old.shapes place }
+        ensures { self.new ≡ counted self.old ASSEMBLY (number_at self.old.shapes place) }
+    {
+        self.assemblies[place].count_change();
     }
 
     /// Sets the counter's value.

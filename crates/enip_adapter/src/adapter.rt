@@ -1,12 +1,15 @@
 //! The adapter: its peers, and the calls that change it.
 
 ghost use Rattle.std.specs.Prelude.{◌≡◌, ◌<◌, ◌≤◌, ◌-◌, length, false};
-ghost use Rattle.std.specs.Prelude.{IfOk, IfSome, is_some, is_none};
+ghost use Rattle.std.specs.Prelude.{IfOk, IfSome, is_some, is_none, unwrap_or};
 ghost use Rattle.std.specs.Borrow.{sem};
 ghost use Rattle.std.specs.Io.BufRead.{Rests};
 ghost use Rattle.std.specs.Option.{option_map};
 ghost use Rattle.cip_manager.specs.Connection.{earliest_deadline};
+ghost use Rattle.cip_objects.specs.Changes.{changes_of};
+ghost use Rattle.cip_objects.specs.DeviceWrites.{device_write, with_device_status, with_device_state};
 ghost use Rattle.enip_adapter.specs.Adapter.{full_number};
+ghost use Rattle.enip_adapter.specs.Device.{with_objects};
 ghost use Rattle.enip_adapter.specs.Discovery.{discovered};
 
 use crate::commands::DiscoveryRoom;
@@ -240,6 +243,41 @@ impl Adapter {
         ensures { result.now ≡ self.now.state.shared.objects }
     {
         &self.shared.objects
+    }
+
+    /// The device writes bytes into the data of an assembly from `offset` on, whether peers can set it or not, and
+    /// learns whether that was done: `false` where there is no such assembly or the bytes go past the end of its data,
+    /// and then nothing changes. No change is counted, and nothing else of the adapter changes.
+    pub fn write_data(&mut self, instance: u32, offset: usize, bytes: &[u8]) -> bool
+        ensures written { self.new ≡ with_objects self.old (unwrap_or
+            (device_write self.old.state.shared.objects instance offset bytes.now) self.old.state.shared.objects) }
+        ensures told { result ≡ is_some (device_write self.old.state.shared.objects instance offset bytes.now) }
+    {
+        self.shared.objects.write_data(instance, offset, bytes)
+    }
+
+    /// The device's status is this one from now on, a WORD: attribute 5 of the Identity object, which ListIdentity shows
+    /// too. Nothing else changes.
+    pub fn set_device_status(&mut self, status: u16)
+        ensures { self.new ≡ with_objects self.old (with_device_status self.old.state.shared.objects status) }
+    {
+        self.shared.objects.set_device_status(status);
+    }
+
+    /// The device's state is this one from now on, a USINT: attribute 8 of the Identity object, which ListIdentity shows
+    /// too. Nothing else changes.
+    pub fn set_device_state(&mut self, state: u8)
+        ensures { self.new ≡ with_objects self.old (with_device_state self.old.state.shared.objects state) }
+    {
+        self.shared.objects.set_device_state(state);
+    }
+
+    /// How often peers have written data of this assembly, modulo 2^32: `None` where there is no such assembly. What
+    /// counts is said at `Objects::changes`.
+    pub fn changes(&self, instance: u32) -> Option<u32>
+        ensures { result ≡ changes_of instance self.now.state.shared.objects.changes }
+    {
+        self.shared.objects.changes(instance)
     }
 
     /// Whether a peer is held and not closed.
