@@ -9,6 +9,6 @@ pub returns : goal.returns
 returns c =
     let i = c.args.instance in
     let first : MatchOption c.position.result (block_at i (boxed_slice_items c.self.inside.assemblies) ≡ None)
-        (IsFirst (λ b. b.instance) (boxed_slice_items c.self.inside.assemblies) i) =
+    (IsFirst (λ b. b.instance) (boxed_slice_items c.self.inside.assemblies) i) =
     rw c.deref.ensures.value at c.position.ensures in
     placed c.self.inside c.args.self.now i c.position.result c.self.view_is first
