@@ -20,3 +20,4 @@ pub mod Buffers
 pub mod Serving
 pub mod Deeds
 pub mod Device
+pub mod Endings

@@ -1,11 +1,15 @@
 //! The adapter: its peers, and the calls that change it.
 
-ghost use Rattle.std.specs.Prelude.{◌≡◌, ◌<◌, ◌≤◌, ◌-◌, length, false};
+ghost use Rattle.std.specs.Prelude.{◌≡◌, ◌<◌, ◌≤◌, ◌-◌, length, slice_index_or, false};
 ghost use Rattle.std.specs.Prelude.{IfOk, IfSome, is_some, is_none, unwrap_or};
 ghost use Rattle.std.specs.Borrow.{sem};
 ghost use Rattle.std.specs.Io.BufRead.{Rests};
 ghost use Rattle.std.specs.Option.{option_map};
-ghost use Rattle.cip_manager.specs.Connection.{earliest_deadline};
+ghost use Rattle.std.specs.List.{list_any};
+ghost use Rattle.cip_manager.specs.declared.connection.Connection.{Connection};
+ghost use Rattle.cip_manager.specs.Connection.{earliest_deadline, has_id};
+ghost use Rattle.cip_manager.specs.Watching.{watched};
+ghost use Rattle.enip_adapter.specs.Turn.{session_of};
 ghost use Rattle.cip_objects.specs.Changes.{changes_of};
 ghost use Rattle.cip_objects.specs.DeviceWrites.{device_write, with_device_status, with_device_state};
 ghost use Rattle.enip_adapter.specs.Adapter.{full_number};
@@ -13,12 +17,12 @@ ghost use Rattle.enip_adapter.specs.Device.{with_objects};
 ghost use Rattle.enip_adapter.specs.Discovery.{discovered};
 
 use crate::commands::DiscoveryRoom;
-use crate::peer::Peer;
+use crate::peer::{Peer, Session};
 use crate::places::Places;
 use crate::reply::{AnswerFrame, LONGEST_ANSWER, Reaction, Reply};
 use crate::shared::{Listen, Shared};
 use crate::silence::Silence;
-use cip_manager::Manager;
+use cip_manager::{Manager, Steps, Watched};
 use cip_objects::{Objects, ReplyBuf};
 use std::alloc::{AllocError, Global};
 use std::marker::Model;
@@ -278,6 +282,44 @@ impl Adapter {
         ensures { result ≡ changes_of instance self.now.state.shared.objects.changes }
     {
         self.shared.objects.changes(instance)
+    }
+
+    /// How many connections are open.
+    pub fn connections(&self) -> usize
+        ensures count { result ≡ length self.now.state.shared.manager.connections }
+        ensures most { result ≤ 64 }
+    {
+        self.shared.manager.len()
+    }
+
+    /// What a look at the connection at a place tells. Places count from 0, in the order of opening.
+    pub fn watched(&self, place: usize) -> Watched
+        requires { place < length self.now.state.shared.manager.connections }
+        ensures { (d : Connection) →
+            result ≡ watched (slice_index_or self.now.state.shared.manager.connections place d) }
+    {
+        self.shared.manager.watched(place)
+    }
+
+    /// Whether a connection with an O->T ID is open.
+    pub fn has_connection(&self, id: u32) -> bool
+        ensures { result ≡ list_any (has_id id) self.now.state.shared.manager.connections }
+    {
+        self.shared.manager.find(id, &mut Steps::default())
+    }
+
+    /// The greatest moment so far, in microseconds.
+    pub fn moment(&self) -> u64
+        ensures { result ≡ self.now.state.shared.moment }
+    {
+        self.shared.moment
+    }
+
+    /// What a peer is to the encapsulation, by its session handle.
+    pub(crate) fn session(&self, handle: u32) -> Option<Session>
+        ensures { result ≡ session_of self.now.state handle }
+    {
+        self.places.session(handle)
     }
 
     /// Whether a peer is held and not closed.
