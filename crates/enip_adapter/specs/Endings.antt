@@ -13,11 +13,11 @@ use Rattle.enip_adapter.specs.Turn.{session_of}
 
 -- The connections that were open at the last look, and those that had ended then since the look before.
 pub record EndingsState : Type 0 where
-  pub open : List Watched
+  pub remembered : List Watched
   pub ended : List Ended
 
 abbrev pub nothing_seen : EndingsState
-nothing_seen = record { open = []; ended = [] }
+nothing_seen = record { remembered = []; ended = [] }
 
 -- What a look at the open connections tells, in the order of opening.
 abbrev pub open_in : AdapterState → List Watched
@@ -42,8 +42,8 @@ ending a connection = record { id = connection.id; session = connection.session;
 
 -- Those of the connections that were open which are open no more, each once, in the same order.
 abbrev pub endings_of : AdapterState → List Watched → List Ended
-endings_of a open = map (ending a) (filter (λ connection. not (is_open_in a connection)) open)
+endings_of a remembered = map (ending a) (filter (λ connection. not (is_open_in a connection)) remembered)
 
 -- What a further look leaves.
 abbrev pub looked : EndingsState → AdapterState → EndingsState
-looked e a = record { open = open_in a; ended = endings_of a e.open }
+looked e a = record { remembered = open_in a; ended = endings_of a e.remembered }

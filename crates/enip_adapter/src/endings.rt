@@ -47,7 +47,7 @@ pub struct Ended {
 /// It has room for all connections that an adapter can have, from `new` on, and takes no memory.
 #[derive(Drop)]
 pub struct Endings {
-    open: ArrayVec<Watched, MOST_CONNECTIONS>,
+    remembered: ArrayVec<Watched, MOST_CONNECTIONS>,
     ended: ArrayVec<Ended, MOST_CONNECTIONS>,
 }
 
@@ -56,7 +56,7 @@ impl Model for Endings {
 
     ghost Value = { EndingsState };
 
-    ghost view = { λ e. record { open = e.open.items; ended = e.ended.items } };
+    ghost view = { λ e. record { remembered = e.remembered.items; ended = e.ended.items } };
 }
 
 impl Endings {
@@ -65,7 +65,7 @@ impl Endings {
         ensures { result ≡ nothing_seen }
     {
         Endings {
-            open: ArrayVec::new(),
+            remembered: ArrayVec::new(),
             ended: ArrayVec::new(),
         }
     }
@@ -75,8 +75,8 @@ impl Endings {
     pub fn update(&mut self, adapter: &Adapter)
         ensures { self.new ≡ looked self.old adapter.now }
     {
-        tell_ended(adapter, self.open.as_slice(), &mut self.ended);
-        remember(adapter, &mut self.open);
+        tell_ended(adapter, self.remembered.as_slice(), &mut self.ended);
+        remember(adapter, &mut self.remembered);
     }
 
     /// The connections that had ended at the last look since the look before, in the order in which they were opened.
@@ -90,24 +90,20 @@ impl Endings {
 /// Leaves those of the connections that were open which are open no more.
 fn tell_ended(
     adapter: &Adapter,
-    open: &[Watched],
+    remembered: &[Watched],
     ended: &mut ArrayVec<Ended, MOST_CONNECTIONS>,
 )
-    requires { length open.now ≤ MOST_CONNECTIONS }
-    ensures { ended.new.items ≡ endings_of adapter.now open.now }
+    requires { length remembered.now ≤ MOST_CONNECTIONS }
+    ensures { ended.new.items ≡ endings_of adapter.now remembered.now }
 {
     ended.clear();
-    for connection in open {
+    for connection in remembered {
         tell(adapter, *connection, ended);
     }
 }
 
 /// Appends a connection that was open, if it is open no more.
-fn tell(
-    adapter: &Adapter,
-    connection: Watched,
-    ended: &mut ArrayVec<Ended, MOST_CONNECTIONS>,
-)
+fn tell(adapter: &Adapter, connection: Watched, ended: &mut ArrayVec<Ended, MOST_CONNECTIONS>)
     requires { array_vec_len ended.old < MOST_CONNECTIONS }
     ensures text { ended.new.items ≡ ended.old.items ++ endings_of adapter.now (connection ∷ []) }
     ensures size { array_vec_len ended.new ≤ array_vec_len ended.old + 1 }
@@ -136,11 +132,11 @@ fn why_ended(adapter: &Adapter, connection: Watched) -> Why
 }
 
 /// Leaves what is to be remembered of the connections that are open.
-fn remember(adapter: &Adapter, open: &mut ArrayVec<Watched, MOST_CONNECTIONS>)
-    ensures { open.new.items ≡ open_in adapter.now }
+fn remember(adapter: &Adapter, remembered: &mut ArrayVec<Watched, MOST_CONNECTIONS>)
+    ensures { remembered.new.items ≡ open_in adapter.now }
 {
-    open.clear();
+    remembered.clear();
     for place in 0..adapter.connections() {
-        open.push(adapter.watched(place));
+        remembered.push(adapter.watched(place));
     }
 }
