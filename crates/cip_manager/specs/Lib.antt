@@ -10,3 +10,4 @@ pub mod Room
 pub mod Rows
 pub mod Runs
 pub mod Table
+pub mod Watching

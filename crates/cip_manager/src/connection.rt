@@ -3,6 +3,7 @@ ghost use Rattle.std.specs.Prelude.{◌≡◌, ◌+◌, ◌≤◌, length, IfSom
 ghost use Rattle.std.specs.Option.{option_map};
 ghost use Rattle.std.specs.Borrow.{sem};
 ghost use Rattle.std.specs.Io.BufRead.{Rests};
+ghost use Rattle.cip_manager.specs.Watching.{watched};
 ghost use Rattle.cip_manager.specs.Opening.{CanBeOpened, new_connection};
 ghost use Rattle.cip_manager.specs.Items.{view as reply_in, held_reply, connection_turn, turn_of_connection, answer_of};
 ghost use Rattle.cip_manager.specs.Connection.{timeout_of, moment_after, is_of_session_with, is_answered};
@@ -41,13 +42,24 @@ impl Triad {
     }
 }
 
+/// What a look at an open connection tells.
+#[derive(Clone, Copy, Debug, Default)]
+pub struct Watched {
+    /// The O->T connection ID, 32 bits. It never comes again.
+    pub id: u32,
+    /// The handle of the session that opened it, 32 bits.
+    pub session: u32,
+    /// The moment at which it ends if no item comes on it, in microseconds.
+    pub deadline: u64,
+}
+
 /// An open connection, as its target has it.
 #[derive(Drop)]
 pub struct Connection {
     /// The session that opened it.
     pub session: u32,
-    // The ID of items to the target, which was drawn for it. Nothing reads it but definitions: what is looked for by an
-    // ID is found in the index, which counts each comparison.
+    // The ID of items to the target, which was drawn for it. Nothing reads it but `watched` and definitions: what is
+    // looked for by an ID is found in the index, which counts each comparison.
     o_to_t_id: u32,
     /// The ID of items to the originator, which asked for it.
     pub t_to_o_id: u32,
@@ -77,6 +89,17 @@ impl Connection {
             timeout,
             deadline: moment_after(now, timeout.max(LEAST_FIRST_TIMEOUT)),
             target: Target::new(asked.o_to_t.size, asked.t_to_o.size),
+        }
+    }
+
+    /// What a look at it tells.
+    pub fn watched(&self) -> Watched
+        ensures { result ≡ watched self.now }
+    {
+        Watched {
+            id: self.o_to_t_id,
+            session: self.session,
+            deadline: self.deadline,
         }
     }
 

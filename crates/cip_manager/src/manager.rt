@@ -1,5 +1,5 @@
 //! The open connections, and the calls that change them (Volume 1, Connection Manager).
-ghost use Rattle.std.specs.Prelude.{◌≡◌, ◌≢◌, ◌≤◌, ◌+◌, ◌-◌, ◌<◌, ◌^◌, length, is_some, IfNone, IfSome, IfOk, OnOk};
+ghost use Rattle.std.specs.Prelude.{◌≡◌, ◌≢◌, ◌≤◌, ◌+◌, ◌-◌, ◌<◌, ◌^◌, length, is_some, slice_index_or, IfNone, IfSome, IfOk, OnOk};
 ghost use Rattle.std.specs.List.{list_any};
 ghost use Rattle.std.specs.Option.{option_map};
 ghost use Rattle.std.specs.Borrow.{sem};
@@ -8,9 +8,11 @@ ghost use Rattle.cip_manager.specs.Items.{view as reply_in, item_turn, is_taken}
 ghost use Rattle.cip_manager.specs.Check.{first_failure};
 ghost use Rattle.cip_manager.specs.Connection.{has_id, earliest_deadline};
 ghost use Rattle.cip_manager.specs.Index.{binary_digits};
+ghost use Rattle.cip_manager.specs.Watching.{watched};
+ghost use Rattle.cip_manager.specs.declared.connection.Connection.{Connection as OpenConnection};
 ghost use Rattle.cip_manager.specs.Opening.{CanBeOpened, room_checks};
 
-use crate::connection::{Connection, Triad};
+use crate::connection::{Connection, Triad, Watched};
 use crate::group::Group;
 use crate::index::Steps;
 use crate::opening::Opening;
@@ -203,6 +205,22 @@ impl Manager {
         ensures rises { steps.old.count ≤ steps.new.count }
     {
         self.table.find(id, steps)
+    }
+
+    /// How many connections are open.
+    pub fn len(&self) -> usize
+        ensures count { result ≡ length self.now.connections }
+        ensures most { result ≤ 64 }
+    {
+        self.table.len()
+    }
+
+    /// What a look at the connection at a place tells. Places count from 0, in the order of opening.
+    pub fn watched(&self, place: usize) -> Watched
+        requires { place < length self.now.connections }
+        ensures { (d : OpenConnection) → result ≡ watched (slice_index_or self.now.connections place d) }
+    {
+        self.table.watched(place)
     }
 
     /// The earliest moment, in microseconds, at which `expire` ends a connection: the earliest deadline of an open one.

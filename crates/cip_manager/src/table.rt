@@ -8,10 +8,11 @@ ghost use Rattle.std.specs.Io.BufRead.{Rests};
 ghost use Rattle.cip_manager.specs.declared.connection.Connection.{Connection as OpenConnection};
 ghost use Rattle.cip_manager.specs.Connection.{has_id, is_open_at, earliest_deadline};
 ghost use Rattle.cip_manager.specs.Index.{binary_digits};
+ghost use Rattle.cip_manager.specs.Watching.{watched};
 ghost use Rattle.cip_manager.specs.Items.{view as reply_in, item_turn};
 ghost use Rattle.cip_manager.specs.Table.{is_in, no_entry, AreBelow};
 
-use crate::connection::Connection;
+use crate::connection::{Connection, Watched};
 use crate::group::Group;
 use crate::index::{Index, Steps};
 use crate::manager::KeptAnswer;
@@ -64,9 +65,10 @@ impl Table {
 
     /// How many connections are open.
     #[inline(always)]
-    fn len(&self) -> usize
+    pub fn len(&self) -> usize
         ensures count { result ≡ length self.now.connections }
         ensures taken { result ≤ self.now.places }
+        ensures most { result ≤ 64 }
     {
         self.index.len()
     }
@@ -100,6 +102,14 @@ impl Table {
         ensures rises { steps.old.count ≤ steps.new.count }
     {
         place_of(&self.index, id, steps).is_some()
+    }
+
+    /// What a look at the connection at a place tells. Places count from 0, in the order of opening.
+    pub fn watched(&self, place: usize) -> Watched
+        requires { place < length self.now.connections }
+        ensures { (d : OpenConnection) → result ≡ watched (slice_index_or self.now.connections place d) }
+    {
+        self.at(place).watched()
     }
 
     /// Opens a connection behind the others. Its ID is above theirs.

@@ -17,7 +17,7 @@ use Rattle.cip_objects.specs.declared.service.Service.TheVariants.{GetAttributes
 use Rattle.cip_objects.specs.declared.status.Refusal.{Refusal}
 use Rattle.cip_objects.specs.declared.status.Completion.TheVariants.{Whole}
 use Rattle.cip_objects.specs.declared.status.Refusal.TheVariants.{ReplyDataTooLarge}
-use Rattle.cip_objects.specs.Contents.{Contents, with_value}
+use Rattle.cip_objects.specs.Contents.{Contents, with_value, with_change}
 use Rattle.cip_objects.specs.ReadServices.{service_at, get_attribute_single, get_attributes_all, get_attribute_list, get_member}
 use Rattle.cip_objects.specs.ChangeServices.{Change, after_add, is_allowed, set_attribute_single, set_member, add, clear}
 use Rattle.cip_objects.specs.Execution.{Outcome, perform, outcome, Executed, with_reply, or_refusal, exec, reply_to, run}
@@ -32,7 +32,7 @@ use Rattle.cip_objects.specs.Service.{service_code}
 use Rattle.cip_objects.specs.Tables.{Shape, shape_at, services_of}
 use Rattle.cip_objects.proofs.Offers.{table, offered}
 use Rattle.cip_objects.proofs.Effects.{goes, set_effect, Sets, member_effect, SetsMember, add_effect, clear_effect, read_effect, change_effect, chosen_code}
-use Rattle.cip_objects.proofs.ReadAfterSet.{udint_at-same, udint_at-other, udint_at-set}
+use Rattle.cip_objects.proofs.ReadAfterSet.{udint_at-same, udint_at-other, udint_at-elsewhere, udint_at-set}
 use Rattle.cip_objects.proofs.Settable.{settable_limit}
 
 table_add : (b1 b4 b6 b100 z o : Bool) (x : Option Shape) (s : Service) → offered 0x32 (table b1 b4 b6 b100 z o x) ≡ Ok s → (b100 ≡ true) × (o ≡ true)
@@ -147,13 +147,13 @@ set_moves : (m : Contents) (text : List ℕ) (o : Outcome) (q : Request) (p : Pa
 set_moves m text o q p c hc hb e na nc after x (inl four) =
     let other = λ (b : ℕ). ap (λ n. eqb 100 n && (eqb 1 p.instance && eqb b x.attribute)) four.1 in
     unmoved m text o q e na nc
-    (ap value_of (after ∙ x.leaves) ∙ udint_at-other m p.class p.instance x.attribute q.data 100 1 1 (other 1))
-    (ap limit_of (after ∙ x.leaves) ∙ udint_at-other m p.class p.instance x.attribute q.data 100 1 2 (other 2))
-    (ap additions_of (after ∙ x.leaves) ∙ udint_at-other m p.class p.instance x.attribute q.data 100 1 3 (other 3))
+    (ap value_of (after ∙ x.leaves) ∙ udint_at-elsewhere m p.class p.instance x.attribute q.data 100 1 1 (other 1))
+    (ap limit_of (after ∙ x.leaves) ∙ udint_at-elsewhere m p.class p.instance x.attribute q.data 100 1 2 (other 2))
+    (ap additions_of (after ∙ x.leaves) ∙ udint_at-elsewhere m p.class p.instance x.attribute q.data 100 1 3 (other 3))
     hc
 set_moves m text o q p c hc hb e na nc after x (inr more) =
     let l = settable_limit m.shapes p.class p.instance x.attribute x.size x.can more.1 in
-    let leaves : o.after ≡ with_value m 100 1 2 q.data = after ∙ x.leaves ∙ ap (λ k. with_value m k p.instance x.attribute q.data) l.of_counter ∙ ap (λ k. with_value m 100 k x.attribute q.data) l.of_instance ∙ ap (λ k. with_value m 100 1 k q.data) l.is_limit in
+    let leaves : o.after ≡ with_value m 100 1 2 q.data = after ∙ x.leaves ∙ ap (λ k. with_change m k p.instance x.attribute q.data) l.of_counter ∙ ap (λ k. with_change m 100 k x.attribute q.data) l.of_instance ∙ ap (λ k. with_value m 100 1 k q.data) l.is_limit in
     let v = ap value_of leaves ∙ udint_at-other m 100 1 2 q.data 100 1 1 refl in
     let a = ap additions_of leaves ∙ udint_at-other m 100 1 2 q.data 100 1 3 refl in
     let limit : limit_of o.after ≡ little_number 4 q.data = ap limit_of leaves ∙ udint_at-same m 100 1 2 q.data in
@@ -165,9 +165,9 @@ set_moves m text o q p c hc hb e na nc after x (inr more) =
 member_moves : (m : Contents) (text : List ℕ) (o : Outcome) (q : Request) (p : Path) (c : Change) → IsCounter m → request_of text ≡ Ok q → eqb q.service 0x32 ≡ false → eqb q.service 0x33 ≡ false → o.after ≡ c.after → SetsMember m p c → Effect m text o
 member_moves m text o q p c hc e na nc after x =
     unmoved m text o q e na nc
-    (ap value_of (after ∙ x.leaves) ∙ udint_at-other m 4 p.instance 3 x.value 100 1 1 refl)
-    (ap limit_of (after ∙ x.leaves) ∙ udint_at-other m 4 p.instance 3 x.value 100 1 2 refl)
-    (ap additions_of (after ∙ x.leaves) ∙ udint_at-other m 4 p.instance 3 x.value 100 1 3 refl)
+    (ap value_of (after ∙ x.leaves) ∙ udint_at-elsewhere m 4 p.instance 3 x.value 100 1 1 refl)
+    (ap limit_of (after ∙ x.leaves) ∙ udint_at-elsewhere m 4 p.instance 3 x.value 100 1 2 refl)
+    (ap additions_of (after ∙ x.leaves) ∙ udint_at-elsewhere m 4 p.instance 3 x.value 100 1 3 refl)
     hc
 
 -- an addition

@@ -1,7 +1,7 @@
 -- What class and instance lead to, in the contents that the objects make.
 use Rattle.std.specs.Prelude.{if◌then◌else◌}
 use Rattle.std.proofs.Common.{◌≡◌, ℕ, zero, suc, ◌<◌, eqb, Bool, true, false, cond, List, [], ◌∷◌, length, map, get_or}
-use Rattle.std.proofs.Common.{Option, Some, None, option_map, refl, sym, ap, ◌∙◌, arith, subst}
+use Rattle.std.proofs.Common.{MatchOption, Option, Some, None, option_map, refl, sym, ap, ◌∙◌, arith, subst}
 use Rattle.std.specs.Box.{boxed_slice_items, boxed_slice_len}
 use Rattle.std.proofs.lemmas.Bool.Decides.{nat_tests}
 use Rattle.std.proofs.lemmas.List.{length-map}
@@ -11,7 +11,7 @@ use Rattle.cip_objects.specs.declared.destination.Destination.TheVariants as des
 use Rattle.cip_objects.specs.declared.objects.Objects.TheInside.{Inside}
 use Rattle.cip_objects.specs.Contents.{Contents, value_at}
 use Rattle.cip_objects.specs.Counter.{counter_values}
-use Rattle.cip_objects.specs.Destination.{class_at, instance_at, number_at, IsPlace, IsThere}
+use Rattle.cip_objects.specs.Destination.{class_at, instance_at, number_at, IsPlace, IsThere, StandsAt}
 use Rattle.cip_objects.specs.Entries.{IdentityValues, Block, CounterValues, contents_of, shape_of, block_at, NoneIsClass}
 use Rattle.cip_objects.specs.Entries.{attribute_in, block_attributes, class_attributes, greatest_of}
 use Rattle.cip_objects.specs.Places.{IsFirst}
@@ -41,10 +41,10 @@ shape-get (b ∷ bs) (suc k) d = shape-get bs k d
 
 -- an assembly of a shape, without data
 abbrev with_shape : Shape → Block
-with_shape s = record { instance = s.instance; settable = s.settable; members = s.members; content = [] }
+with_shape s = record { instance = s.instance; settable = s.settable; members = s.members; content = []; changes = 0 }
 
 abbrev no_block : Block
-no_block = record { instance = 0; settable = false; members = []; content = [] }
+no_block = record { instance = 0; settable = false; members = []; content = []; changes = 0 }
 
 -- the first assembly of a number has the first shape of it
 first_shape : (bs : List Block) (i k : ℕ) → IsFirstBlock bs i k → IsFirstShape (map shape_of bs) i k
@@ -73,12 +73,8 @@ number_here (s ∷ shapes) i (suc k) f =
     })
 
 -- an assembly that was found stands at a place, with the number that was looked for
-pub record IsFound (shapes : List Shape) (instance place : ℕ) : Type 0 where
-  pub number : instance ≡ number_at shapes place
-  pub there : IsPlace shapes place
-
 pub found : (o : Inside) (m : Contents) (i k : ℕ) → Shows o m → IsFirstBlock (boxed_slice_items o.assemblies) i k
-    → IsFound m.shapes i k
+    → StandsAt m.shapes i k
 found o m i k is f =
     let all = shapes-contents o.identity (boxed_slice_items o.assemblies) (counter_values o.counter) m is in
     let first : IsFirstShape m.shapes i k =
@@ -88,6 +84,16 @@ found o m i k is f =
       number = sym number;
       there = subst (λ n. IsFirstShape m.shapes n k) (sym number) first;
     }
+
+-- the place where the first assembly of a number was looked for
+pub placed : (o : Inside) (m : Contents) (i : ℕ) (r : Option ℕ) → Shows o m
+    → MatchOption r (block_at i (boxed_slice_items o.assemblies) ≡ None)
+    (IsFirst (λ b. b.instance) (boxed_slice_items o.assemblies) i)
+    → MatchOption r (shape_at i m.shapes ≡ None) (StandsAt m.shapes i)
+placed o m i None is h =
+    shape_at-contents o.identity (boxed_slice_items o.assemblies) (counter_values o.counter) m i is
+    ∙ ap (option_map shape_of) h
+placed o m i (Some k) is h = found o m i k is h
 
 -- what stands at a place is the first of its number
 pub first_at_place : (o : Inside) (m : Contents) (k : ℕ) → Shows o m → IsPlace m.shapes k

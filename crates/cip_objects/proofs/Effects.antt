@@ -14,7 +14,7 @@ use Rattle.cip_objects.specs.declared.status.Refusal.{Refusal}
 use Rattle.cip_objects.specs.declared.status.Completion.TheVariants.{Whole}
 use Rattle.cip_bytes.specs.Reading.{◌>>=◌, ◌>>◌}
 use Rattle.cip_objects.specs.Check.{demand, exactly}
-use Rattle.cip_objects.specs.Contents.{Contents, value_at, bytes_at, udint_at, with_value}
+use Rattle.cip_objects.specs.Contents.{Contents, value_at, bytes_at, udint_at, with_change}
 use Rattle.cip_objects.specs.ReadServices.{Answer, service_at, named_member}
 use Rattle.cip_objects.specs.ChangeServices.{Change, after_add, with_bytes_at, is_allowed, set_attribute_single, set_member, add, clear}
 use Rattle.cip_objects.specs.Execution.{Outcome, outcome_of_read, outcome_of_change, perform, request_or_refusal, path_or_refusal, outcome}
@@ -55,7 +55,7 @@ pub record Sets (m : Contents) (path : Path) (content : List ℕ) (c : Change) :
   pub can : settable_size m.shapes path.class path.instance attribute ≡ Some size
   pub fits : length content ≡ size
   pub allowed : is_allowed m path.class content ≡ true
-  pub leaves : c.after ≡ with_value m path.class path.instance attribute content
+  pub leaves : c.after ≡ with_change m path.class path.instance attribute content
   pub answers : c.content ≡ []
 
 pub set_effect : (m : Contents) (path : Path) (content : List ℕ) (c : Change) → set_attribute_single m path content ≡ Ok c → Sets m path content c
@@ -66,7 +66,7 @@ set_effect m path content c e =
     let n = bound (ok_or (settable_size m.shapes path.class path.instance a.value) _) _ c v.rest in
     let x = after_check (exactly n.value content) _ c n.rest in
     let w = after_check (demand (is_allowed m path.class content) _) _ c x.1 in
-    let done = same_ok (record { after = with_value m path.class path.instance a.value content; content = [] }) c w.1 in
+    let done = same_ok (record { after = with_change m path.class path.instance a.value content; content = [] }) c w.1 in
     record {
       attribute = a.value;
       size = n.value;
@@ -81,7 +81,7 @@ set_effect m path content c e =
 -- a set member: the new data of its assembly
 pub record SetsMember (m : Contents) (path : Path) (c : Change) : Type 0 where
   pub value : List ℕ
-  pub leaves : c.after ≡ with_value m 4 path.instance 3 value
+  pub leaves : c.after ≡ with_change m 4 path.instance 3 value
   pub answers : c.content ≡ []
 
 pub member_effect : (m : Contents) (path : Path) (content : List ℕ) (c : Change) → set_member m path content ≡ Ok c → SetsMember m path c
@@ -119,7 +119,7 @@ add_effect m content c e =
     }
 
 pub record Clears (m : Contents) (c : Change) : Type 0 where
-  pub leaves : c.after ≡ with_value m 100 1 1 (le 4 0)
+  pub leaves : c.after ≡ with_change m 100 1 1 (le 4 0)
   pub answers : c.content ≡ le 4 (udint_at m 100 1 1)
 
 pub clear_effect : (m : Contents) (content : List ℕ) (c : Change) → clear m content ≡ Ok c → Clears m c

@@ -22,3 +22,7 @@ pub mod Spans
 pub mod Members
 pub mod OtherMembers
 pub mod Whole
+pub mod IdentityWrites
+pub mod DeviceLemmas
+pub mod Counting
+pub mod ChangeCounts

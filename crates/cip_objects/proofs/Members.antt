@@ -12,7 +12,7 @@ use Rattle.cip_objects.specs.declared.service.Service.TheVariants.{GetAttributes
 use Rattle.cip_objects.specs.declared.status.Completion.TheVariants.{Whole}
 use Rattle.cip_objects.specs.declared.status.Refusal.TheVariants.{AttributeNotSupported, InvalidMemberId}
 use Rattle.cip_objects.specs.Check.{demand}
-use Rattle.cip_objects.specs.Contents.{Contents, bytes_at, with_value}
+use Rattle.cip_objects.specs.Contents.{Contents, bytes_at, with_change}
 use Rattle.cip_objects.specs.ReadServices.{service_at, is_data, named_member, get_member}
 use Rattle.cip_objects.specs.ChangeServices.{with_bytes_at, set_member}
 use Rattle.cip_objects.specs.Execution.{Outcome, perform, outcome, exec}
@@ -111,7 +111,7 @@ pub record WasMember (m : Contents) (path value : List ℕ) (p : Path) (o : Outc
   pub span : Span
   pub names : named_member m.shapes p ≡ Ok span
   pub size : length value ≡ span.size
-  pub leaves : o.after ≡ with_value m 4 p.instance 3 (with_bytes_at (bytes_at m 4 p.instance 3) span.offset value)
+  pub leaves : o.after ≡ with_change m 4 p.instance 3 (with_bytes_at (bytes_at m 4 p.instance 3) span.offset value)
 
 same_request : (q r : Request) → ◌≡◌ {A = Result Request RequestFault} (Ok q) (Ok r) → q ≡ r
 same_request q r e = cc
@@ -172,7 +172,7 @@ member_after_set m room later set get path value whole e f s fits =
     let p = w.0 in
     let old = bytes_at m 4 p.instance 3 in
     let new = with_bytes_at old w.1.span.offset value in
-    let n = with_value m 4 p.instance 3 new in
+    let n = with_change m 4 p.instance 3 new in
     let read : bytes_at n 4 p.instance 3 ≡ new = ap (λ o. unwrap_or o []) (value_at-same m 4 p.instance 3 new) in
     let slice = spliced_read old value w.1.span (bytes_at n 4 p.instance 3) read w.1.size
     (fits_in m p w.1.span whole (named m.shapes p w.1.span w.1.names)) in

@@ -11,7 +11,7 @@ use Rattle.cip_objects.specs.declared.status.Refusal.{Refusal}
 use Rattle.cip_objects.specs.declared.status.Completion.TheVariants.{Whole}
 use Rattle.cip_bytes.specs.Reading.{◌>>=◌, ◌>>◌}
 use Rattle.cip_objects.specs.Check.{exactly}
-use Rattle.cip_objects.specs.Contents.{Contents, bytes_at, with_value}
+use Rattle.cip_objects.specs.Contents.{Contents, bytes_at, with_change}
 use Rattle.cip_objects.specs.ReadServices.{Answer, answer, service_at, named_member, get_member}
 use Rattle.cip_objects.specs.ChangeServices.{with_bytes_at}
 use Rattle.cip_objects.specs.Execution.{Outcome, outcome_of_read, perform, outcome, with_reply, or_refusal, exec, reply_to}
@@ -91,7 +91,7 @@ alike m n q e = record {
 }
 
 -- the data of another assembly
-other_assembly : (m n : Contents) (i : ℕ) (v : List ℕ) (q : Path) → n ≡ with_value m 4 i 3 v → eqb q.instance i ≡ false
+other_assembly : (m n : Contents) (i : ℕ) (v : List ℕ) (q : Path) → n ≡ with_change m 4 i 3 v → eqb q.instance i ≡ false
     → AreAlike m n q
 other_assembly m n i v q e h =
     let read : bytes_at n 4 q.instance 3 ≡ bytes_at m 4 q.instance 3 = ap (λ k. bytes_at k 4 q.instance 3) e
@@ -123,13 +123,13 @@ same_place a b h k e = omega arith
 
 same_assembly : (m n : Contents) (value : List ℕ) (p q : Path) (written : Span) → AreWhole m → Names m.shapes p written
     → q.instance ≡ p.instance
-    → n ≡ with_value m 4 p.instance 3 (with_bytes_at (bytes_at m 4 p.instance 3) written.offset value)
+    → n ≡ with_change m 4 p.instance 3 (with_bytes_at (bytes_at m 4 p.instance 3) written.offset value)
     → length value ≡ written.size → (q.member ≡ p.member → ⊥) → AreAlike m n q
 same_assembly m n value p q written whole b here e size other =
     let old = bytes_at m 4 p.instance 3 in
     let new = with_bytes_at old written.offset value in
     let read : bytes_at n 4 q.instance 3 ≡ new = ap (λ k. bytes_at k 4 q.instance 3) e
-    ∙ ap (λ j. bytes_at (with_value m 4 p.instance 3 new) 4 j 3) here
+    ∙ ap (λ j. bytes_at (with_change m 4 p.instance 3 new) 4 j 3) here
     ∙ ap (λ o. unwrap_or o []) (value_at-same m 4 p.instance 3 new) in
     record {
       shapes = ap (λ k. k.shapes) e;

@@ -4,7 +4,7 @@ use Rattle.std.proofs.lemmas.Bool.Decides.{nat_tests}
 use Rattle.std.specs.FinMap.{get-insert}
 use Rattle.byteorder.specs.Endian.{little_bytes, little_number}
 use Rattle.cip_objects.specs.ObjectMap.{key}
-use Rattle.cip_objects.specs.Contents.{Contents, value_at, udint_at, with_value}
+use Rattle.cip_objects.specs.Contents.{Contents, value_at, udint_at, with_value, with_change}
 use Rattle.cip_objects.proofs.Map.{key_total, tied}
 use Rattle.cip_objects.proofs.Numbers.{number-bytes}
 
@@ -31,6 +31,11 @@ udint_at-same m c i a v = ap (λ o. little_number 4 (unwrap_or o [])) (value_at-
 pub udint_at-other : (m : Contents) (c i a : ℕ) (v : List ℕ) (d j b : ℕ) → eqb d c && (eqb j i && eqb b a) ≡ false → udint_at (with_value m c i a v) d j b ≡ udint_at m d j b
 unfolding udint_at
 udint_at-other m c i a v d j b h = ap (λ o. little_number 4 (unwrap_or o [])) (value_at-other m c i a v d j b h)
+
+-- so does it where that was counted
+pub udint_at-elsewhere : (m : Contents) (c i a : ℕ) (v : List ℕ) (d j b : ℕ) → eqb d c && (eqb j i && eqb b a) ≡ false → udint_at (with_change m c i a v) d j b ≡ udint_at m d j b
+unfolding udint_at
+udint_at-elsewhere m c i a v d j b h = ap (λ o. little_number 4 (unwrap_or o [])) (value_at-other m c i a v d j b h)
 
 -- a number that was set is read again
 pub udint_at-set : (m : Contents) (c i a n : ℕ) → n < 2 ^ 32 → udint_at (with_value m c i a (little_bytes 4 n)) c i a ≡ n

@@ -11,7 +11,7 @@ use Rattle.cip_objects.specs.declared.service.Service.{Service}
 use Rattle.cip_objects.specs.declared.service.Service.TheVariants.{GetAttributesAll, GetAttributeList, GetAttributeSingle, SetAttributeSingle, GetMember, SetMember, Add, Clear}
 use Rattle.cip_bytes.specs.declared.protocol.GeneralStatus.TheVariants.{Success}
 use Rattle.cip_objects.specs.declared.status.Completion.TheVariants.{Whole}
-use Rattle.cip_objects.specs.Contents.{Contents, value_at, with_value}
+use Rattle.cip_objects.specs.Contents.{Contents, value_at, with_change}
 use Rattle.cip_objects.specs.ReadServices.{service_at, get_attribute_single}
 use Rattle.cip_objects.specs.ChangeServices.{set_attribute_single, set_member, add, clear}
 use Rattle.cip_objects.specs.Execution.{Outcome, perform, outcome, with_reply, or_refusal, exec, reply_to}
@@ -66,7 +66,7 @@ record WasSet (m : Contents) (path value : List ℕ) (p : Path) (o : Outcome) : 
   named : p.attribute ≡ Some attribute
   is_path : path_of path ≡ Ok p
   offers : service_at m.shapes p.class p.instance 0x10 ≡ Ok SetAttributeSingle
-  leaves : o.after ≡ with_value m p.class p.instance attribute value
+  leaves : o.after ≡ with_change m p.class p.instance attribute value
 
 same_request : (q r : Request) → ◌≡◌ {A = Result Request RequestFault} (Ok q) (Ok r) → q ≡ r
 same_request q r e = cc
@@ -143,7 +143,7 @@ get_after_set m room later set get path value e f s fits =
     let x = went_well m room set s in
     let w = was_set m set path value x.0 e x.1 in
     let p = w.0 in
-    let n = with_value m p.class p.instance w.1.attribute value in
+    let n = with_change m p.class p.instance w.1.attribute value in
     let made = get_makes n get path value p w.1.attribute f w.1.is_path (offers_get m.shapes p.class p.instance SetAttributeSingle w.1.offers) w.1.named (value_at-same m p.class p.instance w.1.attribute value) in
     ap (λ k. (exec m room set).answer ∷ (exec k later get).answer ∷ []) (x.2 ∙ w.1.leaves)
     ∙ ap (λ r. (exec m room set).answer ∷ r ∷ []) (got n later get value made fits)

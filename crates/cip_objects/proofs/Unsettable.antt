@@ -10,7 +10,7 @@ use Rattle.cip_objects.specs.declared.service.Service.{Service}
 use Rattle.cip_objects.specs.declared.service.Service.TheVariants.{GetAttributesAll, GetAttributeList, GetAttributeSingle, SetAttributeSingle, GetMember, SetMember, Add, Clear}
 use Rattle.cip_objects.specs.declared.status.Refusal.{Refusal}
 use Rattle.cip_objects.specs.Check.{exactly}
-use Rattle.cip_objects.specs.Contents.{Contents, value_at, bytes_at, udint_at, with_value}
+use Rattle.cip_objects.specs.Contents.{Contents, value_at, bytes_at, udint_at, with_change}
 use Rattle.cip_objects.specs.ReadServices.{named_member, get_attribute_single, get_attributes_all, get_attribute_list, get_member}
 use Rattle.cip_objects.specs.ChangeServices.{Change, after_add, with_bytes_at, set_attribute_single, set_member, add, clear}
 use Rattle.cip_objects.specs.Execution.{Outcome, perform, outcome, exec, run}
@@ -28,7 +28,7 @@ pub record Splices (m : Contents) (path : Path) (content : List ℕ) (c : Change
   pub names : named_member m.shapes path ≡ Ok span
   pub can : settable_size m.shapes 4 path.instance 3 ≡ Some all
   pub size : length content ≡ span.size
-  pub leaves : c.after ≡ with_value m 4 path.instance 3 (with_bytes_at (bytes_at m 4 path.instance 3) span.offset content)
+  pub leaves : c.after ≡ with_change m 4 path.instance 3 (with_bytes_at (bytes_at m 4 path.instance 3) span.offset content)
 
 same_ok : {A : Type 0} (x y : A) → ◌≡◌ {A = Result A Refusal} (Ok x) (Ok y) → x ≡ y
 same_ok x y e = cc
@@ -66,7 +66,7 @@ all_kept m n d j b e = record { shapes = ap (λ x. x.shapes) e; value = ap (λ x
 other_key : (d c j i b a : ℕ) → ((d ≡ c) × (j ≡ i) × (b ≡ a) → ⊥) → eqb d c && (eqb j i && eqb b a) ≡ false
 other_key d c j i b a h = grind (arith, nat_tests)
 
-other_kept : (m n : Contents) (c i a : ℕ) (v : List ℕ) (d j b : ℕ) → n ≡ with_value m c i a v
+other_kept : (m n : Contents) (c i a : ℕ) (v : List ℕ) (d j b : ℕ) → n ≡ with_change m c i a v
     → ((d ≡ c) × (j ≡ i) × (b ≡ a) → ⊥) → Keeps m n d j b
 other_kept m n c i a v d j b e h = record {
   shapes = ap (λ x. x.shapes) e;
@@ -83,7 +83,7 @@ not_settable shapes c i a n d j b can stuck k =
 
 add_kept : (m n : Contents) (total d j b : ℕ) → n ≡ after_add m total → IsKept m.shapes d j b → Keeps m n d j b
 add_kept m n total d j b e h =
-    let first = with_value m 100 1 1 (le 4 total) in
+    let first = with_change m 100 1 1 (le 4 total) in
     let more = le 4 ((udint_at m 100 1 3 + 1) % 2 ^ 32) in
     record {
       shapes = ap (λ x. x.shapes) e;

@@ -11,7 +11,7 @@ use Rattle.cip_objects.specs.declared.service.Service.{Service}
 use Rattle.cip_objects.specs.declared.service.Service.TheVariants.{GetAttributesAll, GetAttributeList, GetAttributeSingle, SetAttributeSingle, GetMember, SetMember, Add, Clear}
 use Rattle.cip_objects.specs.ChangeServices.{Change, with_bytes_at, set_attribute_single, set_member, add, clear}
 use Rattle.cip_objects.specs.Configuration.{block_of}
-use Rattle.cip_objects.specs.Contents.{Contents, bytes_at, udint_at, with_value}
+use Rattle.cip_objects.specs.Contents.{Contents, bytes_at, udint_at, with_change}
 use Rattle.cip_objects.specs.Entries.{IdentityValues, Block, CounterValues, attribute_in, class_attributes, block_at, greatest_of, shape_of, contents_of, NoneIsClass}
 use Rattle.cip_objects.specs.Execution.{Outcome, perform, outcome, exec}
 use Rattle.cip_objects.proofs.Lookup.{block_value}
@@ -41,18 +41,18 @@ same_whole : (m n : Contents) → n ≡ m → AreWhole m → AreWhole n
 same_whole m n e h = subst AreWhole (sym e) h
 
 -- a value that the counter has
-counter_whole : (m n : Contents) (a : ℕ) (v : List ℕ) → n ≡ with_value m 100 1 a v → AreWhole m → AreWhole n
+counter_whole : (m n : Contents) (a : ℕ) (v : List ℕ) → n ≡ with_change m 100 1 a v → AreWhole m → AreWhole n
 counter_whole m n a v e h =
     like_whole m n (ap (λ k. k.shapes) e)
     (λ i. ap (λ k. bytes_at k 4 i 3) e ∙ ap (λ o. unwrap_or o []) (value_at-other m 100 1 a v 4 i 3 refl)) h
 
-at_instance : (m n : Contents) (i j : ℕ) (v : List ℕ) (s : Shape) → n ≡ with_value m 4 i 3 v
+at_instance : (m n : Contents) (i j : ℕ) (v : List ℕ) (s : Shape) → n ≡ with_change m 4 i 3 v
     → ((t : Shape) → shape_at i m.shapes ≡ Some t → length v ≡ sum t.members) → AreWhole m
     → shape_at j m.shapes ≡ Some s → ((eqb j i ≡ true) × (j ≡ i)) ⊎ ((eqb j i ≡ false) × (j ≡ i → ⊥))
     → length (bytes_at n 4 j 3) ≡ sum s.members
 at_instance m n i j v s e f h g (inl same) =
     let read : bytes_at n 4 j 3 ≡ v = ap (λ k. bytes_at k 4 j 3) e
-    ∙ ap (λ k. bytes_at (with_value m 4 i 3 v) 4 k 3) same.1 ∙ ap (λ o. unwrap_or o []) (value_at-same m 4 i 3 v) in
+    ∙ ap (λ k. bytes_at (with_change m 4 i 3 v) 4 k 3) same.1 ∙ ap (λ o. unwrap_or o []) (value_at-same m 4 i 3 v) in
     ap length read ∙ f s (ap (λ k. shape_at k m.shapes) (sym same.1) ∙ g)
 at_instance m n i j v s e f h g (inr apart) =
     let read : bytes_at n 4 j 3 ≡ bytes_at m 4 j 3 = ap (λ k. bytes_at k 4 j 3) e
@@ -60,7 +60,7 @@ at_instance m n i j v s e f h g (inr apart) =
     ap length read ∙ h j s g
 
 -- data of the size that the members have
-data_whole : (m n : Contents) (i : ℕ) (v : List ℕ) → n ≡ with_value m 4 i 3 v
+data_whole : (m n : Contents) (i : ℕ) (v : List ℕ) → n ≡ with_change m 4 i 3 v
     → ((t : Shape) → shape_at i m.shapes ≡ Some t → length v ≡ sum t.members) → AreWhole m → AreWhole n
 data_whole m n i v e f h j s g = at_instance m n i j v s e f h (ap (λ k. shape_at j k.shapes) (sym e) ∙ g)
     (eqb_tells j i)
@@ -82,14 +82,14 @@ set_whole m p content c n h e x (inl four) =
     let can : settable_size m.shapes 4 p.instance 3 ≡ Some x.size = ap (λ k. settable_size m.shapes k p.instance 3)
     (sym four.1) ∙ ap (λ a. settable_size m.shapes p.class p.instance a) (sym three) ∙ x.can in
     data_whole m n p.instance content
-    (e ∙ x.leaves ∙ ap (λ k. with_value m k p.instance x.attribute content) four.1 ∙ ap
-    (λ a. with_value m 4 p.instance a content) three)
+    (e ∙ x.leaves ∙ ap (λ k. with_change m k p.instance x.attribute content) four.1 ∙ ap
+    (λ a. with_change m 4 p.instance a content) three)
     (λ s g. x.fits ∙ settable_whole m.shapes p.instance x.size s can g) h
 set_whole m p content c n h e x (inr more) =
     let l = settable_limit m.shapes p.class p.instance x.attribute x.size x.can more.1 in
     counter_whole m n x.attribute content
-    (e ∙ x.leaves ∙ ap (λ k. with_value m k p.instance x.attribute content) l.of_counter ∙ ap
-    (λ k. with_value m 100 k x.attribute content) l.of_instance) h
+    (e ∙ x.leaves ∙ ap (λ k. with_change m k p.instance x.attribute content) l.of_counter ∙ ap
+    (λ k. with_change m 100 k x.attribute content) l.of_instance) h
 
 perform_whole : (m : Contents) (s : Service) (path : Path) (content : List ℕ) (o : Outcome) → AreWhole m
     → perform m s path content ≡ Ok o → AreWhole o.after
@@ -115,7 +115,7 @@ perform_whole m Add path content o h e =
     let c = change_effect (add m content) o e in
     let x = add_effect m content c.change c.first in
     let total = udint_at m 100 1 1 + little_number 4 content in
-    let first = with_value m 100 1 1 (le 4 total) in
+    let first = with_change m 100 1 1 (le 4 total) in
     counter_whole first o.after 3 (le 4 ((udint_at m 100 1 3 + 1) % 2 ^ 32)) (c.after ∙ x.leaves)
     (counter_whole m first 1 (le 4 total) refl h)
 perform_whole m Clear path content o h e =

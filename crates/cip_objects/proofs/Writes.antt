@@ -6,10 +6,11 @@ use Rattle.std.specs.FinMap.{find, insert, from_entries}
 use Rattle.byteorder.specs.Endian.{little_bytes}
 use Rattle.cip_objects.specs.ObjectMap.{Key, key, key_cmp}
 use Rattle.cip_objects.specs.Tables.{Shape}
+use Rattle.cip_objects.specs.Changes.{Tally}
 use Rattle.cip_bytes.specs.declared.protocol.TheConstants.{IDENTITY, ASSEMBLY, COUNTER}
 use Rattle.cip_objects.specs.Contents.{Contents, with_value, bytes_at}
 use Rattle.cip_objects.specs.Places.{IsFirst}
-use Rattle.cip_objects.specs.Entries.{IdentityValues, Block, CounterValues, Entries, entries_at, attribute_in, class_attributes, identity_attributes, block_attributes, counter_attributes, block_at, greatest_of, entries_of, contents_of, shape_of, device_of, NoneIsClass}
+use Rattle.cip_objects.specs.Entries.{IdentityValues, Block, CounterValues, Entries, entries_at, attribute_in, class_attributes, identity_attributes, block_attributes, counter_attributes, block_at, greatest_of, entries_of, contents_of, shape_of, tally_of, device_of, NoneIsClass}
 use Rattle.cip_objects.proofs.Blocks.{eqb-other, first_at}
 use Rattle.cip_objects.proofs.Lookup.{block_value}
 use Rattle.cip_objects.specs.ChangeServices.{with_bytes_at}
@@ -41,6 +42,11 @@ pub shapes-content : (bs : List Block) (k : ℕ) (v : List ℕ) → map shape_of
 shapes-content [] k v = refl
 shapes-content (b ∷ bs) zero v = refl
 shapes-content (b ∷ bs) (suc k) v = ap (λ l. shape_of b ∷ l) (shapes-content bs k v)
+
+pub tallies-content : (bs : List Block) (k : ℕ) (v : List ℕ) → map tally_of (with_content bs k v) ≡ map tally_of bs
+tallies-content [] k v = refl
+tallies-content (b ∷ bs) zero v = refl
+tallies-content (b ∷ bs) (suc k) v = ap (λ l. tally_of b ∷ l) (tallies-content bs k v)
 
 pub numbered-content : (bs : List Block) (k : ℕ) (v : List ℕ) → NoneIsClass bs → NoneIsClass (with_content bs k v)
 numbered-content [] k v h = tt
@@ -86,7 +92,7 @@ first_above (b ∷ bs) i (suc k) d h f =
     first_above bs i k d h.1 (record { within = omega (arith, f.within); here = f.here; before = λ j e lt. f.before (suc j) e (omega arith) })
 
 -- all entries, with these numbers for the class of the assemblies, these entries of the assemblies and these of the counter
-abbrev assembled : IdentityValues → ℕ → ℕ → Entries → Entries → Entries
+abbrev pub assembled : IdentityValues → ℕ → ℕ → Entries → Entries → Entries
 assembled d greatest number blocks counter =
     entries_at IDENTITY 0 (class_attributes 1 1 1)
     ++ (entries_at IDENTITY 1 (identity_attributes d)
@@ -124,30 +130,31 @@ assembled_counter d g n a v bs old new u =
     (updates_back q v (blocks_of bs) _ _ (absent_blocks a bs)
     (updates_back q v (entries_at COUNTER 0 (class_attributes 1 1 1)) _ _ (absent_at q COUNTER 0 (class_attributes 1 1 1) refl) u))))
 
-written : (old new : Entries) (m : Contents) (q : Key) (v : List ℕ) (shapes : List Shape) → Updates q v old new → m.values ≡ from_entries old → shapes ≡ m.shapes → ◌≡◌ {A = Contents} (record { values = from_entries new; shapes = shapes; device = m.device }) (record m { values = insert m.values q v })
-written old new m q v shapes u e f = λ i. record {
+pub written : (old new : Entries) (m : Contents) (q : Key) (v : List ℕ) (shapes : List Shape) (changes : List Tally) → Updates q v old new → m.values ≡ from_entries old → shapes ≡ m.shapes → changes ≡ m.changes → ◌≡◌ {A = Contents} (record { values = from_entries new; shapes = shapes; device = m.device; changes = changes }) (record m { values = insert m.values q v })
+written old new m q v shapes changes u e f g = λ i. record {
   values = (sym (insert_updates q v old new u) ∙ ap (λ x. insert x q v) (sym e)) i;
   shapes = f i;
   device = m.device;
+  changes = g i;
 }
 
 -- the contents with other data in one assembly
 pub content_written : (d : IdentityValues) (bs : List Block) (c : CounterValues) (i k : ℕ) (v : List ℕ) (e : Block) → NoneIsClass bs → IsFirst (λ b. b.instance) bs i k → contents_of d (with_content bs k v) c ≡ with_value (contents_of d bs c) ASSEMBLY i 3 v
 unfolding contents_of entries_of
 content_written d bs c i k v e h f =
-    ap (λ g. record { values = from_entries (assembled d g (length (with_content bs k v)) (blocks_of (with_content bs k v)) (entries_at COUNTER 1 (counter_attributes c))); shapes = map shape_of (with_content bs k v); device = device_of d }) (greatest-content bs k v)
-    ∙ ap (λ n. record { values = from_entries (assembled d (greatest_of bs) n (blocks_of (with_content bs k v)) (entries_at COUNTER 1 (counter_attributes c))); shapes = map shape_of (with_content bs k v); device = device_of d }) (length-content bs k v)
-    ∙ written (assembled d (greatest_of bs) (length bs) (blocks_of bs) (entries_at COUNTER 1 (counter_attributes c))) (assembled d (greatest_of bs) (length bs) (blocks_of (with_content bs k v)) (entries_at COUNTER 1 (counter_attributes c))) (contents_of d bs c) (key ASSEMBLY i 3) v (map shape_of (with_content bs k v))
+    ap (λ g. record { values = from_entries (assembled d g (length (with_content bs k v)) (blocks_of (with_content bs k v)) (entries_at COUNTER 1 (counter_attributes c))); shapes = map shape_of (with_content bs k v); device = device_of d; changes = map tally_of (with_content bs k v) }) (greatest-content bs k v)
+    ∙ ap (λ n. record { values = from_entries (assembled d (greatest_of bs) n (blocks_of (with_content bs k v)) (entries_at COUNTER 1 (counter_attributes c))); shapes = map shape_of (with_content bs k v); device = device_of d; changes = map tally_of (with_content bs k v) }) (length-content bs k v)
+    ∙ written (assembled d (greatest_of bs) (length bs) (blocks_of bs) (entries_at COUNTER 1 (counter_attributes c))) (assembled d (greatest_of bs) (length bs) (blocks_of (with_content bs k v)) (entries_at COUNTER 1 (counter_attributes c))) (contents_of d bs c) (key ASSEMBLY i 3) v (map shape_of (with_content bs k v)) (map tally_of (with_content bs k v))
     (assembled_block d (greatest_of bs) (length bs) i v (blocks_of bs) (blocks_of (with_content bs k v)) (entries_at COUNTER 1 (counter_attributes c)) (first_above bs i k e h f) (blocks_update bs i k v e f))
-    refl (shapes-content bs k v)
+    refl (shapes-content bs k v) (tallies-content bs k v)
 
 -- the contents with another number of the counter
 counter_written : (d : IdentityValues) (bs : List Block) (c n : CounterValues) (a : ℕ) (v : List ℕ) → ((x : ℕ) → attribute_in x (counter_attributes n) ≡ cond (eqb x a) (Some v) (attribute_in x (counter_attributes c))) → contents_of d bs n ≡ with_value (contents_of d bs c) COUNTER 1 a v
 unfolding contents_of entries_of
 counter_written d bs c n a v h =
-    written (assembled d (greatest_of bs) (length bs) (blocks_of bs) (entries_at COUNTER 1 (counter_attributes c))) (assembled d (greatest_of bs) (length bs) (blocks_of bs) (entries_at COUNTER 1 (counter_attributes n))) (contents_of d bs c) (key COUNTER 1 a) v (map shape_of bs)
+    written (assembled d (greatest_of bs) (length bs) (blocks_of bs) (entries_at COUNTER 1 (counter_attributes c))) (assembled d (greatest_of bs) (length bs) (blocks_of bs) (entries_at COUNTER 1 (counter_attributes n))) (contents_of d bs c) (key COUNTER 1 a) v (map shape_of bs) (map tally_of bs)
     (assembled_counter d (greatest_of bs) (length bs) a v bs (entries_at COUNTER 1 (counter_attributes c)) (entries_at COUNTER 1 (counter_attributes n)) (updates_at COUNTER 1 a v (counter_attributes c) (counter_attributes n) h))
-    refl refl
+    refl refl refl
 
 first_set : (p q r : Bool) (x y z v : List ℕ) → cond p (Some v) (cond q (Some y) (cond r (Some z) None)) ≡ cond p (Some v) (cond p (Some x) (cond q (Some y) (cond r (Some z) None)))
 first_set true q r x y z v = refl

@@ -11,7 +11,7 @@ use Rattle.cip_objects.specs.declared.status.Refusal.TheVariants.{AttributeNotSu
 use Rattle.cip_objects.specs.declared.status.Refusal.TheVariants.{InvalidAttributeValue, InvalidParameter}
 use Rattle.cip_bytes.specs.Reading.{◌>>=◌, ◌>>◌}
 use Rattle.cip_objects.specs.Check.{demand, exactly}
-use Rattle.cip_objects.specs.Contents.{Contents, value_at, bytes_at, udint_at, with_value}
+use Rattle.cip_objects.specs.Contents.{Contents, value_at, bytes_at, udint_at, with_value, with_change}
 use Rattle.cip_objects.specs.ReadServices.{named_member}
 use Rattle.cip_objects.specs.Tables.{settable_size}
 use Rattle.cip_bytes.specs.declared.protocol.TheConstants.{ASSEMBLY, COUNTER}
@@ -47,7 +47,7 @@ set_attribute_single m path content = do
   size ← ok_or (settable_size m.shapes path.class path.instance attribute) AttributeNotSettable
   exactly size content
   demand (is_allowed m path.class content) InvalidAttributeValue
-  change (with_value m path.class path.instance attribute content) []
+  change (with_change m path.class path.instance attribute content) []
 
 -- old with these bytes from a place on
 abbrev pub with_bytes_at : List ℕ → ℕ → List ℕ → List ℕ
@@ -59,7 +59,7 @@ set_member m path content = do
   span ← named_member m.shapes path
   all ← ok_or (settable_size m.shapes ASSEMBLY path.instance 3) AttributeNotSettable
   exactly span.size content
-  change (with_value m ASSEMBLY path.instance 3
+  change (with_change m ASSEMBLY path.instance 3
       (with_bytes_at (bytes_at m ASSEMBLY path.instance 3) span.offset content)) []
 
 -- the counter once it was added to

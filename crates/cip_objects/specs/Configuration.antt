@@ -65,13 +65,14 @@ identity_of c = record {
   state = c.state;
 }
 
--- an assembly of a configuration: its data begin as zeros
+-- an assembly of a configuration: its data begin as zeros, and nobody has written them
 abbrev pub block_of : AssemblyConfig → Block
 block_of a = record {
   instance = a.instance;
   settable = a.settable;
   members = a.members.items;
   content = replicate (sum a.members.items) 0;
+  changes = 0;
 }
 
 -- the counter of a configuration: nothing was added yet

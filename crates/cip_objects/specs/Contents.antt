@@ -1,18 +1,21 @@
 -- What the objects are to a caller: the object map, and the constant tables beside it.
-use Rattle.std.specs.Prelude.{ℕ, Bool, List, [], Option, unwrap_or, refl}
+use Rattle.std.specs.Prelude.{ℕ, Bool, List, [], Option, unwrap_or, ◌==◌, if◌then◌else◌, refl}
 use Rattle.std.specs.FinMap.{get, insert, code}
 use Rattle.std.specs.Coded.{Coded, code_by, coded×, coded_ℕ, coded_bool, coded_list}
 use Rattle.byteorder.specs.Endian.{little_number}
 use Rattle.cip_message.specs.declared.key.Device.{Device}
 use Rattle.cip_objects.specs.ObjectMap.{Key, key, ObjectMap}
 use Rattle.cip_objects.specs.Tables.{Shape}
+use Rattle.cip_objects.specs.Changes.{Tally, counted_in}
+use Rattle.cip_bytes.specs.declared.protocol.TheConstants.{ASSEMBLY}
 
--- the map, and of the tables what differs from one configuration to another: the assemblies' shapes, and the five
--- numbers that an electronic key is tested against
+-- the map, of the tables what differs from one configuration to another, which are the assemblies' shapes and the five
+-- numbers that an electronic key is tested against, and how often each assembly was written by a peer
 pub record Contents : Type 0 where
   pub values : ObjectMap
   pub shapes : List Shape
   pub device : Device
+  pub changes : List Tally
 
 -- the value of an attribute, None where there is no such attribute
 abbrev pub value_at : Contents → ℕ → ℕ → ℕ → Option (List ℕ)
@@ -29,6 +32,15 @@ udint_at m class instance attribute = little_number 4 (bytes_at m class instance
 -- the contents with that value at that key, all else as before
 abbrev pub with_value : Contents → ℕ → ℕ → ℕ → List ℕ → Contents
 with_value m class instance attribute value = record m { values = insert m.values (key class instance attribute) value }
+
+-- the contents once a change of an instance of this class was counted: of an assembly alone
+abbrev pub counted : Contents → ℕ → ℕ → Contents
+counted m class instance =
+    record m { changes = (if class == ASSEMBLY then counted_in instance m.changes else m.changes) }
+
+-- the contents once a peer has set that value there, which is counted
+abbrev pub with_change : Contents → ℕ → ℕ → ℕ → List ℕ → Contents
+with_change m class instance attribute value = counted (with_value m class instance attribute value) class instance
 
 -- how such values are stored
 abbrev pub key_code : Coded Key
@@ -55,9 +67,17 @@ device_code =
     })
     (λ _. refl)
 
+abbrev pub tally_code : Coded Tally
+tally_code =
+    code_by (ℕ × ℕ) (coded× coded_ℕ coded_ℕ) (λ t. (t.instance, t.changes))
+    (λ p. record { instance = p.0; changes = p.1 })
+    (λ _. refl)
+
 abbrev pub contents_code : Coded Contents
 contents_code =
-    code_by (ObjectMap × (List Shape × Device))
-    (coded× (code key_code (coded_list coded_ℕ)) (coded× (coded_list shape_code) device_code))
-    (λ m. (m.values, (m.shapes, m.device))) (λ p. record { values = p.0; shapes = p.1.0; device = p.1.1 })
+    code_by (ObjectMap × (List Shape × (Device × List Tally)))
+    (coded× (code key_code (coded_list coded_ℕ))
+    (coded× (coded_list shape_code) (coded× device_code (coded_list tally_code))))
+    (λ m. (m.values, (m.shapes, (m.device, m.changes))))
+    (λ p. record { values = p.0; shapes = p.1.0; device = p.1.1.0; changes = p.1.1.1 })
     (λ _. refl)

@@ -18,7 +18,7 @@ use Rattle.cip_objects.specs.declared.status.Refusal.{Refusal}
 use Rattle.cip_objects.specs.declared.status.Refusal.TheVariants.{InvalidAttributeValue}
 use Rattle.cip_objects.specs.ChangeServices.{Change, change, is_allowed}
 use Rattle.cip_objects.specs.Check.{demand}
-use Rattle.cip_objects.specs.Contents.{Contents, value_at, bytes_at, with_value}
+use Rattle.cip_objects.specs.Contents.{Contents, value_at, bytes_at, with_change}
 use Rattle.cip_objects.specs.Service.{service_code, service_in}
 use Rattle.cip_objects.specs.Places.{IsFirst}
 use Rattle.cip_objects.specs.Tables.{Shape, shape_at, assembly_services}
@@ -64,6 +64,11 @@ services_at destinations.Counter =
 abbrev pub IsPlace : List Shape → ℕ → Type 0
 IsPlace shapes place = IsFirst (λ s. s.instance) shapes (number_at shapes place) place
 
+-- the assembly of this instance number, the first of it, stands at this place
+pub record StandsAt (shapes : List Shape) (instance place : ℕ) : Type 0 where
+  pub number : instance ≡ number_at shapes place
+  pub there : IsPlace shapes place
+
 -- it has this service
 abbrev pub Has : Destination → Service → Type 0
 Has destination service = service_in (service_code service) (services_at destination) ≡ Some service
@@ -101,10 +106,10 @@ value_to m destination attribute = value_at m (class_at destination) (instance_a
 abbrev pub bytes_to : Contents → Destination → ℕ → List ℕ
 bytes_to m destination attribute = bytes_at m (class_at destination) (instance_at m.shapes destination) attribute
 
--- the contents with that value there, all else as before
-abbrev pub with_value_to : Contents → Destination → ℕ → List ℕ → Contents
-with_value_to m destination attribute value =
-    with_value m (class_at destination) (instance_at m.shapes destination) attribute value
+-- the contents once a peer has set that value there, all else as before
+abbrev pub with_change_to : Contents → Destination → ℕ → List ℕ → Contents
+with_change_to m destination attribute value =
+    with_change m (class_at destination) (instance_at m.shapes destination) attribute value
 
 -- the path of a subject
 abbrev pub path_to : List Shape → Subject → Path
@@ -158,4 +163,4 @@ pub record CanBeSet (m : Contents) (destination : Destination) (attribute : ℕ)
 abbrev pub setting : Contents → Settable → List ℕ → Result Change Refusal
 setting m settable content = do
   demand (is_allowed m (class_at (destination_of settable)) content) InvalidAttributeValue
-  change (with_value_to m (destination_of settable) (attribute_of settable) content) []
+  change (with_change_to m (destination_of settable) (attribute_of settable) content) []

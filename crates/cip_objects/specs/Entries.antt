@@ -8,6 +8,7 @@ use Rattle.byteorder.specs.Endian.{little_bytes}
 use Rattle.cip_message.specs.declared.key.Device.{Device}
 use Rattle.cip_objects.specs.ObjectMap.{Key, key}
 use Rattle.cip_objects.specs.Tables.{Shape}
+use Rattle.cip_objects.specs.Changes.{Tally}
 use Rattle.cip_bytes.specs.declared.protocol.TheConstants.{IDENTITY, ASSEMBLY, COUNTER}
 use Rattle.cip_objects.specs.Contents.{Contents}
 
@@ -26,12 +27,13 @@ pub record IdentityValues : Type 0 where
   pub name : List ℕ
   pub state : ℕ
 
--- an assembly: its shape, and its data
+-- an assembly: its shape, its data, and how often a peer wrote them
 pub record Block : Type 0 where
   pub instance : ℕ
   pub settable : Bool
   pub members : List ℕ
   pub content : List ℕ
+  pub changes : ℕ
 
 -- the counter's three numbers
 pub record CounterValues : Type 0 where
@@ -97,6 +99,9 @@ entries_of d bs c =
 abbrev pub shape_of : Block → Shape
 shape_of b = record { instance = b.instance; settable = b.settable; members = b.members }
 
+abbrev pub tally_of : Block → Tally
+tally_of b = record { instance = b.instance; changes = b.changes }
+
 abbrev pub device_of : IdentityValues → Device
 device_of d = record {
   vendor = d.vendor;
@@ -109,7 +114,12 @@ device_of d = record {
 -- the contents that these values make
 unfoldable pub contents_of : IdentityValues → List Block → CounterValues → Contents
 contents_of d bs c =
-    record { values = from_entries (entries_of d bs c); shapes = map shape_of bs; device = device_of d }
+    record {
+      values = from_entries (entries_of d bs c);
+      shapes = map shape_of bs;
+      device = device_of d;
+      changes = map tally_of bs;
+    }
 
 -- the assembly of this instance number: the first, if one stood twice
 abbrev pub block_at : ℕ → List Block → Option Block

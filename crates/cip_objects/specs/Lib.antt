@@ -5,6 +5,7 @@ pub mod Limits
 pub mod Value
 pub mod ObjectMap
 pub mod Tables
+pub mod Changes
 pub mod Contents
 pub mod Entries
 pub mod Counter
@@ -24,3 +25,5 @@ pub mod Objects
 pub mod Assembly
 pub mod Lists
 pub mod Members
+pub mod DeviceWrites
+pub mod ChangesRun

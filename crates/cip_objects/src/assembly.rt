@@ -2,6 +2,7 @@
 ghost use Rattle.std.specs.Prelude.{◌≡◌, ◌≤◌, ◌+◌, ◌-◌, ◌*◌, ◌<◌, length, sum, take, drop, slice_index, option_map};
 ghost use Rattle.std.specs.Prelude.{option_copied, ◌++◌, IfOk, IfSome, replicate, MatchOption};
 ghost use Rattle.cip_objects.specs.Entries.{attribute_in, block_attributes, block_at, greatest_of};
+ghost use Rattle.cip_objects.specs.Changes.{one_more};
 ghost use Rattle.cip_objects.specs.Places.{IsFirst};
 ghost use Rattle.cip_objects.specs.Tables.{span_of};
 ghost use Rattle.cip_objects.specs.Value.{value_bytes, IsShort};
@@ -37,6 +38,8 @@ pub(crate) struct Assembly {
     members: BoxedSlice<u16>,
     /// The data: the members, one after another.
     content: BoxedSlice<u8>,
+    /// How often a peer wrote the data, modulo 2^32.
+    changes: u32,
 }
 
 impl Model for Assembly {
@@ -50,6 +53,7 @@ impl Model for Assembly {
       settable = a.settable;
       members = boxed_slice_items a.members;
       content = boxed_slice_items a.content;
+      changes = a.changes;
     } };
 
     ghost use Rattle.cip_objects.specs.Assembly.{IsWhole};
@@ -58,7 +62,7 @@ impl Model for Assembly {
 }
 
 impl Assembly {
-    /// An assembly of these members, whose data are zeros.
+    /// An assembly of these members, whose data are zeros, and which nobody has written.
     pub(crate) fn new(
         alloc: Global,
         instance: u16,
@@ -73,6 +77,7 @@ impl Assembly {
               settable = settable;
               members = members.now;
               content = replicate (sum members.now) 0;
+              changes = 0;
             }) }
     {
         Ok(Assembly {
@@ -80,6 +85,7 @@ impl Assembly {
             settable,
             members: BoxedSlice::from_slice(alloc, members)?,
             content: vec![in alloc; 0; total(members)]?.into_boxed_slice(),
+            changes: 0,
         })
     }
 
@@ -140,6 +146,20 @@ impl Assembly {
         ensures { result.now ≡ self.now.content }
     {
         self.content.as_slice()
+    }
+
+    /// How often a peer wrote the data, modulo 2^32.
+    pub(crate) fn changes(&self) -> u32
+        ensures { result ≡ self.now.changes }
+    {
+        self.changes
+    }
+
+    /// Counts that a peer wrote the data.
+    pub(crate) fn count_change(&mut self)
+        ensures { self.new ≡ record self.old { changes = one_more self.old.changes } }
+    {
+        self.changes = self.changes.wrapping_add(1);
     }
 
     /// Replaces the bytes from `offset` on.

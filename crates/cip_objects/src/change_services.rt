@@ -50,6 +50,7 @@ impl Objects {
         match settable {
             Settable::Data { place, .. } => {
                 self.write_content(place, 0, data);
+                self.count_change(place);
                 Ok(())
             }
             Settable::Limit => self.change_limit(data),
@@ -82,6 +83,7 @@ impl Objects {
             .ok_or(Refusal::AttributeNotSettable)?;
         exactly(member.span.size, data)?;
         self.write_content(member.place, member.span.offset, data);
+        self.count_change(member.place);
         Ok(())
     }
 

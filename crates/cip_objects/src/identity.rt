@@ -43,6 +43,20 @@ impl Model for Identity {
 }
 
 impl Identity {
+    /// Sets the status.
+    pub(crate) fn set_status(&mut self, status: u16)
+        ensures { self.new ≡ record self.old { status = status } }
+    {
+        self.status = status;
+    }
+
+    /// Sets the state.
+    pub(crate) fn set_state(&mut self, state: u8)
+        ensures { self.new ≡ record self.old { state = state } }
+    {
+        self.state = state;
+    }
+
     /// The value of an attribute of the instance.
     pub(crate) fn attribute(&self, attribute: u16) -> Option<Value<'_>>
         ensures value { option_map value_bytes result ≡ attribute_in attribute (identity_attributes self.now) }

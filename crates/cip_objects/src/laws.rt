@@ -8,6 +8,7 @@ ghost use Rattle.cip_objects.specs.Router.{RepliesInForm};
 ghost use Rattle.cip_objects.specs.Contents.{Contents};
 ghost use Rattle.cip_objects.specs.Execution.{exec};
 ghost use Rattle.cip_objects.specs.Run.{counter_law};
+ghost use Rattle.cip_objects.specs.ChangesRun.{changes_law};
 
 /// A reply that is too large goes with the map as it was.
 pub fn too_large_changes_nothing()
@@ -68,6 +69,11 @@ pub fn data_stay_whole()
 /// Over every run, what is neither settable nor the counter's value or additions stays as it was.
 pub fn unsettable_stays()
     ensures { unsettable_law }
+{}
+
+/// Over every run, the changes of an assembly count the requests that wrote its data, modulo 2^32, and nothing else.
+pub fn changes_count_writes()
+    ensures { changes_law }
 {}
 
 /// Over every run, the counter's value is the sum of the accepted additions since it was last cleared, never over

@@ -1,15 +1,17 @@
 //! The objects: what a caller sees as one map, held as typed structs.
 ghost use Rattle.std.specs.Prelude.{◌≡◌, ◌≤◌, ◌+◌, length, option_map, is_some, sum, map, Some, IfSome};
-ghost use Rattle.std.specs.Prelude.{IfOk, IfErr, MatchOption};
+ghost use Rattle.std.specs.Prelude.{IfOk, IfErr, MatchOption, unwrap_or, nat_le};
 ghost use Rattle.std.specs.Box.{boxed_slice_items};
 ghost use Rattle.std.specs.List.{All};
 ghost use Rattle.cip_objects.specs.Configuration.{fault_of, contents_of_config, block_of};
 ghost use Rattle.byteorder.specs.Endian.{little_bytes};
-ghost use Rattle.cip_objects.specs.Contents.{value_at, bytes_at, udint_at, with_value};
+ghost use Rattle.cip_objects.specs.Contents.{value_at, bytes_at, udint_at, with_value, counted};
+ghost use Rattle.cip_objects.specs.Changes.{changes_of};
 ghost use Rattle.cip_objects.specs.ChangeServices.{with_bytes_at};
 ghost use Rattle.cip_objects.specs.Destination.{LeadTo, HasNoValue, IsThere, IsPlace, CanBeSet};
 ghost use Rattle.cip_objects.specs.Destination.{services_at, class_at, instance_at, number_at, value_to, data_at};
-ghost use Rattle.cip_objects.specs.Destination.{size_to_set};
+ghost use Rattle.cip_objects.specs.Destination.{size_to_set, StandsAt};
+ghost use Rattle.cip_objects.specs.DeviceWrites.{device_write, with_device_status, with_device_state};
 ghost use Rattle.cip_objects.specs.Members.{AreWhole};
 ghost use Rattle.cip_objects.specs.Run.{IsCounter};
 ghost use Rattle.cip_objects.specs.Entries.{shape_of};
@@ -196,6 +198,61 @@ impl Objects {
         }
     }
 
+    /// Writes bytes into the data of an assembly from `offset` on, whether peers can set it or not, and answers whether
+    /// it did: `false` where there is no such assembly or the bytes go past the end of its data, and then nothing
+    /// changes. It is how the device itself writes what its peers read, and no change
+    /// is counted. Takes no memory.
+    pub fn write_data(&mut self, instance: u32, offset: usize, bytes: &[u8]) -> bool
+        ensures written { self.new ≡ unwrap_or (device_write self.old instance offset bytes.now) self.old }
+        ensures told { result ≡ is_some (device_write self.old instance offset bytes.now) }
+    {
+        let Some(place) = self.place(instance) else {
+            return false;
+        };
+        if !ends_within(offset, bytes.len(), self.assembly(place).size()) {
+            return false;
+        }
+        self.write_content(place, offset, bytes);
+        true
+    }
+
+    /// The device's status is this one from now on: attribute 5 of the Identity object (Volume 1, Identity object), a
+    /// WORD. Takes no memory.
+    pub fn set_device_status(&mut self, status: u16)
+        ensures { self.new ≡ with_device_status self.old status }
+    {
+        self.identity.set_status(status);
+    }
+
+    /// The device's state is this one from now on: attribute 8 of the Identity object (Volume 1, Identity object), a
+    /// USINT. Takes no memory.
+    pub fn set_device_state(&mut self, state: u8)
+        ensures { self.new ≡ with_device_state self.old state }
+    {
+        self.identity.set_state(state);
+    }
+
+    /// How often peers have written data of this assembly, modulo 2^32: each Set_Attribute_Single of its data and each
+    /// Set_Member that was executed counts once. A request that was refused, a repeat on a class 3 connection and
+    /// `write_data` count nothing. `None` where there is no such assembly. Takes no memory.
+    ///
+    /// So a device sees that something came without comparing bytes.
+    pub fn changes(&self, instance: u32) -> Option<u32>
+        ensures changes { result ≡ changes_of instance self.now.changes }
+        ensures there { is_some result ≡ is_some (shape_at instance self.now.shapes) }
+    {
+        let place = position(&self.assemblies, instance)?;
+        Some(self.assemblies[place].changes())
+    }
+
+    /// The place of the assembly of this instance number, if there is one.
+    fn place(&self, instance: u32) -> Option<usize>
+        ensures { MatchOption result (shape_at instance self.now.shapes ≡ None)
+            (StandsAt self.now.shapes instance) }
+    {
+        position(&self.assemblies, instance)
+    }
+
     /// The assembly at this place.
     #[inline(always)]
     pub(crate) fn assembly(&self, place: usize) -> &Assembly
@@ -252,6 +309,14 @@ impl Objects {
         self.assemblies[place].write(offset, bytes);
     }
 
+    /// Counts that a peer wrote data of the assembly at this place.
+    pub(crate) fn count_change(&mut self, place: usize)
+        requires { IsPlace self.old.shapes place }
+        ensures { self.new ≡ counted self.old ASSEMBLY (number_at self.old.shapes place) }
+    {
+        self.assemblies[place].count_change();
+    }
+
     /// Sets the counter's value.
     pub(crate) fn set_value(&mut self, value: u32)
         ensures { self.new ≡ with_value self.old COUNTER 1 1 (little_bytes 4 value) }
@@ -272,6 +337,13 @@ impl Objects {
     {
         self.counter.additions = additions;
     }
+}
+
+/// Whether so many bytes from an offset on end within a size.
+fn ends_within(offset: usize, count: usize, size: usize) -> bool
+    ensures { result ≡ nat_le (offset + count) size }
+{
+    offset <= size && count <= size - offset
 }
 
 /// A product name.

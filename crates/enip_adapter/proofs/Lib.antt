@@ -17,3 +17,4 @@ pub mod WaitLemmas
 pub mod ServeLemmas
 pub mod DeedLemmas
 pub mod DiscoveryLemmas
+pub mod EndingLemmas

@@ -19,3 +19,5 @@ pub mod Destinations
 pub mod Buffers
 pub mod Serving
 pub mod Deeds
+pub mod Device
+pub mod Endings

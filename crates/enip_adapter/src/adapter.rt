@@ -1,21 +1,28 @@
 //! The adapter: its peers, and the calls that change it.
 
-ghost use Rattle.std.specs.Prelude.{◌≡◌, ◌<◌, ◌≤◌, ◌-◌, length, false};
-ghost use Rattle.std.specs.Prelude.{IfOk, IfSome, is_some, is_none};
+ghost use Rattle.std.specs.Prelude.{◌≡◌, ◌<◌, ◌≤◌, ◌-◌, length, slice_index_or, false};
+ghost use Rattle.std.specs.Prelude.{IfOk, IfSome, is_some, is_none, unwrap_or};
 ghost use Rattle.std.specs.Borrow.{sem};
 ghost use Rattle.std.specs.Io.BufRead.{Rests};
 ghost use Rattle.std.specs.Option.{option_map};
-ghost use Rattle.cip_manager.specs.Connection.{earliest_deadline};
+ghost use Rattle.std.specs.List.{list_any};
+ghost use Rattle.cip_manager.specs.declared.connection.Connection.{Connection};
+ghost use Rattle.cip_manager.specs.Connection.{earliest_deadline, has_id};
+ghost use Rattle.cip_manager.specs.Watching.{watched};
+ghost use Rattle.enip_adapter.specs.Turn.{session_of};
+ghost use Rattle.cip_objects.specs.Changes.{changes_of};
+ghost use Rattle.cip_objects.specs.DeviceWrites.{device_write, with_device_status, with_device_state};
 ghost use Rattle.enip_adapter.specs.Adapter.{full_number};
+ghost use Rattle.enip_adapter.specs.Device.{with_objects};
 ghost use Rattle.enip_adapter.specs.Discovery.{discovered};
 
 use crate::commands::DiscoveryRoom;
-use crate::peer::Peer;
+use crate::peer::{Peer, Session};
 use crate::places::Places;
 use crate::reply::{AnswerFrame, LONGEST_ANSWER, Reaction, Reply};
 use crate::shared::{Listen, Shared};
 use crate::silence::Silence;
-use cip_manager::Manager;
+use cip_manager::{Manager, Steps, Watched};
 use cip_objects::{Objects, ReplyBuf};
 use std::alloc::{AllocError, Global};
 use std::marker::Model;
@@ -240,6 +247,79 @@ impl Adapter {
         ensures { result.now ≡ self.now.state.shared.objects }
     {
         &self.shared.objects
+    }
+
+    /// The device writes bytes into the data of an assembly from `offset` on, whether peers can set it or not, and
+    /// learns whether that was done: `false` where there is no such assembly or the bytes go past the end of its data,
+    /// and then nothing changes. No change is counted, and nothing else of the adapter changes.
+    pub fn write_data(&mut self, instance: u32, offset: usize, bytes: &[u8]) -> bool
+        ensures written { self.new ≡ with_objects self.old (unwrap_or
+            (device_write self.old.state.shared.objects instance offset bytes.now) self.old.state.shared.objects) }
+        ensures told { result ≡ is_some (device_write self.old.state.shared.objects instance offset bytes.now) }
+    {
+        self.shared.objects.write_data(instance, offset, bytes)
+    }
+
+    /// The device's status is this one from now on, a WORD: attribute 5 of the Identity object, which ListIdentity shows
+    /// too. Nothing else changes.
+    pub fn set_device_status(&mut self, status: u16)
+        ensures { self.new ≡ with_objects self.old (with_device_status self.old.state.shared.objects status) }
+    {
+        self.shared.objects.set_device_status(status);
+    }
+
+    /// The device's state is this one from now on, a USINT: attribute 8 of the Identity object, which ListIdentity shows
+    /// too. Nothing else changes.
+    pub fn set_device_state(&mut self, state: u8)
+        ensures { self.new ≡ with_objects self.old (with_device_state self.old.state.shared.objects state) }
+    {
+        self.shared.objects.set_device_state(state);
+    }
+
+    /// How often peers have written data of this assembly, modulo 2^32: `None` where there is no such assembly. What
+    /// counts is said at `Objects::changes`.
+    pub fn changes(&self, instance: u32) -> Option<u32>
+        ensures { result ≡ changes_of instance self.now.state.shared.objects.changes }
+    {
+        self.shared.objects.changes(instance)
+    }
+
+    /// How many connections are open.
+    pub fn connections(&self) -> usize
+        ensures count { result ≡ length self.now.state.shared.manager.connections }
+        ensures most { result ≤ 64 }
+    {
+        self.shared.manager.len()
+    }
+
+    /// What a look at the connection at a place tells. Places count from 0, in the order of opening.
+    pub fn watched(&self, place: usize) -> Watched
+        requires { place < length self.now.state.shared.manager.connections }
+        ensures { (d : Connection) →
+            result ≡ watched (slice_index_or self.now.state.shared.manager.connections place d) }
+    {
+        self.shared.manager.watched(place)
+    }
+
+    /// Whether a connection with an O->T ID is open.
+    pub fn has_connection(&self, id: u32) -> bool
+        ensures { result ≡ list_any (has_id id) self.now.state.shared.manager.connections }
+    {
+        self.shared.manager.find(id, &mut Steps::default())
+    }
+
+    /// The greatest moment so far, in microseconds.
+    pub fn moment(&self) -> u64
+        ensures { result ≡ self.now.state.shared.moment }
+    {
+        self.shared.moment
+    }
+
+    /// What a peer is to the encapsulation, by its session handle.
+    pub(crate) fn session(&self, handle: u32) -> Option<Session>
+        ensures { result ≡ session_of self.now.state handle }
+    {
+        self.places.session(handle)
     }
 
     /// Whether a peer is held and not closed.

@@ -11,6 +11,7 @@
 
 mod adapter;
 mod commands;
+mod endings;
 pub mod laws;
 mod peer;
 mod places;
@@ -21,6 +22,7 @@ mod silence;
 
 pub use adapter::{Adapter, Fed, Full, Limits};
 pub use commands::DiscoveryRoom;
+pub use endings::{Ended, Endings, Why};
 pub use peer::Peer;
 pub use reply::LONGEST_ANSWER;
 pub use serving::{LONGEST_READ, ServeFault, Served, serve};

@@ -91,6 +91,14 @@ impl Places {
         true
     }
 
+    /// The session of the peer with this handle, `None` where it holds no place.
+    pub(crate) fn session(&self, handle: u32) -> Option<Session>
+        ensures { result ≡ option_map session_in (first_with handle_of handle self.now.taken) }
+    {
+        let index = index_of(&self.taken, handle)?;
+        Some(self.taken[index].session)
+    }
+
     /// Whether the peer with this handle holds a place and is not closed.
     pub(crate) fn is_open(&self, handle: u32) -> bool
         ensures { result ≡ is_open (option_map session_in (first_with handle_of handle self.now.taken)) }

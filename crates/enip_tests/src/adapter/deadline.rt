@@ -6,7 +6,7 @@ use std::test::Fail;
 use test_stands::adapter::{ADD, OPEN, REGISTER, adapter_with_peer, demo_with_connection};
 
 /// A Forward_Close of the connection that `OPEN` opens.
-const CLOSE: &[u8] = b"\x6f\0\x26\0\x01\0\0\0\0\0\0\0\x01\x02\x03\x04\x05\x06\x07\x08\0\0\0\0\
+pub(super) const CLOSE: &[u8] = b"\x6f\0\x26\0\x01\0\0\0\0\0\0\0\x01\x02\x03\x04\x05\x06\x07\x08\0\0\0\0\
     \0\0\0\0\0\0\x02\0\0\0\0\0\xb2\0\x16\0\
     \x4e\x02\x20\x06\x24\x01\x0a\x0e\x01\0\x42\0\x78\x56\x34\x12\x02\0\x20\x02\x24\x01";
 
@@ -17,7 +17,7 @@ const SESSION_AT: usize = 4;
 const SERIAL_AT: usize = 56;
 
 /// An opening by another session, of another connection.
-fn opening(alloc: Global, session: u8, serial: u8) -> Result<Vec<u8>, Fail> {
+pub(super) fn opening(alloc: Global, session: u8, serial: u8) -> Result<Vec<u8>, Fail> {
     let mut frame = Vec::from_slice(alloc, OPEN)?;
     frame[SESSION_AT] = session;
     frame[SERIAL_AT] = serial;

@@ -1,0 +1,38 @@
+-- What the device's own write does, by the place of the assembly.
+use Rattle.std.proofs.Common.{◌≡◌, ℕ, ◌+◌, Bool, true, false, cond, nat_le, List, length, Option, Some, None, refl, sym, ap, ◌∙◌, arith, subst}
+use Rattle.cip_bytes.specs.declared.protocol.TheConstants.{ASSEMBLY}
+use Rattle.cip_objects.specs.ChangeServices.{with_bytes_at}
+use Rattle.cip_objects.specs.Contents.{Contents, bytes_at, with_value}
+use Rattle.cip_objects.specs.Destination.{number_at, data_at, StandsAt}
+use Rattle.cip_objects.specs.DeviceWrites.{with_data, with_data_of, device_write}
+use Rattle.cip_objects.specs.Tables.{Shape, shape_at}
+
+-- nothing where no assembly has the number
+pub write_nowhere : (m : Contents) (i offset : ℕ) (bytes : List ℕ) → shape_at i m.shapes ≡ None → device_write m i offset bytes ≡ None
+unfolding device_write
+write_nowhere m i offset bytes e = ap (with_data_of m i offset bytes) e
+
+-- the assembly that stands at a place
+write_there : (m : Contents) (i offset place : ℕ) (bytes : List ℕ) (s : Shape) → StandsAt m.shapes i place → shape_at (number_at m.shapes place) m.shapes ≡ Some s → device_write m i offset bytes ≡ with_data m (number_at m.shapes place) offset bytes
+unfolding device_write
+write_there m i offset place bytes s at e =
+    ap (λ n. with_data_of m n offset bytes (shape_at n m.shapes)) at.number
+    ∙ ap (with_data_of m (number_at m.shapes place) offset bytes) e
+
+pub write_past : (m : Contents) (i offset place : ℕ) (bytes : List ℕ) (s : Shape) → StandsAt m.shapes i place → shape_at (number_at m.shapes place) m.shapes ≡ Some s → nat_le (offset + length bytes) (length (data_at m place)) ≡ false → device_write m i offset bytes ≡ None
+write_past m i offset place bytes s at e h =
+    let n = number_at m.shapes place in
+    write_there m i offset place bytes s at e
+    ∙ ap (λ t. cond t (Some (with_value m ASSEMBLY n 3 (with_bytes_at (bytes_at m ASSEMBLY n 3) offset bytes))) None)
+    h
+
+pub write_within : (m : Contents) (i offset place : ℕ) (bytes : List ℕ) (s : Shape) → StandsAt m.shapes i place → shape_at (number_at m.shapes place) m.shapes ≡ Some s → nat_le (offset + length bytes) (length (data_at m place)) ≡ true → device_write m i offset bytes ≡ Some (with_value m ASSEMBLY (number_at m.shapes place) 3 (with_bytes_at (data_at m place) offset bytes))
+write_within m i offset place bytes s at e h =
+    let n = number_at m.shapes place in
+    write_there m i offset place bytes s at e
+    ∙ ap (λ t. cond t (Some (with_value m ASSEMBLY n 3 (with_bytes_at (bytes_at m ASSEMBLY n 3) offset bytes))) None)
+    h
+
+-- how long the data are is what the assembly tells
+pub inside : (m : Contents) (place end : ℕ) (content : List ℕ) (size : ℕ) (t : Bool) → content ≡ data_at m place → size ≡ length content → nat_le end size ≡ t → nat_le end (length (data_at m place)) ≡ t
+inside m place end content size t e f g = ap (nat_le end) (ap length (sym e) ∙ sym f) ∙ g
