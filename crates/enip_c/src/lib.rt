@@ -7,7 +7,9 @@
 #![tactic(auto)]
 
 mod adapter;
+mod client;
 mod kept_adapter;
+mod kept_client;
 mod loose;
 mod room;
 mod status;
