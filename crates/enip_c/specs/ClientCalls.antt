@@ -7,7 +7,7 @@ use Rattle.enip_client.specs.Calls.{Lent, registers, opens, asks, submits, close
 use Rattle.enip_client.specs.Calls.{bytes_lent, after_lending, after_giving_up}
 use Rattle.enip_client.specs.Client.{ClientState, Fed, fed, new_client, with_state}
 use Rattle.enip_client.specs.Hears.{News}
-use Rattle.enip_client.specs.Hears.News as news
+use Rattle.enip_client.specs.Hears.News.{Nothing, Registered, Opened, Replied, Accepted, Closed, Refused as RefusedNews}
 use Rattle.enip_client.specs.declared.fault.ClientFault.{ClientFault}
 use Rattle.enip_client.specs.declared.fault.ClientFault.TheVariants as faults
 use Rattle.enip_client.specs.declared.fault.SubmitFault.{SubmitFault}
@@ -140,13 +140,13 @@ reply_told taken kind reply room = record {
 }
 
 abbrev pub news_told : ℕ → News → List ℕ → HeardTold
-news_told taken news.Nothing room = plainly taken 0 0 0 room
-news_told taken news.Registered room = plainly taken 1 0 0 room
-news_told taken news.Opened room = plainly taken 2 0 0 room
-news_told taken (news.Replied bytes) room = reply_told taken 3 bytes room
-news_told taken (news.Accepted bytes) room = reply_told taken 4 bytes room
-news_told taken (news.Refused general extended) room = plainly taken 5 general extended room
-news_told taken news.Closed room = plainly taken 6 0 0 room
+news_told taken Nothing room = plainly taken 0 0 0 room
+news_told taken Registered room = plainly taken 1 0 0 room
+news_told taken Opened room = plainly taken 2 0 0 room
+news_told taken (Replied bytes) room = reply_told taken 3 bytes room
+news_told taken (Accepted bytes) room = reply_told taken 4 bytes room
+news_told taken (RefusedNews general extended) room = plainly taken 5 general extended room
+news_told taken Closed room = plainly taken 6 0 0 room
 
 -- A piece was fed to a client, and C was told of it.
 pub record IsHeardBy (old new : ClientState) (piece : List ℕ) (heard : Heard) (room_old room_new : List ℕ) : Type 0 where

@@ -13,3 +13,4 @@ mod kept_client;
 mod loose;
 mod room;
 mod status;
+mod texts;

@@ -21,7 +21,6 @@ pub mod replay;
 pub mod serve;
 mod served;
 pub mod socket;
-mod status_words;
 #[cfg(test)]
 mod tests;
 mod watch;
