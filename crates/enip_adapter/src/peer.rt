@@ -33,6 +33,14 @@ impl Model for Peer {
 }
 
 impl Peer {
+    /// The peer that was given this session handle when it began, 32 bits. A handle that was never given out is one of
+    /// a peer that is not held.
+    pub fn of(handle: u32) -> Peer
+        ensures { result ≡ handle }
+    {
+        Peer { handle }
+    }
+
     /// The session handle that it was given when it began.
     pub fn handle(&self) -> u32
         ensures { result ≡ self.now }

@@ -113,6 +113,7 @@ impl Client {
     pub fn register(&mut self) -> Result<&[u8], ClientFault>
         ensures held { IsBetween self.old }
         ensures lent { bytes_in result ≡ bytes_lent (registers self.old.state) }
+        ensures fits { IfOk result (λ frame. length frame.now ≤ LONGEST_SENT) }
         ensures* after { sem 𝓛 (Rests the_row self.entry (λ new. new
             ≡ with_state self.old (after_lending self.old.state (registers self.old.state)))) }
     {
@@ -128,6 +129,7 @@ impl Client {
     /// A lasting fault, else `State`. Nothing changed.
     pub fn open(&mut self) -> Result<&[u8], ClientFault>
         ensures lent { bytes_in result ≡ bytes_lent (opens self.old.state) }
+        ensures fits { IfOk result (λ frame. length frame.now ≤ LONGEST_SENT) }
         ensures* after { sem 𝓛 (Rests the_row self.entry (λ new. new
             ≡ with_state self.old (after_lending self.old.state (opens self.old.state)))) }
     {
@@ -143,6 +145,7 @@ impl Client {
     /// changed.
     pub fn unconnected(&mut self, request: &[u8]) -> Result<&[u8], ClientFault>
         ensures lent { bytes_in result ≡ bytes_lent (asks self.old.state request.now) }
+        ensures fits { IfOk result (λ frame. length frame.now ≤ LONGEST_SENT) }
         ensures* after { sem 𝓛 (Rests the_row self.entry (λ new. new
             ≡ with_state self.old (after_lending self.old.state (asks self.old.state request.now)))) }
     {
@@ -188,6 +191,7 @@ impl Client {
     /// A lasting fault, else `State`. Nothing changed.
     pub fn close(&mut self) -> Result<&[u8], ClientFault>
         ensures lent { bytes_in result ≡ bytes_lent (closes self.old.state) }
+        ensures fits { IfOk result (λ frame. length frame.now ≤ LONGEST_SENT) }
         ensures* after { sem 𝓛 (Rests the_row self.entry (λ new. new
             ≡ with_state self.old (after_lending self.old.state (closes self.old.state)))) }
     {
@@ -203,6 +207,7 @@ impl Client {
     /// A lasting fault, else `State`. Nothing changed.
     pub fn unregister(&mut self) -> Result<&[u8], ClientFault>
         ensures lent { bytes_in result ≡ bytes_lent (unregisters self.old.state) }
+        ensures fits { IfOk result (λ frame. length frame.now ≤ LONGEST_SENT) }
         ensures* after { sem 𝓛 (Rests the_row self.entry (λ new. new
             ≡ with_state self.old (after_lending self.old.state (unregisters self.old.state)))) }
     {

@@ -22,7 +22,6 @@ mod retried;
 pub mod serve;
 mod served;
 pub mod socket;
-mod status_words;
 #[cfg(test)]
 mod tests;
 mod watch;

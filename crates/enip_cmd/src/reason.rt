@@ -1,8 +1,8 @@
 //! Why a command ends early, in words for who runs it. They stand in front of the line that goes with the exit status.
 
 use crate::fault::Fault;
-use crate::status_words::StatusWords;
 use cip_values::{ValueFault, ValueType};
+use cip_words::StatusWords;
 use enip_config::Explanation;
 use enip_text::LineFault;
 use std::fmt;

@@ -1,8 +1,8 @@
 //! What a frame asks and what answers it, in the words of a log.
 
-use crate::status_words::StatusWords;
 use cip_bytes::protocol::{Command, EncapsulationStatus, ManagerService};
 use cip_message::{Path, ReplyView, RequestView, read_path};
+use cip_words::StatusWords;
 use enip_wire::{FrameView, Header, rr_body, unit_body};
 use std::fmt;
 

@@ -8,6 +8,7 @@ returns-in_err-register c = (
   record {
     held = between_of c.args.self.now c.self.inside.state c.self.inside.reader c.self.view_is c.self.invariant;
     lent = search rules;
+    fits = search rules;
     after = tt;
   },
 )
@@ -18,6 +19,7 @@ returns c = (
   record {
     held = between_of c.args.self.now c.self.inside.state c.self.inside.reader c.self.view_is c.self.invariant;
     lent = search rules;
+    fits = search rules;
     after = tt;
   },
 )

@@ -1,4 +1,5 @@
 //! The words of the status with which a device refuses a request.
+#![tactic(auto)]
 
 use cip_bytes::protocol::{ExtendedStatus, GeneralStatus};
 use std::fmt;
@@ -40,9 +41,11 @@ static EXTENDED: [ExtendedStatus; 12] = [
 
 /// A general status and its first additional word, or 0, in the standard's words. (Volume 1, general status codes.)
 #[derive(Clone, Copy, Debug)]
-pub(crate) struct StatusWords {
-    pub(crate) status: u8,
-    pub(crate) extended: u16,
+pub struct StatusWords {
+    /// The general status.
+    pub status: u8,
+    /// The first additional word, or 0.
+    pub extended: u16,
 }
 
 impl fmt::Display for StatusWords {

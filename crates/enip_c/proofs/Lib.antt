@@ -1,0 +1,3 @@
+pub mod LooseValues
+pub mod AdapterValues
+pub mod ClientValues

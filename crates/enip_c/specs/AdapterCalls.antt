@@ -1,0 +1,104 @@
+-- What C is told of a call of an adapter.
+use Rattle.std.specs.Prelude.{ℕ, List, [], ◌++◌, ◌≡◌, ◌-◌, length, Bool, true, false, Option, Some, None, ⊤}
+use Rattle.std.specs.Option.{IsSomeAnd}
+use Rattle.cip_manager.specs.Connection.{earliest_deadline}
+use Rattle.cip_objects.specs.Contents.{value_at}
+use Rattle.enip_adapter.specs.declared.adapter.Full.{Full}
+use Rattle.enip_adapter.specs.declared.adapter.Full.TheVariants.{Places, Handles}
+use Rattle.enip_adapter.specs.declared.silence.Silence.{Silence}
+use Rattle.enip_adapter.specs.declared.silence.Silence.TheVariants as silence
+use Rattle.enip_adapter.specs.Calls.{AdapterState, Call, call_meaning, call_answer, after_call}
+use Rattle.enip_adapter.specs.Calls.Call.{Begins_peer, Feeds}
+use Rattle.enip_adapter.specs.Turn.{Said, Answer}
+use Rattle.enip_adapter.specs.Turn.Said.{Silent, Sends, Begins, Refuses}
+use Rattle.enip_config.specs.declared.fault.Refusal.{Refusal}
+use Rattle.enip_config.specs.Configured.{IsAdapterOf}
+use Rattle.enip_config.specs.Refusals.{refusal_number}
+use Rattle.enip_config.specs.Told.{IsRefused}
+use Rattle.enip_c.specs.declared.adapter.Fed.{Fed}
+use Rattle.enip_c.specs.declared.status.Status.{Status}
+use Rattle.enip_c.specs.declared.status.Status.TheVariants as status
+use Rattle.enip_c.specs.Room.{status_number, in_room}
+
+-- Why there is no answer, as C is told it; 0 where there is one.
+abbrev pub silence_number : Silence → ℕ
+silence_number silence.NoFrame = 1
+silence_number silence.Options = 2
+silence_number silence.Status = 3
+silence_number silence.Nop = 4
+silence_number silence.AnotherSession = 5
+silence_number (silence.NotAPacket fault) = 6
+silence_number silence.NotTaken = 7
+silence_number silence.Unregistered = 8
+silence_number silence.NotServed = 9
+
+abbrev pub silence_told : Said → ℕ
+silence_told (Silent why) = silence_number why
+silence_told other = 0
+
+-- The bytes of an answer; none where there is no answer.
+abbrev pub answer_bytes : Said → List ℕ
+answer_bytes (Sends bytes) = bytes
+answer_bytes other = []
+
+abbrev pub bool_number : Bool → ℕ
+bool_number true = 1
+bool_number false = 0
+
+-- What C is told of a piece: how many bytes were taken, how many of its room are the answer, why there is none, and
+-- whether the peer is closed.
+abbrev pub fed_told : AdapterState → Call → Fed
+fed_told a call = record {
+  taken = (call_meaning a call).taken;
+  answer = length (answer_bytes (call_answer a call).said);
+  silence = silence_told (call_answer a call).said;
+  close = bool_number (call_answer a call).close;
+}
+
+-- A piece was fed to the adapter that stands there, its answer is in front of the room, and C was told of it.
+pub record IsFed (old new : AdapterState) (call : Call) (room_old room_new : List ℕ) (fed : Fed) : Type 0 where
+  pub state : new ≡ after_call old call
+  pub answer : room_new ≡ in_room (answer_bytes (call_answer old call).said) room_old
+  pub told : fed ≡ fed_told old call
+
+-- The same of what C keeps.
+abbrev pub IsFedKept : Option AdapterState → Option AdapterState → Call → List ℕ → List ℕ → Fed → Type 0
+IsFedKept (Some old) (Some new) call room_old room_new fed = IsFed old new call room_old room_new fed
+IsFedKept old new call room_old room_new fed = ⊥
+
+-- The status of a peer that began or did not, and its handle.
+abbrev pub full_status : Full → Status
+full_status Places = status.Places
+full_status Handles = status.Handles
+
+abbrev pub IsBegun : Said → ℕ → ℕ → ℕ → Type 0
+IsBegun (Begins handle) old new result = (result ≡ status_number status.Done) × (new ≡ handle)
+IsBegun (Refuses full) old new result = (result ≡ status_number (full_status full)) × (new ≡ old)
+IsBegun other old new result = ⊥
+
+abbrev pub IsBegunKept : Option AdapterState → ℕ → ℕ → ℕ → Type 0
+IsBegunKept None old new result = ⊥
+IsBegunKept (Some a) old new result = IsBegun (call_answer a Begins_peer).said old new result
+
+-- A text is refused by the check of this number.
+abbrev pub IsRefusedBy : List ℕ → ℕ → Type 0
+IsRefusedBy text number = (refusal : Refusal) × ((number ≡ refusal_number refusal) × IsRefused text refusal)
+
+-- How many places for peers and for connections are free.
+pub record AreFree (a : AdapterState) (peers connections : ℕ) : Type 0 where
+  pub peers_free : peers ≡ a.state.places - length a.state.peers
+  pub connections_free : connections ≡ a.state.shared.manager.places - length a.state.shared.manager.connections
+
+abbrev pub AreFreeKept : Option AdapterState → ℕ → ℕ → Type 0
+AreFreeKept None peers connections = ⊥
+AreFreeKept (Some a) peers connections = AreFree a peers connections
+
+-- When the first connection ends, where one is open.
+abbrev pub deadline_kept : Option AdapterState → Option ℕ
+deadline_kept None = None
+deadline_kept (Some a) = earliest_deadline a.state.shared.manager.connections
+
+-- The bytes of an attribute that can be read.
+abbrev pub attribute_kept : Option AdapterState → ℕ → ℕ → ℕ → Option (List ℕ)
+attribute_kept None class instance attribute = None
+attribute_kept (Some a) class instance attribute = value_at a.state.shared.objects class instance attribute

@@ -1,0 +1,301 @@
+//! The calls of an adapter.
+
+ghost use Rattle.std.specs.Prelude.{◌≡◌, ◌≤◌, ◌<◌, length, None, IfOk, IfErr};
+ghost use Rattle.std.specs.Option.{option_map, IsSomeAnd};
+ghost use Rattle.enip_adapter.specs.Calls.{Call, after_call, call_answer};
+ghost use Rattle.enip_config.specs.Configured.{IsAdapterOf};
+ghost use Rattle.enip_config.specs.Told.{IsFaultOf};
+ghost use Rattle.enip_c.specs.AdapterCalls.{IsFed, IsFedKept, IsBegun, IsBegunKept, IsRefusedBy, silence_number, fed_told};
+ghost use Rattle.enip_c.specs.AdapterCalls.{bool_number, full_status, AreFreeKept, deadline_kept, attribute_kept};
+ghost use Rattle.enip_c.specs.Kept.{IsLive};
+ghost use Rattle.cip_objects.specs.Contents.{value_at};
+ghost use Rattle.enip_c.specs.Room.{status_number, told_bytes, IsToldNumber};
+
+use crate::kept_adapter::KeptAdapter;
+use crate::room::{copy_front, tell_bytes};
+use crate::status::Status;
+use enip_adapter::{Adapter, Full, LONGEST_ANSWER, Peer, Silence};
+use enip_config::{Fault, adapter_from, explain};
+use std::alloc::Global;
+
+/// What C is told of a piece that was fed.
+#[repr(C)]
+#[derive(Clone, Copy, Debug)]
+pub struct Fed {
+    /// How many bytes of the piece were taken.
+    pub taken: usize,
+    /// How many bytes of the room are the answer, 0 where there is none.
+    pub answer: usize,
+    /// Why there is no answer, 0 where there is one.
+    pub silence: u32,
+    /// 1 where the peer is closed or not held, else 0.
+    pub close: u32,
+}
+
+/// Makes the adapter of a configuration. All its memory is taken here.
+#[unsafe(no_mangle)]
+pub extern "C" fn enip_core_adapter_new(
+    alloc: Global,
+    kept: &mut KeptAdapter,
+    text: &[u8],
+    refusal: &mut u32,
+) -> u32
+    ensures made { result ≡ status_number Status.Done → IsSomeAnd kept.new.value (IsAdapterOf text.now) }
+    ensures refused { result ≡ status_number Status.Configuration → IsRefusedBy text.now refusal.new }
+    ensures unchanged { (result ≡ status_number Status.Done → ⊥) → kept.new.value ≡ kept.old.value }
+{
+    match boxed_adapter(alloc, text) {
+        Ok(adapter) => {
+            *kept = KeptAdapter::of(adapter);
+            Status::Done.number()
+        }
+        Err(Fault::Refused(why)) => {
+            *refusal = u32::from(why.number());
+            Status::Configuration.number()
+        }
+        Err(Fault::Memory) => Status::Memory.number(),
+    }
+}
+
+/// The adapter of a configuration, in a block of its own.
+fn boxed_adapter(alloc: Global, text: &[u8]) -> Result<Box<Adapter, Global>, Fault>
+    ensures made { IfOk result (λ adapter. IsAdapterOf text.now adapter.value) }
+    ensures refused { IfErr result (IsFaultOf text.now) }
+{
+    let adapter = adapter_from(alloc, text)?;
+    let boxed = Box::new(alloc, adapter)?;
+    Ok(boxed)
+}
+
+/// Frees an adapter.
+#[unsafe(no_mangle)]
+pub extern "C" fn enip_core_adapter_free(alloc: Global, kept: &mut KeptAdapter)
+    requires { IsLive kept.old.value }
+    ensures { kept.new.value ≡ None }
+{
+    drop(kept.take(alloc));
+}
+
+/// A peer begins.
+#[unsafe(no_mangle)]
+pub extern "C" fn enip_core_adapter_begin(
+    alloc: Global,
+    kept: &mut KeptAdapter,
+    peer: &mut u32,
+) -> u32
+    requires { IsLive kept.old.value }
+    ensures state { kept.new.value ≡ option_map (λ a. after_call a Call.Begins_peer) kept.old.value }
+    ensures begun { IsBegunKept kept.old.value peer.old peer.new result }
+{
+    let mut adapter = kept.take(alloc);
+    let status = begin(&mut adapter, peer);
+    *kept = KeptAdapter::of(adapter);
+    status
+}
+
+fn begin(adapter: &mut Adapter, peer: &mut u32) -> u32
+    ensures state { adapter.new ≡ after_call adapter.old Call.Begins_peer }
+    ensures begun { IsBegun (call_answer adapter.old Call.Begins_peer).said peer.old peer.new result }
+{
+    match adapter.begin() {
+        Ok(begun) => {
+            *peer = begun.handle();
+            Status::Done.number()
+        }
+        Err(full) => status_of(full).number(),
+    }
+}
+
+fn status_of(full: Full) -> Status
+    ensures { result ≡ full_status full }
+{
+    match full {
+        Full::Places => Status::Places,
+        Full::Handles => Status::Handles,
+    }
+}
+
+/// A piece of a peer's stream at a moment.
+#[unsafe(no_mangle)]
+pub extern "C" fn enip_core_adapter_feed(
+    alloc: Global,
+    kept: &mut KeptAdapter,
+    now: u64,
+    peer: u32,
+    piece: &[u8],
+    room: &mut [u8],
+    fed: &mut Fed,
+) -> u32
+    requires { IsLive kept.old.value }
+    ensures small { length room.old < LONGEST_ANSWER → result ≡ status_number Status.Room }
+    ensures kept { length room.old < LONGEST_ANSWER → kept.new.value ≡ kept.old.value }
+    ensures room { length room.old < LONGEST_ANSWER → room.new ≡ room.old }
+    ensures untold { length room.old < LONGEST_ANSWER → fed.new ≡ fed.old }
+    ensures done { LONGEST_ANSWER ≤ length room.old → result ≡ status_number Status.Done }
+    ensures fed { LONGEST_ANSWER ≤ length room.old
+        → IsFedKept kept.old.value kept.new.value (Call.Feeds now peer piece.now) room.old room.new fed.new }
+{
+    if room.len() < LONGEST_ANSWER {
+        return Status::Room.number();
+    }
+    let mut adapter = kept.take(alloc);
+    *fed = feed(&mut adapter, now, peer, piece, room);
+    *kept = KeptAdapter::of(adapter);
+    Status::Done.number()
+}
+
+fn feed(adapter: &mut Adapter, now: u64, peer: u32, piece: &[u8], room: &mut [u8]) -> Fed
+    requires { LONGEST_ANSWER ≤ length room.old }
+    ensures { IsFed adapter.old adapter.new (Call.Feeds now peer piece.now) room.old room.new result }
+{
+    let fed = adapter.feed(now, &Peer::of(peer), piece);
+    let answer = match fed.answer {
+        Some(bytes) => copy_front(bytes, room),
+        None => 0,
+    };
+    let silence = match fed.silent {
+        Some(why) => number_of(why),
+        None => 0,
+    };
+    Fed {
+        taken: fed.taken,
+        answer,
+        silence,
+        close: u32::from(fed.close),
+    }
+}
+
+fn number_of(why: Silence) -> u32
+    ensures { result ≡ silence_number why }
+{
+    match why {
+        Silence::NoFrame => 1,
+        Silence::Options => 2,
+        Silence::Status => 3,
+        Silence::Nop => 4,
+        Silence::AnotherSession => 5,
+        Silence::NotAPacket(_) => 6,
+        Silence::NotTaken => 7,
+        Silence::Unregistered => 8,
+        Silence::NotServed => 9,
+    }
+}
+
+/// A moment comes.
+#[unsafe(no_mangle)]
+pub extern "C" fn enip_core_adapter_tick(alloc: Global, kept: &mut KeptAdapter, now: u64)
+    requires { IsLive kept.old.value }
+    ensures { kept.new.value ≡ option_map (λ a. after_call a (Call.Ticks now)) kept.old.value }
+{
+    let mut adapter = kept.take(alloc);
+    adapter.tick(now);
+    *kept = KeptAdapter::of(adapter);
+}
+
+/// A peer ends.
+#[unsafe(no_mangle)]
+pub extern "C" fn enip_core_adapter_end(alloc: Global, kept: &mut KeptAdapter, peer: u32)
+    requires { IsLive kept.old.value }
+    ensures { kept.new.value ≡ option_map (λ a. after_call a (Call.Ends_peer peer)) kept.old.value }
+{
+    let mut adapter = kept.take(alloc);
+    adapter.end(Peer::of(peer));
+    *kept = KeptAdapter::of(adapter);
+}
+
+/// When the first connection ends, if no item comes on it.
+#[unsafe(no_mangle)]
+pub extern "C" fn enip_core_adapter_deadline(
+    alloc: Global,
+    kept: &mut KeptAdapter,
+    deadline: &mut u64,
+) -> u32
+    requires { IsLive kept.old.value }
+    ensures kept { kept.new.value ≡ kept.old.value }
+    ensures told { IsToldNumber (deadline_kept kept.old.value) deadline.old deadline.new result }
+{
+    let adapter = kept.take(alloc);
+    let status = match adapter.deadline() {
+        Some(moment) => {
+            *deadline = moment;
+            Status::Done.number()
+        }
+        None => Status::Absent.number(),
+    };
+    *kept = KeptAdapter::of(adapter);
+    status
+}
+
+/// The bytes of an attribute that can be read.
+#[unsafe(no_mangle)]
+pub extern "C" fn enip_core_adapter_read(
+    alloc: Global,
+    kept: &mut KeptAdapter,
+    class: u16,
+    instance: u32,
+    attribute: u16,
+    room: &mut [u8],
+    count: &mut usize,
+) -> u32
+    requires { IsLive kept.old.value }
+    ensures kept { kept.new.value ≡ kept.old.value }
+    ensures told { record { status = result; count = count.new; room = room.new }
+        ≡ told_bytes (attribute_kept kept.old.value class instance attribute) count.old room.old }
+{
+    let adapter = kept.take(alloc);
+    let status = read(&adapter, class, instance, attribute, room, count);
+    *kept = KeptAdapter::of(adapter);
+    status
+}
+
+fn read(
+    adapter: &Adapter,
+    class: u16,
+    instance: u32,
+    attribute: u16,
+    room: &mut [u8],
+    count: &mut usize,
+) -> u32
+    ensures { record { status = result; count = count.new; room = room.new }
+        ≡ told_bytes (value_at adapter.now.state.shared.objects class instance attribute) count.old room.old }
+{
+    match adapter.objects().attribute(class, instance, attribute) {
+        Some(bytes) => tell_bytes(bytes.as_slice(), room, count),
+        None => Status::Absent.number(),
+    }
+}
+
+/// How many places are free, of peers and of connections.
+#[unsafe(no_mangle)]
+pub extern "C" fn enip_core_adapter_places(
+    alloc: Global,
+    kept: &mut KeptAdapter,
+    peers: &mut u16,
+    connections: &mut u16,
+)
+    requires { IsLive kept.old.value }
+    ensures kept { kept.new.value ≡ kept.old.value }
+    ensures free { AreFreeKept kept.old.value peers.new connections.new }
+{
+    let adapter = kept.take(alloc);
+    (*peers, *connections) = adapter.free();
+    *kept = KeptAdapter::of(adapter);
+}
+
+/// What is wrong with the text of a configuration, and in which line, in words. Answers how many bytes of the room they
+/// are, 0 where nothing is wrong, or where there is no memory or no room for them.
+#[unsafe(no_mangle)]
+pub extern "C" fn enip_core_explain(alloc: Global, text: &[u8], room: &mut [u8]) -> usize
+    ensures { result ≤ length room.new }
+{
+    let Ok(Some(explanation)) = explain(alloc, text) else {
+        return 0;
+    };
+    let Ok(words) = format!(in alloc; "{explanation}") else {
+        return 0;
+    };
+    if words.len() > room.len() {
+        return 0;
+    }
+    copy_front(words.as_bytes(), room)
+}

@@ -1,0 +1,532 @@
+//! The calls of a client.
+
+ghost use Rattle.std.specs.Prelude.{◌≡◌, ◌≤◌, ◌<◌, length, Some, None, IfOk, IfErr, IfSome};
+ghost use Rattle.std.specs.Option.{option_map};
+ghost use Rattle.enip_client.specs.Calls.{bytes_in};
+ghost use Rattle.enip_client.specs.Client.{new_client, fed, news_in};
+ghost use Rattle.enip_c.specs.ClientCalls.{fault_status, refused_status, submit_status, lent_told, resent_told, wants_of};
+ghost use Rattle.enip_c.specs.ClientCalls.{register_outcome, open_outcome, ask_outcome, submit_outcome, close_outcome};
+ghost use Rattle.enip_c.specs.ClientCalls.{unregister_outcome, resend_outcome, IsDone, IsDoneKept, IsTooSmall};
+ghost use Rattle.enip_c.specs.ClientCalls.{general_in, extended_in, news_told, reply_told, IsHeardBy, IsHeardKept};
+ghost use Rattle.enip_c.specs.ClientCalls.{IsGivenUp, IsGivenUpKept};
+ghost use Rattle.enip_c.specs.Kept.{IsLive};
+ghost use Rattle.enip_c.specs.Room.{status_number};
+
+use crate::kept_client::KeptClient;
+use crate::room::copy_front;
+use crate::status::Status;
+use cip_bytes::protocol::LARGEST_SIZE;
+use cip_class3::Refused;
+use enip_client::{Client, ClientFault, LONGEST_SENT, SubmitFault, Wants};
+use std::alloc::Global;
+
+/// The smallest size that can be wanted from originator to target, in bytes.
+const SMALLEST_OUT: u16 = 4;
+
+/// The smallest size that can be wanted from target to originator, in bytes.
+const SMALLEST_BACK: u16 = 10;
+
+/// The longest frame, in bytes, which no reply is longer than. (Volume 2, encapsulation header.)
+const LONGEST_FRAME: usize = 65_535;
+
+/// What C asks of the connection that a client opens.
+#[repr(C)]
+#[derive(Clone, Copy, Debug)]
+pub struct ConnectionWants {
+    /// The originator's serial number.
+    pub originator_serial: u32,
+    /// The connection ID from target to originator.
+    pub t_to_o_id: u32,
+    /// The requested interval of both directions, in microseconds.
+    pub rpi: u32,
+    /// The originator's vendor.
+    pub originator_vendor: u16,
+    /// The originator's number of the connection.
+    pub connection_serial: u16,
+    /// The size of an item from originator to target in bytes, its count included: 4 to 4,002.
+    pub o_to_t_size: u16,
+    /// The size of an item from target to originator in bytes, its count included: 10 to 4,002.
+    pub t_to_o_size: u16,
+    /// The sequence count of the first request.
+    pub first_count: u16,
+    /// The timeout multiplier: the time-out is the RPI times 4 times 2 to it.
+    pub timeout_multiplier: u8,
+}
+
+/// What C is told of a piece that came back.
+#[repr(C)]
+#[derive(Clone, Copy, Debug)]
+pub struct Heard {
+    /// How many bytes of the piece were taken.
+    pub taken: usize,
+    /// How many bytes of the room are a reply.
+    pub reply: usize,
+    /// What was heard: 0 nothing, 1 the session is registered, 2 the connection is open, 3 the reply to an unconnected
+    /// request, 4 the reply to the request that waited on the connection, 5 an open or a close is refused, 6 the
+    /// connection is closed.
+    pub kind: u32,
+    /// The general status of a reply, or of what is refused.
+    pub general: u32,
+    /// The first additional status word, or 0.
+    pub extended: u32,
+}
+
+/// Makes a client. All its memory is taken here.
+#[unsafe(no_mangle)]
+pub extern "C" fn enip_core_client_new(
+    alloc: Global,
+    kept: &mut KeptClient,
+    wants: &ConnectionWants,
+) -> u32
+    ensures made { result ≡ status_number Status.Done → kept.new.value ≡ Some (new_client (wants_of wants.now)) }
+    ensures unchanged { (result ≡ status_number Status.Done → ⊥) → kept.new.value ≡ kept.old.value }
+{
+    if wants.o_to_t_size < SMALLEST_OUT || usize::from(wants.o_to_t_size) > LARGEST_SIZE {
+        return Status::Wants.number();
+    }
+    if wants.t_to_o_size < SMALLEST_BACK || usize::from(wants.t_to_o_size) > LARGEST_SIZE {
+        return Status::Wants.number();
+    }
+    let Ok(client) = Client::new(alloc, &wants_of(wants)) else {
+        return Status::Memory.number();
+    };
+    let Ok(boxed) = Box::new(alloc, client) else {
+        return Status::Memory.number();
+    };
+    *kept = KeptClient::of(boxed);
+    Status::Done.number()
+}
+
+fn wants_of(wants: &ConnectionWants) -> Wants
+    ensures { result ≡ wants_of wants.now }
+{
+    Wants {
+        originator_vendor: wants.originator_vendor,
+        originator_serial: wants.originator_serial,
+        connection_serial: wants.connection_serial,
+        t_to_o_id: wants.t_to_o_id,
+        rpi: wants.rpi,
+        timeout_multiplier: wants.timeout_multiplier,
+        o_to_t_size: wants.o_to_t_size,
+        t_to_o_size: wants.t_to_o_size,
+        first_count: wants.first_count,
+    }
+}
+
+/// Frees a client.
+#[unsafe(no_mangle)]
+pub extern "C" fn enip_core_client_free(alloc: Global, kept: &mut KeptClient)
+    requires { IsLive kept.old.value }
+    ensures { kept.new.value ≡ None }
+{
+    drop(kept.take(alloc));
+}
+
+fn status_of(fault: ClientFault) -> Status
+    ensures { result ≡ fault_status fault }
+{
+    match fault {
+        ClientFault::State => Status::State,
+        ClientFault::Status(_) => Status::Failed,
+        ClientFault::Refused(..) => Status::Refused,
+        ClientFault::TooLong => Status::TooLong,
+        ClientFault::Memory => Status::Memory,
+        ClientFault::Malformed => Status::Malformed,
+        ClientFault::Request => Status::Request,
+    }
+}
+
+fn status_refused(why: Refused) -> Status
+    ensures { result ≡ refused_status why }
+{
+    match why {
+        Refused::Busy => Status::Waiting,
+        Refused::TooLong => Status::LongRequest,
+        Refused::NoRequest => Status::Request,
+        Refused::GivenUp => Status::GivenUp,
+        Refused::TooManyAbandoned => Status::Abandoned,
+    }
+}
+
+fn status_not_submitted(fault: SubmitFault) -> Status
+    ensures { result ≡ submit_status fault }
+{
+    match fault {
+        SubmitFault::Client(fault) => status_of(fault),
+        SubmitFault::Refused(why) => status_refused(why),
+    }
+}
+
+/// Tells a frame that is lent, or why none is.
+fn tell_lent(lent: Result<&[u8], ClientFault>, room: &mut [u8], count: &mut usize) -> u32
+    requires { IfOk lent (λ frame. length frame.now ≤ length room.old) }
+    ensures { record { status = result; count = count.new; room = room.new }
+        ≡ lent_told fault_status (bytes_in lent) count.old room.old }
+{
+    match lent {
+        Ok(frame) => {
+            *count = copy_front(frame, room);
+            Status::Done.number()
+        }
+        Err(fault) => status_of(fault).number(),
+    }
+}
+
+/// Tells a frame that is lent, or why none is.
+fn tell_submitted(lent: Result<&[u8], SubmitFault>, room: &mut [u8], count: &mut usize) -> u32
+    requires { IfOk lent (λ frame. length frame.now ≤ length room.old) }
+    ensures { record { status = result; count = count.new; room = room.new }
+        ≡ lent_told submit_status (bytes_in lent) count.old room.old }
+{
+    match lent {
+        Ok(frame) => {
+            *count = copy_front(frame, room);
+            Status::Done.number()
+        }
+        Err(fault) => status_not_submitted(fault).number(),
+    }
+}
+
+/// Tells a frame that is lent once more, or that there is none.
+fn tell_resent(lent: Option<&[u8]>, room: &mut [u8], count: &mut usize) -> u32
+    requires { IfSome lent (λ frame. length frame.now ≤ length room.old) }
+    ensures { record { status = result; count = count.new; room = room.new }
+        ≡ resent_told (option_map (λ frame. frame.now) lent) count.old room.old }
+{
+    match lent {
+        Some(frame) => {
+            *count = copy_front(frame, room);
+            Status::Done.number()
+        }
+        None => Status::Absent.number(),
+    }
+}
+
+/// The RegisterSession to send.
+#[unsafe(no_mangle)]
+pub extern "C" fn enip_core_client_register(
+    alloc: Global,
+    kept: &mut KeptClient,
+    room: &mut [u8],
+    count: &mut usize,
+) -> u32
+    requires { IsLive kept.old.value }
+    ensures small { length room.old < LONGEST_SENT
+        → IsTooSmall kept.old.value kept.new.value result count.old count.new room.old room.new }
+    ensures done { LONGEST_SENT ≤ length room.old
+        → IsDoneKept register_outcome kept.old.value kept.new.value result count.old count.new room.old room.new }
+{
+    if room.len() < LONGEST_SENT {
+        return Status::Room.number();
+    }
+    let mut client = kept.take(alloc);
+    let status = register(&mut client, room, count);
+    *kept = KeptClient::of(client);
+    status
+}
+
+fn register(client: &mut Client, room: &mut [u8], count: &mut usize) -> u32
+    requires { LONGEST_SENT ≤ length room.old }
+    ensures { IsDone (register_outcome client.old count.old room.old) client.new result count.new room.new }
+{
+    tell_lent(client.register(), room, count)
+}
+
+/// The Forward_Open to send.
+#[unsafe(no_mangle)]
+pub extern "C" fn enip_core_client_open(
+    alloc: Global,
+    kept: &mut KeptClient,
+    room: &mut [u8],
+    count: &mut usize,
+) -> u32
+    requires { IsLive kept.old.value }
+    ensures small { length room.old < LONGEST_SENT
+        → IsTooSmall kept.old.value kept.new.value result count.old count.new room.old room.new }
+    ensures done { LONGEST_SENT ≤ length room.old
+        → IsDoneKept open_outcome kept.old.value kept.new.value result count.old count.new room.old room.new }
+{
+    if room.len() < LONGEST_SENT {
+        return Status::Room.number();
+    }
+    let mut client = kept.take(alloc);
+    let status = open(&mut client, room, count);
+    *kept = KeptClient::of(client);
+    status
+}
+
+fn open(client: &mut Client, room: &mut [u8], count: &mut usize) -> u32
+    requires { LONGEST_SENT ≤ length room.old }
+    ensures { IsDone (open_outcome client.old count.old room.old) client.new result count.new room.new }
+{
+    tell_lent(client.open(), room, count)
+}
+
+/// The frame of an unconnected request.
+#[unsafe(no_mangle)]
+pub extern "C" fn enip_core_client_ask(
+    alloc: Global,
+    kept: &mut KeptClient,
+    request: &[u8],
+    room: &mut [u8],
+    count: &mut usize,
+) -> u32
+    requires { IsLive kept.old.value }
+    ensures small { length room.old < LONGEST_SENT
+        → IsTooSmall kept.old.value kept.new.value result count.old count.new room.old room.new }
+    ensures done { LONGEST_SENT ≤ length room.old
+        → IsDoneKept (ask_outcome request.now) kept.old.value kept.new.value result count.old count.new room.old room.new }
+{
+    if room.len() < LONGEST_SENT {
+        return Status::Room.number();
+    }
+    let mut client = kept.take(alloc);
+    let status = ask(&mut client, request, room, count);
+    *kept = KeptClient::of(client);
+    status
+}
+
+fn ask(client: &mut Client, request: &[u8], room: &mut [u8], count: &mut usize) -> u32
+    requires { LONGEST_SENT ≤ length room.old }
+    ensures { IsDone (ask_outcome request.now client.old count.old room.old) client.new result count.new room.new }
+{
+    tell_lent(client.unconnected(request), room, count)
+}
+
+/// The frame of a request on the connection.
+#[unsafe(no_mangle)]
+pub extern "C" fn enip_core_client_submit(
+    alloc: Global,
+    kept: &mut KeptClient,
+    request: &[u8],
+    room: &mut [u8],
+    count: &mut usize,
+) -> u32
+    requires { IsLive kept.old.value }
+    ensures small { length room.old < LONGEST_SENT
+        → IsTooSmall kept.old.value kept.new.value result count.old count.new room.old room.new }
+    ensures done { LONGEST_SENT ≤ length room.old
+        → IsDoneKept (submit_outcome request.now) kept.old.value kept.new.value result count.old count.new room.old room.new }
+{
+    if room.len() < LONGEST_SENT {
+        return Status::Room.number();
+    }
+    let mut client = kept.take(alloc);
+    let status = submit(&mut client, request, room, count);
+    *kept = KeptClient::of(client);
+    status
+}
+
+fn submit(client: &mut Client, request: &[u8], room: &mut [u8], count: &mut usize) -> u32
+    requires { LONGEST_SENT ≤ length room.old }
+    ensures { IsDone (submit_outcome request.now client.old count.old room.old) client.new result count.new room.new }
+{
+    tell_submitted(client.submit(request), room, count)
+}
+
+/// The frame of the request that waits, once more.
+#[unsafe(no_mangle)]
+pub extern "C" fn enip_core_client_resend(
+    alloc: Global,
+    kept: &mut KeptClient,
+    room: &mut [u8],
+    count: &mut usize,
+) -> u32
+    requires { IsLive kept.old.value }
+    ensures small { length room.old < LONGEST_SENT
+        → IsTooSmall kept.old.value kept.new.value result count.old count.new room.old room.new }
+    ensures done { LONGEST_SENT ≤ length room.old
+        → IsDoneKept resend_outcome kept.old.value kept.new.value result count.old count.new room.old room.new }
+{
+    if room.len() < LONGEST_SENT {
+        return Status::Room.number();
+    }
+    let mut client = kept.take(alloc);
+    let status = resend(&mut client, room, count);
+    *kept = KeptClient::of(client);
+    status
+}
+
+fn resend(client: &mut Client, room: &mut [u8], count: &mut usize) -> u32
+    requires { LONGEST_SENT ≤ length room.old }
+    ensures { IsDone (resend_outcome client.old count.old room.old) client.new result count.new room.new }
+{
+    tell_resent(client.resend(), room, count)
+}
+
+/// The Forward_Close to send.
+#[unsafe(no_mangle)]
+pub extern "C" fn enip_core_client_close(
+    alloc: Global,
+    kept: &mut KeptClient,
+    room: &mut [u8],
+    count: &mut usize,
+) -> u32
+    requires { IsLive kept.old.value }
+    ensures small { length room.old < LONGEST_SENT
+        → IsTooSmall kept.old.value kept.new.value result count.old count.new room.old room.new }
+    ensures done { LONGEST_SENT ≤ length room.old
+        → IsDoneKept close_outcome kept.old.value kept.new.value result count.old count.new room.old room.new }
+{
+    if room.len() < LONGEST_SENT {
+        return Status::Room.number();
+    }
+    let mut client = kept.take(alloc);
+    let status = close(&mut client, room, count);
+    *kept = KeptClient::of(client);
+    status
+}
+
+fn close(client: &mut Client, room: &mut [u8], count: &mut usize) -> u32
+    requires { LONGEST_SENT ≤ length room.old }
+    ensures { IsDone (close_outcome client.old count.old room.old) client.new result count.new room.new }
+{
+    tell_lent(client.close(), room, count)
+}
+
+/// The UnRegisterSession to send.
+#[unsafe(no_mangle)]
+pub extern "C" fn enip_core_client_unregister(
+    alloc: Global,
+    kept: &mut KeptClient,
+    room: &mut [u8],
+    count: &mut usize,
+) -> u32
+    requires { IsLive kept.old.value }
+    ensures small { length room.old < LONGEST_SENT
+        → IsTooSmall kept.old.value kept.new.value result count.old count.new room.old room.new }
+    ensures done { LONGEST_SENT ≤ length room.old
+        → IsDoneKept unregister_outcome kept.old.value kept.new.value result count.old count.new room.old room.new }
+{
+    if room.len() < LONGEST_SENT {
+        return Status::Room.number();
+    }
+    let mut client = kept.take(alloc);
+    let status = unregister(&mut client, room, count);
+    *kept = KeptClient::of(client);
+    status
+}
+
+fn unregister(client: &mut Client, room: &mut [u8], count: &mut usize) -> u32
+    requires { LONGEST_SENT ≤ length room.old }
+    ensures { IsDone (unregister_outcome client.old count.old room.old) client.new result count.new room.new }
+{
+    tell_lent(client.unregister(), room, count)
+}
+
+/// Gives the request that waits on the connection up.
+#[unsafe(no_mangle)]
+pub extern "C" fn enip_core_client_give_up(alloc: Global, kept: &mut KeptClient) -> u32
+    requires { IsLive kept.old.value }
+    ensures { IsGivenUpKept kept.old.value kept.new.value result }
+{
+    let mut client = kept.take(alloc);
+    let status = give_up(&mut client);
+    *kept = KeptClient::of(client);
+    status
+}
+
+fn give_up(client: &mut Client) -> u32
+    ensures { IsGivenUp client.old client.new result }
+{
+    if client.give_up() {
+        Status::Done.number()
+    } else {
+        Status::Absent.number()
+    }
+}
+
+/// A piece of what came back.
+#[unsafe(no_mangle)]
+pub extern "C" fn enip_core_client_feed(
+    alloc: Global,
+    kept: &mut KeptClient,
+    piece: &[u8],
+    room: &mut [u8],
+    heard: &mut Heard,
+) -> u32
+    requires { IsLive kept.old.value }
+    ensures small { length room.old < LONGEST_FRAME → result ≡ status_number Status.Room }
+    ensures kept { length room.old < LONGEST_FRAME → kept.new.value ≡ kept.old.value }
+    ensures room { length room.old < LONGEST_FRAME → room.new ≡ room.old }
+    ensures untold { length room.old < LONGEST_FRAME → heard.new ≡ heard.old }
+    ensures done { LONGEST_FRAME ≤ length room.old → result ≡ status_number Status.Done }
+    ensures heard { LONGEST_FRAME ≤ length room.old
+        → IsHeardKept kept.old.value kept.new.value piece.now heard.new room.old room.new }
+{
+    if room.len() < LONGEST_FRAME {
+        return Status::Room.number();
+    }
+    let mut client = kept.take(alloc);
+    *heard = feed(&mut client, piece, room);
+    *kept = KeptClient::of(client);
+    Status::Done.number()
+}
+
+fn feed(client: &mut Client, piece: &[u8], room: &mut [u8]) -> Heard
+    ensures { IsHeardBy client.old client.new piece.now result room.old room.new }
+{
+    let hearing = client.feed(piece);
+    tell_heard(hearing.taken, hearing.heard, room)
+}
+
+fn tell_heard(taken: usize, heard: enip_client::Heard<'_>, room: &mut [u8]) -> Heard
+    ensures { record { heard = result; room = room.new } ≡ news_told taken (news_in heard) room.old }
+{
+    match heard {
+        enip_client::Heard::Nothing => plainly(taken, 0, 0, 0),
+        enip_client::Heard::Registered => plainly(taken, 1, 0, 0),
+        enip_client::Heard::Opened => plainly(taken, 2, 0, 0),
+        enip_client::Heard::Reply(bytes) => tell_reply(taken, 3, bytes, room),
+        enip_client::Heard::Accepted(bytes) => tell_reply(taken, 4, bytes, room),
+        enip_client::Heard::Refused(general, extended) => plainly(taken, 5, general, extended),
+        enip_client::Heard::Closed => plainly(taken, 6, 0, 0),
+    }
+}
+
+fn plainly(taken: usize, kind: u32, general: u8, extended: u16) -> Heard
+    ensures { result ≡ record { taken = taken; reply = 0; kind = kind; general = general; extended = extended } }
+{
+    Heard {
+        taken,
+        reply: 0,
+        kind,
+        general: u32::from(general),
+        extended: u32::from(extended),
+    }
+}
+
+fn tell_reply(taken: usize, kind: u32, reply: &[u8], room: &mut [u8]) -> Heard
+    ensures { record { heard = result; room = room.new } ≡ reply_told taken kind reply.now room.old }
+{
+    if reply.len() <= room.len() {
+        copy_front(reply, room);
+    }
+    Heard {
+        taken,
+        reply: reply.len(),
+        kind,
+        general: general_in(reply),
+        extended: extended_in(reply),
+    }
+}
+
+fn general_in(reply: &[u8]) -> u32
+    ensures { result ≡ general_in reply.now }
+{
+    if reply.len() < 4 {
+        0
+    } else {
+        u32::from(reply[2])
+    }
+}
+
+fn extended_in(reply: &[u8]) -> u32
+    ensures { result ≡ extended_in reply.now }
+{
+    if reply.len() < 6 || reply[3] == 0 {
+        0
+    } else {
+        u32::from(reply[4]) + u32::from(reply[5]) * 256
+    }
+}

@@ -1,0 +1,133 @@
+//! The texts of the numbers that C is told.
+
+ghost use Rattle.std.specs.Prelude.{◌≤◌, length};
+
+use crate::room::copy_front;
+use crate::status::Status;
+use arrayvec::ArrayString;
+use cip_bytes::protocol::GeneralStatus;
+use cip_words::StatusWords;
+use enip_adapter::Silence;
+use std::fmt::{self, Write};
+
+/// The longest text, in bytes.
+const LONGEST_TEXT: usize = 160;
+
+/// A text.
+type Words = ArrayString<LONGEST_TEXT>;
+
+/// What a number is one of.
+#[derive(Clone, Copy, Debug)]
+enum Kind {
+    Call,
+    Silence,
+    General,
+    Extended,
+}
+
+impl Kind {
+    /// The kind that C says.
+    fn of(number: u32) -> Option<Kind> {
+        Some(match number {
+            0 => Kind::Call,
+            1 => Kind::Silence,
+            2 => Kind::General,
+            3 => Kind::Extended,
+            _ => return None,
+        })
+    }
+}
+
+/// The statuses of calls, in the order of their numbers.
+static STATUSES: [Status; 19] = [
+    Status::Done,
+    Status::Misuse,
+    Status::Room,
+    Status::Memory,
+    Status::Configuration,
+    Status::Places,
+    Status::Handles,
+    Status::Absent,
+    Status::State,
+    Status::Failed,
+    Status::Refused,
+    Status::TooLong,
+    Status::Malformed,
+    Status::Request,
+    Status::Waiting,
+    Status::LongRequest,
+    Status::GivenUp,
+    Status::Abandoned,
+    Status::Wants,
+];
+
+/// The text of a number of this kind. Answers how many bytes of the room it is, 0 where there is none, or no room.
+#[unsafe(no_mangle)]
+pub extern "C" fn enip_core_status_text(kind: u32, number: u32, room: &mut [u8]) -> usize
+    ensures { result ≤ length room.new }
+{
+    let Some(kind) = Kind::of(kind) else {
+        return 0;
+    };
+    let mut words = Words::new();
+    if write_text(kind, number, &mut words).is_err() || words.as_str().len() > room.len() {
+        return 0;
+    }
+    copy_front(words.as_str().as_bytes(), room)
+}
+
+/// Writes the text of a number, if it has one.
+fn write_text(kind: Kind, number: u32, words: &mut Words) -> fmt::Result {
+    match kind {
+        Kind::Call => write_status(number, words),
+        Kind::Silence => write_silence(number, words),
+        Kind::General => write_general(number, words),
+        Kind::Extended => write_extended(number, words),
+    }
+}
+
+fn write_status(number: u32, words: &mut Words) -> fmt::Result {
+    match STATUSES.iter().find(|status| status.number() == number) {
+        Some(status) => write!(words, "{status}"),
+        None => Ok(()),
+    }
+}
+
+fn write_silence(number: u32, words: &mut Words) -> fmt::Result {
+    let why = match number {
+        1 => Silence::NoFrame,
+        2 => Silence::Options,
+        3 => Silence::Status,
+        4 => Silence::Nop,
+        5 => Silence::AnotherSession,
+        // which fault of a packet it is, is not told
+        6 => return words.write_str("the data are no packet"),
+        7 => Silence::NotTaken,
+        8 => Silence::Unregistered,
+        9 => Silence::NotServed,
+        _ => return Ok(()),
+    };
+    write!(words, "{why}")
+}
+
+fn write_general(number: u32, words: &mut Words) -> fmt::Result {
+    match u8::try_from(number) {
+        Ok(status) => write!(
+            words,
+            "{}",
+            StatusWords {
+                status,
+                extended: 0
+            }
+        ),
+        Err(_) => Ok(()),
+    }
+}
+
+fn write_extended(number: u32, words: &mut Words) -> fmt::Result {
+    let status = GeneralStatus::ConnectionFailure.number();
+    match u16::try_from(number) {
+        Ok(extended) => write!(words, "{}", StatusWords { status, extended }),
+        Err(_) => Ok(()),
+    }
+}

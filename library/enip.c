@@ -1,0 +1,245 @@
+/*
+ * The layer between C and the calls that are proved. It refuses what C may do wrong, and hands the rest on: null
+ * pointers, objects that are none, ranges that are none or lie over each other. Nothing else is decided here.
+ */
+#include "enip.h"
+
+#include <stdlib.h>
+#include <string.h>
+
+/* What the proved calls keep of an object: its pointer, null where there is none. */
+struct kept {
+    void *at;
+};
+
+enum { REFUSAL_ROOM = 511 };
+
+#define ADAPTER_MARK UINT64_C(0x656e69702d616461)
+#define CLIENT_MARK UINT64_C(0x656e69702d636c69)
+
+/* The mark stands behind what an allocator writes into a block that was freed. */
+struct enip_adapter {
+    struct kept kept;
+    uint64_t spare[2];
+    uint64_t mark;
+};
+
+struct enip_client {
+    struct kept kept;
+    uint64_t spare[2];
+    uint64_t mark;
+};
+
+uint32_t enip_core_adapter_new(struct kept *, const uint8_t *, size_t, uint32_t *);
+void enip_core_adapter_free(struct kept *);
+uint32_t enip_core_adapter_begin(struct kept *, uint32_t *);
+uint32_t enip_core_adapter_feed(struct kept *, uint64_t, uint32_t, const uint8_t *, size_t, uint8_t *, size_t,
+                                enip_fed *);
+void enip_core_adapter_tick(struct kept *, uint64_t);
+void enip_core_adapter_end(struct kept *, uint32_t);
+uint32_t enip_core_adapter_deadline(struct kept *, uint64_t *);
+uint32_t enip_core_adapter_read(struct kept *, uint16_t, uint32_t, uint16_t, uint8_t *, size_t, size_t *);
+void enip_core_adapter_places(struct kept *, uint16_t *, uint16_t *);
+size_t enip_core_explain(const uint8_t *, size_t, uint8_t *, size_t);
+size_t enip_core_status_text(uint32_t, uint32_t, uint8_t *, size_t);
+uint32_t enip_core_client_new(struct kept *, const enip_wants *);
+void enip_core_client_free(struct kept *);
+uint32_t enip_core_client_register(struct kept *, uint8_t *, size_t, size_t *);
+uint32_t enip_core_client_open(struct kept *, uint8_t *, size_t, size_t *);
+uint32_t enip_core_client_ask(struct kept *, const uint8_t *, size_t, uint8_t *, size_t, size_t *);
+uint32_t enip_core_client_submit(struct kept *, const uint8_t *, size_t, uint8_t *, size_t, size_t *);
+uint32_t enip_core_client_resend(struct kept *, uint8_t *, size_t, size_t *);
+uint32_t enip_core_client_close(struct kept *, uint8_t *, size_t, size_t *);
+uint32_t enip_core_client_unregister(struct kept *, uint8_t *, size_t, size_t *);
+uint32_t enip_core_client_give_up(struct kept *);
+uint32_t enip_core_client_feed(struct kept *, const uint8_t *, size_t, uint8_t *, size_t, enip_heard *);
+
+static int is_range(const void *bytes, size_t length) {
+    return bytes != NULL && length > 0 && length <= (size_t)PTRDIFF_MAX;
+}
+
+static int are_apart(const void *a, size_t a_size, const void *b, size_t b_size) {
+    uintptr_t from = (uintptr_t)a, other = (uintptr_t)b;
+    return from + a_size <= other || other + b_size <= from;
+}
+
+static int is_adapter(const enip_adapter *adapter) {
+    return adapter != NULL && adapter->mark == ADAPTER_MARK;
+}
+
+static int is_client(const enip_client *client) {
+    return client != NULL && client->mark == CLIENT_MARK;
+}
+
+/* A room for bytes and a number beside it, of a call that reads nothing else. */
+static int is_place(const void *room, size_t size, const size_t *count) {
+    return is_range(room, size) && count != NULL && are_apart(room, size, count, sizeof *count);
+}
+
+/* A range to read beside them. */
+static int is_call(const void *bytes, size_t length, const void *room, size_t size, const void *told, size_t told_size) {
+    return is_range(bytes, length) && is_range(room, size) && told != NULL && are_apart(bytes, length, room, size)
+        && are_apart(bytes, length, told, told_size) && are_apart(room, size, told, told_size);
+}
+
+const char *enip_version(void) {
+    return ENIP_VERSION;
+}
+
+size_t enip_status_text(int kind, uint32_t number, char *room, size_t size) {
+    uint8_t text[256];
+    size_t count, shown;
+    if (kind < 0 || !is_range(room, size))
+        return 0;
+    count = enip_core_status_text((uint32_t)kind, number, text, sizeof text);
+    shown = count < size ? count : size - 1;
+    memcpy(room, text, shown);
+    room[shown] = '\0';
+    return count;
+}
+
+int enip_adapter_new(const char *text, size_t length, enip_adapter **adapter, enip_refusal *refusal) {
+    enip_adapter *made;
+    uint32_t status, number = 0;
+    if (!is_range(text, length) || adapter == NULL)
+        return ENIP_MISUSE;
+    if ((made = malloc(sizeof *made)) == NULL)
+        return ENIP_MEMORY;
+    made->kept.at = NULL;
+    status = enip_core_adapter_new(&made->kept, (const uint8_t *)text, length, &number);
+    if (status == ENIP_CONFIGURATION && refusal != NULL) {
+        refusal->number = number;
+        refusal->text[enip_core_explain((const uint8_t *)text, length, (uint8_t *)refusal->text, REFUSAL_ROOM)] = '\0';
+    }
+    if (status != ENIP_OK) {
+        free(made);
+        return (int)status;
+    }
+    made->mark = ADAPTER_MARK;
+    *adapter = made;
+    return ENIP_OK;
+}
+
+int enip_adapter_free(enip_adapter *adapter) {
+    if (adapter == NULL)
+        return ENIP_OK;
+    if (!is_adapter(adapter))
+        return ENIP_MISUSE;
+    enip_core_adapter_free(&adapter->kept);
+    *(volatile uint64_t *)&adapter->mark = 0;
+    free(adapter);
+    return ENIP_OK;
+}
+
+int enip_adapter_begin(enip_adapter *adapter, uint32_t *peer) {
+    if (!is_adapter(adapter) || peer == NULL)
+        return ENIP_MISUSE;
+    return (int)enip_core_adapter_begin(&adapter->kept, peer);
+}
+
+int enip_adapter_feed(enip_adapter *adapter, uint64_t now, uint32_t peer, const void *bytes, size_t length, void *room,
+                      size_t size, enip_fed *fed) {
+    if (!is_adapter(adapter) || !is_call(bytes, length, room, size, fed, sizeof *fed))
+        return ENIP_MISUSE;
+    return (int)enip_core_adapter_feed(&adapter->kept, now, peer, bytes, length, room, size, fed);
+}
+
+int enip_adapter_tick(enip_adapter *adapter, uint64_t now) {
+    if (!is_adapter(adapter))
+        return ENIP_MISUSE;
+    enip_core_adapter_tick(&adapter->kept, now);
+    return ENIP_OK;
+}
+
+int enip_adapter_deadline(enip_adapter *adapter, uint64_t *deadline) {
+    if (!is_adapter(adapter) || deadline == NULL)
+        return ENIP_MISUSE;
+    return (int)enip_core_adapter_deadline(&adapter->kept, deadline);
+}
+
+int enip_adapter_end(enip_adapter *adapter, uint32_t peer) {
+    if (!is_adapter(adapter))
+        return ENIP_MISUSE;
+    enip_core_adapter_end(&adapter->kept, peer);
+    return ENIP_OK;
+}
+
+int enip_adapter_read(enip_adapter *adapter, uint16_t class_code, uint32_t instance, uint16_t attribute, void *room,
+                      size_t size, size_t *count) {
+    if (!is_adapter(adapter) || !is_place(room, size, count))
+        return ENIP_MISUSE;
+    return (int)enip_core_adapter_read(&adapter->kept, class_code, instance, attribute, room, size, count);
+}
+
+int enip_adapter_places(enip_adapter *adapter, uint16_t *peers, uint16_t *connections) {
+    if (!is_adapter(adapter) || peers == NULL || connections == NULL || peers == connections)
+        return ENIP_MISUSE;
+    enip_core_adapter_places(&adapter->kept, peers, connections);
+    return ENIP_OK;
+}
+
+int enip_client_new(const enip_wants *wants, enip_client **client) {
+    enip_client *made;
+    uint32_t status;
+    if (wants == NULL || client == NULL)
+        return ENIP_MISUSE;
+    if ((made = malloc(sizeof *made)) == NULL)
+        return ENIP_MEMORY;
+    made->kept.at = NULL;
+    status = enip_core_client_new(&made->kept, wants);
+    if (status != ENIP_OK) {
+        free(made);
+        return (int)status;
+    }
+    made->mark = CLIENT_MARK;
+    *client = made;
+    return ENIP_OK;
+}
+
+int enip_client_free(enip_client *client) {
+    if (client == NULL)
+        return ENIP_OK;
+    if (!is_client(client))
+        return ENIP_MISUSE;
+    enip_core_client_free(&client->kept);
+    *(volatile uint64_t *)&client->mark = 0;
+    free(client);
+    return ENIP_OK;
+}
+
+#define LENDS(call)                                                                                 \
+    int enip_client_##call(enip_client *client, void *room, size_t size, size_t *count) {           \
+        if (!is_client(client) || !is_place(room, size, count))                                     \
+            return ENIP_MISUSE;                                                                     \
+        return (int)enip_core_client_##call(&client->kept, room, size, count);                      \
+    }
+
+LENDS(register)
+LENDS(open)
+LENDS(resend)
+LENDS(close)
+LENDS(unregister)
+
+#define LENDS_REQUEST(call)                                                                                           \
+    int enip_client_##call(enip_client *client, const void *request, size_t length, void *room, size_t size,          \
+                           size_t *count) {                                                                           \
+        if (!is_client(client) || !is_call(request, length, room, size, count, sizeof *count))                        \
+            return ENIP_MISUSE;                                                                                       \
+        return (int)enip_core_client_##call(&client->kept, request, length, room, size, count);                       \
+    }
+
+LENDS_REQUEST(ask)
+LENDS_REQUEST(submit)
+
+int enip_client_give_up(enip_client *client) {
+    if (!is_client(client))
+        return ENIP_MISUSE;
+    return (int)enip_core_client_give_up(&client->kept);
+}
+
+int enip_client_feed(enip_client *client, const void *bytes, size_t length, void *room, size_t size,
+                     enip_heard *heard) {
+    if (!is_client(client) || !is_call(bytes, length, room, size, heard, sizeof *heard))
+        return ENIP_MISUSE;
+    return (int)enip_core_client_feed(&client->kept, bytes, length, room, size, heard);
+}
