@@ -8,8 +8,10 @@
 
 mod adapter;
 mod client;
+mod device;
 mod kept_adapter;
 mod kept_client;
+mod kept_endings;
 mod loose;
 mod room;
 mod status;

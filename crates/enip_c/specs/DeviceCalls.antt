@@ -1,0 +1,61 @@
+-- What C is told of what the device itself does with its adapter, and of the connections that ended.
+use Rattle.std.specs.Prelude.{ℕ, List, ◌≡◌, Bool, if◌then◌else◌, Option, Some, None, is_some, unwrap_or, slice_get}
+use Rattle.cip_objects.specs.Changes.{changes_of}
+use Rattle.cip_objects.specs.Contents.{Contents}
+use Rattle.cip_objects.specs.DeviceWrites.{device_write}
+use Rattle.enip_adapter.specs.Calls.{AdapterState}
+use Rattle.enip_adapter.specs.Device.{with_objects}
+use Rattle.enip_adapter.specs.Endings.{EndingsState, looked}
+use Rattle.enip_adapter.specs.declared.endings.Ended.{Ended}
+use Rattle.enip_adapter.specs.declared.endings.Why.{Why}
+use Rattle.enip_adapter.specs.declared.endings.Why.TheVariants.{TimedOut, PeerEnded, SessionEnded, Closed}
+use Rattle.enip_c.specs.declared.device.EndedConnection.{EndedConnection}
+use Rattle.enip_c.specs.declared.status.Status.{Status}
+use Rattle.enip_c.specs.declared.status.Status.TheVariants as status
+use Rattle.enip_c.specs.Room.{status_number}
+
+-- What the device leaves that writes into the data of an assembly.
+abbrev pub device_written : AdapterState → ℕ → ℕ → List ℕ → Option Contents
+device_written a instance offset bytes = device_write a.state.shared.objects instance offset bytes
+
+abbrev pub write_status : Bool → Status
+write_status written = if written then status.Done else status.Absent
+
+-- The device wrote, or there is no such place and nothing changed.
+pub record IsWritten (old new : AdapterState) (instance offset : ℕ) (bytes : List ℕ) (result : ℕ) : Type 0 where
+  pub state : new ≡ with_objects old (unwrap_or (device_written old instance offset bytes) old.state.shared.objects)
+  pub told : result ≡ status_number (write_status (is_some (device_written old instance offset bytes)))
+
+abbrev pub IsWrittenKept : Option AdapterState → Option AdapterState → ℕ → ℕ → List ℕ → ℕ → Type 0
+IsWrittenKept (Some old) (Some new) instance offset bytes result = IsWritten old new instance offset bytes result
+IsWrittenKept old new instance offset bytes result = ⊥
+
+-- How often peers have written data of an assembly.
+abbrev pub changes_kept : Option AdapterState → ℕ → Option ℕ
+changes_kept None instance = None
+changes_kept (Some a) instance = changes_of instance a.state.shared.objects.changes
+
+-- Why a connection ended, as C is told it.
+abbrev pub why_number : Why → ℕ
+why_number TimedOut = 1
+why_number PeerEnded = 2
+why_number SessionEnded = 3
+why_number Closed = 4
+
+abbrev pub ended_told : Ended → EndedConnection
+ended_told e = record { id = e.id; peer = e.session; why = why_number e.why }
+
+-- The endings after a look at the adapter.
+abbrev pub looked_kept : Option EndingsState → Option AdapterState → Option EndingsState
+looked_kept (Some e) (Some a) = Some (looked e a)
+looked_kept e a = e
+
+-- The connection at a place of those that ended, counted from 0.
+abbrev pub ended_kept : Option EndingsState → ℕ → Option Ended
+ended_kept None place = None
+ended_kept (Some e) place = slice_get e.ended place
+
+-- The status and the connection that C is told, where there is one.
+abbrev pub IsToldEnding : Option Ended → EndedConnection → EndedConnection → ℕ → Type 0
+IsToldEnding None old new result = (result ≡ status_number status.Absent) × (new ≡ old)
+IsToldEnding (Some e) old new result = (result ≡ status_number status.Done) × (new ≡ ended_told e)

@@ -1,0 +1,189 @@
+//! What the device itself does with its adapter, and which connections ended.
+
+ghost use Rattle.std.specs.Prelude.{◌≡◌, Some, None, slice_get};
+ghost use Rattle.std.specs.Option.{option_map};
+ghost use Rattle.cip_objects.specs.DeviceWrites.{with_device_status, with_device_state};
+ghost use Rattle.enip_adapter.specs.Device.{with_objects};
+ghost use Rattle.enip_adapter.specs.Endings.{nothing_seen, looked};
+ghost use Rattle.enip_c.specs.DeviceCalls.{IsWrittenKept, changes_kept, why_number, ended_told, looked_kept, ended_kept};
+ghost use Rattle.enip_c.specs.DeviceCalls.{IsToldEnding, write_status};
+ghost use Rattle.enip_c.specs.Kept.{IsLive};
+ghost use Rattle.enip_c.specs.Room.{status_number, IsToldNumber};
+
+use crate::kept_adapter::KeptAdapter;
+use crate::kept_endings::KeptEndings;
+use crate::status::Status;
+use enip_adapter::{Endings, Why};
+use std::alloc::Global;
+
+/// A connection that ended, as C is told it.
+#[repr(C)]
+#[derive(Clone, Copy, Debug)]
+pub struct EndedConnection {
+    /// Its O->T connection ID.
+    pub id: u32,
+    /// The peer that opened it.
+    pub peer: u32,
+    /// Why it ended: 1 it timed out, 2 its peer ended, 3 its session ended, 4 it was closed.
+    pub why: u32,
+}
+
+/// The device writes bytes into the data of an assembly.
+#[unsafe(no_mangle)]
+pub extern "C" fn enip_core_adapter_write(
+    alloc: Global,
+    kept: &mut KeptAdapter,
+    instance: u32,
+    offset: usize,
+    bytes: &[u8],
+) -> u32
+    requires { IsLive kept.old.value }
+    ensures { IsWrittenKept kept.old.value kept.new.value instance offset bytes.now result }
+{
+    let mut adapter = kept.take(alloc);
+    let status = status_of(adapter.write_data(instance, offset, bytes));
+    *kept = KeptAdapter::of(adapter);
+    status.number()
+}
+
+fn status_of(written: bool) -> Status
+    ensures { result ≡ write_status written }
+{
+    if written {
+        Status::Done
+    } else {
+        Status::Absent
+    }
+}
+
+/// The device's status is this one from now on.
+#[unsafe(no_mangle)]
+pub extern "C" fn enip_core_adapter_set_status(alloc: Global, kept: &mut KeptAdapter, status: u16)
+    requires { IsLive kept.old.value }
+    ensures { kept.new.value
+        ≡ option_map (λ a. with_objects a (with_device_status a.state.shared.objects status)) kept.old.value }
+{
+    let mut adapter = kept.take(alloc);
+    adapter.set_device_status(status);
+    *kept = KeptAdapter::of(adapter);
+}
+
+/// The device's state is this one from now on.
+#[unsafe(no_mangle)]
+pub extern "C" fn enip_core_adapter_set_state(alloc: Global, kept: &mut KeptAdapter, state: u8)
+    requires { IsLive kept.old.value }
+    ensures { kept.new.value
+        ≡ option_map (λ a. with_objects a (with_device_state a.state.shared.objects state)) kept.old.value }
+{
+    let mut adapter = kept.take(alloc);
+    adapter.set_device_state(state);
+    *kept = KeptAdapter::of(adapter);
+}
+
+/// How often peers have written data of an assembly.
+#[unsafe(no_mangle)]
+pub extern "C" fn enip_core_adapter_changes(
+    alloc: Global,
+    kept: &mut KeptAdapter,
+    instance: u32,
+    changes: &mut u32,
+) -> u32
+    requires { IsLive kept.old.value }
+    ensures kept { kept.new.value ≡ kept.old.value }
+    ensures told { IsToldNumber (changes_kept kept.old.value instance) changes.old changes.new result }
+{
+    let adapter = kept.take(alloc);
+    let status = match adapter.changes(instance) {
+        Some(count) => {
+            *changes = count;
+            Status::Done.number()
+        }
+        None => Status::Absent.number(),
+    };
+    *kept = KeptAdapter::of(adapter);
+    status
+}
+
+/// Makes endings: nothing was looked at.
+#[unsafe(no_mangle)]
+pub extern "C" fn enip_core_endings_new(alloc: Global, kept: &mut KeptEndings) -> u32
+    ensures made { result ≡ status_number Status.Done → kept.new.value ≡ Some nothing_seen }
+    ensures unchanged { (result ≡ status_number Status.Done → ⊥) → kept.new.value ≡ kept.old.value }
+{
+    let Ok(boxed) = Box::new(alloc, Endings::new()) else {
+        return Status::Memory.number();
+    };
+    *kept = KeptEndings::of(boxed);
+    Status::Done.number()
+}
+
+/// Frees endings.
+#[unsafe(no_mangle)]
+pub extern "C" fn enip_core_endings_free(alloc: Global, kept: &mut KeptEndings)
+    requires { IsLive kept.old.value }
+    ensures { kept.new.value ≡ None }
+{
+    drop(kept.take(alloc));
+}
+
+/// Looks at an adapter.
+#[unsafe(no_mangle)]
+pub extern "C" fn enip_core_endings_update(
+    alloc: Global,
+    kept: &mut KeptEndings,
+    of: &mut KeptAdapter,
+)
+    requires endings { IsLive kept.old.value }
+    requires adapter { IsLive of.old.value }
+    ensures endings { kept.new.value ≡ looked_kept kept.old.value of.old.value }
+    ensures adapter { of.new.value ≡ of.old.value }
+{
+    let mut endings = kept.take(alloc);
+    let adapter = of.take(alloc);
+    endings.update(&adapter);
+    *of = KeptAdapter::of(adapter);
+    *kept = KeptEndings::of(endings);
+}
+
+/// The connection at a place of those that ended between the last two looks, counted from 0.
+#[unsafe(no_mangle)]
+pub extern "C" fn enip_core_endings_at(
+    alloc: Global,
+    kept: &mut KeptEndings,
+    place: usize,
+    ended: &mut EndedConnection,
+) -> u32
+    requires { IsLive kept.old.value }
+    ensures kept { kept.new.value ≡ kept.old.value }
+    ensures told { IsToldEnding (ended_kept kept.old.value place) ended.old ended.new result }
+{
+    let endings = kept.take(alloc);
+    let status = tell(&endings, place, ended);
+    *kept = KeptEndings::of(endings);
+    status
+}
+
+fn tell(endings: &Endings, place: usize, told: &mut EndedConnection) -> u32
+    ensures { IsToldEnding (slice_get endings.now.ended place) told.old told.new result }
+{
+    let Some(ended) = endings.ended().get(place) else {
+        return Status::Absent.number();
+    };
+    *told = EndedConnection {
+        id: ended.id,
+        peer: ended.session,
+        why: number_of(ended.why),
+    };
+    Status::Done.number()
+}
+
+fn number_of(why: Why) -> u32
+    ensures { result ≡ why_number why }
+{
+    match why {
+        Why::TimedOut => 1,
+        Why::PeerEnded => 2,
+        Why::SessionEnded => 3,
+        Why::Closed => 4,
+    }
+}
