@@ -15,10 +15,17 @@ struct kept {
 enum { REFUSAL_ROOM = 511 };
 
 #define ADAPTER_MARK UINT64_C(0x656e69702d616461)
+#define ENDINGS_MARK UINT64_C(0x656e69702d656e64)
 #define CLIENT_MARK UINT64_C(0x656e69702d636c69)
 
 /* The mark stands behind what an allocator writes into a block that was freed. */
 struct enip_adapter {
+    struct kept kept;
+    uint64_t spare[2];
+    uint64_t mark;
+};
+
+struct enip_endings {
     struct kept kept;
     uint64_t spare[2];
     uint64_t mark;
@@ -40,6 +47,14 @@ void enip_core_adapter_end(struct kept *, uint32_t);
 uint32_t enip_core_adapter_deadline(struct kept *, uint64_t *);
 uint32_t enip_core_adapter_read(struct kept *, uint16_t, uint32_t, uint16_t, uint8_t *, size_t, size_t *);
 void enip_core_adapter_places(struct kept *, uint16_t *, uint16_t *);
+uint32_t enip_core_adapter_write(struct kept *, uint32_t, size_t, const uint8_t *, size_t);
+uint32_t enip_core_adapter_changes(struct kept *, uint32_t, uint32_t *);
+void enip_core_adapter_set_status(struct kept *, uint16_t);
+void enip_core_adapter_set_state(struct kept *, uint8_t);
+uint32_t enip_core_endings_new(struct kept *);
+void enip_core_endings_free(struct kept *);
+void enip_core_endings_update(struct kept *, struct kept *);
+uint32_t enip_core_endings_at(struct kept *, size_t, enip_ended *);
 size_t enip_core_explain(const uint8_t *, size_t, uint8_t *, size_t);
 size_t enip_core_status_text(uint32_t, uint32_t, uint8_t *, size_t);
 uint32_t enip_core_client_new(struct kept *, const enip_wants *);
@@ -65,6 +80,10 @@ static int are_apart(const void *a, size_t a_size, const void *b, size_t b_size)
 
 static int is_adapter(const enip_adapter *adapter) {
     return adapter != NULL && adapter->mark == ADAPTER_MARK;
+}
+
+static int is_endings(const enip_endings *endings) {
+    return endings != NULL && endings->mark == ENDINGS_MARK;
 }
 
 static int is_client(const enip_client *client) {
@@ -176,6 +195,74 @@ int enip_adapter_places(enip_adapter *adapter, uint16_t *peers, uint16_t *connec
         return ENIP_MISUSE;
     enip_core_adapter_places(&adapter->kept, peers, connections);
     return ENIP_OK;
+}
+
+int enip_adapter_write(enip_adapter *adapter, uint32_t instance, size_t offset, const void *bytes, size_t length) {
+    if (!is_adapter(adapter) || !is_range(bytes, length) || offset > (size_t)PTRDIFF_MAX)
+        return ENIP_MISUSE;
+    return (int)enip_core_adapter_write(&adapter->kept, instance, offset, bytes, length);
+}
+
+int enip_adapter_changes(enip_adapter *adapter, uint32_t instance, uint32_t *changes) {
+    if (!is_adapter(adapter) || changes == NULL)
+        return ENIP_MISUSE;
+    return (int)enip_core_adapter_changes(&adapter->kept, instance, changes);
+}
+
+int enip_adapter_set_status(enip_adapter *adapter, uint16_t status) {
+    if (!is_adapter(adapter))
+        return ENIP_MISUSE;
+    enip_core_adapter_set_status(&adapter->kept, status);
+    return ENIP_OK;
+}
+
+int enip_adapter_set_state(enip_adapter *adapter, uint8_t state) {
+    if (!is_adapter(adapter))
+        return ENIP_MISUSE;
+    enip_core_adapter_set_state(&adapter->kept, state);
+    return ENIP_OK;
+}
+
+int enip_endings_new(enip_endings **endings) {
+    enip_endings *made;
+    uint32_t status;
+    if (endings == NULL)
+        return ENIP_MISUSE;
+    if ((made = malloc(sizeof *made)) == NULL)
+        return ENIP_MEMORY;
+    made->kept.at = NULL;
+    status = enip_core_endings_new(&made->kept);
+    if (status != ENIP_OK) {
+        free(made);
+        return (int)status;
+    }
+    made->mark = ENDINGS_MARK;
+    *endings = made;
+    return ENIP_OK;
+}
+
+int enip_endings_free(enip_endings *endings) {
+    if (endings == NULL)
+        return ENIP_OK;
+    if (!is_endings(endings))
+        return ENIP_MISUSE;
+    enip_core_endings_free(&endings->kept);
+    *(volatile uint64_t *)&endings->mark = 0;
+    free(endings);
+    return ENIP_OK;
+}
+
+int enip_endings_update(enip_endings *endings, enip_adapter *adapter) {
+    if (!is_endings(endings) || !is_adapter(adapter))
+        return ENIP_MISUSE;
+    enip_core_endings_update(&endings->kept, &adapter->kept);
+    return ENIP_OK;
+}
+
+int enip_endings_at(enip_endings *endings, size_t place, enip_ended *ended) {
+    if (!is_endings(endings) || ended == NULL)
+        return ENIP_MISUSE;
+    return (int)enip_core_endings_at(&endings->kept, place, ended);
 }
 
 int enip_client_new(const enip_wants *wants, enip_client **client) {

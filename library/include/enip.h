@@ -71,10 +71,11 @@ ENIP_API const char *enip_version(void);
 
 /* Which numbers enip_status_text knows. */
 enum {
-    ENIP_OF_CALL = 0,    /* ENIP_OK to ENIP_WANTS */
-    ENIP_OF_SILENCE = 1, /* the silence of struct enip_fed, 1 to 9 */
-    ENIP_OF_GENERAL = 2, /* general statuses of a reply, 0x00 to 0xff */
-    ENIP_OF_EXTENDED = 3 /* extended statuses of the Connection Manager, 0x0000 to 0xffff */
+    ENIP_OF_CALL = 0,     /* ENIP_OK to ENIP_WANTS */
+    ENIP_OF_SILENCE = 1,  /* the silence of struct enip_fed, 1 to 9 */
+    ENIP_OF_GENERAL = 2,  /* general statuses of a reply, 0x00 to 0xff */
+    ENIP_OF_EXTENDED = 3, /* extended statuses of the Connection Manager, 0x0000 to 0xffff */
+    ENIP_OF_ENDING = 4    /* why a connection ended, 1 to 4 */
 };
 
 /*
@@ -155,6 +156,68 @@ ENIP_API int enip_adapter_read(enip_adapter *adapter, uint16_t class_code, uint3
 
 /* How many places are free, for peers and for class 3 connections. ENIP_OK, ENIP_MISUSE. */
 ENIP_API int enip_adapter_places(enip_adapter *adapter, uint16_t *peers, uint16_t *connections);
+
+/*
+ * The device writes length bytes, 1 or more, into the data of its own assembly from offset on, whether peers may set it
+ * or not. Peers read them from now on. ENIP_OK; ENIP_ABSENT where there is no such assembly, or the bytes go past the
+ * end of its data; ENIP_MISUSE.
+ */
+ENIP_API int enip_adapter_write(enip_adapter *adapter, uint32_t instance, size_t offset, const void *bytes,
+                                size_t length);
+
+/*
+ * How often peers have written data of an assembly: *changes goes up by 1, and begins again at 2^32, with each such
+ * request that was executed; not with one that was refused, the repeat of one, or enip_adapter_write. It begins at 0.
+ * ENIP_OK; ENIP_ABSENT where there is no such assembly; ENIP_MISUSE.
+ */
+ENIP_API int enip_adapter_changes(enip_adapter *adapter, uint32_t instance, uint32_t *changes);
+
+/* The device's status (attribute 5 of Identity) is this one from now on. ENIP_OK, ENIP_MISUSE. */
+ENIP_API int enip_adapter_set_status(enip_adapter *adapter, uint16_t status);
+
+/* The device's state (attribute 8 of Identity, and ListIdentity) is this one from now on. ENIP_OK, ENIP_MISUSE. */
+ENIP_API int enip_adapter_set_state(enip_adapter *adapter, uint8_t state);
+
+/* ---- which connections of an adapter ended ---- */
+
+typedef struct enip_endings enip_endings;
+
+/* Why a connection ended. */
+enum {
+    ENIP_ENDED_TIMED_OUT = 1, /* no item came in time */
+    ENIP_ENDED_PEER = 2,      /* enip_adapter_end was called for its peer */
+    ENIP_ENDED_SESSION = 3,   /* its peer was closed, as by UnRegisterSession */
+    ENIP_ENDED_CLOSED = 4     /* its originator asked for Forward_Close */
+};
+
+typedef struct enip_ended {
+    uint32_t connection; /* its O->T connection ID, which never comes again */
+    uint32_t peer;       /* the peer that opened it */
+    uint32_t why;        /* one of ENIP_ENDED_TIMED_OUT and the others */
+} enip_ended;
+
+/*
+ * Makes what remembers the open connections of one adapter; none at first. Takes all memory that it will ever need.
+ * *endings is freed by enip_endings_free. ENIP_OK, ENIP_MEMORY, ENIP_MISUSE.
+ */
+ENIP_API int enip_endings_new(enip_endings **endings);
+
+/* Frees it. Null is none, and nothing is done. ENIP_OK, ENIP_MISUSE. */
+ENIP_API int enip_endings_free(enip_endings *endings);
+
+/*
+ * Looks at the adapter, the same at each look. Those connections that were open at the last look and are open no more
+ * have ended, each told once: by enip_endings_at until the next look. Look after each enip_adapter_feed, _tick and
+ * _end; later looks may tell a later reason, and nothing of a connection that was opened and ended in between.
+ * The adapter is unchanged. ENIP_OK, ENIP_MISUSE.
+ */
+ENIP_API int enip_endings_update(enip_endings *endings, enip_adapter *adapter);
+
+/*
+ * The connection at a place of those that had ended at the last look, counted from 0, in the order of their opening.
+ * ENIP_OK; ENIP_ABSENT where there are no more; ENIP_MISUSE.
+ */
+ENIP_API int enip_endings_at(enip_endings *endings, size_t place, enip_ended *ended);
 
 /* ---- the client ---- */
 

@@ -23,6 +23,7 @@ enum Kind {
     Silence,
     General,
     Extended,
+    Ending,
 }
 
 impl Kind {
@@ -33,6 +34,7 @@ impl Kind {
             1 => Kind::Silence,
             2 => Kind::General,
             3 => Kind::Extended,
+            4 => Kind::Ending,
             _ => return None,
         })
     }
@@ -83,6 +85,7 @@ fn write_text(kind: Kind, number: u32, words: &mut Words) -> fmt::Result {
         Kind::Silence => write_silence(number, words),
         Kind::General => write_general(number, words),
         Kind::Extended => write_extended(number, words),
+        Kind::Ending => words.write_str(ending_text(number)),
     }
 }
 
@@ -129,5 +132,16 @@ fn write_extended(number: u32, words: &mut Words) -> fmt::Result {
     match u16::try_from(number) {
         Ok(extended) => write!(words, "{}", StatusWords { status, extended }),
         Err(_) => Ok(()),
+    }
+}
+
+/// Why a connection ended, in words; none for another number.
+fn ending_text(number: u32) -> &'static str {
+    match number {
+        1 => "no item came in time",
+        2 => "its peer was ended",
+        3 => "its session was ended",
+        4 => "its originator closed it",
+        _ => "",
     }
 }
