@@ -1,4 +1,5 @@
 //! The originator's end of a class 3 connection.
+//! Text: docs/PROTOCOL.md, "A class 3 connection: counts, repeats and giving up".
 
 ghost use Rattle.std.specs.Prelude.{◌≡◌, ℕ, ◌≤◌, ◌+◌, Some, None, IfOk, IfErr, IfSome, OnOk, length};
 ghost use Rattle.std.specs.Option.{option_map};

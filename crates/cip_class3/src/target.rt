@@ -1,4 +1,5 @@
 //! The target's end of a class 3 connection.
+//! Text: docs/PROTOCOL.md, "A class 3 connection: counts, repeats and giving up".
 
 ghost use Rattle.std.specs.Prelude.{◌≡◌, ℕ, ◌≤◌, ◌+◌, ◌-◌, ◌<◌, Option, Some, None, IfSome, length};
 ghost use Rattle.std.specs.Option.{option_map};

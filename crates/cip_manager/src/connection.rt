@@ -1,4 +1,25 @@
 //! One open connection (Volume 1, Connection Manager).
+//!
+//! Where it stands, and what moves it. T is its time in microseconds, and each moment the greatest so far:
+//!
+//! ```text
+//!         ┌──────┐  an opening that a check refuses: nothing changes, and no ID is drawn
+//!         │ none │
+//!         └──┬───┘
+//!            │ Forward_Open, Large_Forward_Open: the next ID; the deadline is the moment and the greater of T and 10 s
+//!            ▼
+//!         ┌──────┐◀─┐ an item that is executed or repeated: the deadline is the moment and T
+//!         │ open │──┘
+//!         └──┬───┘  an item that is dropped, a Forward_Close of another session: nothing changes
+//!            │
+//!            │ Forward_Close of its session; the end of its session; a moment at its deadline or past it
+//!            ▼
+//!         ┌──────┐
+//!         │ over │  its ID never comes again
+//!         └──────┘
+//! ```
+//!
+//! Text: docs/PROTOCOL.md, "Connections: opened, closed, timed out".
 ghost use Rattle.std.specs.Prelude.{◌≡◌, ◌+◌, ◌≤◌, length, IfSome, None, if◌then◌else◌};
 ghost use Rattle.std.specs.Option.{option_map};
 ghost use Rattle.std.specs.Borrow.{sem};

@@ -1,4 +1,5 @@
 //! The open connections, and the calls that change them (Volume 1, Connection Manager).
+//! Text: docs/PROTOCOL.md, "Connections: opened, closed, timed out".
 ghost use Rattle.std.specs.Prelude.{◌≡◌, ◌≢◌, ◌≤◌, ◌+◌, ◌-◌, ◌<◌, ◌^◌, length, is_some, slice_index_or, IfNone, IfSome, IfOk, OnOk};
 ghost use Rattle.std.specs.List.{list_any};
 ghost use Rattle.std.specs.Option.{option_map};

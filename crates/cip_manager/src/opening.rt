@@ -1,4 +1,5 @@
 //! What a Forward_Open or a Large_Forward_Open asks for, and the checks of it (Volume 1, Connection Manager).
+//! Text: docs/PROTOCOL.md, "Connections: opened, closed, timed out".
 ghost use Rattle.std.specs.Prelude.{◌≡◌, ℕ, OnOk};
 ghost use Rattle.cip_message.specs.Open.{view, large_view, view_by};
 ghost use Rattle.cip_manager.specs.Check.{first_failure};

@@ -1,4 +1,5 @@
 //! The open connections, in the order in which they were opened.
+//! Text: docs/PROTOCOL.md, "Connections: opened, closed, timed out".
 ghost use Rattle.std.specs.Prelude.{◌≡◌, ◌≤◌, ◌+◌, ◌-◌, ◌<◌, ℕ, not, filter, [], ◌∷◌, ◌++◌, length, slice_index_or};
 ghost use Rattle.std.specs.Prelude.{IfOk, IfSome, IfNone, min, unwrap_or};
 ghost use Rattle.std.specs.Option.{option_map};

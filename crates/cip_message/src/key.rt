@@ -1,5 +1,7 @@
 //! The electronic key, by which who opens a connection says which device it means (Volume 1, appendix
 //! on segments, and Connection Manager).
+//!
+//! Text: docs/PROTOCOL.md, "Paths".
 
 ghost use Rattle.std.specs.Prelude.{◌≡◌, ◌↔◌, ◌+◌, ◌^◌, ◌<◌, ◌≤◌, ◌++◌, length, IsNone, Some, IsOk, OnOk, OnErr};
 ghost use Rattle.std.specs.Prelude.{if◌then◌else◌};

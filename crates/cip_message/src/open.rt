@@ -1,4 +1,5 @@
 //! The data of a Forward_Open request, which opens a connection (Volume 1, Connection Manager).
+//! Text: docs/PROTOCOL.md, "Router messages".
 
 ghost use Rattle.std.specs.Prelude.{◌≡◌, ◌↔◌, ◌+◌, ◌*◌, ◌%◌, ◌<◌, ◌≤◌, ◌++◌, length, IsOk, OnOk, OnErr};
 ghost use Rattle.arrayvec.specs.ArrayVec.{array_vec_len};

@@ -1,5 +1,7 @@
 //! The parameters of one direction of a connection, in either layout of an open request (Volume 1, network
 //! connection parameters).
+//!
+//! Text: docs/PROTOCOL.md, "Router messages".
 
 ghost use Rattle.std.specs.Prelude.{◌≡◌, ℕ, ◌+◌, ◌*◌, ◌<◌, ◌≤◌, ◌^◌, ◌++◌, length};
 ghost use Rattle.arrayvec.specs.ArrayVec.{array_vec_len};

@@ -1,4 +1,5 @@
 //! Paths to an object, as logical segments in padded form (Volume 1, appendix on segments).
+//! Text: docs/PROTOCOL.md, "Paths".
 
 ghost use Rattle.std.specs.Prelude.{◌≡◌, ◌↔◌, ℕ, ◌+◌, ◌*◌, ◌/◌, ◌<◌, ◌≤◌, ◌^◌, ◌++◌, length, IsOk, OnOk, OnErr, IfSome};
 ghost use Rattle.arrayvec.specs.ArrayVec.{array_vec_len};

@@ -1,4 +1,5 @@
 //! Replies of the message router (Volume 1, message router response format).
+//! Text: docs/PROTOCOL.md, "Router messages".
 
 ghost use Rattle.std.specs.Prelude.{◌≡◌, ◌↔◌, ◌+◌, ◌*◌, ◌%◌, ◌<◌, ◌≤◌, ◌++◌, length, slice_get, slice_index, IsOk};
 ghost use Rattle.std.specs.Prelude.{OnOk, OnErr, IfOk};

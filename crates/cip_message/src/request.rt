@@ -1,4 +1,5 @@
 //! Requests of the message router (Volume 1, message router request format).
+//! Text: docs/PROTOCOL.md, "Router messages".
 
 ghost use Rattle.std.specs.Prelude.{◌≡◌, ◌↔◌, ◌+◌, ◌*◌, ◌%◌, ◌<◌, ◌≤◌, ◌++◌, length, slice_index, IsOk, OnOk, OnErr};
 ghost use Rattle.std.specs.Prelude.{Ok, Err};

@@ -1,4 +1,5 @@
 //! An assembly: members that lie one after another in its data (Volume 1, class 0x04).
+//! Text: docs/PROTOCOL.md, "Objects".
 ghost use Rattle.std.specs.Prelude.{◌≡◌, ◌≤◌, ◌+◌, ◌-◌, ◌*◌, ◌<◌, length, sum, take, drop, slice_index, option_map};
 ghost use Rattle.std.specs.Prelude.{option_copied, ◌++◌, IfOk, IfSome, replicate, MatchOption};
 ghost use Rattle.cip_objects.specs.Entries.{attribute_in, block_attributes, block_at, greatest_of};

@@ -1,4 +1,5 @@
 //! The services that change (Volume 1, common services; Add and Clear are the counter's own).
+//! Text: docs/PROTOCOL.md, "Objects".
 ghost use Rattle.std.specs.Prelude.{◌≡◌, length, [], OnErr};
 ghost use Rattle.cip_bytes.specs.Numbers.{le};
 ghost use Rattle.cip_objects.specs.ChangeServices.{change_left, set_attribute_single, set_member, add, clear};

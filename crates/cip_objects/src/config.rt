@@ -1,4 +1,5 @@
 //! What the objects are made from, and what is refused.
+//! Text: docs/PROGRAM.md, "The configuration".
 ghost use Rattle.std.specs.Prelude.{◌≡◌, ◌≤◌, ◌+◌, ◌<◌, ◌==◌, ◌||◌, not, nat_lt, length, sum, Some, None};
 ghost use Rattle.std.specs.List.{list_any};
 ghost use Rattle.cip_objects.specs.Limits.{LONGEST_DATA};

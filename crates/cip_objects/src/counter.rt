@@ -1,4 +1,5 @@
 //! The counter, an object of the vendor's own (class 0x64).
+//! Text: docs/PROTOCOL.md, "Objects".
 ghost use Rattle.std.specs.Prelude.{◌≡◌, ◌≤◌, ◌<◌, ◌+◌, ◌%◌, ◌^◌, option_map, IfSome, IfOk, IfErr, OnOk, OnErr};
 ghost use Rattle.cip_objects.specs.Entries.{attribute_in, counter_attributes};
 ghost use Rattle.cip_objects.specs.Value.{value_bytes, IsShort};

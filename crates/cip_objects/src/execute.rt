@@ -1,4 +1,5 @@
 //! Execution of router requests (Volume 1, Message Router).
+//! Text: docs/PROTOCOL.md, "Objects".
 ghost use Rattle.std.specs.Prelude.{◌≡◌, ◌≤◌, [], length, OnErr, slice_set};
 ghost use Rattle.cip_message.specs.Reply.{reply as spelled, reply_of_fields};
 ghost use Rattle.cip_objects.specs.Destination.{IsThere, Has, path_to};

@@ -1,4 +1,5 @@
 //! The objects: what a caller sees as one map, held as typed structs.
+//! Text: docs/PROTOCOL.md, "Objects".
 ghost use Rattle.std.specs.Prelude.{◌≡◌, ◌≤◌, ◌+◌, length, option_map, is_some, sum, map, Some, IfSome};
 ghost use Rattle.std.specs.Prelude.{IfOk, IfErr, MatchOption, unwrap_or, nat_le};
 ghost use Rattle.std.specs.Box.{boxed_slice_items};

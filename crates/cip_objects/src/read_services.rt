@@ -1,4 +1,5 @@
 //! The services that read (Volume 1, common services).
+//! Text: docs/PROTOCOL.md, "Objects".
 ghost use Rattle.std.specs.Prelude.{◌≡◌, ◌≤◌, ◌+◌, [], ◌∷◌, ◌++◌, length, IfOk};
 ghost use Rattle.std.specs.List.{flat_map};
 ghost use Rattle.cip_bytes.specs.Numbers.{le, words_of};

@@ -1,4 +1,5 @@
 //! The adapter: its peers, and the calls that change it.
+//! Text: docs/PROTOCOL.md, "A peer".
 
 ghost use Rattle.std.specs.Prelude.{◌≡◌, ◌<◌, ◌≤◌, ◌-◌, length, slice_index_or, false};
 ghost use Rattle.std.specs.Prelude.{IfOk, IfSome, is_some, is_none, unwrap_or};

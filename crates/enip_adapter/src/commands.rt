@@ -1,4 +1,5 @@
 //! What a whole frame does. (Volume 2, encapsulation commands.)
+//! Text: docs/PROTOCOL.md, "A peer".
 
 mod discovery;
 mod items;

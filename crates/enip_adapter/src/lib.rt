@@ -7,6 +7,35 @@
 //!
 //! What it answers is a function of the peers' whole frames and of the moments: the turn of `specs/Turn.antt`, over one
 //! definition for each command. Its calls after `Adapter::new` take no memory.
+//!
+//! One peer of a device, whose bytes come in pieces of any size, each at its moment; `written` is what goes back to it:
+//!
+//! ```
+//! fn serve_pieces(
+//!     adapter: &mut Adapter,
+//!     pieces: &[(u64, &[u8])],
+//!     written: &mut Vec<u8>,
+//! ) -> Result<(), AllocError> {
+//!     let Ok(peer) = adapter.begin() else {
+//!         return Ok(());
+//!     };
+//!     for (moment, piece) in pieces {
+//!         let mut rest = *piece;
+//!         while !rest.is_empty() {
+//!             let fed = adapter.feed(*moment, &peer, rest);
+//!             if let Some(answer) = fed.answer {
+//!                 written.extend_from_slice(answer)?;
+//!             }
+//!             if fed.close {
+//!                 break;
+//!             }
+//!             rest = &rest[fed.taken..];
+//!         }
+//!     }
+//!     adapter.end(peer);
+//!     Ok(())
+//! }
+//! ```
 #![tactic(auto)]
 
 mod adapter;

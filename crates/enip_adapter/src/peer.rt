@@ -1,4 +1,5 @@
 //! A peer: its session, and what has come of its next frame.
+//! Text: docs/PROTOCOL.md, "A peer".
 
 ghost use Rattle.std.specs.Prelude.{◌≡◌, ◌<◌, ◌≤◌, length};
 ghost use Rattle.enip_wire.specs.Frames.{Stops};

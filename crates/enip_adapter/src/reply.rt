@@ -1,4 +1,5 @@
 //! Frames that answer. (Volume 2, encapsulation header.)
+//! Text: docs/PROTOCOL.md, "A peer".
 
 ghost use Rattle.std.specs.Prelude.{◌≡◌, ◌≤◌, ◌+◌, ◌++◌, length, take, [], false};
 ghost use Rattle.enip_wire.specs.Headers.{header_spelling};

@@ -1,4 +1,5 @@
 //! What all peers share.
+//! Text: docs/PROTOCOL.md, "Connections: opened, closed, timed out".
 
 ghost use Rattle.std.specs.Prelude.{◌≡◌};
 ghost use Rattle.enip_adapter.specs.Turn.{at_moment, without_connections};

@@ -1,4 +1,5 @@
 //! The bench: an adapter and a client side by side, and the frames in flight between them.
+//! Text: docs/EXACTLY-ONCE.md, "The premises, and what goes wrong without each".
 
 ghost use Rattle.std.specs.Prelude.{◌≡◌, IfOk};
 ghost use Rattle.std.specs.Borrow.{sem};

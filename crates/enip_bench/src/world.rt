@@ -1,4 +1,8 @@
 //! The two ends, what lies between them, and what each event does.
+//! Text: docs/EXACTLY-ONCE.md, "The premises, and what goes wrong without each".
+//! Text: docs/PROTOCOL.md, "The client".
+//! Text: docs/PROTOCOL.md, "Connections: opened, closed, timed out".
+//! Text: docs/EXACTLY-ONCE.md, "The bench".
 
 ghost use Rattle.std.specs.Prelude.{ℕ, ◌≡◌, ◌≤◌, [], length};
 ghost use Rattle.std.specs.Option.{option_map};

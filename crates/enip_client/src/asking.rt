@@ -1,4 +1,5 @@
 //! One whole exchange over a reader and a writer.
+//! Text: docs/PROTOCOL.md, "The client".
 
 ghost use Rattle.std.specs.Prelude.{◌≡◌, ◌+◌, ◌<◌, ◌≤◌, length, true, None, IfOk, List};
 ghost use Rattle.enip_wire.specs.Frames.{Frame};

@@ -1,4 +1,5 @@
 //! What a client hears.
+//! Text: docs/PROTOCOL.md, "The client".
 
 ghost use Rattle.std.specs.Prelude.{◌≡◌, length, IfSome};
 ghost use Rattle.std.specs.Option.{option_map};

@@ -7,6 +7,39 @@
 //! What it sends and hears is a function of its calls and of the whole frames that came: the turn of
 //! `specs/Hears.antt`; what follows for every list of calls is in [`laws`]. Its calls after `Client::new` take no
 //! memory, and replies are lent from where their bytes lie.
+//!
+//! A session and one request; `device` is the stream to a device and from it:
+//!
+//! ```
+//! fn ask_vendor(client: &mut Client, device: &mut Device) -> Result<Option<u16>, ClientFault> {
+//!     let mut vendor = None;
+//!     let mut room = [0; 600];
+//!     device.send(client.register()?);
+//!     let mut size = device.receive(&mut room);
+//!     while size > 0 {
+//!         let mut rest = &room[..size];
+//!         while !rest.is_empty() && client.fault().is_none() {
+//!             let Hearing { taken, heard } = client.feed(rest);
+//!             match heard {
+//!                 Heard::Registered => device.send(client.unconnected(
+//!                     b"\x0e\x03\x20\x01\x24\x01\x30\x01",
+//!                 )?),
+//!                 Heard::Reply(&[0x8e, 0, 0, 0, low, high]) => {
+//!                     vendor = Some(u16::from_le_bytes([low, high]));
+//!                     device.send(client.unregister()?);
+//!                 }
+//!                 _ => {}
+//!             }
+//!             rest = &rest[taken..];
+//!         }
+//!         size = device.receive(&mut room);
+//!     }
+//!     match client.fault() {
+//!         Some(fault) => Err(fault),
+//!         None => Ok(vendor),
+//!     }
+//! }
+//! ```
 #![tactic(auto)]
 
 mod asking;

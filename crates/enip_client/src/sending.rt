@@ -1,4 +1,5 @@
 //! The frames that a client sends. (Volume 2, encapsulation commands.)
+//! Text: docs/PROTOCOL.md, "The client".
 
 ghost use Rattle.std.specs.Prelude.{◌≡◌, ℕ, ◌≤◌, length, []};
 ghost use Rattle.arrayvec.specs.ArrayVec.{array_vec_len};

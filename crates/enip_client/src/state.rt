@@ -1,4 +1,20 @@
 //! Where a client stands.
+//!
+//! What moves it, a call or what is heard. Nothing else does, but that a fault lasts once it came: then nothing moves.
+//!
+//! ```text
+//! session      NotRegistered ── register, heard Registered ──▶ Registered ── unregister ──▶ Unregistered
+//!
+//! connection   NotOpened ── open, heard Opened ──▶ Open ── close, unregister ──▶ Closed
+//!  (in it)       └──▶ open, heard Refused: it stays NotOpened
+//!
+//! on it        idle ── submit ──▶ waiting ── heard Accepted ──▶ idle
+//!  (Originator)                      └── give_up ──▶ given up ── submit ──▶ waiting
+//!
+//! awaiting     nothing ── register, open, unconnected, close ──▶ its reply ── heard ──▶ nothing
+//! ```
+//!
+//! Text: docs/PROTOCOL.md, "The client".
 
 ghost use Rattle.std.specs.Prelude.{◌≡◌, ◌≤◌, length, Result, Ok, Err};
 ghost use Rattle.enip_client.specs.State.{is_registered, session_in, is_open, o_to_t_id_in, is_free};

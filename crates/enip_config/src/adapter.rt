@@ -1,4 +1,5 @@
 //! The adapter that a configuration tells.
+//! Text: docs/PROGRAM.md, "The configuration".
 
 ghost use Rattle.std.specs.Prelude.{◌≡◌, IfOk, IfErr};
 ghost use Rattle.enip_adapter.specs.Adapter.{new_adapter};

@@ -1,4 +1,5 @@
 //! What is read of a configuration.
+//! Text: docs/PROGRAM.md, "The configuration".
 
 ghost use Rattle.std.specs.Prelude.{◌≡◌, IfOk, IfErr, None};
 ghost use Rattle.toml.specs.View.{table_view};

@@ -1,4 +1,5 @@
 //! The table of the keys whose values are numbers.
+//! Text: docs/PROGRAM.md, "The configuration".
 
 ghost use Rattle.std.specs.Prelude.{◌≡◌, bytes_eq};
 ghost use Rattle.enip_config.specs.Keys.{row, row_seen};

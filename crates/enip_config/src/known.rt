@@ -1,4 +1,5 @@
 //! The keys that a configuration knows, by the table in which they stand.
+//! Text: docs/PROGRAM.md, "The configuration".
 
 ghost use Rattle.std.specs.Prelude.{◌≡◌, map};
 ghost use Rattle.std.specs.List.{list_any};

@@ -6,6 +6,27 @@
 //! bytes read, at most 4,096, and fed frame by frame, each answer written before the next frame is fed.
 //!
 //! Its calls after `Peers::new` take no memory.
+//!
+//! One step of a server, which calls again when the moment comes that it is answered, or the system tells of a wire:
+//!
+//! ```
+//! fn serve_ready<W: Wire + Drop>(
+//!     peers: &mut Peers<W>,
+//!     now: u64,
+//!     came: Option<W>,
+//!     ready: &[usize],
+//! ) -> Option<u64> {
+//!     if let Some(wire) = came {
+//!         // where no place is free the wire is dropped, which closes it
+//!         let _ = peers.come(now, wire);
+//!     }
+//!     for place in ready {
+//!         peers.wake(*place, false);
+//!     }
+//!     let end = peers.round(now);
+//!     if end.ready { Some(now) } else { end.next }
+//! }
+//! ```
 #![tactic(auto)]
 
 pub mod laws;

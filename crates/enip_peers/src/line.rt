@@ -1,4 +1,5 @@
 //! A peer's line, and its turn.
+//! Text: docs/PROGRAM.md, "`enip serve`".
 
 ghost use Rattle.std.specs.Prelude.{◌≡◌, ◌≢◌, ◌≤◌, ◌<◌, [], length, Some, None, true, false, IfSome, IfNone, IfErr, IfOk};
 ghost use Rattle.enip_adapter.specs.Calls.{AdapterState};

@@ -1,4 +1,5 @@
 //! The peers of an adapter, and the calls that move them.
+//! Text: docs/PROGRAM.md, "`enip serve`".
 
 ghost use Rattle.std.specs.Prelude.{◌≡◌, ◌≤◌, length, IfOk, IfSome};
 ghost use Rattle.std.specs.List.{list_any};

@@ -4,6 +4,8 @@
 //!  body    [ interface | timeout ][ items ]
 //!            4           2
 //! ```
+//!
+//! Text: docs/PROTOCOL.md, "Packets: SendRRData and SendUnitData".
 
 ghost use Rattle.std.specs.Prelude.{◌≡◌, ◌↔◌, List, ℕ, Ok, Err};
 ghost use Rattle.enip_wire.specs.declared.item_list.CpfFault.{CpfFault};

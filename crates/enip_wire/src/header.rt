@@ -1,4 +1,5 @@
 //! The header that begins each encapsulation message. (Volume 2, encapsulation header.)
+//! Text: docs/PROTOCOL.md, "Encapsulation".
 
 ghost use Rattle.std.specs.Prelude.{◌≡◌};
 ghost use Rattle.enip_wire.specs.Headers.{header_spelling, header_at, IsHeader};

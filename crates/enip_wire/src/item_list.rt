@@ -4,6 +4,8 @@
 //!  items   [ count ][ type | length | data ][ type | length | data ] ..
 //!            2        2      2               2      2
 //! ```
+//!
+//! Text: docs/PROTOCOL.md, "Packets: SendRRData and SendUnitData".
 
 ghost use Rattle.std.specs.Prelude.{◌≡◌, ◌↔◌, ◌≤◌, ◌<◌, drop, length, List, Ok, Err, MatchOption};
 ghost use Rattle.enip_wire.specs.declared.item_list.CpfFault.{CpfFault};

@@ -5,6 +5,8 @@
 //!  pieces   ------,-------------,---,---------------
 //!  held     what came since the last frame was cleared, at most one frame
 //! ```
+//!
+//! Text: docs/PROTOCOL.md, "Encapsulation".
 
 ghost use Rattle.std.specs.Prelude.{◌≡◌, ◌≤◌, ◌<◌, ◌^◌, ◌+◌, ◌++◌, [], take, length, IfOk, IfSome, IfNone, slice_index};
 ghost use Rattle.cip_bytes.specs.Numbers.{number_at, AreBytes};

@@ -1,4 +1,5 @@
 //! Discovery over UDP: datagrams that ask what the adapter is. (Volume 2, encapsulation over UDP.)
+//! Text: docs/PROTOCOL.md, "Datagrams".
 
 ghost use Rattle.std.specs.Prelude.{◌≡◌, ◌≤◌, length, if◌then◌else◌, Some, None, IfSome};
 ghost use Rattle.std.specs.Option.{option_map};

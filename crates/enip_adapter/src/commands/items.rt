@@ -1,4 +1,5 @@
 //! SendUnitData: items on connections.
+//! Text: docs/PROTOCOL.md, "Packets: SendRRData and SendUnitData".
 
 ghost use Rattle.std.specs.Prelude.{◌≡◌, ◌≤◌, ℕ, List, ◌+◌, ◌++◌, length, false};
 ghost use Rattle.cip_bytes.specs.declared.protocol.EncapsulationStatus.TheVariants.{Success};

@@ -1,4 +1,5 @@
 //! ListServices, ListIdentity and ListInterfaces: answered with or without a session, whatever their data are.
+//! Text: docs/PROTOCOL.md, "A peer".
 
 ghost use Rattle.std.specs.Prelude.{◌≡◌, ◌≤◌, ◌+◌, ◌++◌, length};
 ghost use Rattle.arrayvec.specs.ArrayVec.{array_vec_len};

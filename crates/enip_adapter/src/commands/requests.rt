@@ -1,4 +1,5 @@
 //! SendRRData: unconnected requests.
+//! Text: docs/PROTOCOL.md, "Packets: SendRRData and SendUnitData".
 
 ghost use Rattle.std.specs.Prelude.{◌≡◌, ◌≤◌, length};
 ghost use Rattle.cip_bytes.specs.declared.protocol.EncapsulationStatus.TheVariants.{Success};

@@ -1,4 +1,5 @@
 //! RegisterSession and UnRegisterSession.
+//! Text: docs/PROTOCOL.md, "A peer".
 
 ghost use Rattle.std.specs.Prelude.{◌≡◌, if◌then◌else◌, true};
 ghost use Rattle.enip_wire.specs.Stream.{frame_of};
