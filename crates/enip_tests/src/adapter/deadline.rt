@@ -6,7 +6,8 @@ use std::test::Fail;
 use test_stands::adapter::{ADD, OPEN, REGISTER, adapter_with_peer, demo_with_connection};
 
 /// A Forward_Close of the connection that `OPEN` opens.
-pub(super) const CLOSE: &[u8] = b"\x6f\0\x26\0\x01\0\0\0\0\0\0\0\x01\x02\x03\x04\x05\x06\x07\x08\0\0\0\0\
+pub(super) const CLOSE: &[u8] =
+    b"\x6f\0\x26\0\x01\0\0\0\0\0\0\0\x01\x02\x03\x04\x05\x06\x07\x08\0\0\0\0\
     \0\0\0\0\0\0\x02\0\0\0\0\0\xb2\0\x16\0\
     \x4e\x02\x20\x06\x24\x01\x0a\x0e\x01\0\x42\0\x78\x56\x34\x12\x02\0\x20\x02\x24\x01";
 
