@@ -1,3 +1,4 @@
 pub mod LooseValues
 pub mod AdapterValues
 pub mod ClientValues
+pub mod ClientLemmas
