@@ -78,7 +78,10 @@ int main(void) {
     MISUSE(enip_adapter_places(adapter, &peers, NULL));
     MISUSE(enip_adapter_free(other));
     is("none", enip_adapter_free(NULL), ENIP_OK);
+    enip_adapter *volatile freed = adapter;
     is("free", enip_adapter_free(adapter), ENIP_OK);
+    MISUSE(enip_adapter_tick(freed, 0));
+    MISUSE(enip_adapter_free(freed));
 
     MISUSE(enip_client_new(NULL, &client));
     MISUSE(enip_client_new(&wants, NULL));
@@ -109,7 +112,10 @@ int main(void) {
     MISUSE(enip_client_feed(client, registers, 28, room, sizeof room, NULL));
     is("small", enip_client_feed(client, registers, 28, room, ENIP_REPLY_ROOM - 1, &heard), ENIP_ROOM);
     MISUSE(enip_client_free(stranger));
+    enip_client *volatile over = client;
     is("free", enip_client_free(client), ENIP_OK);
+    MISUSE(enip_client_give_up(over));
+    MISUSE(enip_client_free(over));
     is("version", strcmp(enip_version(), ENIP_VERSION), 0);
     printf("%d passed, %d failed\n", passed, failed);
     return failed != 0;
