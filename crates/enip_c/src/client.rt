@@ -161,7 +161,7 @@ fn status_not_submitted(fault: SubmitFault) -> Status
 fn tell_lent(lent: Result<&[u8], ClientFault>, room: &mut [u8], count: &mut usize) -> u32
     requires { IfOk lent (λ frame. length frame.now ≤ length room.old) }
     ensures { record { status = result; count = count.new; room = room.new }
-        ≡ lent_told fault_status (bytes_in lent) count.old room.old }
+        ≡ lent_told fault_status (bytes_in lent.entry) count.old room.old }
 {
     match lent {
         Ok(frame) => {
@@ -176,7 +176,7 @@ fn tell_lent(lent: Result<&[u8], ClientFault>, room: &mut [u8], count: &mut usiz
 fn tell_submitted(lent: Result<&[u8], SubmitFault>, room: &mut [u8], count: &mut usize) -> u32
     requires { IfOk lent (λ frame. length frame.now ≤ length room.old) }
     ensures { record { status = result; count = count.new; room = room.new }
-        ≡ lent_told submit_status (bytes_in lent) count.old room.old }
+        ≡ lent_told submit_status (bytes_in lent.entry) count.old room.old }
 {
     match lent {
         Ok(frame) => {
@@ -191,7 +191,7 @@ fn tell_submitted(lent: Result<&[u8], SubmitFault>, room: &mut [u8], count: &mut
 fn tell_resent(lent: Option<&[u8]>, room: &mut [u8], count: &mut usize) -> u32
     requires { IfSome lent (λ frame. length frame.now ≤ length room.old) }
     ensures { record { status = result; count = count.new; room = room.new }
-        ≡ resent_told (option_map (λ frame. frame.now) lent) count.old room.old }
+        ≡ resent_told (option_map (λ frame. frame.now) lent.entry) count.old room.old }
 {
     match lent {
         Some(frame) => {
@@ -250,12 +250,12 @@ pub extern "C" fn enip_core_client_open(
         return Status::Room.number();
     }
     let mut client = kept.take(alloc);
-    let status = open(&mut client, room, count);
+    let status = open_connection(&mut client, room, count);
     *kept = KeptClient::of(client);
     status
 }
 
-fn open(client: &mut Client, room: &mut [u8], count: &mut usize) -> u32
+fn open_connection(client: &mut Client, room: &mut [u8], count: &mut usize) -> u32
     requires { LONGEST_SENT ≤ length room.old }
     ensures { IsDone (open_outcome client.old count.old room.old) client.new result count.new room.new }
 {
@@ -471,7 +471,7 @@ fn feed(client: &mut Client, piece: &[u8], room: &mut [u8]) -> Heard
 }
 
 fn tell_heard(taken: usize, heard: enip_client::Heard<'_>, room: &mut [u8]) -> Heard
-    ensures { record { heard = result; room = room.new } ≡ news_told taken (news_in heard) room.old }
+    ensures { record { heard = result; room = room.new } ≡ news_told taken (news_in heard.entry) room.old }
 {
     match heard {
         enip_client::Heard::Nothing => plainly(taken, 0, 0, 0),

@@ -1,0 +1,49 @@
+// One owner of an adapter, C++17: it frees what it has, moves, and throws nothing.
+#pragma once
+#include <cstddef>
+#include <cstdint>
+#include <enip.h>
+#include <optional>
+#include <string_view>
+#include <utility>
+
+class Adapter {
+public:
+    // None where the text is no configuration, or there is no memory: `why` has the reason.
+    static std::optional<Adapter> of(std::string_view configuration, enip_refusal &why) noexcept {
+        enip_adapter *made = nullptr;
+        if (enip_adapter_new(configuration.data(), configuration.size(), &made, &why) != ENIP_OK)
+            return std::nullopt;
+        return Adapter(made);
+    }
+    Adapter(Adapter &&other) noexcept : made_(std::exchange(other.made_, nullptr)) {}
+    Adapter &operator=(Adapter &&other) noexcept {
+        std::swap(made_, other.made_);
+        return *this;
+    }
+    Adapter(const Adapter &) = delete;
+    Adapter &operator=(const Adapter &) = delete;
+    ~Adapter() { enip_adapter_free(made_); }
+
+    std::optional<std::uint32_t> begin() noexcept {
+        std::uint32_t peer = 0;
+        if (enip_adapter_begin(made_, &peer) != ENIP_OK)
+            return std::nullopt;
+        return peer;
+    }
+    // The answer stands in `answer`, which lasts until the next call.
+    enip_fed feed(std::uint64_t now, std::uint32_t peer, std::string_view piece) noexcept {
+        enip_fed fed = {};
+        enip_adapter_feed(made_, now, peer, piece.data(), piece.size(), room_, sizeof room_, &fed);
+        answer = std::string_view(reinterpret_cast<const char *>(room_), fed.answer);
+        return fed;
+    }
+    void end(std::uint32_t peer) noexcept { enip_adapter_end(made_, peer); }
+
+    std::string_view answer;
+
+private:
+    explicit Adapter(enip_adapter *made) noexcept : made_(made) {}
+    enip_adapter *made_;
+    unsigned char room_[ENIP_ANSWER_ROOM] = {};
+};
