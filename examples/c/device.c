@@ -1,4 +1,4 @@
-/* A device with a lamp: on where the first byte of assembly 100 is not 0. Up to 16 clients at once.
+/* A device with a lamp: on where the first byte of assembly 100 is not 0. Assembly 101 counts how often 100 was written.
  * cc -std=c99 device.c -lenip -o device && ./device 44818 */
 #define _POSIX_C_SOURCE 200809L
 #include <arpa/inet.h>
@@ -12,11 +12,11 @@
 #include <unistd.h>
 
 enum { PEERS = 16 };
-
 static const char configuration[] =
     "vendor = 4660\ndevice_type = 43\nproduct_code = 7\nmajor = 2\nminor = 5\nserial = 16909060\nname = \"Lamp\"\n"
     "address = [127, 0, 0, 1]\npeers = 16\n[counter]\nlimit = 100\n"
-    "[[assembly]]\ninstance = 100\nsettable = true\nmembers = [1, 1]\n";
+    "[[assembly]]\ninstance = 100\nsettable = true\nmembers = [1, 1]\n"
+    "[[assembly]]\ninstance = 101\nmembers = [4]\n";
 
 static uint64_t moment(void) {
     struct timespec now;
@@ -42,8 +42,10 @@ static int serve(enip_adapter *adapter, int fd, uint32_t peer) {
 
 int main(int count, char **words) {
     struct sockaddr_in here = {.sin_family = AF_INET, .sin_addr = {htonl(INADDR_LOOPBACK)}};
+    unsigned char data[2];
+    size_t size;
     struct pollfd seats[PEERS + 1];
-    uint32_t peers[PEERS + 1];
+    uint32_t peers[PEERS + 1], changes, seen = 0;
     enip_adapter *adapter;
     enip_refusal why;
     int lamp = 0, on = 1, listener = socket(AF_INET, SOCK_STREAM, 0);
@@ -70,8 +72,10 @@ int main(int count, char **words) {
                 enip_adapter_begin(adapter, &peers[i]);
             }
         }
-        unsigned char data[2];
-        size_t size;
+        if (enip_adapter_changes(adapter, 100, &changes) != ENIP_OK || changes == seen)
+            continue;
+        enip_adapter_write(adapter, 101, 0, &changes, sizeof changes); /* least byte first, as x86-64 has it */
+        seen = changes;
         if (enip_adapter_read(adapter, 4, 100, 3, data, sizeof data, &size) == ENIP_OK && (data[0] != 0) != lamp)
             printf("lamp %s\n", (lamp = data[0] != 0) ? "on" : "off"), fflush(stdout);
     }
