@@ -1,4 +1,4 @@
-/* A device with a lamp: on where the first byte of assembly 100 is not 0. Assembly 101 counts how often 100 was written.
+/* A device with a lamp, which the first byte of assembly 100 switches. Assembly 101 counts how often 100 was written.
  * cc -std=c99 device.c -lenip -o device && ./device 44818 */
 #define _POSIX_C_SOURCE 200809L
 #include <arpa/inet.h>
@@ -12,11 +12,11 @@
 #include <unistd.h>
 
 enum { PEERS = 16 };
+
 static const char configuration[] =
     "vendor = 4660\ndevice_type = 43\nproduct_code = 7\nmajor = 2\nminor = 5\nserial = 16909060\nname = \"Lamp\"\n"
     "address = [127, 0, 0, 1]\npeers = 16\n[counter]\nlimit = 100\n"
-    "[[assembly]]\ninstance = 100\nsettable = true\nmembers = [1, 1]\n"
-    "[[assembly]]\ninstance = 101\nmembers = [4]\n";
+    "[[assembly]]\ninstance = 100\nsettable = true\nmembers = [1, 1]\n[[assembly]]\ninstance = 101\nmembers = [4]\n";
 
 static uint64_t moment(void) {
     struct timespec now;
@@ -28,10 +28,11 @@ static uint64_t moment(void) {
 static int serve(enip_adapter *adapter, int fd, uint32_t peer) {
     unsigned char bytes[4096], room[ENIP_ANSWER_ROOM];
     ssize_t came = recv(fd, bytes, sizeof bytes, MSG_DONTWAIT);
-    size_t at = 0;
+    size_t at = 0, rest;
     enip_fed fed = {0, 0, 0, 0};
     while (came > 0 && at < (size_t)came && !fed.close) {
-        if (enip_adapter_feed(adapter, moment(), peer, bytes + at, (size_t)came - at, room, sizeof room, &fed) != ENIP_OK)
+        rest = (size_t)came - at;
+        if (enip_adapter_feed(adapter, moment(), peer, bytes + at, rest, room, sizeof room, &fed) != ENIP_OK)
             return 0;
         if (fed.answer > 0 && send(fd, room, fed.answer, MSG_DONTWAIT | MSG_NOSIGNAL) != (ssize_t)fed.answer)
             return 0;
@@ -41,7 +42,8 @@ static int serve(enip_adapter *adapter, int fd, uint32_t peer) {
 }
 
 int main(int count, char **words) {
-    struct sockaddr_in here = {.sin_family = AF_INET, .sin_addr = {htonl(INADDR_LOOPBACK)}};
+    uint16_t port = (uint16_t)(count > 1 ? atoi(words[1]) : 44818);
+    struct sockaddr_in here = {.sin_family = AF_INET, .sin_port = htons(port), .sin_addr = {htonl(INADDR_LOOPBACK)}};
     unsigned char data[2];
     size_t size;
     struct pollfd seats[PEERS + 1];
@@ -49,14 +51,11 @@ int main(int count, char **words) {
     enip_adapter *adapter;
     enip_refusal why;
     int lamp = 0, on = 1, listener = socket(AF_INET, SOCK_STREAM, 0);
-    here.sin_port = htons((uint16_t)(count > 1 ? atoi(words[1]) : 44818));
     setsockopt(listener, SOL_SOCKET, SO_REUSEADDR, &on, sizeof on);
-    if (bind(listener, (struct sockaddr *)&here, sizeof here) != 0 || listen(listener, PEERS) != 0)
-        return perror("device"), 1;
+    if (bind(listener, (struct sockaddr *)&here, sizeof here) || listen(listener, PEERS)) return perror("device"), 1;
     if (enip_adapter_new(configuration, sizeof configuration - 1, &adapter, &why) != ENIP_OK)
         return fprintf(stderr, "device: %s\n", why.text), 1;
-    for (int i = 0; i <= PEERS; i++)
-        seats[i] = (struct pollfd){i == 0 ? listener : -1, POLLIN, 0};
+    for (int i = 0; i <= PEERS; i++) seats[i] = (struct pollfd){i == 0 ? listener : -1, POLLIN, 0};
     for (;;) {
         uint64_t now = moment(), due;
         int wait = enip_adapter_deadline(adapter, &due) != ENIP_OK ? -1 : due > now ? (int)((due - now) / 1000 + 1) : 0;
@@ -67,9 +66,10 @@ int main(int count, char **words) {
                 enip_adapter_end(adapter, peers[i]);
                 close(seats[i].fd);
                 seats[i].fd = -1;
-            } else if (seats[i].fd < 0 && (seats[0].revents & POLLIN) && (seats[i].fd = accept(listener, NULL, NULL)) >= 0) {
+            } else if (seats[i].fd < 0 && (seats[0].revents & POLLIN)) {
                 seats[0].revents = 0;
-                enip_adapter_begin(adapter, &peers[i]);
+                if ((seats[i].fd = accept(listener, NULL, NULL)) >= 0)
+                    enip_adapter_begin(adapter, &peers[i]);
             }
         }
         if (enip_adapter_changes(adapter, 100, &changes) != ENIP_OK || changes == seen)
