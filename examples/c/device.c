@@ -34,8 +34,7 @@ static int serve(enip_adapter *adapter, int fd, uint32_t peer) {
         rest = (size_t)came - at;
         if (enip_adapter_feed(adapter, moment(), peer, bytes + at, rest, room, sizeof room, &fed) != ENIP_OK)
             return 0;
-        if (fed.answer > 0 && send(fd, room, fed.answer, MSG_DONTWAIT | MSG_NOSIGNAL) != (ssize_t)fed.answer)
-            return 0;
+        if (fed.answer > 0 && send(fd, room, fed.answer, MSG_DONTWAIT | MSG_NOSIGNAL) != (ssize_t)fed.answer) return 0;
         at += fed.taken;
     }
     return (came > 0 && !fed.close) || (came < 0 && (errno == EAGAIN || errno == EINTR));
@@ -53,7 +52,7 @@ int main(int count, char **words) {
     int lamp = 0, on = 1, listener = socket(AF_INET, SOCK_STREAM, 0);
     setsockopt(listener, SOL_SOCKET, SO_REUSEADDR, &on, sizeof on);
     if (bind(listener, (struct sockaddr *)&here, sizeof here) || listen(listener, PEERS)) return perror("device"), 1;
-    if (enip_adapter_new(configuration, sizeof configuration - 1, &adapter, &why) != ENIP_OK)
+    if (enip_adapter_new(configuration, sizeof configuration - 1, &adapter, &why))
         return fprintf(stderr, "device: %s\n", why.text), 1;
     for (int i = 0; i <= PEERS; i++) seats[i] = (struct pollfd){i == 0 ? listener : -1, POLLIN, 0};
     for (;;) {
@@ -72,8 +71,7 @@ int main(int count, char **words) {
                     enip_adapter_begin(adapter, &peers[i]);
             }
         }
-        if (enip_adapter_changes(adapter, 100, &changes) != ENIP_OK || changes == seen)
-            continue;
+        if (enip_adapter_changes(adapter, 100, &changes) != ENIP_OK || changes == seen) continue;
         enip_adapter_write(adapter, 101, 0, &changes, sizeof changes); /* least byte first, as x86-64 has it */
         seen = changes;
         if (enip_adapter_read(adapter, 4, 100, 3, data, sizeof data, &size) == ENIP_OK && (data[0] != 0) != lamp)
