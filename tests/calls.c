@@ -192,6 +192,7 @@ int nanosleep(const struct timespec *asked, struct timespec *left) {
 int poll(struct pollfd *sockets, nfds_t count, int milliseconds) {
     NEXT(poll);
     long answer;
+    tell("polls %d\n", milliseconds);
     return answers(rule_of("poll", -1), &answer) ? (int)answer : next(sockets, count, milliseconds);
 }
 
