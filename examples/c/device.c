@@ -58,6 +58,8 @@ int main(int count, char **words) {
     for (;;) {
         uint64_t now = moment(), due;
         int wait = enip_adapter_deadline(adapter, &due) != ENIP_OK ? -1 : due > now ? (int)((due - now) / 1000 + 1) : 0;
+        for (int i = seats[0].events = 0; i <= PEERS; i++)
+            seats[0].events |= seats[i].fd < 0 ? POLLIN : 0;
         poll(seats, PEERS + 1, wait);
         enip_adapter_tick(adapter, moment());
         for (int i = 1; i <= PEERS; i++) {
