@@ -58,13 +58,13 @@ int main(int count, char **words) {
     for (;;) {
         uint64_t now = moment(), due;
         int wait = enip_adapter_deadline(adapter, &due) != ENIP_OK ? -1 : due > now ? (int)((due - now) / 1000 + 1) : 0;
+        for (int i = seats[0].events = 0; i <= PEERS; i++) seats[0].events |= seats[i].fd < 0 ? POLLIN : 0;
         poll(seats, PEERS + 1, wait);
         enip_adapter_tick(adapter, moment());
         for (int i = 1; i <= PEERS; i++) {
             if (seats[i].fd >= 0 && seats[i].revents != 0 && !serve(adapter, seats[i].fd, peers[i])) {
                 enip_adapter_end(adapter, peers[i]);
-                close(seats[i].fd);
-                seats[i].fd = -1;
+                close(seats[i].fd), seats[i].fd = -1;
             } else if (seats[i].fd < 0 && (seats[0].revents & POLLIN)) {
                 seats[0].revents = 0;
                 if ((seats[i].fd = accept(listener, NULL, NULL)) >= 0)
