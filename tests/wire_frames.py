@@ -21,10 +21,10 @@ def unconnected(session, request, context=CONTEXT):
     return frame(0x6F, session, head + request, context=context)
 
 
-def connected(session, connection, item):
+def connected(session, connection, item, context=CONTEXT):
     """A SendUnitData with an item of a connection: a count, and a request or a reply."""
     head = bytes(6) + struct.pack("<HHHIHH", 2, 0xA1, 4, connection, 0xB1, len(item))
-    return frame(0x70, session, head + item)
+    return frame(0x70, session, head + item, context=context)
 
 
 def read_all(peer, count):
