@@ -1,0 +1,128 @@
+"""The second reading of the objects: Identity, the assemblies and the counter."""
+import struct
+
+from reading.protocol import (
+    ADD, ASSEMBLY, ATTRIBUTE, CLEAR, CONNECTION_MANAGER, COUNTER, DESTINATION, GET, GET_ALL, GET_LIST, GET_MEMBER,
+    IDENTITY, LIST, MEMBER, NOT_SETTABLE, PARAMETER, SERVICE, SET, SET_MEMBER, SHORT, TOO_LARGE, VALUE, check,
+    check_length, number, Refusal, request_of,
+)
+
+
+class Objects:
+    """Identity, Assembly and the counter of a configuration."""
+
+    def __init__(self, config):
+        self.config = config
+        self.value, self.limit, self.additions = config["value"], config["limit"], 0
+        self.assemblies = {one["instance"]: one for one in config["assemblies"]}
+        self.contents = {one["instance"]: bytes(sum(one["members"])) for one in config["assemblies"]}
+
+    def services(self, kind, instance):
+        if kind == ASSEMBLY and instance in self.assemblies:
+            return [GET_LIST, GET, SET, GET_MEMBER, SET_MEMBER]
+        return {
+            (IDENTITY, 0): [GET], (ASSEMBLY, 0): [GET], (COUNTER, 0): [GET], (CONNECTION_MANAGER, 1): [],
+            (IDENTITY, 1): [GET_ALL, GET_LIST, GET], (COUNTER, 1): [GET_LIST, GET, SET, ADD, CLEAR],
+        }.get((kind, instance))
+
+    def attribute(self, kind, instance, attribute):
+        config = self.config
+        if instance == 0:
+            revision = 2 if kind == ASSEMBLY else 1
+            instances = list(self.assemblies) if kind == ASSEMBLY else [1]
+            greatest, count = max(instances, default=0), len(instances)
+            return {1: number(2, revision), 2: number(2, greatest), 3: number(2, count)}.get(attribute)
+        if kind == IDENTITY:
+            name = config["name"].encode()
+            return {
+                1: number(2, config["vendor"]), 2: number(2, config["device_type"]),
+                3: number(2, config["product_code"]), 4: bytes([config["major"], config["minor"]]),
+                5: number(2, config["status"]), 6: number(4, config["serial"]),
+                7: bytes([len(name)]) + name, 8: bytes([config["state"]]),
+            }.get(attribute)
+        if kind == ASSEMBLY:
+            members = self.assemblies[instance]["members"]
+            return {1: number(2, len(members)), 3: self.contents[instance], 4: number(2, sum(members))}.get(attribute)
+        return {1: number(4, self.value), 2: number(4, self.limit), 3: number(4, self.additions)}.get(attribute)
+
+    def execute(self, request, room):
+        """The reply to a request. What it changes is kept only where the reply fits into the room."""
+        before = (self.value, self.limit, self.additions, dict(self.contents))
+        try:
+            status, data = self.served(request)
+        except Refusal as refusal:
+            status, data = refusal.args[0], b""
+        if 4 + len(data) > room:
+            self.value, self.limit, self.additions, self.contents = before
+            status, data = TOO_LARGE, b""
+        return bytes([request[0] | 0x80, 0, status, 0]) + data
+
+    def served(self, request):
+        service, path, data = request_of(request)
+        kind, instance = path["class"], path["instance"]
+        services = self.services(kind, instance)
+        check(services is not None, DESTINATION)
+        check(service in services, SERVICE)
+        if service == GET_ALL:
+            check_length(data, 0)
+            return 0, b"".join(self.attribute(kind, instance, place) for place in range(1, 8))
+        if service == GET_LIST:
+            return self.listed(kind, instance, data)
+        if service == ADD:
+            return 0, self.added(data)
+        if service == CLEAR:
+            check_length(data, 0)
+            old, self.value = self.value, 0
+            return 0, number(4, old)
+        if service in (GET_MEMBER, SET_MEMBER):
+            return 0, self.member(service, instance, path, data)
+        value = self.attribute(kind, instance, path.get("attribute"))
+        check(value is not None, ATTRIBUTE)
+        if service == GET:
+            check_length(data, 0)
+            return 0, value
+        return 0, self.set(kind, instance, path["attribute"], len(value), data)
+
+    def listed(self, kind, instance, data):
+        check(len(data) >= 2, SHORT)
+        count = int.from_bytes(data[:2], "little")
+        check_length(data, 2 + 2 * count)
+        status, reply = 0, data[:2]
+        for (attribute,) in struct.iter_unpack("<H", data[2:]):
+            value = self.attribute(kind, instance, attribute)
+            if value is None:
+                status, reply = LIST, reply + number(2, attribute) + number(2, ATTRIBUTE)
+            else:
+                reply += number(2, attribute) + number(2, 0) + value
+        return status, reply
+
+    def set(self, kind, instance, attribute, length, data):
+        settable = attribute == 2 if kind == COUNTER else attribute == 3 and self.assemblies[instance]["settable"]
+        check(settable, NOT_SETTABLE)
+        check_length(data, length)
+        if kind == ASSEMBLY:
+            self.contents[instance] = data
+        else:
+            check(int.from_bytes(data, "little") >= self.value, VALUE)
+            self.limit = int.from_bytes(data, "little")
+        return b""
+
+    def member(self, service, instance, path, data):
+        assembly, content, place = self.assemblies[instance], self.contents[instance], path.get("member", 0)
+        check(path.get("attribute") == 3, ATTRIBUTE)
+        check(1 <= place <= len(assembly["members"]), MEMBER)
+        begin, end = sum(assembly["members"][: place - 1]), sum(assembly["members"][:place])
+        if service == GET_MEMBER:
+            check_length(data, 0)
+            return content[begin:end]
+        check(assembly["settable"], NOT_SETTABLE)
+        check_length(data, end - begin)
+        self.contents[instance] = content[:begin] + data + content[end:]
+        return b""
+
+    def added(self, data):
+        check_length(data, 4)
+        total = self.value + int.from_bytes(data, "little")
+        check(total <= self.limit, PARAMETER)
+        self.value, self.additions = total, (self.additions + 1) % 2**32
+        return number(4, total)

@@ -1,0 +1,221 @@
+"""The world in which requests have numbers, and random scripts for it."""
+
+from reading.protocol import GET_LIST, IDENTITY, LAST, LAST_MOMENT, MOST, ROOM, number
+from reading.objects import Objects
+from reading.conversations import Requests
+
+
+class NumberedWorld:
+    """A client and an adapter whose requests have numbers: no counts, and no reply is kept. What was executed is a log
+    of own numbers and of other sessions' requests, and the machine is what a run over the log makes of it."""
+
+    O_T_SIZE = T_O_SIZE = 500
+
+    def __init__(self, config):
+        self.config, self.submits, self.sent, self.back, self.log = config, [], [], [], []
+        self.reached, self.heard, self.open, self.awaited, self.given_up = 0, 0, True, None, False
+        self.after_accepted, self.went_on = 0, 0
+
+    def is_refused(self):
+        """Whether there is no place for two sessions."""
+        return self.config["peers"] < 2 or self.config["first_handle"] == LAST
+
+    def run(self, until=None):
+        """The objects after the log, and the reply at this number's place."""
+        objects, reply = Objects(self.config), None
+        for entry in self.log:
+            own = isinstance(entry, int)
+            request, room = (self.submits[entry], self.T_O_SIZE - 2) if own else (entry, ROOM)
+            got = objects.execute(request, room)
+            reply = got if own and entry == until else reply
+        return objects, reply
+
+    def refusal(self, request):
+        if len(self.submits) - self.after_accepted == MOST:
+            return 5
+        if self.awaited is not None:
+            return 1
+        if len(request) < 2 or request[0] >= 0x80:
+            return 3
+        return 2 if len(request) + 2 > self.O_T_SIZE else None
+
+    def submit(self, request):
+        refusal = self.refusal(request)
+        if refusal is not None:
+            return "submit refused %d" % refusal
+        self.went_on += self.given_up
+        self.awaited, self.given_up = len(self.submits), False
+        self.submits.append(request)
+        self.sent.append(self.awaited)
+        return "submit %d sent %d" % (self.awaited, len(self.sent) - 1)
+
+    def resend(self):
+        if self.awaited is None:
+            return "resend none"
+        self.sent.append(self.awaited)
+        return "resend %d" % (len(self.sent) - 1)
+
+    def reach(self, position):
+        if not self.reached <= position < len(self.sent):
+            return "reach %d impossible" % position
+        self.reached, number = position, self.sent[position]
+        if not self.open:
+            return "reach %d none" % position
+        if number not in self.log:
+            self.log.append(number)
+        self.back.append(number)
+        return "reach %d back %d" % (position, len(self.back) - 1)
+
+    def hear(self, position):
+        if not self.heard <= position < len(self.back):
+            return "back %d impossible" % position
+        self.heard, number = position, self.back[position]
+        if number != self.awaited:
+            return "back %d ignored" % position
+        self.awaited, self.after_accepted = None, number + 1
+        return "back %d accepted %s" % (position, self.run(number)[1].hex())
+
+    def other(self, request):
+        if not 2 <= len(request) <= ROOM:
+            return "other impossible"
+        self.log.append(request)
+        return "other done"
+
+    def shut(self):
+        self.open = False
+        return "shut"
+
+    def give_up(self):
+        if self.awaited is not None:
+            self.awaited, self.given_up = None, True
+        return "giveup"
+
+    def ending(self):
+        objects, _ = self.run()
+        yield "counter %d %d %d" % (objects.value, objects.limit, objects.additions)
+        for instance, content in sorted(objects.contents.items()):
+            yield "assembly %d %s" % (instance, content.hex())
+        waiting = "idle" if self.awaited is None else "waiting"
+        yield "client " + ("given up" if self.given_up else waiting)
+
+
+class Script(Requests):
+    """Makes the lines of a script, and what is printed for them."""
+
+    KINDS = ["submit", "other"] * 2 + ["reach", "back"] * 5 + ["resend", "end", "remark"]
+
+    def begin(self, config):
+        self.configuration, self.world, self.lines, self.wanted = config, NumberedWorld(config), [], []
+
+    def listing(self, size):
+        """A request for a list of attributes, unknown ones and of one byte, whose reply has this size."""
+        known = (size - 6) % 4
+        listed = [number(2, 300)] * ((size - 6) // 4 - known) + [number(2, 8)] * known
+        path = self.right_path(IDENTITY, 1)
+        return bytes([GET_LIST, len(path) // 2]) + path + number(2, len(listed)) + b"".join(listed)
+
+    def bytes(self, limit):
+        """A request, now and then of about a limit's length, or whose reply has, or a byte of one, or none."""
+        if self.seldom(0.05):
+            return self.listing(limit + self.pick(-1, 0, 0, 1, 2))
+        request = self.request(self.configuration)
+        if self.seldom(0.1):
+            size = limit + self.pick(-1, 0, 0, 1, 1)
+            return request[:size] + bytes(size - len(request[:size]))
+        return request[: self.random.randrange(3)] if self.seldom() else request
+
+    def spelled(self, request):
+        text = request.hex()
+        text = text.upper() if self.seldom(0.2) else text
+        return " ".join(text[at : at + 5] for at in range(0, len(text), 5)) if self.seldom(0.2) else text
+
+    def position(self, last, count):
+        """A position of a direction with so many: mostly the newest, the last one again, or one of those between."""
+        if self.seldom(0.08):
+            return self.pick(count, count + 1, max(last - 1, 0), 0, LAST_MOMENT)
+        between = range(last, max(count, last + 1))
+        return self.pick(between[-1], between[-1], between[0], self.random.choice(between))
+
+    def turn(self):
+        """A line, and what is printed for it."""
+        self.line(self.pick(*self.KINDS))
+
+    def line(self, kind):
+        """A line of this kind, and what is printed for it."""
+        world = self.world
+        if kind == "submit":
+            request = self.bytes(world.O_T_SIZE - 2)
+            line, told = "submit " + self.spelled(request), world.submit(request)
+        elif kind == "reach":
+            position = self.position(world.reached, len(world.sent))
+            line, told = "reach %d" % position, world.reach(position)
+        elif kind == "back":
+            position = self.position(world.heard, len(world.back))
+            line, told = "back %d" % position, world.hear(position)
+        elif kind == "other":
+            request = self.bytes(ROOM)
+            line, told = "other " + self.spelled(request), world.other(request)
+        elif kind == "resend":
+            line, told = "resend", world.resend()
+        elif kind == "giveup":
+            line, told = "giveup", world.give_up()
+        elif kind == "end":
+            rare = self.pick("shut", "giveup", "", "", "", "")
+            line, told = rare, {"shut": world.shut, "giveup": world.give_up}.get(rare, lambda: None)()
+        else:
+            line, told = self.pick("# resend", "", "#"), None
+        self.lines.append(line)
+        self.wanted += [] if told is None else [told]
+
+    def turns(self, count):
+        """Makes so many lines."""
+        for _ in range(count):
+            self.turn()
+
+    def refused(self):
+        """A line that is refused."""
+        return self.pick(
+            "submit", "submit 0", "submit 0g", "resend 0", "reach", "reach ", "reach -1", "reach 1 ", "back", "back 1.",
+            "back 18446744073709551616", "other", "other 000", "shut ", "Giveup", " resend", "resent", "1 00", "\t",
+        )
+
+    def make(self):
+        """The lines of a script, and status, standard error and printed lines of its run."""
+        config = self.config()
+        config["peers"] = config["peers"] if self.seldom(0.2) else max(config["peers"], 2)
+        self.begin(config)
+        self.turns(self.pick(5, 20, 40, 80))
+        if self.world.is_refused():
+            return 6, "setup\n", []
+        if self.seldom(0.3):
+            self.lines += [self.refused(), "resend"]
+            return 4, "line %d\n" % (len(self.lines) - 1), self.wanted
+        return 0, "", self.wanted + list(self.world.ending())
+
+
+class GoingOn(Script):
+    """Makes scripts in which the client gives up and goes on."""
+
+    KINDS = ["submit"] * 5 + ["giveup"] * 3 + ["reach", "back"] * 4 + ["other", "resend", "end", "remark"]
+    to_the_bound = False
+
+    def abandon(self):
+        """A request is submitted and given up, and mostly it is lost."""
+        self.line("submit")
+        if self.seldom(0.0005):
+            self.line("reach")
+        self.line("giveup")
+
+    def turns(self, count):
+        """So many lines, and as many more as it takes to go on."""
+        super().turns(count)
+        while self.world.went_on == 0:
+            self.turn()
+        if self.to_the_bound:
+            few = self.pick(0, 1, 1, 2)
+            while len(self.world.submits) - self.world.after_accepted < MOST - few:
+                self.abandon()
+            # the last one that is taken waits while another is submitted
+            self.line("submit")
+            self.line("submit")
+            super().turns(40)
