@@ -1,4 +1,4 @@
-/* Feeds one frame to an adapter again and again, through the library for C.
+/* Feeds one frame to an adapter again and again, through the calls of enip.h, and prints its last answer.
  * library COUNT FRAME: FRAME is get, set or repeat (the same item on a class 3 connection). */
 #include <enip.h>
 #include <stdio.h>
@@ -61,5 +61,8 @@ int main(int words, char **word) {
     }
     for (long i = 0; i < count; i++)
         feed(frame, size, room);
+    size = feed(frame, size, room).answer;
+    for (size_t i = 0; i < size; i++)
+        printf("%02x", room[i]);
     return enip_adapter_free(adapter);
 }

@@ -69,11 +69,11 @@ uint32_t enip_core_client_unregister(struct kept *, uint8_t *, size_t, size_t *)
 uint32_t enip_core_client_give_up(struct kept *);
 uint32_t enip_core_client_feed(struct kept *, const uint8_t *, size_t, uint8_t *, size_t, enip_heard *);
 
-static int is_range(const void *bytes, size_t length) {
-    return bytes != NULL && length > 0 && length <= (size_t)PTRDIFF_MAX;
+static inline int is_range(const void *bytes, size_t length) {
+    return bytes != NULL && length - 1 < (size_t)PTRDIFF_MAX;
 }
 
-static int are_apart(const void *a, size_t a_size, const void *b, size_t b_size) {
+static inline int are_apart(const void *a, size_t a_size, const void *b, size_t b_size) {
     uintptr_t from = (uintptr_t)a, other = (uintptr_t)b;
     return from + a_size <= other || other + b_size <= from;
 }
@@ -96,7 +96,7 @@ static int is_place(const void *room, size_t size, const size_t *count) {
 }
 
 /* A range to read beside them. */
-static int is_call(const void *bytes, size_t length, const void *room, size_t size, const void *told, size_t told_size) {
+static inline int is_call(const void *bytes, size_t length, const void *room, size_t size, const void *told, size_t told_size) {
     return is_range(bytes, length) && is_range(room, size) && told != NULL && are_apart(bytes, length, room, size)
         && are_apart(bytes, length, told, told_size) && are_apart(room, size, told, told_size);
 }
