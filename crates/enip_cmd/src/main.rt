@@ -22,8 +22,6 @@ mod retried;
 pub mod serve;
 mod served;
 pub mod socket;
-#[cfg(test)]
-mod tests;
 mod watch;
 mod watched_wire;
 mod watching;
