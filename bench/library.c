@@ -33,7 +33,7 @@ static size_t frame_of(unsigned char *frame, unsigned char command, const unsign
     return 24 + head + size;
 }
 
-static enip_fed feed(const unsigned char *frame, size_t size, unsigned char *room) {
+static inline enip_fed feed(const unsigned char *frame, size_t size, unsigned char *room) {
     enip_fed fed = {0, 0, 0, 1};
     if (enip_adapter_feed(adapter, 1, peer, frame, size, room, ENIP_ANSWER_ROOM, &fed) != ENIP_OK || fed.answer == 0)
         exit(1);
