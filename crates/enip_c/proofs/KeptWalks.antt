@@ -135,7 +135,11 @@ module _ (P : Place) where
   -- ---- `of_loose` gives what the box's pointer owns to the place.
   abbrev pub of_loose_fn : Fn
   of_loose_fn = record {
-    lifetimes = 0; outlives = []; ty_params = []; givens = 0; params = 1;
+    lifetimes = 0;
+    outlives = [];
+    ty_params = [];
+    givens = 0;
+    params = 1;
     locals = lone_local ∷ loose_local ∷ pointer_local ∷ pointer_local ∷ [];
     body = seq (assign (place 2 []) (rv_opd (copy (place 1 (field 0 ∷ []))))) (seq (assign (place 3 []) (rv_opd (copy (place 2 []))))
         (seq (assign (place 0 []) (aggregate (copy (place 3 []) ∷ []))) return));
@@ -169,7 +173,11 @@ module _ (P : Place) where
   -- ---- `into_loose` gives what a live place owns to the box's pointer.
   abbrev pub into_loose_fn : Fn
   into_loose_fn = record {
-    lifetimes = 0; outlives = []; ty_params = []; givens = 0; params = 2;
+    lifetimes = 0;
+    outlives = [];
+    ty_params = [];
+    givens = 0;
+    params = 2;
     locals = loose_local ∷ lone_local ∷ local (layout Z) value_local ∷ pointer_local ∷ pointer_local ∷ [];
     body = seq (assign (place 3 []) (rv_opd (copy (place 1 (field 0 ∷ []))))) (seq (assign (place 4 []) (rv_opd (copy (place 3 []))))
         (seq (assign (place 0 []) (aggregate (copy (place 4 []) ∷ copy (place 2 []) ∷ []))) return));
