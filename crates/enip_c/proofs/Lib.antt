@@ -1,5 +1,4 @@
 pub mod LooseValues
-pub mod AdapterValues
-pub mod ClientValues
-pub mod EndingsValues
+pub mod KeptWalks
+pub mod KeptPlaces
 pub mod ClientLemmas
