@@ -2,6 +2,7 @@
  * the program that the environment names as ENIP, so that tests/run_rows can be given this in its place. */
 #define _POSIX_C_SOURCE 200809L
 #include <enip.h>
+#include <errno.h>
 #include <stdio.h>
 #include <stdlib.h>
 #include <string.h>
@@ -77,8 +78,9 @@ static int run(enip_adapter *adapter, char *line) {
     if (line[0] == '\0' || line[0] == '#')
         return 1;
     if (strncmp(line, "now ", 4) == 0) {
+        errno = 0;
         now = strtoull(line + 4, NULL, 10);
-        return 1;
+        return errno == 0;
     }
     if (strncmp(line, "end ", 4) == 0) {
         struct seat *seat = &seats[digit_of(line[4])];
