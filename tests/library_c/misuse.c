@@ -25,6 +25,11 @@ static const unsigned char registers[28] = {0x65, 0, 4, 0, [24] = 1};
 int main(void) {
     static unsigned char room[ENIP_REPLY_ROOM];
     static uint64_t foreign[16];
+    static union {
+        unsigned char bytes[ENIP_ANSWER_ROOM];
+        enip_fed fed;
+        size_t count;
+    } shared;
     enip_adapter *adapter = NULL, *other = (enip_adapter *)foreign;
     enip_client *client = NULL, *stranger = (enip_client *)foreign;
     enip_wants wants = {1, 2, 1000000, 3, 4, 500, 500, 1, 3};
@@ -55,6 +60,8 @@ int main(void) {
     MISUSE(enip_adapter_feed(adapter, 0, peer, registers, 28, room, far, &fed));
     MISUSE(enip_adapter_feed(adapter, 0, peer, registers, 28, room, sizeof room, NULL));
     MISUSE(enip_adapter_feed(adapter, 0, peer, room, 28, room, sizeof room, &fed));
+    MISUSE(enip_adapter_feed(adapter, 0, peer, registers, 28, shared.bytes, sizeof shared.bytes, &shared.fed));
+    MISUSE(enip_adapter_feed(adapter, 0, peer, shared.bytes, 28, room, sizeof room, &shared.fed));
     is("small", enip_adapter_feed(adapter, 0, peer, registers, 28, room, ENIP_ANSWER_ROOM - 1, &fed), ENIP_ROOM);
     is("feed", enip_adapter_feed(adapter, 0, peer, registers, 28, room, ENIP_ANSWER_ROOM, &fed), ENIP_OK);
     is("one session was registered, and no earlier piece came", fed.answer == 28 && room[4] == 1 && room[8] == 0, 1);
@@ -68,6 +75,7 @@ int main(void) {
     MISUSE(enip_adapter_read(adapter, 1, 1, 1, NULL, 2, &count));
     MISUSE(enip_adapter_read(adapter, 1, 1, 1, room, 0, &count));
     MISUSE(enip_adapter_read(adapter, 1, 1, 1, room, 2, NULL));
+    MISUSE(enip_adapter_read(adapter, 1, 1, 1, shared.bytes, sizeof shared.bytes, &shared.count));
     is("small", enip_adapter_read(adapter, 1, 1, 1, room, 1, &count), ENIP_ROOM);
     is("absent", enip_adapter_read(adapter, 1, 1, 99, room, 2, &count), ENIP_ABSENT);
     is("count", count == 77 && deadline == 5, 1);
