@@ -42,7 +42,7 @@ pub enum ElementaryType {
 }
 
 /// What the values of an elementary type are, and of how many bytes.
-#[derive(Clone, Copy, Debug, PartialEq, Eq)]
+#[derive(Clone, Copy)]
 pub(crate) enum Form {
     Bool,
     Signed(usize),

@@ -14,7 +14,7 @@ use crate::value::Value;
 use std::num::f32_to_bits_with_nan;
 
 /// Why a word tells no value of a form.
-#[derive(Clone, Copy, Debug, PartialEq, Eq)]
+#[derive(Clone, Copy)]
 pub(crate) enum Miss {
     /// It is none, whatever the range.
     Form,

@@ -17,7 +17,7 @@ const LONGEST_TEXT: usize = 160;
 type Words = ArrayString<LONGEST_TEXT>;
 
 /// What a number is one of.
-#[derive(Clone, Copy, Debug)]
+#[derive(Clone, Copy)]
 enum Kind {
     Call,
     Silence,

@@ -24,7 +24,7 @@ use std::marker::Model;
 
 /// What a piece told: how many of its bytes were taken, whether a frame lay whole in it, and what was found in the
 /// frame.
-#[derive(Clone, Copy, Debug)]
+#[derive(Clone, Copy)]
 struct Told {
     taken: usize,
     in_place: bool,

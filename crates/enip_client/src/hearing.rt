@@ -50,7 +50,7 @@ pub enum Heard<'a> {
 }
 
 /// What was found in a frame, whose reply stands from one index to another among the frame's bytes.
-#[derive(Clone, Copy, Debug)]
+#[derive(Clone, Copy)]
 pub(crate) enum Found {
     Nothing,
     Registered,
@@ -93,7 +93,7 @@ const OPENED: usize = 26;
 const PROTOCOL: usize = 4;
 
 /// A router's reply, and its bytes.
-#[derive(Clone, Copy, Debug)]
+#[derive(Clone, Copy)]
 struct Answer<'a> {
     bytes: &'a [u8],
     reply: ReplyView<'a>,

@@ -26,7 +26,7 @@ use crate::wants::Wants;
 use cip_class3::Originator;
 
 /// The client's session.
-#[derive(Clone, Copy, Debug)]
+#[derive(Clone, Copy)]
 pub(crate) enum Registration {
     /// None was registered yet.
     NotRegistered,
@@ -37,7 +37,7 @@ pub(crate) enum Registration {
 }
 
 /// The client's connection.
-#[derive(Clone, Copy, Debug)]
+#[derive(Clone, Copy)]
 pub(crate) enum Link {
     /// None was opened yet.
     NotOpened,
@@ -48,7 +48,7 @@ pub(crate) enum Link {
 }
 
 /// What is awaited.
-#[derive(Clone, Copy, Debug)]
+#[derive(Clone, Copy)]
 pub(crate) enum Awaited {
     /// The reply to RegisterSession.
     Session,
@@ -61,7 +61,7 @@ pub(crate) enum Awaited {
 }
 
 /// What is awaited, and the number of the frame that asked, which is the context of the reply.
-#[derive(Clone, Copy, Debug)]
+#[derive(Clone, Copy)]
 pub(crate) struct Awaiting {
     pub(crate) number: u64,
     pub(crate) awaited: Awaited,

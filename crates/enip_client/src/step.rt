@@ -16,7 +16,7 @@ use cip_objects::{REPLY_LIMIT, ReplyBuf};
 use enip_wire::{Sink, write_all};
 
 /// Which reply is awaited.
-#[derive(Clone, Copy, Debug)]
+#[derive(Clone, Copy)]
 pub(crate) enum Step {
     Registering,
     Opening,
@@ -35,7 +35,7 @@ impl Step {
 }
 
 /// A call that follows what was heard.
-#[derive(Clone, Copy, Debug)]
+#[derive(Clone, Copy)]
 pub(crate) enum Call {
     Open,
     Request,
@@ -58,14 +58,14 @@ impl Call {
 }
 
 /// What is asked, on a connection or not.
-#[derive(Clone, Copy, Debug)]
+#[derive(Clone, Copy)]
 pub(crate) struct Asked<'a> {
     pub(crate) request: &'a [u8],
     pub(crate) connected: bool,
 }
 
 /// How many bytes of a piece were taken, and which reply is awaited then.
-#[derive(Clone, Copy, Debug)]
+#[derive(Clone, Copy)]
 pub(crate) struct Progress {
     pub(crate) taken: usize,
     pub(crate) step: Step,

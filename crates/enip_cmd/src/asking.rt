@@ -17,7 +17,7 @@ use std::alloc::Global;
 use std::time::Instant;
 
 /// The data of a request, as the words tell them.
-#[derive(Clone, Copy, Debug)]
+#[derive(Clone, Copy)]
 enum Content<'a, 'm> {
     /// Hexadecimal digits.
     Digits(&'a str),
@@ -26,7 +26,7 @@ enum Content<'a, 'm> {
 }
 
 /// What the words ask: of which device, what, and how.
-#[derive(Clone, Copy, Debug)]
+#[derive(Clone, Copy)]
 pub(crate) struct Asked<'a, 'm> {
     pub(crate) address: &'a str,
     service: u8,

@@ -12,7 +12,7 @@ use std::time::{Duration, Instant};
 const REGISTERED_PORT: u16 = 44_818;
 
 /// A host or a name, and a port.
-#[derive(Clone, Copy, Debug)]
+#[derive(Clone, Copy)]
 pub(crate) struct Place<'a> {
     /// The word that says it.
     word: &'a str,
@@ -129,7 +129,7 @@ fn parts_of(word: &str) -> Option<(&str, u16)> {
 }
 
 /// How long a device is waited for: until it is connected, and at each read.
-#[derive(Clone, Copy, Debug)]
+#[derive(Clone, Copy)]
 pub(crate) struct Patience<'a> {
     /// The seconds, as they were said.
     word: &'a str,

@@ -11,7 +11,7 @@ use std::io::ErrorKind;
 const REST: u64 = 1_000_000;
 
 /// When a socket is tried again. Moments are in microseconds.
-#[derive(Clone, Copy, Debug, PartialEq, Eq)]
+#[derive(Clone, Copy)]
 pub(crate) enum Readiness {
     /// At once: it may have more.
     Ready,

@@ -100,7 +100,7 @@ impl fmt::Display for DeviceWords {
 }
 
 /// How a command ends early: the line that goes with the exit status, and why in words.
-#[derive(Debug, Drop)]
+#[derive(Drop)]
 pub(crate) struct Ending<'a> {
     fault: Fault,
     reason: Reason<'a>,

@@ -40,7 +40,7 @@ pub(crate) struct Sockets {
 }
 
 /// How a device is served.
-#[derive(Clone, Copy, Debug)]
+#[derive(Clone, Copy)]
 pub(crate) struct Serving {
     /// How many connections are taken.
     pub(crate) count: u64,

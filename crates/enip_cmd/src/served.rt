@@ -7,7 +7,7 @@ use enip_wire::{FrameView, Header, rr_body, unit_body};
 use std::fmt;
 
 /// What a frame asks.
-#[derive(Clone, Copy, Debug)]
+#[derive(Clone, Copy)]
 pub(crate) struct Asked {
     command: u16,
     context: [u8; 8],
@@ -141,7 +141,7 @@ fn write_path<W: fmt::Write>(f: &mut fmt::Formatter<W>, path: Path) -> fmt::Resu
 }
 
 /// The status of an answer: that of its header, or that of the reply in it.
-#[derive(Clone, Copy, Debug)]
+#[derive(Clone, Copy)]
 pub(crate) enum Status {
     /// An encapsulation status.
     Header(u32),

@@ -12,7 +12,7 @@ use std::rt::Clock;
 use std::time::Instant;
 
 /// Why nothing more comes from a connection, or goes out.
-#[derive(Clone, Copy, Debug)]
+#[derive(Clone, Copy)]
 pub(crate) enum Lost {
     /// The other end shut its writing side.
     Ended,

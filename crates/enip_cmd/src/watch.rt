@@ -21,7 +21,7 @@ pub(crate) trait Watch {
 }
 
 /// Nobody watches.
-#[derive(Clone, Copy, Debug)]
+#[derive(Clone, Copy)]
 pub(crate) struct Unwatched;
 
 impl Watch for Unwatched {

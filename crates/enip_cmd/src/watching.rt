@@ -25,7 +25,7 @@ const LONGEST_SILENCE: u64 = 60;
 const PAUSE: u64 = 5;
 
 /// How often a device is asked, and what is printed.
-#[derive(Clone, Copy, Debug)]
+#[derive(Clone, Copy)]
 pub(crate) struct Watched {
     /// How long after a reply the next request is sent.
     every: Duration,

@@ -81,7 +81,7 @@ pub(crate) enum Wrong {
 }
 
 /// Where something stands in a configuration: in the text, its table `counter`, or one of its tables `assembly`, from 0.
-#[derive(Clone, Copy, Debug)]
+#[derive(Clone, Copy)]
 pub(crate) enum Spot<'a> {
     Text(&'a str),
     Counter(&'a str),

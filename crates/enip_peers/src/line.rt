@@ -15,7 +15,7 @@ use enip_adapter::{Adapter, Peer};
 pub const LINGER: u64 = 1_000_000;
 
 /// What a turn came to.
-#[derive(Clone, Copy, Debug, PartialEq, Eq)]
+#[derive(Clone, Copy, PartialEq, Eq)]
 pub(crate) enum Turn {
     /// More may have come.
     More,

@@ -42,7 +42,7 @@ pub fn answer<R: Read + Drop, W: Write + Drop>(
 }
 
 /// Who has one of the nine numbers of an input.
-#[derive(Clone, Copy, Debug)]
+#[derive(Clone, Copy)]
 enum Seat {
     /// No peer.
     Free,

@@ -25,7 +25,7 @@ pub(crate) enum Field<'a> {
 }
 
 /// Where an arrow points.
-#[derive(Clone, Copy, Debug, PartialEq, Eq)]
+#[derive(Clone, Copy)]
 pub(crate) enum Way {
     /// From the client to the adapter.
     There,

@@ -119,6 +119,7 @@ impl FrameReader {
     /// no byte is held afterwards. Else what was taken is held until `clear`, as after `push`.
     ///
     /// Who calls `clear` after each frame holds the same bytes as with `push`, `state` and `clear`.
+    #[inline(always)]
     pub fn next<'a>(&'a mut self, piece: &'a [u8]) -> (usize, Held<'a>)
         ensures* after { sem 𝓛 (Rests the_row self.entry (λ last. last ≡ left_of self.old piece.now)) }
         ensures taken { Takes self.old piece.now result.0 }
