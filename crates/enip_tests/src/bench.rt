@@ -1,3 +1,4 @@
-//! Tests of `enip_bench`: the largest connections.
+//! Tests of `enip_bench`: the largest connections, an opening that is refused.
 
+mod faults;
 mod large;

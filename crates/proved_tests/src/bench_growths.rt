@@ -3,33 +3,12 @@
 use cip_class3::Stage;
 use enip_adapter::Adapter;
 use enip_bench::{Bench, BenchFault, Event};
-use enip_client::{Client, Wants};
+use enip_client::Client;
 use std::alloc::Global;
 use std::test::Fail;
 use test_stands::bench::{
     ADD_5, ADD_7, CLEAR, LIMITS, LISTEN, Row, WANTS, all_done, bench, counter, demo, look,
 };
-
-/// What the adapter refuses to open: an interval of 0.
-const NO_INTERVAL: Wants = Wants { rpi: 0, ..WANTS };
-
-#[test]
-fn an_opening_that_is_refused(rt: HostRuntime) -> Result<(), Fail> {
-    let adapter = Adapter::new(rt.alloc(), demo(rt.alloc(), 100)?, LISTEN, LIMITS)?;
-    let Ok(client) = Client::new(rt.alloc(), &NO_INTERVAL) else {
-        return Err(Fail::from("the client is made"));
-    };
-    let refused = Bench::new(rt.alloc(), adapter, client).err();
-    assert_eq!(rt; refused, Some(BenchFault::Setup));
-    Ok(())
-}
-
-#[test]
-fn faults_have_numbers(rt: HostRuntime) -> Result<(), Fail> {
-    assert_eq!(rt; BenchFault::Memory as u8, 1);
-    assert_eq!(rt; BenchFault::Setup as u8, 2);
-    Ok(())
-}
 
 /// A lost request, a clearing between, and the end.
 const EVENTS: [Row; 12] = [
