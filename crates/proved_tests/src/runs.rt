@@ -1,17 +1,28 @@
 //! Runs of many events. (Volume 1, transport class 3.)
 
+use crate::same::check_same;
 use enip_bench::{Accepted, Bench, Event, Step};
 use std::alloc::Global;
 use std::process::Abort;
 use std::test::Fail;
 use test_stands::bench::{ADD_1, EXACTLY_ONCE, IS_12, Row, all_done, bench, counter, look};
 
-/// Does the events of these rows in one call.
-fn run_rows(alloc: Global, bench: &mut Bench, rows: &[(Row, Step<'_>)]) -> Result<(), Fail> {
-    let mut events = Vec::new(alloc);
+/// Adds the events of these rows to a list.
+fn add_events(
+    alloc: Global,
+    events: &mut Vec<Event>,
+    rows: &[(Row, Step<'_>)],
+) -> Result<(), Fail> {
     for (row, _) in rows {
         events.push(row.event(alloc)?)?;
     }
+    Ok(())
+}
+
+/// Does the events of these rows in one call.
+fn run_rows(alloc: Global, bench: &mut Bench, rows: &[(Row, Step<'_>)]) -> Result<(), Fail> {
+    let mut events = Vec::new(alloc);
+    add_events(alloc, &mut events, rows)?;
     run(bench, events.as_slice())
 }
 
@@ -35,22 +46,22 @@ struct Wanted<'a> {
 
 /// The counter's value and its additions.
 fn check_counter<A: Abort>(rt: &A, bench: &Bench, wanted: &Wanted<'_>) -> Result<(), Fail> {
-    assert_eq!(rt; counter(bench, 1)?, wanted.value);
-    assert_eq!(rt; counter(bench, 3)?, wanted.additions);
+    check_same(rt, counter(bench, 1)?, wanted.value);
+    check_same(rt, counter(bench, 3)?, wanted.additions);
     Ok(())
 }
 
 /// The reply that was accepted last.
 fn check_last<A: Abort>(rt: &A, last: &Accepted, wanted: &Wanted<'_>) {
-    assert_eq!(rt; last.number, wanted.last_number);
-    assert_eq!(rt; last.reply.as_slice(), wanted.last_reply);
+    check_same(rt, last.number, wanted.last_number);
+    check_same(rt, last.reply.as_slice(), wanted.last_reply);
 }
 
 fn check_seen<A: Abort>(rt: &A, bench: &Bench, wanted: &Wanted<'_>) -> Result<(), Fail> {
     check_counter(rt, bench, wanted)?;
     let seen = look(bench);
-    assert_eq!(rt; seen.back.len(), wanted.back);
-    assert_eq!(rt; seen.accepted.len(), wanted.accepted);
+    check_same(rt, seen.back.len(), wanted.back);
+    check_same(rt, seen.accepted.len(), wanted.accepted);
     let last = seen.accepted.last().ok_or("replies were accepted")?;
     check_last(rt, last, wanted);
     Ok(())
@@ -66,12 +77,16 @@ const ONCE: Wanted<'static> = Wanted {
     last_reply: IS_12,
 };
 
+fn check_once<A: Abort>(rt: &A, alloc: Global, bench: &mut Bench) -> Result<(), Fail> {
+    run_rows(alloc, bench, &EXACTLY_ONCE)?;
+    check_seen(rt, bench, &ONCE)
+}
+
 /// All events in one call.
 #[test]
 fn exactly_once_in_one_run(rt: HostRuntime) -> Result<(), Fail> {
     let mut bench = bench(rt.alloc(), 100)?;
-    run_rows(rt.alloc(), &mut bench, &EXACTLY_ONCE)?;
-    check_seen(&rt, &bench, &ONCE)
+    check_once(&rt, rt.alloc(), &mut bench)
 }
 
 /// A request that is sent twice: both reach the adapter, and both replies the client.
@@ -111,10 +126,14 @@ const MANY: Wanted<'static> = Wanted {
     last_reply: b"\xb2\0\0\0\x70\x11\x01\0",
 };
 
+fn check_many<A: Abort>(rt: &A, alloc: Global, bench: &mut Bench) -> Result<(), Fail> {
+    add_many(alloc, bench, 70_000)?;
+    check_seen(rt, bench, &MANY)
+}
+
 /// Past a wrap of the count: each request is sent twice, executed once, and its reply accepted once.
 #[test]
 fn seventy_thousand_requests(rt: HostRuntime) -> Result<(), Fail> {
     let mut bench = bench(rt.alloc(), 1_000_000)?;
-    add_many(rt.alloc(), &mut bench, 70_000)?;
-    check_seen(&rt, &bench, &MANY)
+    check_many(&rt, rt.alloc(), &mut bench)
 }
