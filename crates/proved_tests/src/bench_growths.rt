@@ -13,7 +13,7 @@ use test_stands::bench::{
 };
 
 /// A lost request, a clearing between, and the end.
-const EVENTS: [Row; 12] = [
+const EVENTS: &[Row] = &[
     Row::Submit(ADD_5),
     Row::Resend,
     Row::Reach(0),
@@ -28,7 +28,7 @@ const EVENTS: [Row; 12] = [
     Row::GiveUp,
 ];
 
-/// Adds them to a list.
+/// Adds these events to a list.
 fn add_events(alloc: Global, events: &mut Vec<Event>) -> Result<(), Fail> {
     for row in EVENTS {
         events.push(row.event(alloc)?)?;
@@ -76,13 +76,14 @@ fn made(alloc: Global) -> Result<Bench, Fail> {
     }
 }
 
-/// What is seen at the end, and what the counter tells.
+/// What is seen at the end.
 fn check_seen<A: Abort>(rt: &A, seen: Seen<'_>) {
     check_same(rt, seen.stage, Stage::Idle);
     check_same(rt, seen.back.len(), 3);
     check_same(rt, seen.accepted.len(), 2);
 }
 
+/// The counter's value and its additions then.
 fn check_counter<A: Abort>(rt: &A, bench: &Bench) -> Result<(), Fail> {
     check_same(rt, counter(bench, 1)?, 7);
     check_same(rt, counter(bench, 3)?, 2);

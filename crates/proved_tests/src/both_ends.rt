@@ -1,6 +1,7 @@
 //! A client and an adapter back to back: sessions with each service of the objects, without a connection and on one.
 //! `tests/memory` counts the growths of one round and of a thousand.
 
+use crate::client_memory::check_heard;
 use crate::same::check_same;
 use enip_adapter::{Adapter, Peer};
 use enip_client::{Client, Heard};
@@ -8,10 +9,10 @@ use std::alloc::Global;
 use std::process::Abort;
 use std::test::Fail;
 use test_stands::adapter::{adapter_with_peer, feed};
-use test_stands::client::{hear, made};
+use test_stands::client::made;
 
 /// Each service of the objects, and its reply.
-const SERVICES: [(&[u8], &[u8]); 8] = [
+const SERVICES: &[(&[u8], &[u8])] = &[
     // Get_Attributes_All and Get_Attribute_List of Identity
     (
         b"\x01\x02\x20\x01\x24\x01",
@@ -85,11 +86,6 @@ fn answered<'a>(
     Ok(pass(adapter, peer, frame).ok_or("an answer")?)
 }
 
-/// What the client hears of an answer.
-fn check_heard<A: Abort>(rt: &A, client: &mut Client, answer: &[u8], heard: Heard<'_>) {
-    check_same(rt, hear(client, answer).heard, heard);
-}
-
 /// A client and the adapter that it is a peer of.
 #[derive(Drop)]
 struct Ends {
@@ -160,6 +156,14 @@ fn ask_each<A: Abort>(rt: &A, ends: &mut Ends) -> Result<(), Fail> {
     Ok(())
 }
 
+/// The same in so many rounds.
+fn ask_all<A: Abort>(rt: &A, ends: &mut Ends, rounds: usize) -> Result<(), Fail> {
+    for _ in 0..rounds {
+        ask_each(rt, ends)?;
+    }
+    Ok(())
+}
+
 /// Each service is asked for on the connection, and the answer to each is lost or is not.
 fn submit_each<A: Abort>(rt: &A, ends: &mut Ends, lost: bool) -> Result<(), Fail> {
     for (request, reply) in SERVICES {
@@ -168,15 +172,7 @@ fn submit_each<A: Abort>(rt: &A, ends: &mut Ends, lost: bool) -> Result<(), Fail
     Ok(())
 }
 
-/// The first so often.
-fn ask_all<A: Abort>(rt: &A, ends: &mut Ends, rounds: usize) -> Result<(), Fail> {
-    for _ in 0..rounds {
-        ask_each(rt, ends)?;
-    }
-    Ok(())
-}
-
-/// The second so often, with lost answers in each other round.
+/// The same in so many rounds, with lost answers in each other one.
 fn submit_all<A: Abort>(rt: &A, ends: &mut Ends, rounds: usize) -> Result<(), Fail> {
     for round in 0..rounds {
         submit_each(rt, ends, round % 2 == 1)?;
@@ -201,15 +197,19 @@ fn check_session<A: Abort>(rt: &A, ends: &mut Ends, rounds: usize) -> Result<(),
     Ok(())
 }
 
+/// The same of new ends.
+fn check_rounds<A: Abort>(rt: &A, alloc: Global, rounds: usize) -> Result<(), Fail> {
+    let mut ends = both_ends(alloc)?;
+    check_session(rt, &mut ends, rounds)
+}
+
 #[test]
 fn one_round(rt: HostRuntime) -> Result<(), Fail> {
-    let mut ends = both_ends(rt.alloc())?;
-    check_session(&rt, &mut ends, 1)
+    check_rounds(&rt, rt.alloc(), 1)
 }
 
 /// No request takes memory: this has as many growths as one round.
 #[test]
 fn a_thousand_rounds(rt: HostRuntime) -> Result<(), Fail> {
-    let mut ends = both_ends(rt.alloc())?;
-    check_session(&rt, &mut ends, 1_000)
+    check_rounds(&rt, rt.alloc(), 1_000)
 }

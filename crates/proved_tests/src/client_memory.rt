@@ -21,22 +21,27 @@ fn made_again<A: Abort>(rt: &A, alloc: Global) -> Result<Client, Fail> {
     }
 }
 
+/// What a client hears of a piece.
+pub(crate) fn check_heard<A: Abort>(rt: &A, client: &mut Client, piece: &[u8], heard: Heard<'_>) {
+    check_same(rt, hear(client, piece).heard, heard);
+}
+
 /// A session and its connection are opened; the reply that opens it comes in two pieces.
 fn check_opening<A: Abort>(rt: &A, client: &mut Client) {
     check_same(rt, client.register(), Ok(REGISTER));
-    check_same(rt, hear(client, REGISTERED).heard, Heard::Registered);
+    check_heard(rt, client, REGISTERED, Heard::Registered);
     check_same(rt, client.open(), Ok(OPEN));
-    check_same(rt, hear(client, &OPENED[..30]).heard, Heard::Nothing);
-    check_same(rt, hear(client, &OPENED[30..]).heard, Heard::Opened);
+    check_heard(rt, client, &OPENED[..30], Heard::Nothing);
+    check_heard(rt, client, &OPENED[30..], Heard::Opened);
 }
 
 /// A request is sent twice, and all is closed.
 fn check_request<A: Abort>(rt: &A, client: &mut Client) {
     check_same(rt, client.submit(ADD), Ok(ADD_SENT));
     check_same(rt, client.resend(), Some(ADD_SENT));
-    check_same(rt, hear(client, ADDED).heard, Heard::Accepted(IS_5));
+    check_heard(rt, client, ADDED, Heard::Accepted(IS_5));
     check_same(rt, client.close(), Ok(CLOSE));
-    check_same(rt, hear(client, CLOSED).heard, Heard::Closed);
+    check_heard(rt, client, CLOSED, Heard::Closed);
     check_same(rt, client.unregister(), Ok(UNREGISTER));
 }
 

@@ -76,7 +76,7 @@ fn check_kept<A: Abort>(rt: &A, target: &Target, reply: u8) {
 }
 
 /// Items, what the target does with each, the byte of the reply that it keeps then, and the router's byte.
-const ITEMS: [(&[u8], Received, u8, u8); 4] = [
+const ITEMS: &[(&[u8], Received, u8, u8)] = &[
     (&[1, 0, 5, 0], Received::Executed, 9, 5),
     (&[1, 0, 7, 0], Received::Repeated, 9, 5),
     (&[2, 0, 7, 0], Received::Executed, 5, 7),
@@ -85,9 +85,9 @@ const ITEMS: [(&[u8], Received, u8, u8); 4] = [
 
 fn check_items<A: Abort>(rt: &A, target: &mut Target, router: &mut Last) {
     for (item, received, reply, left) in ITEMS {
-        check_same(rt, target.receive(router, item), received);
-        check_kept(rt, target, reply);
-        check_same(rt, router.byte, left);
+        check_same(rt, target.receive(router, item), *received);
+        check_kept(rt, target, *reply);
+        check_same(rt, router.byte, *left);
     }
 }
 

@@ -77,18 +77,6 @@ const ONCE: Wanted<'static> = Wanted {
     last_reply: IS_12,
 };
 
-fn check_once<A: Abort>(rt: &A, alloc: Global, bench: &mut Bench) -> Result<(), Fail> {
-    run_rows(alloc, bench, &EXACTLY_ONCE)?;
-    check_seen(rt, bench, &ONCE)
-}
-
-/// All events in one call.
-#[test]
-fn exactly_once_in_one_run(rt: HostRuntime) -> Result<(), Fail> {
-    let mut bench = bench(rt.alloc(), 100)?;
-    check_once(&rt, rt.alloc(), &mut bench)
-}
-
 /// A request that is sent twice: both reach the adapter, and both replies the client.
 fn add_twice(alloc: Global, bench: &mut Bench, number: usize) -> Result<(), Fail> {
     let submit = Row::Submit(ADD_1).event(alloc)?;
@@ -126,14 +114,41 @@ const MANY: Wanted<'static> = Wanted {
     last_reply: b"\xb2\0\0\0\x70\x11\x01\0",
 };
 
-fn check_many<A: Abort>(rt: &A, alloc: Global, bench: &mut Bench) -> Result<(), Fail> {
-    add_many(alloc, bench, 70_000)?;
-    check_seen(rt, bench, &MANY)
+/// What is done at a bench.
+#[derive(Clone, Copy)]
+enum Work {
+    ExactlyOnce,
+    ManyRequests,
+}
+
+/// Does it, and sees what came of it.
+fn check_run<A: Abort>(rt: &A, alloc: Global, bench: &mut Bench, work: Work) -> Result<(), Fail> {
+    match work {
+        Work::ExactlyOnce => {
+            run_rows(alloc, bench, &EXACTLY_ONCE)?;
+            check_seen(rt, bench, &ONCE)
+        }
+        Work::ManyRequests => {
+            add_many(alloc, bench, 70_000)?;
+            check_seen(rt, bench, &MANY)
+        }
+    }
+}
+
+/// The same at a new bench, whose counter has this limit.
+fn check_bench<A: Abort>(rt: &A, alloc: Global, limit: u32, work: Work) -> Result<(), Fail> {
+    let mut bench = bench(alloc, limit)?;
+    check_run(rt, alloc, &mut bench, work)
+}
+
+/// All events in one call.
+#[test]
+fn exactly_once_in_one_run(rt: HostRuntime) -> Result<(), Fail> {
+    check_bench(&rt, rt.alloc(), 100, Work::ExactlyOnce)
 }
 
 /// Past a wrap of the count: each request is sent twice, executed once, and its reply accepted once.
 #[test]
 fn seventy_thousand_requests(rt: HostRuntime) -> Result<(), Fail> {
-    let mut bench = bench(rt.alloc(), 1_000_000)?;
-    check_many(&rt, rt.alloc(), &mut bench)
+    check_bench(&rt, rt.alloc(), 1_000_000, Work::ManyRequests)
 }
