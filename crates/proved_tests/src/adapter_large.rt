@@ -1,11 +1,13 @@
 //! Large connections: one of 4,002 bytes each way is opened and used without any memory.
 
-use cip_objects::{AssemblyConfig, Objects};
+use crate::adapter_memory::{answer, check_answer, check_answered, of_either};
+use crate::same::check_same;
+use cip_objects::{AssemblyConfig, Config, Objects};
 use enip_adapter::{Adapter, Peer};
-use std::alloc::{AllocError, Global};
+use std::alloc::Global;
 use std::process::Abort;
 use std::test::Fail;
-use test_stands::adapter::{LIMITS, LISTEN, REGISTER, config, feed};
+use test_stands::adapter::{REGISTER, config};
 
 /// A Large_Forward_Open in session 1: connection serial 6, both sizes 4,002; and its answer.
 const OPEN: &[u8] = b"\x6f\0\x42\0\x01\0\0\0\0\0\0\0\x01\x02\x03\x04\x05\x06\x07\x08\0\0\0\0\
@@ -55,44 +57,60 @@ const NOT_SUPPORTED: &[u8] =
     b"\x70\0\x1a\0\x01\0\0\0\0\0\0\0\x01\x02\x03\x04\x05\x06\x07\x08\0\0\0\0\
     \0\0\0\0\0\0\x02\0\xa1\0\x04\0\x44\x33\x22\x11\xb1\0\x06\0\x02\0\xdb\0\x08\0";
 
-/// The objects of the demo configuration, and assembly 101 of 3,900 bytes.
-fn objects(alloc: Global) -> Result<Objects, Fail> {
-    let mut config = config(alloc)?;
-    config.assemblies.push(AssemblyConfig {
+/// Adds assembly 101 of 3,900 bytes.
+fn add_assembly(alloc: Global, assemblies: &mut Vec<AssemblyConfig>) -> Result<(), Fail> {
+    let members = Vec::from_slice(alloc, &[3_900])?;
+    assemblies.push(AssemblyConfig {
         instance: 101,
         settable: false,
-        members: Vec::from_slice(alloc, &[3_900])?,
+        members,
     })?;
-    let Ok(objects) = Objects::new(alloc, &config) else {
+    Ok(())
+}
+
+/// The objects of a configuration to which that assembly is added.
+fn objects_of(alloc: Global, config: &mut Config) -> Result<Objects, Fail> {
+    add_assembly(alloc, &mut config.assemblies)?;
+    let Ok(objects) = Objects::new(alloc, config) else {
         return Err(Fail::from("the objects are not made"));
     };
     Ok(objects)
 }
 
+/// The objects of the demo configuration, and assembly 101 of 3,900 bytes.
+fn objects(alloc: Global) -> Result<Objects, Fail> {
+    let mut config = config(alloc)?;
+    objects_of(alloc, &mut config)
+}
+
 /// Each frame has the answer that stands behind it.
 fn check<A: Abort>(rt: &A, adapter: &mut Adapter, peer: &Peer, rows: &[(&[u8], &[u8])]) {
     for (asked, answered) in rows {
-        assert_eq!(rt; feed(adapter, peer, asked).answer, Some(*answered));
+        check_answer(rt, adapter, peer, asked, Some(*answered));
     }
 }
 
-/// The data of assembly 101 are read whole on the connection.
-fn check_data<A: Abort>(rt: &A, adapter: &mut Adapter, peer: &Peer) {
-    let data = feed(adapter, peer, GET_CONNECTED).answer.unwrap_or(&[]);
-    assert!(rt; data.starts_with(FRONT));
+/// These are the data of assembly 101, whole.
+fn check_data<A: Abort>(rt: &A, data: &[u8]) {
+    check_same(rt, data.starts_with(FRONT), true);
     assert_eq!(rt; data.len(), 24 + 20 + 2 + 4 + 3_900);
-    assert!(rt; data[50..].iter().all(|byte| *byte == 0));
+    check_same(rt, data[50..].iter().all(|byte| *byte == 0), true);
 }
 
+/// What is asked before the data are read on the connection, and after that; and the answers.
+const BEFORE: [(&[u8], &[u8]); 3] = [(TOO_LARGE, REFUSED), (EMPTY, TOO_SHORT), (OPEN, OPENED)];
+
+const AFTER: [(&[u8], &[u8]); 2] = [(GET, REPLY_TOO_LARGE), (OPEN_CONNECTED, NOT_SUPPORTED)];
+
 /// A session with a large connection.
-fn check_session<A: Abort>(rt: &A, adapter: &mut Adapter, peer: &Peer) {
-    assert!(rt; feed(adapter, peer, REGISTER).answer.is_some());
-    let before: [(&[u8], &[u8]); 3] = [(TOO_LARGE, REFUSED), (EMPTY, TOO_SHORT), (OPEN, OPENED)];
-    check(rt, adapter, peer, &before);
-    check_data(rt, adapter, peer);
-    let after: [(&[u8], &[u8]); 2] = [(GET, REPLY_TOO_LARGE), (OPEN_CONNECTED, NOT_SUPPORTED)];
-    check(rt, adapter, peer, &after);
-    assert_eq!(rt; adapter.free(), (8, 15));
+fn check_session<A: Abort>(rt: &A, adapter: &mut Adapter) -> Result<(), Fail> {
+    let peer = adapter.begin().ok().ok_or("a place is free")?;
+    check_answered(rt, adapter, &peer, REGISTER);
+    check(rt, adapter, &peer, &BEFORE);
+    check_data(rt, answer(adapter, &peer, GET_CONNECTED).unwrap_or(&[]));
+    check(rt, adapter, &peer, &AFTER);
+    check_same(rt, adapter.free(), (8, 15));
+    Ok(())
 }
 
 /// `new` takes all memory, so this ends well whichever growth after the objects is refused.
@@ -100,11 +118,6 @@ fn check_session<A: Abort>(rt: &A, adapter: &mut Adapter, peer: &Peer) {
 fn large_connections_take_no_memory(rt: HostRuntime) -> Result<(), Fail> {
     let first = objects(rt.alloc())?;
     let again = objects(rt.alloc())?;
-    let mut adapter = match Adapter::new(rt.alloc(), first, LISTEN, LIMITS) {
-        Ok(adapter) => adapter,
-        Err(AllocError) => Adapter::new(rt.alloc(), again, LISTEN, LIMITS)?,
-    };
-    let peer = adapter.begin().ok().ok_or("a place is free")?;
-    check_session(&rt, &mut adapter, &peer);
-    Ok(())
+    let mut adapter = of_either(rt.alloc(), first, again)?;
+    check_session(&rt, &mut adapter)
 }

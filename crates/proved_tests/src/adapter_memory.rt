@@ -1,5 +1,7 @@
 //! Sessions with all that needs room, where growths of memory are refused.
 
+use crate::same::check_same;
+use cip_objects::Objects;
 use enip_adapter::{Adapter, Peer, Served};
 use enip_wire::{MemorySink, MemorySource};
 use std::alloc::{AllocError, Global};
@@ -10,14 +12,33 @@ use test_stands::adapter::{
     serves, value,
 };
 
-/// An adapter, made again where a growth of it is refused.
-fn made(alloc: Global) -> Result<Adapter, Fail> {
-    let objects = demo(alloc)?;
-    let again = demo(alloc)?;
+/// An adapter over the first objects, made again over the others where a growth of it is refused.
+pub(crate) fn of_either(alloc: Global, objects: Objects, again: Objects) -> Result<Adapter, Fail> {
     match Adapter::new(alloc, objects, LISTEN, LIMITS) {
         Ok(adapter) => Ok(adapter),
         Err(AllocError) => Ok(Adapter::new(alloc, again, LISTEN, LIMITS)?),
     }
+}
+
+/// What an adapter answers to a piece.
+pub(crate) fn answer<'a>(adapter: &'a mut Adapter, peer: &Peer, piece: &[u8]) -> Option<&'a [u8]> {
+    feed(adapter, peer, piece).answer
+}
+
+/// A piece has this answer.
+pub(crate) fn check_answer<A: Abort>(
+    rt: &A,
+    adapter: &mut Adapter,
+    peer: &Peer,
+    piece: &[u8],
+    wanted: Option<&[u8]>,
+) {
+    check_same(rt, answer(adapter, peer, piece), wanted);
+}
+
+/// A piece has an answer.
+pub(crate) fn check_answered<A: Abort>(rt: &A, adapter: &mut Adapter, peer: &Peer, piece: &[u8]) {
+    check_same(rt, answer(adapter, peer, piece).is_some(), true);
 }
 
 /// A session is registered, over devices in memory.
@@ -26,50 +47,42 @@ fn check_registered<A: Abort>(rt: &A, adapter: &mut Adapter, peer: &Peer) {
     let mut bytes = [0; 64];
     let mut writer = MemorySink::new(&mut bytes);
     let told = Ok(Served::More);
-    assert!(rt; serves(adapter, peer, &mut reader, &mut writer, told, REGISTERED));
-}
-
-/// A connection is opened.
-fn check_opened<A: Abort>(rt: &A, adapter: &mut Adapter, peer: &Peer) {
-    assert!(rt; feed(adapter, peer, OPEN).answer.is_some());
-}
-
-/// A piece has this answer.
-fn check_answer<A: Abort>(
-    rt: &A,
-    adapter: &mut Adapter,
-    peer: &Peer,
-    piece: &[u8],
-    answer: Option<&[u8]>,
-) {
-    assert_eq!(rt; feed(adapter, peer, piece).answer, answer);
+    let is_served = serves(adapter, peer, &mut reader, &mut writer, told, REGISTERED);
+    check_same(rt, is_served, true);
 }
 
 /// A request in two pieces, and its repeat in one.
 fn check_requests<A: Abort>(rt: &A, adapter: &mut Adapter, peer: &Peer) {
-    let rows: [(&[u8], Option<&[u8]>); 3] = [
-        (&ADD[..30], None),
-        (&ADD[30..], Some(ADDED)),
-        (ADD, Some(ADDED)),
-    ];
-    for (piece, answer) in rows {
-        check_answer(rt, adapter, peer, piece, answer);
-    }
+    check_answer(rt, adapter, peer, &ADD[..30], None);
+    check_answer(rt, adapter, peer, &ADD[30..], Some(ADDED));
+    check_answer(rt, adapter, peer, ADD, Some(ADDED));
 }
 
 /// A header that is too long closes.
 fn check_closed<A: Abort>(rt: &A, adapter: &mut Adapter, peer: &Peer) {
     let fed = feed(adapter, peer, LONG);
-    assert_eq!(rt; (fed.answer, fed.close), (Some(REFUSED), true));
+    check_same(rt, (fed.answer, fed.close), (Some(REFUSED), true));
 }
 
 /// The connection is over, and then the session.
 fn check_end<A: Abort>(rt: &A, adapter: &mut Adapter, peer: Peer) {
     adapter.tick(20_000_000);
-    assert_eq!(rt; free(adapter), (8, 16));
+    check_same(rt, free(adapter), (8, 16));
     check_closed(rt, adapter, &peer);
     adapter.end(peer);
-    assert_eq!(rt; free(adapter), (9, 16));
+    check_same(rt, free(adapter), (9, 16));
+}
+
+/// A peer, frames in pieces, a connection, kept bytes and answers.
+fn check_session<A: Abort>(rt: &A, adapter: &mut Adapter) -> Result<(), Fail> {
+    let peer = adapter.begin().ok().ok_or("a place is free")?;
+    check_registered(rt, adapter, &peer);
+    check_answered(rt, adapter, &peer, OPEN);
+    check_same(rt, free(adapter), (8, 15));
+    check_requests(rt, adapter, &peer);
+    check_same(rt, value(adapter)?, 5);
+    check_end(rt, adapter, peer);
+    Ok(())
 }
 
 /// A session with all that needs room: a peer, frames in pieces, a connection, kept bytes and answers. `new` takes all
@@ -77,13 +90,8 @@ fn check_end<A: Abort>(rt: &A, adapter: &mut Adapter, peer: Peer) {
 /// `tests/memory`.
 #[test]
 fn only_new_takes_memory(rt: HostRuntime) -> Result<(), Fail> {
-    let mut adapter = made(rt.alloc())?;
-    let peer = adapter.begin().ok().ok_or("a place is free")?;
-    check_registered(&rt, &mut adapter, &peer);
-    check_opened(&rt, &mut adapter, &peer);
-    assert_eq!(rt; free(&adapter), (8, 15));
-    check_requests(&rt, &mut adapter, &peer);
-    assert_eq!(rt; value(&adapter)?, 5);
-    check_end(&rt, &mut adapter, peer);
-    Ok(())
+    let objects = demo(rt.alloc())?;
+    let again = demo(rt.alloc())?;
+    let mut adapter = of_either(rt.alloc(), objects, again)?;
+    check_session(&rt, &mut adapter)
 }

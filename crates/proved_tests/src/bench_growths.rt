@@ -1,17 +1,19 @@
 //! Growths of memory that are refused, and what stands then.
 
+use crate::same::check_same;
 use cip_class3::Stage;
 use enip_adapter::Adapter;
-use enip_bench::{Bench, BenchFault, Event};
+use enip_bench::{Bench, BenchFault, Event, Seen};
 use enip_client::Client;
 use std::alloc::Global;
+use std::process::Abort;
 use std::test::Fail;
 use test_stands::bench::{
     ADD_5, ADD_7, CLEAR, LIMITS, LISTEN, Row, WANTS, all_done, bench, counter, demo, look,
 };
 
 /// A lost request, a clearing between, and the end.
-const EVENTS: [Row; 12] = [
+const EVENTS: &[Row] = &[
     Row::Submit(ADD_5),
     Row::Resend,
     Row::Reach(0),
@@ -25,6 +27,14 @@ const EVENTS: [Row; 12] = [
     Row::Shut,
     Row::GiveUp,
 ];
+
+/// Adds these events to a list.
+fn add_events(alloc: Global, events: &mut Vec<Event>) -> Result<(), Fail> {
+    for row in EVENTS {
+        events.push(row.event(alloc)?)?;
+    }
+    Ok(())
+}
 
 /// How many frames were sent back, and how many replies accepted, before each of the events that follow.
 const BACK_BEFORE: [usize; 12] = [0, 0, 0, 1, 2, 2, 2, 2, 3, 3, 3, 3];
@@ -66,21 +76,39 @@ fn made(alloc: Global) -> Result<Bench, Fail> {
     }
 }
 
+/// What is seen at the end.
+fn check_seen<A: Abort>(rt: &A, seen: Seen<'_>) {
+    check_same(rt, seen.stage, Stage::Idle);
+    check_same(rt, seen.back.len(), 3);
+    check_same(rt, seen.accepted.len(), 2);
+}
+
+/// The counter's value and its additions then.
+fn check_counter<A: Abort>(rt: &A, bench: &Bench) -> Result<(), Fail> {
+    check_same(rt, counter(bench, 1)?, 7);
+    check_same(rt, counter(bench, 3)?, 2);
+    Ok(())
+}
+
+/// Does the events, and sees what came of them.
+fn check_run<A: Abort>(rt: &A, bench: &mut Bench, events: &[Event]) -> Result<(), Fail> {
+    run_all(bench, events)?;
+    check_counter(rt, bench)?;
+    check_seen(rt, look(bench));
+    Ok(())
+}
+
+/// The same at a new bench.
+fn check_events<A: Abort>(rt: &A, alloc: Global, events: &[Event]) -> Result<(), Fail> {
+    let mut bench = made(alloc)?;
+    check_run(rt, &mut bench, events)
+}
+
 /// Whichever growth of `new` and `run` is refused, the events before it stand and no other, and the rest can be done
 /// then. Each is refused in turn by `tests/memory`.
 #[test]
 fn events_before_a_refused_growth(rt: HostRuntime) -> Result<(), Fail> {
     let mut events = Vec::new(rt.alloc());
-    for row in EVENTS {
-        events.push(row.event(rt.alloc())?)?;
-    }
-    let mut bench = made(rt.alloc())?;
-    run_all(&mut bench, events.as_slice())?;
-    assert_eq!(rt; counter(&bench, 1)?, 7);
-    assert_eq!(rt; counter(&bench, 3)?, 2);
-    let seen = look(&bench);
-    assert_eq!(rt; seen.stage, Stage::Idle);
-    assert_eq!(rt; seen.back.len(), 3);
-    assert_eq!(rt; seen.accepted.len(), 2);
-    Ok(())
+    add_events(rt.alloc(), &mut events)?;
+    check_events(&rt, rt.alloc(), events.as_slice())
 }

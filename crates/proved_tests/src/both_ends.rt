@@ -1,16 +1,18 @@
 //! A client and an adapter back to back: sessions with each service of the objects, without a connection and on one.
 //! `tests/memory` counts the growths of one round and of a thousand.
 
+use crate::client_memory::check_heard;
+use crate::same::check_same;
 use enip_adapter::{Adapter, Peer};
 use enip_client::{Client, Heard};
 use std::alloc::Global;
 use std::process::Abort;
 use std::test::Fail;
 use test_stands::adapter::{adapter_with_peer, feed};
-use test_stands::client::{hear, made};
+use test_stands::client::made;
 
 /// Each service of the objects, and its reply.
-const SERVICES: [(&[u8], &[u8]); 8] = [
+const SERVICES: &[(&[u8], &[u8])] = &[
     // Get_Attributes_All and Get_Attribute_List of Identity
     (
         b"\x01\x02\x20\x01\x24\x01",
@@ -73,9 +75,15 @@ fn pass<'a>(adapter: &'a mut Adapter, peer: &Peer, frame: &[u8]) -> Option<&'a [
     feed(adapter, peer, frame).answer
 }
 
-/// What the client hears of an answer.
-fn check_heard<A: Abort>(rt: &A, client: &mut Client, answer: &[u8], heard: Heard<'_>) {
-    assert_eq!(rt; hear(client, answer).heard, heard);
+/// What the adapter answers to what the client sends.
+fn answered<'a>(
+    adapter: &'a mut Adapter,
+    peer: &Peer,
+    client: &mut Client,
+    sent: Sent<'_>,
+) -> Result<&'a [u8], Fail> {
+    let frame = lent(client, sent).ok_or("a frame")?;
+    Ok(pass(adapter, peer, frame).ok_or("an answer")?)
 }
 
 /// A client and the adapter that it is a peer of.
@@ -93,16 +101,14 @@ fn exchange<A: Abort>(
     sent: Sent<'_>,
     heard: Heard<'_>,
 ) -> Result<(), Fail> {
-    let frame = lent(&mut ends.client, sent).ok_or("a frame")?;
-    let answer = pass(&mut ends.adapter, &ends.peer, frame).ok_or("an answer")?;
+    let answer = answered(&mut ends.adapter, &ends.peer, &mut ends.client, sent)?;
     check_heard(rt, &mut ends.client, answer, heard);
     Ok(())
 }
 
 /// The client sends this, and what is answered is lost.
 fn loses(ends: &mut Ends, sent: Sent<'_>) -> Result<(), Fail> {
-    let frame = lent(&mut ends.client, sent).ok_or("a frame")?;
-    let _ = pass(&mut ends.adapter, &ends.peer, frame).ok_or("an answer")?;
+    let _ = answered(&mut ends.adapter, &ends.peer, &mut ends.client, sent)?;
     Ok(())
 }
 
@@ -126,7 +132,8 @@ fn submits<A: Abort>(
 /// The session ends, and the adapter closes.
 fn check_left<A: Abort>(rt: &A, ends: &mut Ends) -> Result<(), Fail> {
     let left = ends.client.unregister().ok().ok_or("a frame")?;
-    assert!(rt; feed(&mut ends.adapter, &ends.peer, left).close);
+    let fed = feed(&mut ends.adapter, &ends.peer, left);
+    check_same(rt, fed.close, true);
     Ok(())
 }
 
@@ -141,37 +148,68 @@ fn both_ends(alloc: Global) -> Result<Ends, Fail> {
     })
 }
 
+/// Each service is asked for without a connection.
+fn ask_each<A: Abort>(rt: &A, ends: &mut Ends) -> Result<(), Fail> {
+    for (request, reply) in SERVICES {
+        exchange(rt, ends, Sent::Asks(request), Heard::Reply(reply))?;
+    }
+    Ok(())
+}
+
+/// The same in so many rounds.
+fn ask_all<A: Abort>(rt: &A, ends: &mut Ends, rounds: usize) -> Result<(), Fail> {
+    for _ in 0..rounds {
+        ask_each(rt, ends)?;
+    }
+    Ok(())
+}
+
+/// Each service is asked for on the connection, and the answer to each is lost or is not.
+fn submit_each<A: Abort>(rt: &A, ends: &mut Ends, lost: bool) -> Result<(), Fail> {
+    for (request, reply) in SERVICES {
+        submits(rt, ends, request, reply, lost)?;
+    }
+    Ok(())
+}
+
+/// The same in so many rounds, with lost answers in each other one.
+fn submit_all<A: Abort>(rt: &A, ends: &mut Ends, rounds: usize) -> Result<(), Fail> {
+    for round in 0..rounds {
+        submit_each(rt, ends, round % 2 == 1)?;
+    }
+    Ok(())
+}
+
 /// A session in which each service is asked for so often without a connection, and then on one, also with a lost answer.
 fn session<A: Abort>(rt: &A, ends: &mut Ends, rounds: usize) -> Result<(), Fail> {
     exchange(rt, ends, Sent::Registers, Heard::Registered)?;
-    for _ in 0..rounds {
-        for (request, reply) in SERVICES {
-            exchange(rt, ends, Sent::Asks(request), Heard::Reply(reply))?;
-        }
-    }
+    ask_all(rt, ends, rounds)?;
     exchange(rt, ends, Sent::Opens, Heard::Opened)?;
-    for round in 0..rounds {
-        for (request, reply) in SERVICES {
-            submits(rt, ends, request, reply, round % 2 == 1)?;
-        }
-    }
+    submit_all(rt, ends, rounds)?;
     exchange(rt, ends, Sent::Closes, Heard::Closed)?;
     check_left(rt, ends)
 }
 
+/// After a session the connection's place is free.
+fn check_session<A: Abort>(rt: &A, ends: &mut Ends, rounds: usize) -> Result<(), Fail> {
+    session(rt, ends, rounds)?;
+    check_same(rt, ends.adapter.free(), (8, 16));
+    Ok(())
+}
+
+/// The same of new ends.
+fn check_rounds<A: Abort>(rt: &A, alloc: Global, rounds: usize) -> Result<(), Fail> {
+    let mut ends = both_ends(alloc)?;
+    check_session(rt, &mut ends, rounds)
+}
+
 #[test]
 fn one_round(rt: HostRuntime) -> Result<(), Fail> {
-    let mut ends = both_ends(rt.alloc())?;
-    session(&rt, &mut ends, 1)?;
-    assert_eq!(rt; ends.adapter.free(), (8, 16));
-    Ok(())
+    check_rounds(&rt, rt.alloc(), 1)
 }
 
 /// No request takes memory: this has as many growths as one round.
 #[test]
 fn a_thousand_rounds(rt: HostRuntime) -> Result<(), Fail> {
-    let mut ends = both_ends(rt.alloc())?;
-    session(&rt, &mut ends, 1_000)?;
-    assert_eq!(rt; ends.adapter.free(), (8, 16));
-    Ok(())
+    check_rounds(&rt, rt.alloc(), 1_000)
 }

@@ -1,21 +1,40 @@
 //! Replies that are changed in one byte, at a client that awaits them.
 
-use enip_client::{Client, Heard};
+use crate::same::check_same;
+use enip_client::{Client, Heard, Hearing};
 use std::alloc::Global;
 use std::process::Abort;
 use std::test::Fail;
-use test_stands::client::{ADDED, CLOSED, GOT, OPENED, REGISTERED, Stand, standing, with_bytes};
+use test_stands::client::{
+    ADDED, CLOSED, GOT, OPENED, REGISTERED, Stand, hear, standing, with_bytes,
+};
+
+/// Of a changed reply some is taken. Whether it is ignored.
+fn is_ignored<A: Abort>(rt: &A, hearing: Hearing<'_>, length: usize) -> bool {
+    check_same(rt, 0 < hearing.taken && hearing.taken <= length, true);
+    hearing.heard == Heard::Nothing
+}
 
 /// A changed reply: the call returns, and what lasts lasts. Whether a text that is ignored leaves the client as it was.
 fn stays<A: Abort>(rt: &A, client: &mut Client, changed: &[u8]) -> bool {
-    let hearing = client.feed(changed);
-    let ignored = hearing.heard == Heard::Nothing;
-    assert_eq!(rt; 0 < hearing.taken && hearing.taken <= changed.len(), true);
-    if let Some(fault) = client.fault() {
-        assert_eq!(rt; client.unregister(), Err(fault));
-        return false;
-    }
-    ignored
+    let ignored = is_ignored(rt, hear(client, changed), changed.len());
+    let Some(fault) = client.fault() else {
+        return ignored;
+    };
+    check_same(rt, client.unregister(), Err(fault));
+    false
+}
+
+/// The same of a reply with one byte changed.
+fn stays_changed<A: Abort>(
+    rt: &A,
+    alloc: Global,
+    client: &mut Client,
+    reply: &[u8],
+    change: (usize, u8),
+) -> Result<bool, Fail> {
+    let changed = with_bytes(alloc, reply, &[change])?;
+    Ok(stays(rt, client, &changed))
 }
 
 /// A reply with one byte changed. A text that is ignored leaves the client as it was, which then hears the next; one
@@ -28,8 +47,7 @@ fn check_changed<A: Abort>(
     reply: &[u8],
     change: (usize, u8),
 ) -> Result<(), Fail> {
-    let changed = with_bytes(alloc, reply, &[change])?;
-    let stays = stays(rt, client, &changed);
+    let stays = stays_changed(rt, alloc, client, reply, change)?;
     if !stays || change.0 == 2 || change.0 == 3 {
         *client = standing(alloc, stand)?;
     }
@@ -37,55 +55,68 @@ fn check_changed<A: Abort>(
 }
 
 /// Each byte of a reply replaced by each of the 255 others. The answer is how many texts there were.
-fn changed_bytes<A: Abort>(
+fn check_each<A: Abort>(
     rt: &A,
     alloc: Global,
+    client: &mut Client,
     stand: Stand,
     reply: &[u8],
 ) -> Result<usize, Fail> {
     let mut texts = 0usize;
-    let mut client = standing(alloc, stand)?;
     for (place, old) in reply.iter().enumerate() {
         for change in 1..=255u8 {
             let change = (place, old.wrapping_add(change));
-            check_changed(rt, alloc, &mut client, stand, reply, change)?;
+            check_changed(rt, alloc, client, stand, reply, change)?;
             texts = texts.saturating_add(1);
         }
     }
     Ok(texts)
 }
 
+/// The same at a client that stands so.
+fn changed_bytes<A: Abort>(
+    rt: &A,
+    alloc: Global,
+    stand: Stand,
+    reply: &[u8],
+) -> Result<usize, Fail> {
+    let mut client = standing(alloc, stand)?;
+    check_each(rt, alloc, &mut client, stand, reply)
+}
+
+/// There are so many of these texts.
+fn check_changes<A: Abort>(
+    rt: &A,
+    alloc: Global,
+    stand: Stand,
+    reply: &[u8],
+    texts: usize,
+) -> Result<(), Fail> {
+    check_same(rt, changed_bytes(rt, alloc, stand, reply)?, texts);
+    Ok(())
+}
+
 #[test]
 fn changed_register_replies(rt: HostRuntime) -> Result<(), Fail> {
-    let texts = changed_bytes(&rt, rt.alloc(), Stand::AwaitsSession, REGISTERED)?;
-    assert_eq!(rt; texts, 7_140);
-    Ok(())
+    check_changes(&rt, rt.alloc(), Stand::AwaitsSession, REGISTERED, 7_140)
 }
 
 #[test]
 fn changed_open_replies(rt: HostRuntime) -> Result<(), Fail> {
-    let texts = changed_bytes(&rt, rt.alloc(), Stand::AwaitsConnection, OPENED)?;
-    assert_eq!(rt; texts, 17_850);
-    Ok(())
+    check_changes(&rt, rt.alloc(), Stand::AwaitsConnection, OPENED, 17_850)
 }
 
 #[test]
 fn changed_replies(rt: HostRuntime) -> Result<(), Fail> {
-    let texts = changed_bytes(&rt, rt.alloc(), Stand::AwaitsReply, GOT)?;
-    assert_eq!(rt; texts, 11_730);
-    Ok(())
+    check_changes(&rt, rt.alloc(), Stand::AwaitsReply, GOT, 11_730)
 }
 
 #[test]
 fn changed_items(rt: HostRuntime) -> Result<(), Fail> {
-    let texts = changed_bytes(&rt, rt.alloc(), Stand::AwaitsItem, ADDED)?;
-    assert_eq!(rt; texts, 13_770);
-    Ok(())
+    check_changes(&rt, rt.alloc(), Stand::AwaitsItem, ADDED, 13_770)
 }
 
 #[test]
 fn changed_close_replies(rt: HostRuntime) -> Result<(), Fail> {
-    let texts = changed_bytes(&rt, rt.alloc(), Stand::AwaitsEnd, CLOSED)?;
-    assert_eq!(rt; texts, 13_770);
-    Ok(())
+    check_changes(&rt, rt.alloc(), Stand::AwaitsEnd, CLOSED, 13_770)
 }

@@ -1,5 +1,6 @@
 //! A client's session with all that needs room, where growths of memory are refused.
 
+use crate::same::check_same;
 use enip_client::{Client, ClientFault, Heard};
 use std::alloc::Global;
 use std::process::Abort;
@@ -20,23 +21,28 @@ fn made_again<A: Abort>(rt: &A, alloc: Global) -> Result<Client, Fail> {
     }
 }
 
+/// What a client hears of a piece.
+pub(crate) fn check_heard<A: Abort>(rt: &A, client: &mut Client, piece: &[u8], heard: Heard<'_>) {
+    check_same(rt, hear(client, piece).heard, heard);
+}
+
 /// A session and its connection are opened; the reply that opens it comes in two pieces.
 fn check_opening<A: Abort>(rt: &A, client: &mut Client) {
-    assert_eq!(rt; client.register(), Ok(REGISTER));
-    assert_eq!(rt; hear(client, REGISTERED).heard, Heard::Registered);
-    assert_eq!(rt; client.open(), Ok(OPEN));
-    assert_eq!(rt; hear(client, &OPENED[..30]).heard, Heard::Nothing);
-    assert_eq!(rt; hear(client, &OPENED[30..]).heard, Heard::Opened);
+    check_same(rt, client.register(), Ok(REGISTER));
+    check_heard(rt, client, REGISTERED, Heard::Registered);
+    check_same(rt, client.open(), Ok(OPEN));
+    check_heard(rt, client, &OPENED[..30], Heard::Nothing);
+    check_heard(rt, client, &OPENED[30..], Heard::Opened);
 }
 
 /// A request is sent twice, and all is closed.
 fn check_request<A: Abort>(rt: &A, client: &mut Client) {
-    assert_eq!(rt; client.submit(ADD), Ok(ADD_SENT));
-    assert_eq!(rt; client.resend(), Some(ADD_SENT));
-    assert_eq!(rt; hear(client, ADDED).heard, Heard::Accepted(IS_5));
-    assert_eq!(rt; client.close(), Ok(CLOSE));
-    assert_eq!(rt; hear(client, CLOSED).heard, Heard::Closed);
-    assert_eq!(rt; client.unregister(), Ok(UNREGISTER));
+    check_same(rt, client.submit(ADD), Ok(ADD_SENT));
+    check_same(rt, client.resend(), Some(ADD_SENT));
+    check_heard(rt, client, ADDED, Heard::Accepted(IS_5));
+    check_same(rt, client.close(), Ok(CLOSE));
+    check_heard(rt, client, CLOSED, Heard::Closed);
+    check_same(rt, client.unregister(), Ok(UNREGISTER));
 }
 
 /// `new` takes all memory, so this ends well whichever growth is refused, each in turn by `tests/memory`.

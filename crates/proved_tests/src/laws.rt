@@ -3,9 +3,10 @@
 
 ghost use Rattle.std.specs.Prelude.{ℕ, List, ◌≡◌, [], ◌∷◌, slice_index};
 
+use crate::same::check_same;
 use cip_class3::{Received, Target};
 use cip_objects::{Objects, ReplyBuf, Router};
-use std::test::*;
+use std::process::Abort;
 
 #[test]
 fn the_laws_of_a_connection() {
@@ -68,22 +69,32 @@ impl Router for Last {
     ghost too_large = { λ s room request h e. absurd (cc) };
 }
 
+/// The one byte of the reply that a target keeps.
+fn check_kept<A: Abort>(rt: &A, target: &Target, reply: u8) {
+    let kept = target.kept().map(|kept| kept.reply);
+    check_same(rt, kept, Some([reply].as_slice()));
+}
+
+/// Items, what the target does with each, the byte of the reply that it keeps then, and the router's byte.
+const ITEMS: &[(&[u8], Received, u8, u8)] = &[
+    (&[1, 0, 5, 0], Received::Executed, 9, 5),
+    (&[1, 0, 7, 0], Received::Repeated, 9, 5),
+    (&[2, 0, 7, 0], Received::Executed, 5, 7),
+    (&[3, 0, 8], Received::Dropped, 5, 7),
+];
+
+fn check_items<A: Abort>(rt: &A, target: &mut Target, router: &mut Last) {
+    for (item, received, reply, left) in ITEMS {
+        check_same(rt, target.receive(router, item), *received);
+        check_kept(rt, target, *reply);
+        check_same(rt, router.byte, *left);
+    }
+}
+
 /// What a target executes, repeats and drops of such a router's requests, and what it keeps.
 #[test]
 fn a_target_over_a_router_without_form(rt: HostRuntime) {
     let mut router = Last { byte: 9 };
     let mut target = Target::new(100, 100);
-    for (item, received, reply, left) in [
-        ([1, 0, 5, 0].as_slice(), Received::Executed, 9, 5),
-        (&[1, 0, 7, 0], Received::Repeated, 9, 5),
-        (&[2, 0, 7, 0], Received::Executed, 5, 7),
-        (&[3, 0, 8], Received::Dropped, 5, 7),
-    ] {
-        assert_eq!(rt; target.receive(&mut router, item), received);
-        assert_eq!(rt;
-            target.kept().map(|kept| kept.reply),
-            Some([reply].as_slice())
-        );
-        assert_eq!(rt; router.byte, left);
-    }
+    check_items(&rt, &mut target, &mut router);
 }

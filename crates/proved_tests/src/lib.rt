@@ -19,3 +19,5 @@ mod client_memory;
 mod laws;
 #[cfg(test)]
 mod runs;
+#[cfg(test)]
+mod same;

@@ -1,17 +1,28 @@
 //! Runs of many events. (Volume 1, transport class 3.)
 
+use crate::same::check_same;
 use enip_bench::{Accepted, Bench, Event, Step};
 use std::alloc::Global;
 use std::process::Abort;
 use std::test::Fail;
 use test_stands::bench::{ADD_1, EXACTLY_ONCE, IS_12, Row, all_done, bench, counter, look};
 
-/// Does the events of these rows in one call.
-fn run_rows(alloc: Global, bench: &mut Bench, rows: &[(Row, Step<'_>)]) -> Result<(), Fail> {
-    let mut events = Vec::new(alloc);
+/// Adds the events of these rows to a list.
+fn add_events(
+    alloc: Global,
+    events: &mut Vec<Event>,
+    rows: &[(Row, Step<'_>)],
+) -> Result<(), Fail> {
     for (row, _) in rows {
         events.push(row.event(alloc)?)?;
     }
+    Ok(())
+}
+
+/// Does the events of these rows in one call.
+fn run_rows(alloc: Global, bench: &mut Bench, rows: &[(Row, Step<'_>)]) -> Result<(), Fail> {
+    let mut events = Vec::new(alloc);
+    add_events(alloc, &mut events, rows)?;
     run(bench, events.as_slice())
 }
 
@@ -35,22 +46,22 @@ struct Wanted<'a> {
 
 /// The counter's value and its additions.
 fn check_counter<A: Abort>(rt: &A, bench: &Bench, wanted: &Wanted<'_>) -> Result<(), Fail> {
-    assert_eq!(rt; counter(bench, 1)?, wanted.value);
-    assert_eq!(rt; counter(bench, 3)?, wanted.additions);
+    check_same(rt, counter(bench, 1)?, wanted.value);
+    check_same(rt, counter(bench, 3)?, wanted.additions);
     Ok(())
 }
 
 /// The reply that was accepted last.
 fn check_last<A: Abort>(rt: &A, last: &Accepted, wanted: &Wanted<'_>) {
-    assert_eq!(rt; last.number, wanted.last_number);
-    assert_eq!(rt; last.reply.as_slice(), wanted.last_reply);
+    check_same(rt, last.number, wanted.last_number);
+    check_same(rt, last.reply.as_slice(), wanted.last_reply);
 }
 
 fn check_seen<A: Abort>(rt: &A, bench: &Bench, wanted: &Wanted<'_>) -> Result<(), Fail> {
     check_counter(rt, bench, wanted)?;
     let seen = look(bench);
-    assert_eq!(rt; seen.back.len(), wanted.back);
-    assert_eq!(rt; seen.accepted.len(), wanted.accepted);
+    check_same(rt, seen.back.len(), wanted.back);
+    check_same(rt, seen.accepted.len(), wanted.accepted);
     let last = seen.accepted.last().ok_or("replies were accepted")?;
     check_last(rt, last, wanted);
     Ok(())
@@ -65,14 +76,6 @@ const ONCE: Wanted<'static> = Wanted {
     last_number: 1,
     last_reply: IS_12,
 };
-
-/// All events in one call.
-#[test]
-fn exactly_once_in_one_run(rt: HostRuntime) -> Result<(), Fail> {
-    let mut bench = bench(rt.alloc(), 100)?;
-    run_rows(rt.alloc(), &mut bench, &EXACTLY_ONCE)?;
-    check_seen(&rt, &bench, &ONCE)
-}
 
 /// A request that is sent twice: both reach the adapter, and both replies the client.
 fn add_twice(alloc: Global, bench: &mut Bench, number: usize) -> Result<(), Fail> {
@@ -111,10 +114,41 @@ const MANY: Wanted<'static> = Wanted {
     last_reply: b"\xb2\0\0\0\x70\x11\x01\0",
 };
 
+/// What is done at a bench.
+#[derive(Clone, Copy)]
+enum Work {
+    ExactlyOnce,
+    ManyRequests,
+}
+
+/// Does it, and sees what came of it.
+fn check_run<A: Abort>(rt: &A, alloc: Global, bench: &mut Bench, work: Work) -> Result<(), Fail> {
+    match work {
+        Work::ExactlyOnce => {
+            run_rows(alloc, bench, &EXACTLY_ONCE)?;
+            check_seen(rt, bench, &ONCE)
+        }
+        Work::ManyRequests => {
+            add_many(alloc, bench, 70_000)?;
+            check_seen(rt, bench, &MANY)
+        }
+    }
+}
+
+/// The same at a new bench, whose counter has this limit.
+fn check_bench<A: Abort>(rt: &A, alloc: Global, limit: u32, work: Work) -> Result<(), Fail> {
+    let mut bench = bench(alloc, limit)?;
+    check_run(rt, alloc, &mut bench, work)
+}
+
+/// All events in one call.
+#[test]
+fn exactly_once_in_one_run(rt: HostRuntime) -> Result<(), Fail> {
+    check_bench(&rt, rt.alloc(), 100, Work::ExactlyOnce)
+}
+
 /// Past a wrap of the count: each request is sent twice, executed once, and its reply accepted once.
 #[test]
 fn seventy_thousand_requests(rt: HostRuntime) -> Result<(), Fail> {
-    let mut bench = bench(rt.alloc(), 1_000_000)?;
-    add_many(rt.alloc(), &mut bench, 70_000)?;
-    check_seen(&rt, &bench, &MANY)
+    check_bench(&rt, rt.alloc(), 1_000_000, Work::ManyRequests)
 }
