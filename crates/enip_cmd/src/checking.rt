@@ -12,16 +12,48 @@ pub(crate) fn print_device<W: Write + Drop>(
     output: W,
 ) -> io::Result<()> {
     let mut output = BufWriter::new(alloc, output)?;
-    print_identity(&mut output, &configuration.objects)?;
+    print_lines(&mut output, configuration)
+}
+
+/// Prints these lines, and sends them off.
+fn print_lines<W: Write>(output: &mut W, configuration: &Configuration) -> io::Result<()> {
+    print_identity(output, &configuration.objects)?;
+    print_address(output, configuration)?;
+    for assembly in &configuration.objects.assemblies {
+        print_assembly(output, assembly)?;
+    }
+    print_places(output, configuration)?;
+    output.flush()
+}
+
+/// Prints the Identity object. (Volume 1, Identity.)
+fn print_identity<W: Write>(output: &mut W, objects: &Config) -> io::Result<()> {
+    let (vendor, device_type) = (objects.vendor, objects.device_type);
+    let (product_code, major, minor) = (objects.product_code, objects.major, objects.minor);
+    writeln!(
+        output,
+        "vendor {vendor}\ndevice type {device_type}\nproduct code {product_code}\nrevision {major}.{minor}"
+    )?;
+    let (status, serial) = (objects.status, objects.serial);
+    let (name, state) = (objects.name.as_str(), objects.state);
+    writeln!(
+        output,
+        "status {status:#06x}\nserial {serial:#010x}\nname {name}\nstate {state}"
+    )
+}
+
+/// Prints the address that the device shows, and its counter.
+fn print_address<W: Write>(output: &mut W, configuration: &Configuration) -> io::Result<()> {
     let [first, second, third, last] = configuration.address;
     let port = configuration.port;
     writeln!(output, "address {first}.{second}.{third}.{last}:{port}")?;
     let counter = configuration.objects.counter;
     let (value, limit) = (counter.value, counter.limit);
-    writeln!(output, "counter {value}, limit {limit}")?;
-    for assembly in &configuration.objects.assemblies {
-        print_assembly(&mut output, assembly)?;
-    }
+    writeln!(output, "counter {value}, limit {limit}")
+}
+
+/// Prints how much it has room for, and the first numbers that it gives.
+fn print_places<W: Write>(output: &mut W, configuration: &Configuration) -> io::Result<()> {
     let peers = configuration.peers;
     let connections = configuration.connections;
     writeln!(
@@ -32,24 +64,7 @@ pub(crate) fn print_device<W: Write + Drop>(
     writeln!(
         output,
         "first session handle {handle}, first connection ID {id}"
-    )?;
-    output.flush()
-}
-
-/// Prints the Identity object. (Volume 1, Identity.)
-fn print_identity<W: Write>(output: &mut W, objects: &Config) -> io::Result<()> {
-    let (vendor, device_type) = (objects.vendor, objects.device_type);
-    writeln!(output, "vendor {vendor}")?;
-    writeln!(output, "device type {device_type}")?;
-    let (product_code, major, minor) = (objects.product_code, objects.major, objects.minor);
-    writeln!(output, "product code {product_code}")?;
-    writeln!(output, "revision {major}.{minor}")?;
-    let (status, serial) = (objects.status, objects.serial);
-    writeln!(output, "status {status:#06x}")?;
-    writeln!(output, "serial {serial:#010x}")?;
-    let (name, state) = (objects.name.as_str(), objects.state);
-    writeln!(output, "name {name}")?;
-    writeln!(output, "state {state}")
+    )
 }
 
 /// Prints an assembly: its instance, whether it can be set, its bytes, and the sizes of its members. (Volume 1,

@@ -59,18 +59,8 @@ pub(crate) fn serve_connections<R: Clock + Net, W: Watch + Drop>(
 ) -> Result<(), Fault>
     ensures { IfErr result IsOfDevices }
 {
-    let start = Instant::now(rt)?;
-    let mut server = Server::new(rt, alloc, sockets, adapter, serving, watch)?;
-    let mut now = 0;
-    for _ in 0..u64::MAX {
-        if server.is_done() {
-            break;
-        }
-        server.wait(now)?;
-        now = moment(rt, start)?;
-        server.round(now);
-    }
-    Ok(())
+    let mut server = Server::new(rt, alloc, adapter, serving, watch)?;
+    server.run(rt, alloc, sockets)
 }
 
 /// The microseconds since a start.
@@ -94,11 +84,37 @@ fn earlier(first: Option<u64>, second: Option<u64>) -> Option<u64>
     }
 }
 
+/// What a server has of the system.
+#[derive(Drop)]
+struct System {
+    /// When it began.
+    start: Instant,
+    /// Who reports which sockets may be ready.
+    poll: Poll,
+    /// What was reported.
+    events: Events,
+}
+
+impl System {
+    /// The system, which reports no socket yet.
+    fn new<R: Clock + Net>(rt: &R, alloc: Global) -> Result<System, Fault>
+        ensures { IfErr result IsOfDevices }
+    {
+        let start = Instant::now(rt)?;
+        let poll = Poll::new(rt)?;
+        let events = Events::with_capacity(alloc, REPORTS)?;
+        Ok(System {
+            start,
+            poll,
+            events,
+        })
+    }
+}
+
 /// The peers and the sockets of a device that is served.
 #[derive(Drop)]
 struct Server<W: Watch + Drop> {
-    poll: Poll,
-    events: Events,
+    system: System,
     /// Where connections come in, while they are taken.
     door: Option<Door>,
     discovery: Option<Discovery>,
@@ -118,29 +134,17 @@ struct Server<W: Watch + Drop> {
 }
 
 impl<W: Watch + Drop> Server<W> {
-    /// A device's peers, of which there are none yet, and its sockets, which the system reports from now on.
-    fn new<N: Net>(
-        net: &N,
+    /// A device's peers, of which there are none yet. It has no sockets, so none can come.
+    fn new<R: Clock + Net>(
+        rt: &R,
         alloc: Global,
-        sockets: Sockets,
         adapter: Adapter,
         serving: Serving,
         watch: W,
     ) -> Result<Server<W>, Fault>
         ensures { IfErr result IsOfDevices }
     {
-        let Sockets {
-            mut listener,
-            datagrams,
-        } = sockets;
-        let poll = Poll::new(net)?;
-        let registry = poll.registry();
-        registry.register(&mut listener, Token(LISTENER), Interest::READABLE)?;
-        let mut discovery = None;
-        if let Some(mut socket) = datagrams {
-            registry.register(&mut socket, Token(DATAGRAMS), Interest::READABLE)?;
-            discovery = Some(Discovery::new(alloc, socket)?);
-        }
+        let system = System::new(rt, alloc)?;
         let peers = Peers::new(alloc, adapter, serving.silence)?;
         let last = RoundEnd {
             ended: 0,
@@ -148,10 +152,9 @@ impl<W: Watch + Drop> Server<W> {
             next: peers.next_moment(),
         };
         Ok(Server {
-            poll,
-            events: Events::with_capacity(alloc, REPORTS)?,
-            door: Some(Door::new(listener)),
-            discovery,
+            system,
+            door: None,
+            discovery: None,
             peers,
             watch,
             last,
@@ -160,6 +163,58 @@ impl<W: Watch + Drop> Server<W> {
             ended: 0,
             held: 0,
         })
+    }
+
+    /// Opens the sockets of the device, which the system reports from now on.
+    fn open(&mut self, alloc: Global, sockets: Sockets) -> Result<(), Fault>
+        ensures { IfErr result IsOfDevices }
+    {
+        let Sockets {
+            listener,
+            datagrams,
+        } = sockets;
+        self.listen(listener)?;
+        match datagrams {
+            Some(socket) => self.hear(alloc, socket),
+            None => Ok(()),
+        }
+    }
+
+    /// Takes the connections that come to a listener.
+    fn listen(&mut self, mut listener: TcpListener) -> Result<(), Fault>
+        ensures { IfErr result IsOfDevices }
+    {
+        let registry = self.system.poll.registry();
+        registry.register(&mut listener, Token(LISTENER), Interest::READABLE)?;
+        self.door = Some(Door::new(listener));
+        Ok(())
+    }
+
+    /// Answers the datagrams that come to a socket.
+    fn hear(&mut self, alloc: Global, mut socket: UdpSocket) -> Result<(), Fault>
+        ensures { IfErr result IsOfDevices }
+    {
+        let registry = self.system.poll.registry();
+        registry.register(&mut socket, Token(DATAGRAMS), Interest::READABLE)?;
+        self.discovery = Some(Discovery::new(alloc, socket)?);
+        Ok(())
+    }
+
+    /// Opens the sockets, and goes round until so many connections as are taken were taken and are over.
+    fn run<C: Clock>(&mut self, clock: &C, alloc: Global, sockets: Sockets) -> Result<(), Fault>
+        ensures { IfErr result IsOfDevices }
+    {
+        self.open(alloc, sockets)?;
+        let mut now = 0;
+        for _ in 0..u64::MAX {
+            if self.is_done() {
+                break;
+            }
+            self.wait(now)?;
+            now = moment(clock, self.system.start)?;
+            self.round(now);
+        }
+        Ok(())
     }
 
     /// Whether all connections that are taken were taken and are over.
@@ -174,8 +229,8 @@ impl<W: Watch + Drop> Server<W> {
         ensures { IfErr result IsOfDevices }
     {
         let timeout = self.timeout(now);
-        self.poll.poll(&mut self.events, timeout)?;
-        for event in &self.events {
+        self.system.poll.poll(&mut self.system.events, timeout)?;
+        for event in &self.system.events {
             match event.token().0 {
                 LISTENER => {
                     if let Some(door) = &mut self.door {
@@ -274,6 +329,7 @@ impl<W: Watch + Drop> Server<W> {
         };
         let interests = Interest::READABLE | Interest::WRITABLE;
         let registered = self
+            .system
             .poll
             .registry()
             .register(&mut stream, Token(place), interests);
