@@ -247,9 +247,17 @@ fn ask_once<R: Source, W: Sink>(
         Ok(client) => client,
         Err(fault) => return Err(AskingStop::from(AskFault::Client(fault))),
     };
-    match ask(&mut client, reader, writer, request, connected, reply) {
+    let asked = ask(&mut client, reader, writer, request, connected, reply);
+    stop_where_refused(asked, client.is_registered())
+}
+
+/// Why an exchange was not completed. A status is that of the session where it is not registered.
+fn stop_where_refused(asked: Result<(), AskFault>, is_registered: bool) -> Result<(), AskingStop>
+    ensures { IfErr result IsOfExchange }
+{
+    match asked {
         Ok(()) => Ok(()),
-        Err(AskFault::Client(ClientFault::Status(status))) if !client.is_registered() => {
+        Err(AskFault::Client(ClientFault::Status(status))) if !is_registered => {
             Err(AskingStop::Session(status))
         }
         Err(fault) => Err(AskingStop::from(fault)),

@@ -153,13 +153,20 @@ impl Ladder {
     fn put(&mut self, event: Event, happened: Happened) -> Result<(), Fault>
         ensures { IfErr result IsOfDevices }
     {
-        match &happened {
-            Happened::Sent { number, .. } => {
-                self.sent.push((*number, false))?;
-                if let Event::Submit(request) = event {
-                    self.requests.push(request)?;
-                }
-            }
+        self.mark(&happened)?;
+        if let Happened::Sent { .. } = &happened {
+            self.keep(event)?;
+        }
+        self.happened.push(happened)?;
+        Ok(())
+    }
+
+    /// Marks the frames that were sent or have arrived.
+    fn mark(&mut self, happened: &Happened) -> Result<(), Fault>
+        ensures { IfErr result IsOfDevices }
+    {
+        match happened {
+            Happened::Sent { number, .. } => self.sent.push((*number, false))?,
             Happened::Reached { position, back } => {
                 if let Some(sent) = self.sent.get_mut(*position) {
                     sent.1 = true;
@@ -175,7 +182,16 @@ impl Ladder {
             }
             Happened::Aside { .. } => {}
         }
-        self.happened.push(happened)?;
+        Ok(())
+    }
+
+    /// Keeps the request that was submitted, if one was.
+    fn keep(&mut self, event: Event) -> Result<(), Fault>
+        ensures { IfErr result IsOfDevices }
+    {
+        if let Event::Submit(request) = event {
+            self.requests.push(request)?;
+        }
         Ok(())
     }
 
