@@ -22,7 +22,7 @@ use Rattle.enip_bench.specs.CountingWorld.{CountingWorld, reply_heard, acceptanc
 use Rattle.enip_bench.specs.Events.{Event, Submit, Back, Other, delivery, is_unconnected_request, with_any}
 use Rattle.enip_bench.specs.Reached.{IsNewAdapter, IsNewClient, IsReached}
 use Rattle.enip_bench.specs.Seen.{Seen}
-use Rattle.enip_bench.specs.Stored.{world_in, acceptances_in, event_in, events_in, last_reply, IsTold, IsStepped, IsOfOpening}
+use Rattle.enip_bench.specs.Stored.{world_in, acceptances_in, event_in, events_in, last_reply, world_opened, IsTold, IsStepped, IsOfOpening}
 use Rattle.enip_bench.specs.Telling.{Sends, Accepts, Done, Impossible, submit_telling, reply_telling, back_telling}
 use Rattle.enip_bench.specs.declared.event.Event.{Event as EventInCode}
 use Rattle.enip_bench.specs.declared.event.Told.{Told}
@@ -201,16 +201,9 @@ pub opened_so : (adapter one two three four five : AdapterState) (client registe
     exchange (record { adapter = two; client = registered }) peer is_opened_news (opens registered.state)
     ≡ Ok (record { adapter = three; client = opened }) →
     begins three ≡ Ok second → four ≡ after_call three Begins_peer → bytes ≡ frame (register_frame 0) →
-    five ≡ after_call four (Feeds 0 second bytes) → (sent back : List (List ℕ)) (accepted : List (ℕ × List ℕ)) →
-    sent ≡ [] → back ≡ [] → accepted ≡ [] →
-    opening_between adapter client
-    ≡ Ok (record (counting_at_opening (record { adapter = three; client = opened }) peer second) {
-      adapter = five;
-      sent = sent;
-      back = back;
-      accepted = accepted;
-    })
-opened_so adapter one two three four five client registered opened peer second bytes e1 a1 e2 e3 e4 a4 f a5 sent back accepted s b c =
+    five ≡ after_call four (Feeds 0 second bytes) →
+    opening_between adapter client ≡ Ok (world_opened five opened (peer, second))
+opened_so adapter one two three four five client registered opened peer second bytes e1 a1 e2 e3 e4 a4 f a5 =
     let last : Ends → ℕ → Result CountingWorld Setup
     = λ ends peer. begins ends.adapter >>= λ second. Ok (counting_at_opening ends peer second) in
     let later : Ends → ℕ → Result CountingWorld Setup
@@ -223,22 +216,20 @@ opened_so adapter one two three four five client registered opened peer second b
     (ap (λ a. exchange (record { adapter = a; client = client }) peer is_registered_news (registers client.state)) (sym a1) ∙ e2)
     ∙ (ap (λ r. r >>= λ ends. last ends peer) e3
     ∙ (ap (λ r. r >>= λ second. Ok (counting_at_opening (record { adapter = three; client = opened }) peer second)) e4
-    ∙ (ap (λ a. (let x : Result CountingWorld Setup
-    = Ok (record (counting_at_opening (record { adapter = three; client = opened }) peer second) { adapter = a }) in x))
-    (sym (a5 ∙ ap₂ (λ a b. after_call a (Feeds 0 second b)) a4 f))
+    ∙ ap (λ a. (let x : Result CountingWorld Setup = Ok (world_opened a opened (peer, second)) in x))
+    (sym (a5 ∙ ap₂ (λ a b. after_call a (Feeds 0 second b)) a4 f)))))
+
+-- the same, where nothing lies between the ends
+pub opened_between : (opened : Result CountingWorld Setup) (adapter : AdapterState) (client : ClientState)
+    (peers : ℕ × ℕ) (sent back : List (List ℕ)) (accepted : List (ℕ × List ℕ)) →
+    opened ≡ Ok (world_opened adapter client peers) → sent ≡ [] → back ≡ [] → accepted ≡ [] →
+    opened ≡ Ok (record (world_opened adapter client peers) { sent = sent; back = back; accepted = accepted })
+opened_between opened adapter client peers sent back accepted e s b a =
+    e
     ∙ (ap₂ (λ s b. (let x : Result CountingWorld Setup
-    = Ok (record (counting_at_opening (record { adapter = three; client = opened }) peer second) {
-      adapter = five;
-      sent = s;
-      back = b;
-    }) in x)) (sym s) (sym b)
+    = Ok (record (world_opened adapter client peers) { sent = s; back = b }) in x)) (sym s) (sym b)
     ∙ ap (λ a. (let x : Result CountingWorld Setup
-    = Ok (record (counting_at_opening (record { adapter = three; client = opened }) peer second) {
-      adapter = five;
-      sent = sent;
-      back = back;
-      accepted = a;
-    }) in x)) (sym c))))))
+    = Ok (record (world_opened adapter client peers) { sent = sent; back = back; accepted = a }) in x)) (sym a))
 
 pub opening_reached : (adapter : AdapterState) (client : ClientState) (world : CountingWorld) → IsNewAdapter adapter →
     IsNewClient client → opening_between adapter client ≡ Ok world → IsReached world

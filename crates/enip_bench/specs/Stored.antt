@@ -13,6 +13,7 @@ use Rattle.enip_bench.specs.Seen.{Seen}
 use Rattle.enip_bench.specs.Telling.{Telling, Sends, Refuses, Resends, Reaches, Accepts, Ignores, Impossible, Done, telling}
 use Rattle.enip_bench.specs.declared.bench.BenchFault.{BenchFault}
 use Rattle.enip_bench.specs.declared.bench.BenchFault.TheVariants as faults
+use Rattle.enip_bench.specs.declared.bench.Between.{Between}
 use Rattle.enip_bench.specs.declared.bench.Seen.{Seen as SeenInCode}
 use Rattle.enip_bench.specs.declared.event.Event.{Event as EventInCode}
 use Rattle.enip_bench.specs.declared.event.Event.TheVariants as events
@@ -109,6 +110,40 @@ HasBegun old new (Err fault) = (fault ≡ faults.Setup) × (begins old ≡ Err A
 abbrev pub HasExchanged : Result Ends Setup → AdapterState → ClientState → Result (Unit {0}) BenchFault → Type 0
 HasExchanged exchanged adapter client (Ok done) = exchanged ≡ Ok (record { adapter = adapter; client = client })
 HasExchanged exchanged adapter client (Err fault) = (fault ≡ faults.Setup) × (exchanged ≡ Err ARefusal)
+
+-- both ends, open, and their peers, before any frame
+abbrev pub world_opened : AdapterState → ClientState → ℕ × ℕ → CountingWorld
+world_opened adapter client peers = record {
+  adapter = adapter;
+  client = client;
+  peer = peers.0;
+  second = peers.1;
+  sent = [];
+  back = [];
+  last_reached = None;
+  last_back = None;
+  submits = 0;
+  accepted = [];
+}
+
+-- the opening left the ends so, or was refused
+abbrev pub HasOpened : Result CountingWorld Setup → AdapterState → ClientState → Result (ℕ × ℕ) BenchFault → Type 0
+HasOpened opened adapter client (Ok peers) = opened ≡ Ok (world_opened adapter client peers)
+HasOpened opened adapter client (Err fault) = (fault ≡ faults.Setup) × (opened ≡ Err ARefusal)
+
+-- the world of these ends and of what lies between them, before any event
+abbrev pub world_between : AdapterState → ClientState → Between → CountingWorld
+world_between adapter client between = record (world_opened adapter client (between.peer, between.second)) {
+  sent = between.sent.frames;
+  back = between.back.frames;
+  accepted = acceptances_in between.accepted.items;
+}
+
+-- the same, where memory may be refused first
+abbrev pub IsOpenBetween : Result CountingWorld Setup → AdapterState → ClientState → Result Between BenchFault → Type 0
+IsOpenBetween opened adapter client (Ok between) = opened ≡ Ok (world_between adapter client between)
+IsOpenBetween opened adapter client (Err faults.Setup) = opened ≡ Err ARefusal
+IsOpenBetween opened adapter client (Err faults.Memory) = ⊤
 
 -- The opening; `Setup` only where it is refused.
 abbrev pub IsOpening : Result CountingWorld Setup → Result CountingWorld BenchFault → Type 0

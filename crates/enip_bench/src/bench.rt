@@ -4,16 +4,17 @@
 ghost use Rattle.std.specs.Prelude.{◌≡◌, IfOk};
 ghost use Rattle.std.specs.Borrow.{sem};
 ghost use Rattle.std.specs.Io.BufRead.{Rests};
-ghost use Rattle.enip_bench.specs.Stored.{acceptances_in, last_reply};
+ghost use Rattle.enip_bench.specs.CountingOpening.{opening_between};
+ghost use Rattle.enip_bench.specs.Stored.{acceptances_in, last_reply, IsOpenBetween};
 
 use crate::event::{Event, Step};
 use crate::frames::Frames;
-use crate::opening::{begin, open, register};
-use crate::world::{Accepted, World, feed_silently};
+use crate::opening::open_both;
+use crate::world::{Accepted, World};
 use cip_class3::Stage;
 use cip_objects::Objects;
-use enip_adapter::Adapter;
-use enip_client::{Client, Sent, write_register};
+use enip_adapter::{Adapter, Peer};
+use enip_client::Client;
 use std::alloc::{AllocError, Global};
 use std::marker::Model;
 use thiserror::Error;
@@ -56,9 +57,16 @@ pub struct Seen<'a> {
 const FIRST_ROOM: usize = 16;
 
 /// An adapter and a client with an open connection, and a second session at the adapter.
-#[derive(Drop)]
 pub struct Bench {
     world: World,
+}
+
+/// Written out and not derived, so that whoever lets a bench go calls this, and need not prove the drop of each of its
+/// parts once more.
+impl Drop for Bench {
+    fn drop(self) {
+        let Bench { world: _ } = self;
+    }
 }
 
 impl Model for Bench {
@@ -78,7 +86,6 @@ impl Model for Bench {
 }
 
 impl Bench {
-    ghost use Rattle.enip_bench.specs.CountingOpening.{opening_between};
     ghost use Rattle.enip_bench.specs.CountingWorld.{counting_seen};
     ghost use Rattle.enip_bench.specs.Reached.{IsNewAdapter, IsNewClient};
     ghost use Rattle.enip_bench.specs.CountingWorld.{counting_run};
@@ -101,16 +108,13 @@ impl Bench {
     {
         let mut adapter = adapter;
         let mut client = client;
-        let sent = Frames::with_places(alloc, FIRST_ROOM)?;
-        let back = Frames::with_places(alloc, FIRST_ROOM)?;
-        let accepted = Vec::with_capacity(alloc, FIRST_ROOM)?;
-        let peer = begin(&mut adapter)?;
-        register(&mut adapter, &mut client, &peer)?;
-        open(&mut adapter, &mut client, &peer)?;
-        let second = begin(&mut adapter)?;
-        let mut frame = Sent::new();
-        write_register(0, &mut frame);
-        feed_silently(&mut adapter, &second, &frame);
+        let Between {
+            peer,
+            second,
+            sent,
+            back,
+            accepted,
+        } = Between::open(alloc, &mut adapter, &mut client)?;
         Ok(Bench {
             world: World {
                 alloc,
@@ -172,6 +176,39 @@ impl Bench {
             // its connection stays open
             stage: self.world.client.stage().unwrap_or(Stage::Idle),
         }
+    }
+}
+
+/// What lies between both ends once they are open.
+#[derive(Drop)]
+struct Between {
+    peer: Peer,
+    second: Peer,
+    sent: Frames,
+    back: Frames,
+    accepted: Vec<Accepted>,
+}
+
+impl Between {
+    /// Opens both ends, once there is room for what lies between them.
+    fn open(
+        alloc: Global,
+        adapter: &mut Adapter,
+        client: &mut Client,
+    ) -> Result<Between, BenchFault>
+        ensures { IsOpenBetween (opening_between adapter.old client.old) adapter.new client.new result }
+    {
+        let sent = Frames::with_places(alloc, FIRST_ROOM)?;
+        let back = Frames::with_places(alloc, FIRST_ROOM)?;
+        let accepted = Vec::with_capacity(alloc, FIRST_ROOM)?;
+        let (peer, second) = open_both(adapter, client)?;
+        Ok(Between {
+            peer,
+            second,
+            sent,
+            back,
+            accepted,
+        })
     }
 }
 

@@ -2,20 +2,42 @@
 
 ghost use Rattle.std.specs.Prelude.{◌≡◌, ℕ, Bool, Option, MatchResult};
 ghost use Rattle.std.specs.Option.{option_map};
-ghost use Rattle.enip_bench.specs.CountingOpening.{exchange, is_registered_news, is_opened_news, begins};
-ghost use Rattle.enip_bench.specs.Stored.{HasExchanged, HasBegun};
+ghost use Rattle.enip_bench.specs.CountingOpening.{opening_between, exchange, is_registered_news, is_opened_news, begins};
+ghost use Rattle.enip_bench.specs.Stored.{HasExchanged, HasBegun, HasOpened};
 ghost use Rattle.enip_client.specs.Calls.{registers, opens};
 
 use crate::bench::BenchFault;
+use crate::world::feed_silently;
 use enip_adapter::{Adapter, Peer};
-use enip_client::{Client, Heard};
+use enip_client::{Client, Heard, Sent, write_register};
+
+/// The client registers and opens its connection, and a second session registers. These are their peers.
+///
+/// # Errors
+///
+/// `Setup` where a begin, a register or an open is refused.
+pub(crate) fn open_both(
+    adapter: &mut Adapter,
+    client: &mut Client,
+) -> Result<(Peer, Peer), BenchFault>
+    ensures { HasOpened (opening_between adapter.old client.old) adapter.new client.new result }
+{
+    let peer = begin(adapter)?;
+    register(adapter, client, &peer)?;
+    open(adapter, client, &peer)?;
+    let second = begin(adapter)?;
+    let mut frame = Sent::new();
+    write_register(0, &mut frame);
+    feed_silently(adapter, &second, &frame);
+    Ok((peer, second))
+}
 
 /// A peer begins.
 ///
 /// # Errors
 ///
 /// `Setup` where it cannot.
-pub(crate) fn begin(adapter: &mut Adapter) -> Result<Peer, BenchFault>
+fn begin(adapter: &mut Adapter) -> Result<Peer, BenchFault>
     ensures { HasBegun adapter.old adapter.new result }
 {
     adapter.begin().map_err(|_| BenchFault::Setup)
@@ -26,11 +48,7 @@ pub(crate) fn begin(adapter: &mut Adapter) -> Result<Peer, BenchFault>
 /// # Errors
 ///
 /// `Setup` where it is refused.
-pub(crate) fn register(
-    adapter: &mut Adapter,
-    client: &mut Client,
-    peer: &Peer,
-) -> Result<(), BenchFault>
+fn register(adapter: &mut Adapter, client: &mut Client, peer: &Peer) -> Result<(), BenchFault>
     ensures { HasExchanged (exchange (record { adapter = adapter.old; client = client.old }) peer.now is_registered_news
         (registers client.old.state)) adapter.new client.new result }
 {
@@ -51,11 +69,7 @@ pub(crate) fn register(
 /// # Errors
 ///
 /// `Setup` where it is refused.
-pub(crate) fn open(
-    adapter: &mut Adapter,
-    client: &mut Client,
-    peer: &Peer,
-) -> Result<(), BenchFault>
+fn open(adapter: &mut Adapter, client: &mut Client, peer: &Peer) -> Result<(), BenchFault>
     ensures { HasExchanged (exchange (record { adapter = adapter.old; client = client.old }) peer.now is_opened_news
         (opens client.old.state)) adapter.new client.new result }
 {

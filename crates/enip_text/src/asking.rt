@@ -220,23 +220,67 @@ pub fn ask_over<R: Source, W: Sink, O: Write + Drop>(
     requires writes { W.failures writer.old < u64.MAX }
     ensures { IfErr result IsOfExchange }
 {
+    let mut output = BufWriter::new(alloc, output)?;
+    let mut reply = ReplyBuf::new();
+    let asked = ask_once(alloc, reader, writer, request, connected, &mut reply);
+    print_asked(alloc, &mut output, style, asked, reply.as_slice())
+}
+
+/// Asks once, with a client for that.
+///
+/// # Errors
+///
+/// As of `ask_over`, and `Client` with `Refused` where the connection was not opened or not closed.
+fn ask_once<R: Source, W: Sink>(
+    alloc: Global,
+    reader: &mut R,
+    writer: &mut W,
+    request: &[u8],
+    connected: bool,
+    reply: &mut ReplyBuf,
+) -> Result<(), AskingStop>
+    requires reads { R.failures reader.old < u64.MAX }
+    requires writes { W.failures writer.old < u64.MAX }
+    ensures { IfErr result IsOfExchange }
+{
     let mut client = match Client::new(alloc, &WANTS) {
         Ok(client) => client,
         Err(fault) => return Err(AskingStop::from(AskFault::Client(fault))),
     };
-    let mut output = BufWriter::new(alloc, output)?;
-    let mut reply = ReplyBuf::new();
-    let asked = ask(&mut client, reader, writer, request, connected, &mut reply);
+    let asked = ask(&mut client, reader, writer, request, connected, reply);
+    stop_where_refused(asked, client.is_registered())
+}
+
+/// Why an exchange was not completed. A status is that of the session where it is not registered.
+fn stop_where_refused(asked: Result<(), AskFault>, is_registered: bool) -> Result<(), AskingStop>
+    ensures { IfErr result IsOfExchange }
+{
+    match asked {
+        Ok(()) => Ok(()),
+        Err(AskFault::Client(ClientFault::Status(status))) if !is_registered => {
+            Err(AskingStop::Session(status))
+        }
+        Err(fault) => Err(AskingStop::from(fault)),
+    }
+}
+
+/// Prints the reply to what was asked, or why a connection was not opened or not closed.
+fn print_asked<O: Write>(
+    alloc: Global,
+    output: &mut O,
+    style: Style,
+    asked: Result<(), AskingStop>,
+    reply: &[u8],
+) -> Result<Replied, AskingStop>
+    requires { IfErr asked IsOfExchange }
+    ensures { IfErr result IsOfExchange }
+{
     let replied = match asked {
-        Ok(()) => print_reply(alloc, &mut output, style, reply.as_slice())?,
-        // the connection was not opened or not closed
-        Err(AskFault::Client(ClientFault::Refused(status, extended))) => {
-            print_refusal(alloc, &mut output, style, status, extended)?
+        Ok(()) => print_reply(alloc, output, style, reply)?,
+        Err(AskingStop::Client(ClientFault::Refused(status, extended))) => {
+            print_refusal(alloc, output, style, status, extended)?
         }
-        Err(AskFault::Client(ClientFault::Status(status))) if !client.is_registered() => {
-            return Err(AskingStop::Session(status));
-        }
-        Err(fault) => return Err(AskingStop::from(fault)),
+        Err(stop) => return Err(stop),
     };
     output.flush()?;
     Ok(replied)

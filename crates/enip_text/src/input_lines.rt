@@ -51,13 +51,25 @@ fn take_lines<R: Read + Drop, T: TakeLines>(
     let mut input = input;
     let mut chunk = vec![in alloc; 0u8; CHUNK]?;
     let mut line = Vec::new(alloc);
+    take_chunks(&mut input, &mut chunk, &mut line, taker)
+}
+
+/// Reads an input chunk by chunk, and hands on its lines. `line` has the front of one that does not end in its chunk.
+fn take_chunks<R: Read, T: TakeLines>(
+    input: &mut R,
+    chunk: &mut [u8],
+    line: &mut Vec<u8>,
+    taker: &mut T,
+) -> Result<(), Fault>
+    ensures { IfErr result (EndsBy T.refuses) }
+{
     let mut number = 1;
     for _ in 0..u64::MAX {
-        let count = input.read(&mut chunk)?;
+        let count = input.read(chunk)?;
         if count == 0 {
             break;
         }
-        number = take_chunk(taker, &chunk[..count], &mut line, number)?;
+        number = take_chunk(taker, &chunk[..count], line, number)?;
         taker.send()?;
     }
     if !line.is_empty() {

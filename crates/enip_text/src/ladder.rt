@@ -58,15 +58,28 @@ pub fn draw_replay<W: Write + Drop>(
     requires { IsNewAdapter adapter }
     ensures { IfErr result (IsStopOf adapter) }
 {
+    let bench = bench_of(alloc, adapter)?;
+    draw_script(alloc, bench, script, output)?;
+    Ok(())
+}
+
+/// Runs the lines of a script at a bench, and draws what became of them.
+fn draw_script<W: Write + Drop>(
+    alloc: Global,
+    bench: Bench,
+    script: &[u8],
+    output: W,
+) -> Result<(), Fault>
+    ensures { IfErr result (EndsBy (λ _ text. IsRefusedLine text)) }
+{
+    let mut output = BufWriter::new(alloc, output)?;
     let mut climber = Climber {
         alloc,
-        bench: bench_of(alloc, adapter)?,
+        bench,
         ladder: Ladder::new(alloc),
         digits: Vec::new(alloc),
     };
-    let mut output = BufWriter::new(alloc, output)?;
-    climb(alloc, script, &mut climber, &mut output)?;
-    Ok(())
+    climb(alloc, script, &mut climber, &mut output)
 }
 
 /// Runs the lines of a script, and draws what became of them.
@@ -140,13 +153,20 @@ impl Ladder {
     fn put(&mut self, event: Event, happened: Happened) -> Result<(), Fault>
         ensures { IfErr result IsOfDevices }
     {
-        match &happened {
-            Happened::Sent { number, .. } => {
-                self.sent.push((*number, false))?;
-                if let Event::Submit(request) = event {
-                    self.requests.push(request)?;
-                }
-            }
+        self.mark(&happened)?;
+        if let Happened::Sent { .. } = &happened {
+            self.keep(event)?;
+        }
+        self.happened.push(happened)?;
+        Ok(())
+    }
+
+    /// Marks the frames that were sent or have arrived.
+    fn mark(&mut self, happened: &Happened) -> Result<(), Fault>
+        ensures { IfErr result IsOfDevices }
+    {
+        match happened {
+            Happened::Sent { number, .. } => self.sent.push((*number, false))?,
             Happened::Reached { position, back } => {
                 if let Some(sent) = self.sent.get_mut(*position) {
                     sent.1 = true;
@@ -162,7 +182,16 @@ impl Ladder {
             }
             Happened::Aside { .. } => {}
         }
-        self.happened.push(happened)?;
+        Ok(())
+    }
+
+    /// Keeps the request that was submitted, if one was.
+    fn keep(&mut self, event: Event) -> Result<(), Fault>
+        ensures { IfErr result IsOfDevices }
+    {
+        if let Event::Submit(request) = event {
+            self.requests.push(request)?;
+        }
         Ok(())
     }
 
@@ -259,30 +288,27 @@ impl Ladder {
                 position,
             } => {
                 drawn.submitted = *number;
-                writeln!(output, "{}", self.sent(words, *number, *position))?;
+                draw_rung(self.sent(words, *number, *position), output)
             }
             Happened::Reached {
                 position,
                 back: None,
-            } => {
-                writeln!(output, "{}", self.reached(*position, "no connection", None))?;
-            }
+            } => draw_rung(self.reached(*position, "no connection", None), output),
             Happened::Reached {
                 position,
                 back: Some(answer),
             } => {
                 let number = self.number_at(*position);
                 let words = drawn.executed(number);
-                writeln!(output, "{}", self.reached(*position, words, Some(number)))?;
-                writeln!(output, "{}", self.answered(back, *answer))?;
+                draw_rung(self.reached(*position, words, Some(number)), output)?;
+                draw_rung(self.answered(back, *answer), output)
             }
             Happened::Heard { position, accepted } => {
                 let number = accepted.then_some(drawn.submitted);
-                writeln!(output, "{}", heard(back, *position, number))?;
+                draw_rung(heard(back, *position, number), output)
             }
-            Happened::Aside { words, way } => writeln!(output, "{}", aside(words, *way))?,
+            Happened::Aside { words, way } => draw_rung(aside(words, *way), output),
         }
-        Ok(())
     }
 
     /// The client sends a request.
@@ -322,6 +348,14 @@ impl Ladder {
             adapter: Note::BLANK,
         }
     }
+}
+
+/// Draws a rung.
+fn draw_rung<W: Write>(rung: Rung<'_>, output: &mut W) -> Result<(), Fault>
+    ensures { IfErr result IsOfDevices }
+{
+    writeln!(output, "{rung}")?;
+    Ok(())
 }
 
 /// The arrow of the reply that was sent back at a position.

@@ -80,19 +80,44 @@ pub fn print_reading<O: Write + Drop>(
     ensures untold { IfErr result (IsUntold style reply.now) }
 {
     let mut output = BufWriter::new(alloc, output).map_err(Fault::from)?;
+    print_timed(alloc, &mut output, style, moment, reply)
+}
+
+/// Prints a reply on a line, with the moment at which it came.
+fn print_timed<O: Write>(
+    alloc: Global,
+    output: &mut O,
+    style: Style,
+    moment: u64,
+    reply: &[u8],
+) -> Result<Replied, AskingStop>
+    ensures told { IfOk result (IsReplyTold reply.now) }
+    ensures untold { IfErr result (IsUntold style reply.now) }
+{
     let replied = if style.is_json {
-        let object = reply_object(alloc, style, reply)?;
-        writeln!(
-            output,
-            "{}",
-            timed_line(alloc, moment, object.text.as_str())?
-        )?;
-        object.replied
+        print_timed_object(alloc, output, style, moment, reply)?
     } else {
         let (seconds, rest) = (moment / SECOND, moment % SECOND);
         write!(output, "{seconds}.{rest:06} ")?;
-        print_reply(alloc, &mut output, style, reply)?
+        print_reply(alloc, output, style, reply)?
     };
     output.flush()?;
     Ok(replied)
+}
+
+/// Prints the object of a reply, and of the moment at which it came.
+fn print_timed_object<O: Write>(
+    alloc: Global,
+    output: &mut O,
+    style: Style,
+    moment: u64,
+    reply: &[u8],
+) -> Result<Replied, AskingStop>
+    ensures told { IfOk result (IsReplyTold reply.now) }
+    ensures untold { IfErr result (IsUntold style reply.now) }
+{
+    let object = reply_object(alloc, style, reply)?;
+    let line = timed_line(alloc, moment, object.text.as_str())?;
+    writeln!(output, "{line}")?;
+    Ok(object.replied)
 }

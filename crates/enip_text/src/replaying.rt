@@ -51,21 +51,22 @@ pub fn replay<W: Write + Drop>(
     ensures { IfErr result (IsStopOf adapter) }
 {
     let bench = bench_of(alloc, adapter)?;
-    let mut player = Player {
-        alloc,
-        bench,
-        output: BufWriter::new(alloc, output)?,
-        digits: Vec::new(alloc),
-    };
-    play(alloc, script, &mut player)?;
+    play(alloc, bench, script, output)?;
     Ok(())
 }
 
-/// Runs the lines of a script, and prints where both ends stand.
-fn play<W: Write + Drop>(alloc: Global, script: &[u8], player: &mut Player<W>) -> Result<(), Fault>
+/// Runs the lines of a script at a bench, and prints where both ends stand.
+fn play<W: Write + Drop>(alloc: Global, bench: Bench, script: &[u8], output: W) -> Result<(), Fault>
     ensures { IfErr result (EndsBy (λ _ text. IsRefusedLine text)) }
 {
-    let ran = read_lines(alloc, script, player);
+    let output = BufWriter::new(alloc, output)?;
+    let mut player = Player {
+        alloc,
+        bench,
+        output,
+        digits: Vec::new(alloc),
+    };
+    let ran = read_lines(alloc, script, &mut player);
     player.end(ran)
 }
 

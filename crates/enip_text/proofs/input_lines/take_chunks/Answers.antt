@@ -1,12 +1,12 @@
 use Rattle.std.proofs.Common.{IfErr, rules}
 use Rattle.enip_text.specs.Statuses.{IsOfDevices}
 use Rattle.enip_text.proofs.StatusLemmas.{devices_end}
-use Rattle.enip_text.proofs.input_lines.take_lines.Goals as goal
+use Rattle.enip_text.proofs.input_lines.take_chunks.Goals as goal
 
 pub returns-in_err-count : goal.returns-in_err-count
 returns-in_err-count g c =
-    let run : IfErr c.from_residual-in_err-count.result IsOfDevices = search rules in
-    devices_end g.T.TakeLines.refuses c.from_residual-in_err-count.result run
+    let run : IfErr c.from_residual.result IsOfDevices = search rules in
+    devices_end g.T.TakeLines.refuses c.from_residual.result run
 
 pub returns-in_err-send : goal.returns-in_err-send
 returns-in_err-send g c =
