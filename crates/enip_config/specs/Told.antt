@@ -5,8 +5,6 @@ use Rattle.std.specs.Option.{IsSomeAnd}
 use Rattle.toml.specs.Parse.{parse_document}
 use Rattle.toml.specs.Data.{Members}
 use Rattle.cip_objects.specs.declared.config.AssemblyConfig.{AssemblyConfig}
-use Rattle.cip_objects.specs.declared.config.Config.{Config}
-use Rattle.cip_objects.specs.declared.config.CounterConfig.{CounterConfig}
 use Rattle.cip_objects.specs.Configuration.{fault_of}
 use Rattle.enip_config.specs.declared.configuration.Configuration.{Configuration}
 use Rattle.enip_config.specs.declared.fault.Fault.{Fault}
@@ -50,24 +48,6 @@ pub record HasValues (told : Members) (c : Configuration) : Type 0 where
   pub name : name_of told ≡ Some (string_bytes c.objects.name)
   pub address : address_of told ≡ Some c.address
   pub assemblies : assemblies_of told ≡ Some (map assembly_seen c.objects.assemblies.items)
-
--- The same of its parts: a counter, and the objects.
-pub record HasCounter (told : Members) (counter : CounterConfig) : Type 0 where
-  pub value : number_of CounterValue told ≡ Some counter.value
-  pub limit : number_of CounterLimit told ≡ Some counter.limit
-
-pub record HasObjects (told : Members) (objects : Config) : Type 0 where
-  pub vendor : number_of Vendor told ≡ Some objects.vendor
-  pub device_type : number_of DeviceType told ≡ Some objects.device_type
-  pub product_code : number_of ProductCode told ≡ Some objects.product_code
-  pub major : number_of Major told ≡ Some objects.major
-  pub minor : number_of Minor told ≡ Some objects.minor
-  pub serial : number_of Serial told ≡ Some objects.serial
-  pub status : number_of Status told ≡ Some objects.status
-  pub state : number_of State told ≡ Some objects.state
-  pub counter : HasCounter told objects.counter
-  pub name : name_of told ≡ Some (string_bytes objects.name)
-  pub assemblies : assemblies_of told ≡ Some (map assembly_seen objects.assemblies.items)
 
 -- The value of some key is missing, of another type or out of its range.
 abbrev pub HasBadValue : Members → Type 0

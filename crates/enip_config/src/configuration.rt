@@ -4,7 +4,7 @@
 ghost use Rattle.std.specs.Prelude.{◌≡◌, IfOk, IfErr, None};
 ghost use Rattle.toml.specs.View.{table_view};
 ghost use Rattle.cip_objects.specs.Configuration.{fault_of};
-ghost use Rattle.enip_config.specs.Told.{IsTold, IsFaultOf, IsInRange, IsUnread, HasValues, HasObjects, HasCounter};
+ghost use Rattle.enip_config.specs.Told.{IsTold, IsFaultOf, IsInRange, IsUnread, HasValues};
 
 use crate::assemblies::assemblies_of;
 use crate::fault::{Fault, Refusal};
@@ -67,47 +67,29 @@ impl Configuration {
         ensures read { IfOk result (HasValues (table_view text.now)) }
         ensures refused { IfErr result (IsUnread (table_view text.now)) }
     {
-        // the objects, which own memory, come last
         Ok(Configuration {
+            objects: Config {
+                vendor: number(text, NumberKey::Vendor)?,
+                device_type: number(text, NumberKey::DeviceType)?,
+                product_code: number(text, NumberKey::ProductCode)?,
+                major: number(text, NumberKey::Major)?,
+                minor: number(text, NumberKey::Minor)?,
+                serial: number(text, NumberKey::Serial)?,
+                name: name_of(text)?,
+                status: number(text, NumberKey::Status)?,
+                state: number(text, NumberKey::State)?,
+                counter: CounterConfig {
+                    value: number(text, NumberKey::CounterValue)?,
+                    limit: number(text, NumberKey::CounterLimit)?,
+                },
+                assemblies: assemblies_of(alloc, text)?,
+            },
             address: address_of(text)?,
             port: number(text, NumberKey::Port)?,
             peers: number(text, NumberKey::Peers)?,
             connections: number(text, NumberKey::Connections)?,
             first_handle: number(text, NumberKey::FirstHandle)?,
             first_id: number(text, NumberKey::FirstId)?,
-            objects: objects_of(alloc, text)?,
         })
     }
-}
-
-/// The configuration of the objects that a table tells.
-fn objects_of(alloc: Global, text: &Table) -> Result<Config, Fault>
-    ensures read { IfOk result (HasObjects (table_view text.now)) }
-    ensures refused { IfErr result (IsUnread (table_view text.now)) }
-{
-    // what owns memory comes last
-    Ok(Config {
-        vendor: number(text, NumberKey::Vendor)?,
-        device_type: number(text, NumberKey::DeviceType)?,
-        product_code: number(text, NumberKey::ProductCode)?,
-        major: number(text, NumberKey::Major)?,
-        minor: number(text, NumberKey::Minor)?,
-        serial: number(text, NumberKey::Serial)?,
-        status: number(text, NumberKey::Status)?,
-        state: number(text, NumberKey::State)?,
-        counter: counter_of(text)?,
-        name: name_of(text)?,
-        assemblies: assemblies_of(alloc, text)?,
-    })
-}
-
-/// The counter that a table tells.
-fn counter_of(text: &Table) -> Result<CounterConfig, Fault>
-    ensures read { IfOk result (HasCounter (table_view text.now)) }
-    ensures refused { IfErr result (IsUnread (table_view text.now)) }
-{
-    Ok(CounterConfig {
-        value: number(text, NumberKey::CounterValue)?,
-        limit: number(text, NumberKey::CounterLimit)?,
-    })
 }
