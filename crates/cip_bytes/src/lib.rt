@@ -7,6 +7,8 @@
 #![tactic(auto)]
 
 pub mod protocol;
+mod status_text;
 mod writing;
 
+pub use status_text::StatusText;
 pub use writing::{Full, append, append_u8, append_u16, append_u32};

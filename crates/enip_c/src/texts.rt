@@ -6,7 +6,7 @@ use crate::room::copy_front;
 use crate::status::Status;
 use arrayvec::ArrayString;
 use cip_bytes::protocol::GeneralStatus;
-use cip_words::StatusWords;
+use cip_bytes::StatusText;
 use enip_adapter::Silence;
 use std::fmt::{self, Write};
 
@@ -118,7 +118,7 @@ fn write_general(number: u32, words: &mut Words) -> fmt::Result {
         Ok(status) => write!(
             words,
             "{}",
-            StatusWords {
+            StatusText {
                 status,
                 extended: 0
             }
@@ -130,7 +130,7 @@ fn write_general(number: u32, words: &mut Words) -> fmt::Result {
 fn write_extended(number: u32, words: &mut Words) -> fmt::Result {
     let status = GeneralStatus::ConnectionFailure.number();
     match u16::try_from(number) {
-        Ok(extended) => write!(words, "{}", StatusWords { status, extended }),
+        Ok(extended) => write!(words, "{}", StatusText { status, extended }),
         Err(_) => Ok(()),
     }
 }

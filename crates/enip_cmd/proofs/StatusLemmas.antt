@@ -6,11 +6,11 @@ use Rattle.enip_config.specs.declared.fault.Fault.TheVariants as unread
 use Rattle.enip_config.specs.declared.fault.Refusal.{Refusal}
 use Rattle.enip_config.specs.Configured.{IsAccepted, IsAdapterOf}
 use Rattle.enip_config.specs.Told.{IsRefused, IsFaultOf as IsUnread}
-use Rattle.enip_text.specs.declared.fault.Fault.{Fault as TextFault}
-use Rattle.enip_text.specs.declared.fault.Fault.TheVariants as texts
-use Rattle.enip_text.specs.declared.replaying.ReplayStop.{ReplayStop}
-use Rattle.enip_text.specs.declared.replaying.ReplayStop.TheVariants as stops
-use Rattle.enip_text.specs.Replay.{IsStopOf}
+use Rattle.enip_commands.specs.declared.fault.Fault.{Fault as TextFault}
+use Rattle.enip_commands.specs.declared.fault.Fault.TheVariants as texts
+use Rattle.enip_replay.specs.declared.replaying.ReplayStop.{ReplayStop}
+use Rattle.enip_replay.specs.declared.replaying.ReplayStop.TheVariants as stops
+use Rattle.enip_replay.specs.Replay.{IsStopOf}
 use Rattle.enip_cmd.specs.declared.fault.Fault.{Fault}
 use Rattle.enip_cmd.specs.declared.fault.Fault.TheVariants.{Configuration as Refused, Setup, Run, Value, Asking}
 use Rattle.enip_cmd.specs.Statuses.{exit_status, fault_of_configuration, fault_of_replay, IsStatus, IsReplayStatus}

@@ -1,7 +1,7 @@
 -- What a read of a socket tells of what more has come.
 use Rattle.std.specs.Prelude.{ℕ, ◌≡◌, ◌<◌, ◌≤◌, ◌⊎◌, ⊤}
-use Rattle.enip_peers.specs.declared.wire.Came.{Came}
-use Rattle.enip_peers.specs.declared.wire.Came.TheVariants.{Bytes, All, Later, End, Failed}
+use Rattle.enip_server.specs.declared.wire.Came.{Came}
+use Rattle.enip_server.specs.declared.wire.Came.TheVariants.{Bytes, All, Later, End, Failed}
 
 -- A read that filled its room may have left some, and so may one of fewer bytes than a header has; any other took all that
 -- had come.

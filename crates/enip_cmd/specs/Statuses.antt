@@ -5,11 +5,11 @@ use Rattle.enip_config.specs.declared.fault.Fault.{Fault as ConfigurationFault}
 use Rattle.enip_config.specs.declared.fault.Fault.TheVariants as unread
 use Rattle.enip_config.specs.Configured.{IsAccepted, IsAdapterOf}
 use Rattle.enip_config.specs.Told.{IsRefused}
-use Rattle.enip_text.specs.declared.fault.Fault.TheVariants as texts
-use Rattle.enip_text.specs.declared.replaying.ReplayStop.{ReplayStop}
-use Rattle.enip_text.specs.declared.replaying.ReplayStop.TheVariants as stops
-use Rattle.enip_text.specs.Replay.{IsOpeningRefused as refuses_opening}
-use Rattle.enip_text.specs.Statuses.{exit_status as run_status, asking_stop_status}
+use Rattle.enip_commands.specs.declared.fault.Fault.TheVariants as texts
+use Rattle.enip_replay.specs.declared.replaying.ReplayStop.{ReplayStop}
+use Rattle.enip_replay.specs.declared.replaying.ReplayStop.TheVariants as stops
+use Rattle.enip_replay.specs.Replay.{IsOpeningRefused as refuses_opening}
+use Rattle.enip_commands.specs.Statuses.{exit_status as run_status, asking_stop_status}
 use Rattle.enip_cmd.specs.declared.fault.Fault.{Fault}
 use Rattle.enip_cmd.specs.declared.fault.Fault.TheVariants.{Configuration as Refused, Setup, Run, Value, Asking}
 

@@ -64,6 +64,6 @@ pub(crate) fn run<R: Read + Drop, W: Write + Drop>(
     ensures refused { IfErr result (IsFaultOf config.now) }
 {
     let adapter = adapter_from(alloc, config)?;
-    enip_text::answer(alloc, adapter, input, output)?;
+    enip_commands::answer(alloc, adapter, input, output)?;
     Ok(())
 }

@@ -9,10 +9,10 @@ use crate::refused::{RefusedWord, type_of};
 use crate::socket::{SocketSink, SocketSource};
 use cip_message::Path;
 use cip_values::{ValueFault, ValueType};
-use cip_words::StatusWords;
+use cip_bytes::StatusText;
 use clap::ArgMatches;
 use enip_client::ClientFault;
-use enip_text::{AskingStop, Question, Replied, Style, TypedQuestion, ask_over};
+use enip_commands::{AskingStop, Question, Replied, Style, TypedQuestion, ask_over};
 use std::alloc::Global;
 use std::time::Instant;
 
@@ -147,7 +147,7 @@ pub(crate) fn run_asking<'a>(rt: &HostRuntime, asked: Asked<'a, '_>) -> Result<u
 /// Says on standard error what the status means with which a device refused.
 pub(crate) fn tell_refusal(rt: &HostRuntime, replied: Replied) {
     if let Replied::Refused(status, extended) = replied {
-        tell(rt, &Reason::Refused(StatusWords { status, extended }));
+        tell(rt, &Reason::Refused(StatusText { status, extended }));
     }
 }
 
@@ -196,7 +196,7 @@ pub(crate) fn ending_of<'a>(
         AskingStop::Session(status) => Reason::Session(status),
         AskingStop::Client(fault) => reason_of_client(fault),
         AskingStop::Shape(value_type, fault) => Reason::Shape(value_type, fault),
-        AskingStop::Program(enip_text::Fault::Memory) => Reason::Memory,
+        AskingStop::Program(enip_commands::Fault::Memory) => Reason::Memory,
         AskingStop::Program(_) => device.unwrap_or(Reason::Failed(address)),
     };
     Ending::new(Fault::Asking(stop), reason)
@@ -207,7 +207,7 @@ pub(crate) fn reason_of_client<'a>(fault: ClientFault) -> Reason<'a> {
     match fault {
         ClientFault::State => Reason::State,
         ClientFault::Status(status) => Reason::Frame(status),
-        ClientFault::Refused(status, extended) => Reason::Refused(StatusWords { status, extended }),
+        ClientFault::Refused(status, extended) => Reason::Refused(StatusText { status, extended }),
         ClientFault::TooLong => Reason::TooLong,
         ClientFault::Memory => Reason::Memory,
         ClientFault::Malformed => Reason::Malformed,

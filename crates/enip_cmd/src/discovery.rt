@@ -3,7 +3,7 @@
 use crate::readiness::Readiness;
 use crate::watch::Watch;
 use enip_adapter::DiscoveryRoom;
-use enip_peers::Peers;
+use enip_server::Peers;
 use mio::net::UdpSocket;
 use std::alloc::{AllocError, Global};
 

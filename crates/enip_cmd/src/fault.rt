@@ -4,7 +4,8 @@ ghost use Rattle.std.specs.Prelude.{◌≡◌};
 ghost use Rattle.enip_cmd.specs.Statuses.{exit_status};
 
 use enip_config::Refusal;
-use enip_text::{AskingStop, ReplayStop};
+use enip_commands::AskingStop;
+use enip_replay::ReplayStop;
 use std::alloc::AllocError;
 use std::io;
 use thiserror::Error;
@@ -20,7 +21,7 @@ pub enum Fault {
     Setup,
     /// A line of the input is refused, or a device or memory failed.
     #[error("{0}")]
-    Run(enip_text::Fault),
+    Run(enip_commands::Fault),
     /// A word is no value of the type of a request's data.
     #[error("value")]
     Value,
@@ -44,36 +45,36 @@ impl Fault {
     }
 }
 
-impl From<enip_text::Fault> for Fault {
+impl From<enip_commands::Fault> for Fault {
     ghost use Rattle.enip_cmd.specs.declared.fault.Fault.TheVariants.{Run};
 
     ghost from_gives = { λ ended fault. fault ≡ Run ended };
 
-    fn from(ended: enip_text::Fault) -> Fault {
+    fn from(ended: enip_commands::Fault) -> Fault {
         Fault::Run(ended)
     }
 }
 
 impl From<AllocError> for Fault {
-    ghost use Rattle.enip_text.specs.declared.fault.Fault.TheVariants.{Memory};
+    ghost use Rattle.enip_commands.specs.declared.fault.Fault.TheVariants.{Memory};
     ghost use Rattle.enip_cmd.specs.declared.fault.Fault.TheVariants.{Run};
 
     ghost from_gives = { λ _ fault. fault ≡ Run Memory };
 
     fn from(_error: AllocError) -> Fault {
-        Fault::Run(enip_text::Fault::Memory)
+        Fault::Run(enip_commands::Fault::Memory)
     }
 }
 
 impl From<io::Error> for Fault {
     ghost use Rattle.std.specs.IoError.{error_kind};
-    ghost use Rattle.enip_text.specs.Statuses.{fault_of_kind};
+    ghost use Rattle.enip_commands.specs.Statuses.{fault_of_kind};
     ghost use Rattle.enip_cmd.specs.declared.fault.Fault.TheVariants.{Run};
 
     ghost from_gives = { λ error fault. fault ≡ Run (fault_of_kind (error_kind error)) };
 
     fn from(error: io::Error) -> Fault {
-        Fault::Run(enip_text::Fault::from(error))
+        Fault::Run(enip_commands::Fault::from(error))
     }
 }
 
@@ -85,7 +86,7 @@ impl From<enip_config::Fault> for Fault {
     fn from(refused: enip_config::Fault) -> Fault {
         match refused {
             enip_config::Fault::Refused(refusal) => Fault::Configuration(refusal),
-            enip_config::Fault::Memory => Fault::Run(enip_text::Fault::Memory),
+            enip_config::Fault::Memory => Fault::Run(enip_commands::Fault::Memory),
         }
     }
 }

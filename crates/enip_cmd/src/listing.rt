@@ -9,7 +9,7 @@ use crate::place::{Patience, Place};
 use crate::reason::{Ending, Reason};
 use crate::socket::{SocketSink, SocketSource};
 use enip_client::{ListCommand, Sent, write_list};
-use enip_text::{AskingStop, identities_over, list_over, print_device_objects, print_devices};
+use enip_commands::{AskingStop, identities_over, list_over, print_device_objects, print_devices};
 use std::io::{ErrorKind, Write};
 use std::net::UdpSocket;
 use std::time::Instant;
@@ -65,7 +65,7 @@ pub(crate) fn run_list<'a>(
 fn ending_of<'a>(stop: AskingStop, device: Reason<'a>) -> Ending<'a> {
     let reason = match stop {
         AskingStop::Client(fault) => reason_of_client(fault),
-        AskingStop::Program(enip_text::Fault::Memory) => Reason::Memory,
+        AskingStop::Program(enip_commands::Fault::Memory) => Reason::Memory,
         _ => device,
     };
     Ending::new(Fault::Asking(stop), reason)
@@ -105,9 +105,9 @@ pub(crate) fn run_discovery<'a>(
 }
 
 /// How the program ends where its output failed.
-fn ending_of_output<'a>(fault: enip_text::Fault) -> Ending<'a> {
+fn ending_of_output<'a>(fault: enip_commands::Fault) -> Ending<'a> {
     match fault {
-        enip_text::Fault::Memory => Ending::of_memory(),
+        enip_commands::Fault::Memory => Ending::of_memory(),
         _ => Ending::of_reason(Reason::Failed(OUTPUT)),
     }
 }

@@ -32,8 +32,8 @@ use checking::print_device;
 use clap::ArgMatches;
 use clap::error::ErrorKind;
 use enip_client::ListCommand;
-use enip_peers::NO_LIMIT;
-use enip_words::{PROGRAM, Word, program, words};
+use enip_server::NO_LIMIT;
+use enip_cli::{PROGRAM, Word, program, words};
 use journal::Journal;
 use listing::{run_discovery, run_list};
 use mio::net::UdpSocket;
@@ -141,10 +141,10 @@ fn run_replay<'a>(
 fn run_show<'a>(rt: &HostRuntime) -> Result<u8, Ending<'a>> {
     let mut input = Noted::new(rt.stdin());
     let mut output = Noted::new(rt.stdout());
-    let shown = enip_text::show_frames(rt.alloc(), &mut input, &mut output);
+    let shown = enip_commands::show_frames(rt.alloc(), &mut input, &mut output);
     match shown {
         Ok(()) => Ok(0),
-        Err(enip_text::Fault::Memory) => Err(Ending::of_memory()),
+        Err(enip_commands::Fault::Memory) => Err(Ending::of_memory()),
         Err(_) => {
             let device = output.reason(OUTPUT).or(input.reason(INPUT));
             Err(Ending::of_reason(device.unwrap_or(Reason::Failed(INPUT))))
@@ -257,7 +257,7 @@ fn run_serve<'a>(
     };
     match served {
         Ok(()) => Ok(0),
-        Err(enip_text::Fault::Memory) => Err(Ending::of_memory()),
+        Err(enip_commands::Fault::Memory) => Err(Ending::of_memory()),
         Err(_) => Err(Ending::of_reason(Reason::Failed(place.word()))),
     }
 }

@@ -5,7 +5,7 @@ use crate::reason::{Ending, Reason};
 use clap::ArgMatches;
 use enip_adapter::Adapter;
 use enip_config::{Configuration, adapter_from, explain};
-use enip_words::{Word, read_file};
+use enip_cli::{Word, read_file};
 use std::alloc::Global;
 
 /// A file that a word names.
@@ -79,8 +79,8 @@ pub(crate) fn ending_of_run<'a>(
     let reason = match fault {
         Fault::Configuration(_) => config.explanation(alloc),
         Fault::Setup => Reason::Setup(config.name()),
-        Fault::Run(enip_text::Fault::Line(number, why)) => Reason::Line(lines, number, why),
-        Fault::Run(enip_text::Fault::Memory) => Reason::Memory,
+        Fault::Run(enip_commands::Fault::Line(number, why)) => Reason::Line(lines, number, why),
+        Fault::Run(enip_commands::Fault::Memory) => Reason::Memory,
         _ => device.unwrap_or(Reason::Failed(lines)),
     };
     Ending::new(fault, reason)

@@ -2,9 +2,9 @@
 
 use crate::fault::Fault;
 use cip_values::{ValueFault, ValueType};
-use cip_words::StatusWords;
+use cip_bytes::StatusText;
 use enip_config::Explanation;
-use enip_text::LineFault;
+use enip_commands::LineFault;
 use std::fmt;
 use std::io::{self, ErrorKind};
 use thiserror::Error;
@@ -68,7 +68,7 @@ pub(crate) enum Reason<'a> {
     State,
     /// The device refused the request, with this general status and first additional word.
     #[error("{0}")]
-    Refused(StatusWords),
+    Refused(StatusText),
     /// Memory was refused.
     #[error("out of memory")]
     Memory,
@@ -123,12 +123,12 @@ impl<'a> Ending<'a> {
 
     /// The end where a device failed for this reason.
     pub(crate) fn of_reason(reason: Reason<'a>) -> Ending<'a> {
-        Ending::new(Fault::Run(enip_text::Fault::Device), reason)
+        Ending::new(Fault::Run(enip_commands::Fault::Device), reason)
     }
 
     /// The end where memory was refused.
     pub(crate) fn of_memory() -> Ending<'a> {
-        Ending::new(Fault::Run(enip_text::Fault::Memory), Reason::Memory)
+        Ending::new(Fault::Run(enip_commands::Fault::Memory), Reason::Memory)
     }
 
     /// Why.

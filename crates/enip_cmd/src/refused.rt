@@ -1,7 +1,7 @@
 //! Words that the command line takes, and the commands refuse.
 
 use cip_values::ValueType;
-use enip_words::microseconds_of;
+use enip_cli::microseconds_of;
 use std::time::Duration;
 use thiserror::Error;
 

@@ -67,7 +67,7 @@ pub(crate) fn run<W: Write + Drop>(
     ensures refused { IfErr result (IsReplayFaultOf config.now) }
 {
     let adapter = adapter_from(alloc, config)?;
-    enip_text::replay(alloc, adapter, script, output)?;
+    enip_replay::replay(alloc, adapter, script, output)?;
     Ok(())
 }
 
@@ -82,6 +82,6 @@ pub fn draw<W: Write + Drop>(
     ensures refused { IfErr result (IsReplayFaultOf config.now) }
 {
     let adapter = adapter_from(alloc, config)?;
-    enip_text::draw_replay(alloc, adapter, script, output)?;
+    enip_replay::draw_replay(alloc, adapter, script, output)?;
     Ok(())
 }

@@ -4,14 +4,14 @@
 //! ready has one turn, and one connection is taken. All of it has one moment, in microseconds since the beginning.
 
 ghost use Rattle.std.specs.Prelude.{◌≡◌, ◌≤◌, ◌<◌, ◌⊎◌, ◌↔◌, Some, IfSome, IsSomeAnd, IfErr, IsTrue};
-ghost use Rattle.enip_text.specs.Statuses.{IsOfDevices};
+ghost use Rattle.enip_commands.specs.Statuses.{IsOfDevices};
 
 use crate::discovery::Discovery;
 use crate::door::Door;
 use crate::watch::Watch;
 use enip_adapter::Adapter;
-use enip_peers::{Peers, RoundEnd};
-use enip_text::Fault;
+use enip_server::{Peers, RoundEnd};
+use enip_commands::Fault;
 use mio::net::{TcpListener, TcpStream, UdpSocket};
 use mio::{Events, Interest, Poll, Token};
 use std::alloc::Global;

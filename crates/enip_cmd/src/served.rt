@@ -2,7 +2,7 @@
 
 use cip_bytes::protocol::{Command, EncapsulationStatus, ManagerService};
 use cip_message::{Path, ReplyView, RequestView, read_path};
-use cip_words::StatusWords;
+use cip_bytes::StatusText;
 use enip_wire::{FrameView, Header, rr_body, unit_body};
 use std::fmt;
 
@@ -146,7 +146,7 @@ pub(crate) enum Status {
     /// An encapsulation status.
     Header(u32),
     /// A general status, and the first additional word or 0.
-    Reply(StatusWords),
+    Reply(StatusText),
 }
 
 impl Status {
@@ -154,7 +154,7 @@ impl Status {
     pub(crate) fn of(frame: FrameView<'_>) -> Status {
         let (_, message) = message_of(frame);
         match message.map(ReplyView::read) {
-            Some(Ok(reply)) if frame.header.status == 0 => Status::Reply(StatusWords {
+            Some(Ok(reply)) if frame.header.status == 0 => Status::Reply(StatusText {
                 status: reply.status,
                 extended: reply.additional_word(0).unwrap_or(0),
             }),

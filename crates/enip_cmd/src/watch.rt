@@ -1,7 +1,7 @@
 //! Who watches the connections of a device that is served.
 
 use crate::wire::TcpWire;
-use enip_peers::Wire;
+use enip_server::Wire;
 use mio::net::TcpStream;
 use std::net::SocketAddr;
 

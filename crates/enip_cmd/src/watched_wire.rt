@@ -5,7 +5,7 @@ ghost use Rattle.std.specs.Prelude.{None};
 use crate::journal::Journal;
 use crate::served::{Asked, Status};
 use crate::wire::TcpWire;
-use enip_peers::{Came, Wire};
+use enip_server::{Came, Wire};
 use enip_wire::{FrameReader, FrameView, Held};
 use mio::net::TcpStream;
 use std::alloc::Global;

@@ -7,7 +7,7 @@ use crate::reason::{Ending, Reason, tell};
 use crate::refused::{RefusedWord, seconds_of};
 use crate::socket::{SocketSink, SocketSource};
 use clap::ArgMatches;
-use enip_text::{AskingStop, Readings, Replied, Session, print_reading};
+use enip_commands::{AskingStop, Readings, Replied, Session, print_reading};
 use std::rt::Clock;
 use std::thread;
 use std::time::{Duration, Instant};

@@ -2,10 +2,10 @@
 
 ghost use Rattle.std.specs.Prelude.{◌≡◌, ◌<◌, ◌≤◌, length, None, IfSome};
 ghost use Rattle.enip_cmd.specs.Reads.{IsShortWhereAll};
-ghost use Rattle.enip_peers.specs.Wires.{IsRead, after_read};
+ghost use Rattle.enip_server.specs.Wires.{IsRead, after_read};
 
 use crate::retried::{read_some, write_some};
-use enip_peers::{Came, Tally, Wire};
+use enip_server::{Came, Tally, Wire};
 use enip_wire::Header;
 use mio::net::TcpStream;
 use std::io::ErrorKind;

@@ -7,7 +7,7 @@ use enip_adapter::{Adapter, Peer};
 use std::alloc::Global;
 use std::process::Abort;
 use std::test::Fail;
-use test_stands::adapter::{REGISTER, config};
+use test_fixtures::adapter::{REGISTER, config};
 
 /// A Large_Forward_Open in session 1: connection serial 6, both sizes 4,002; and its answer.
 const OPEN: &[u8] = b"\x6f\0\x42\0\x01\0\0\0\0\0\0\0\x01\x02\x03\x04\x05\x06\x07\x08\0\0\0\0\

@@ -7,7 +7,7 @@ use enip_wire::{MemorySink, MemorySource};
 use std::alloc::{AllocError, Global};
 use std::process::Abort;
 use std::test::Fail;
-use test_stands::adapter::{
+use test_fixtures::adapter::{
     ADD, ADDED, LIMITS, LISTEN, LONG, OPEN, REFUSED, REGISTER, REGISTERED, demo, feed, free,
     serves, value,
 };

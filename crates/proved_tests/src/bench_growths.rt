@@ -8,7 +8,7 @@ use enip_client::Client;
 use std::alloc::Global;
 use std::process::Abort;
 use std::test::Fail;
-use test_stands::bench::{
+use test_fixtures::bench::{
     ADD_5, ADD_7, CLEAR, LIMITS, LISTEN, Row, WANTS, all_done, bench, counter, demo, look,
 };
 

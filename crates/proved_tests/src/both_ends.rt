@@ -8,8 +8,8 @@ use enip_client::{Client, Heard};
 use std::alloc::Global;
 use std::process::Abort;
 use std::test::Fail;
-use test_stands::adapter::{adapter_with_peer, feed};
-use test_stands::client::made;
+use test_fixtures::adapter::{adapter_with_peer, feed};
+use test_fixtures::client::made;
 
 /// Each service of the objects, and its reply.
 const SERVICES: &[(&[u8], &[u8])] = &[

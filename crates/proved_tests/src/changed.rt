@@ -5,7 +5,7 @@ use enip_client::{Client, Heard, Hearing};
 use std::alloc::Global;
 use std::process::Abort;
 use std::test::Fail;
-use test_stands::client::{
+use test_fixtures::client::{
     ADDED, CLOSED, GOT, OPENED, REGISTERED, Stand, hear, standing, with_bytes,
 };
 

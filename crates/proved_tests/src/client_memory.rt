@@ -5,7 +5,7 @@ use enip_client::{Client, ClientFault, Heard};
 use std::alloc::Global;
 use std::process::Abort;
 use std::test::Fail;
-use test_stands::client::{
+use test_fixtures::client::{
     ADD, ADD_SENT, ADDED, CLOSE, CLOSED, IS_5, OPEN, OPENED, REGISTER, REGISTERED, UNREGISTER,
     WANTS, hear, made,
 };

@@ -1,6 +1,6 @@
 //! Tests that are proved before they run: that the laws hold at the objects; sessions in which `tests/memory` refuses each
 //! growth, or counts them, which needs the built program; and runs that are too long for a build with checks. The others
-//! are in `enip_tests`.
+//! are in `unproved_tests`.
 #![tactic(auto)]
 
 #[cfg(test)]

@@ -5,7 +5,7 @@ use enip_bench::{Accepted, Bench, Event, Step};
 use std::alloc::Global;
 use std::process::Abort;
 use std::test::Fail;
-use test_stands::bench::{ADD_1, EXACTLY_ONCE, IS_12, Row, all_done, bench, counter, look};
+use test_fixtures::bench::{ADD_1, EXACTLY_ONCE, IS_12, Row, all_done, bench, counter, look};
 
 /// Adds the events of these rows to a list.
 fn add_events(

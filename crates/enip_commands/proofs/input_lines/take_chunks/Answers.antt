@@ -1,0 +1,14 @@
+use Rattle.std.proofs.Common.{IfErr, rules}
+use Rattle.enip_commands.specs.Statuses.{IsOfDevices}
+use Rattle.enip_commands.proofs.StatusLemmas.{devices_end}
+use Rattle.enip_commands.proofs.input_lines.take_chunks.Goals as goal
+
+pub returns-in_err-count : goal.returns-in_err-count
+returns-in_err-count g c =
+    let run : IfErr c.from_residual.result IsOfDevices = search rules in
+    devices_end g.T.TakeLines.refuses c.from_residual.result run
+
+pub returns-in_err-send : goal.returns-in_err-send
+returns-in_err-send g c =
+    let run : IfErr c.from_residual-in_err-send.result IsOfDevices = search rules in
+    devices_end g.T.TakeLines.refuses c.from_residual-in_err-send.result run

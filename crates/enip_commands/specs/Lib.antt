@@ -1,0 +1,9 @@
+pub mod Statuses
+pub mod Digits
+pub mod Lines
+pub mod Asking
+pub mod Listing
+pub mod Styles
+pub mod Identities
+pub mod Readings
+pub mod Json

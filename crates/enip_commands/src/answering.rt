@@ -1,0 +1,206 @@
+//! `enip answer`: lines of pieces in, the adapter's answers out.
+
+ghost use Rattle.std.specs.Prelude.{◌≡◌, ◌≤◌, true, false, IfOk, IfErr, Some, length};
+ghost use Rattle.enip_commands.specs.Digits.{bytes_spelled};
+ghost use Rattle.enip_commands.specs.Lines.{spells_bytes, IsRefusedLine};
+ghost use Rattle.enip_commands.specs.Statuses.{IsOfDevices, EndsBy};
+
+use crate::digits::decode;
+use crate::fault::Fault;
+use crate::input_lines::{TakeLines, read_lines};
+use crate::line_fault::LineFault;
+use crate::lines::Line;
+use crate::number::Number;
+use enip_adapter::{Adapter, Full, LONGEST_ANSWER, Peer};
+use std::alloc::Global;
+use std::io::{BufWriter, Read, Write};
+
+/// How many bytes of answers are kept before they are written.
+const OUTPUT_BUFFER: usize = 65_536;
+
+/// The digits of the longest answer.
+const LONGEST_TEXT: usize = 2 * LONGEST_ANSWER;
+
+/// Runs an adapter over the lines of an input, and prints what it answers on `output`.
+///
+/// What can be answered is written before more input is read, and before a line is refused.
+///
+/// # Errors
+///
+/// `Line` with the number of the first line, from 1, that is refused; the lines before it were run. `Device` where the
+/// input could not be read or the output written. `Memory` where memory is refused.
+pub fn answer<R: Read + Drop, W: Write + Drop>(
+    alloc: Global,
+    adapter: Adapter,
+    input: R,
+    output: W,
+) -> Result<(), Fault>
+    ensures { IfErr result (EndsBy (λ _ text. IsRefusedLine text)) }
+{
+    let mut desk = Desk::new(alloc, adapter, output)?;
+    read_lines(alloc, input, &mut desk)
+}
+
+/// Who has one of the nine numbers of an input.
+#[derive(Clone, Copy)]
+enum Seat {
+    /// No peer.
+    Free,
+    /// A peer.
+    Taken(Peer),
+    /// A peer that is closed, which was printed.
+    Closed(Peer),
+}
+
+/// The adapter, who is at it, and where its answers go.
+#[derive(Drop)]
+struct Desk<W: Write + Drop> {
+    adapter: Adapter,
+    now: u64,
+    seats: [Seat; 9],
+    output: BufWriter<W>,
+    digits: Vec<u8>,
+    piece: Vec<u8>,
+    text: [u8; LONGEST_TEXT],
+}
+
+impl<W: Write + Drop> Desk<W> {
+    fn new(alloc: Global, adapter: Adapter, output: W) -> Result<Desk<W>, Fault>
+        ensures { IfErr result IsOfDevices }
+    {
+        Ok(Desk {
+            adapter,
+            now: 0,
+            seats: [Seat::Free; 9],
+            output: BufWriter::with_capacity(alloc, OUTPUT_BUFFER, output)?,
+            digits: Vec::new(alloc),
+            piece: Vec::new(alloc),
+            text: [0; LONGEST_TEXT],
+        })
+    }
+
+    /// Ends the peer of a number, if there is one.
+    fn end(&mut self, number: Number) {
+        let seat = self.seats[number.index()];
+        match seat {
+            Seat::Free => {}
+            Seat::Taken(peer) | Seat::Closed(peer) => self.adapter.end(peer),
+        }
+        self.seats[number.index()] = Seat::Free;
+    }
+
+    /// Takes the piece that digits spell, and says whether it has a byte or more.
+    fn take_piece(&mut self, digits: &[u8]) -> Result<bool, Fault>
+        ensures said { IfOk result (λ some. some ≡ spells_bytes digits.now) }
+        ensures piece { IfOk result (λ some. some ≡ true → bytes_spelled digits.now ≡ Some self.new.piece.items) }
+        ensures refused { IfErr result IsOfDevices }
+    {
+        Ok(decode(digits, &mut self.digits, &mut self.piece)? && !self.piece.is_empty())
+    }
+
+    /// Runs a line, and says whether it is one that can be run.
+    fn run_line(&mut self, text: &[u8]) -> Result<bool, Fault>
+        ensures said { IfOk result (λ runs. runs ≡ false → IsRefusedLine text.now) }
+        ensures refused { IfErr result IsOfDevices }
+    {
+        match Line::read(text) {
+            None => return Ok(false),
+            Some(Line::Nothing) => {}
+            Some(Line::Now(moment)) => self.now = moment,
+            Some(Line::End(number)) => self.end(number),
+            Some(Line::Piece(number, digits)) => {
+                if !self.take_piece(digits)? {
+                    return Ok(false);
+                }
+                self.feed(number)?;
+            }
+        }
+        Ok(true)
+    }
+
+    /// Feeds the piece to the peer of a number, who begins where there is none.
+    fn feed(&mut self, number: Number) -> Result<(), Fault>
+        ensures { IfErr result IsOfDevices }
+    {
+        let seat = self.seats[number.index()];
+        let peer = match seat {
+            Seat::Closed(_) => return Ok(()),
+            Seat::Taken(peer) => peer,
+            Seat::Free => match self.adapter.begin() {
+                Ok(peer) => peer,
+                Err(full) => return print_full(&mut self.output, number, full),
+            },
+        };
+        self.seats[number.index()] = Seat::Taken(peer);
+        let mut rest = self.piece.as_slice();
+        // Each turn takes a byte or more, or closes.
+        for _ in 0..self.piece.len() {
+            if rest.is_empty() {
+                break;
+            }
+            let fed = self.adapter.feed(self.now, &peer, rest);
+            if let Some(frame) = fed.answer {
+                print_answer(&mut self.output, &mut self.text, number, frame)?;
+            }
+            if fed.close {
+                self.seats[number.index()] = Seat::Closed(peer);
+                return print_closed(&mut self.output, number);
+            }
+            rest = &rest[fed.taken..];
+        }
+        Ok(())
+    }
+}
+
+impl<W: Write + Drop> TakeLines for Desk<W> {
+    ghost refuses = { λ _ text. IsRefusedLine text };
+
+    fn take_line(&mut self, text: &[u8], number: u64) -> Result<(), Fault> {
+        if self.run_line(text)? {
+            Ok(())
+        } else {
+            Err(Fault::Line(number, LineFault::of_input(text)))
+        }
+    }
+
+    fn send(&mut self) -> Result<(), Fault> {
+        self.output.flush()?;
+        Ok(())
+    }
+}
+
+/// Prints an answer: `P hex`. `text` is room for its digits.
+fn print_answer<W: Write>(
+    output: &mut W,
+    text: &mut [u8; LONGEST_TEXT],
+    number: Number,
+    frame: &[u8],
+) -> Result<(), Fault>
+    requires { length frame.now ≤ LONGEST_ANSWER }
+    ensures { IfErr result IsOfDevices }
+{
+    let digits = &mut text[..2 * frame.len()];
+    let _ = hex::encode_to_slice(frame, digits);
+    output.write_all(&[number.digit(), b' '])?;
+    output.write_all(digits)?;
+    output.write_all(b"\n")?;
+    Ok(())
+}
+
+/// Prints that a peer is closed: `P closed`.
+fn print_closed<W: Write>(output: &mut W, number: Number) -> Result<(), Fault>
+    ensures { IfErr result IsOfDevices }
+{
+    output.write_all(&[number.digit()])?;
+    output.write_all(b" closed\n")?;
+    Ok(())
+}
+
+/// Prints that a peer could not begin: `P full N`.
+fn print_full<W: Write>(output: &mut W, number: Number, full: Full) -> Result<(), Fault>
+    ensures { IfErr result IsOfDevices }
+{
+    output.write_all(&[number.digit()])?;
+    writeln!(output, " full {}", full.number())?;
+    Ok(())
+}

@@ -1,0 +1,391 @@
+//! `enip get`, `enip set` and `enip call`: one request to a device, and its reply.
+
+ghost use Rattle.std.specs.Prelude.{◌≡◌, ◌<◌, None, IfOk, IfErr};
+ghost use Rattle.cip_message.specs.PathWriting.{short};
+ghost use Rattle.cip_message.specs.Request.{request};
+ghost use Rattle.enip_commands.specs.Asking.{IsRequested, IsReplyTold, IsUntold, IsOfDevice, IsOfExchange};
+ghost use Rattle.enip_commands.specs.Digits.{bytes_spelled};
+ghost use Rattle.enip_commands.specs.Statuses.{asking_status, replied_status, asking_stop_status};
+
+use crate::digits::decode;
+use crate::fault::Fault;
+use crate::json::refusal_line;
+use crate::style::{Style, data_object, print_data};
+use arrayvec::ArrayVec;
+use cip_message::{Path, ReplyView, write_path};
+use cip_objects::ReplyBuf;
+use cip_values::{ValueFault, ValueType};
+use enip_client::{AskFault, Client, ClientFault, Wants, ask};
+use enip_wire::{Sink, Source};
+use std::alloc::{AllocError, Global};
+use std::io::{self, BufWriter, Write};
+use thiserror::Error;
+
+/// What is asked of a connection. (Volume 1, Forward_Open.)
+pub const WANTS: Wants = Wants {
+    originator_vendor: 66,
+    originator_serial: 305_419_896,
+    connection_serial: 1,
+    t_to_o_id: 287_454_020,
+    rpi: 2_000_000,
+    timeout_multiplier: 0,
+    o_to_t_size: 500,
+    t_to_o_size: 500,
+    first_count: 1,
+};
+
+/// The longest path: class 4, instance 6, attribute 4 and member 4 bytes. (Volume 1, logical segments.)
+const LONGEST_PATH: usize = 18;
+
+/// A request to a device.
+#[derive(Clone, Copy, Debug)]
+pub struct Question<'a> {
+    /// The service.
+    pub service: u8,
+    /// The object.
+    pub path: Path,
+    /// The data of the service in hexadecimal digits, perhaps with spaces.
+    pub digits: &'a str,
+}
+
+impl Question<'_> {
+    /// The bytes of the request.
+    ///
+    /// # Errors
+    ///
+    /// `Hex` where the digits spell no bytes, else `Program` for want of memory.
+    pub fn request(&self, alloc: Global) -> Result<Vec<u8>, AskingStop>
+        ensures made { IfOk result (λ request. IsRequested self.now request.items) }
+        ensures hex { result ≡ Err AskingStop.Hex → bytes_spelled self.now.digits.now ≡ None }
+    {
+        let mut digits = Vec::new(alloc);
+        let mut data = Vec::new(alloc);
+        if !decode(self.digits.as_bytes(), &mut digits, &mut data)? {
+            return Err(AskingStop::Hex);
+        }
+        Ok(spell_request(alloc, self.service, self.path, data.as_slice())?)
+    }
+}
+
+/// The bytes of a request: service, the shortest path, and data.
+pub(crate) fn spell_request(
+    alloc: Global,
+    service: u8,
+    path: Path,
+    bytes: &[u8],
+) -> Result<Vec<u8>, AllocError>
+    ensures { IfOk result (λ spelled. spelled.items
+        ≡ request (record { service = service; path = short path; «data» = bytes.now })) }
+{
+    let path = path_bytes(path);
+    let mut request = Vec::new(alloc);
+    // the path is counted in words of two bytes (message router)
+    request.extend_from_slice(&[service, (path.len() / 2) as u8])?;
+    request.extend_from_slice(path.as_slice())?;
+    request.extend_from_slice(bytes)?;
+    Ok(request)
+}
+
+/// The shortest spelling of a path.
+#[tactic(auto, using(crate::proofs::PathLemmas::short_at_most))]
+fn path_bytes(path: Path) -> ArrayVec<u8, LONGEST_PATH>
+    ensures { result.items ≡ short path }
+{
+    let mut bytes = ArrayVec::new();
+    let _ = write_path(&mut bytes, path);
+    bytes
+}
+
+/// How a reply was told.
+#[derive(Clone, Copy, Debug, PartialEq, Eq)]
+pub enum Replied {
+    /// The request was done.
+    Done,
+    /// It was refused: the general status, and the first additional word or 0.
+    Refused(u8, u16),
+}
+
+impl Replied {
+    /// The exit status of the program.
+    pub fn exit_status(self) -> u8
+        ensures { result ≡ replied_status self }
+    {
+        match self {
+            Replied::Done => 0,
+            Replied::Refused(..) => 6,
+        }
+    }
+}
+
+/// Why no reply is told. Its text goes to standard error.
+#[derive(Clone, Copy, Debug, PartialEq, Eq, Error)]
+pub enum AskingStop {
+    /// The data of the request are no hexadecimal digits.
+    #[error("hex")]
+    Hex,
+    /// The device answered RegisterSession with this encapsulation status, 32 bits.
+    #[error("fault {}", ClientFault::Status(*.0).number())]
+    Session(u32),
+    /// The exchange met this fault.
+    #[error("fault {}", .0.number())]
+    Client(ClientFault),
+    /// The data of the reply are no values of this type.
+    #[error("fault {}", ClientFault::Malformed.number())]
+    Shape(ValueType, ValueFault<'static>),
+    /// The program itself failed.
+    #[error("{0}")]
+    Program(Fault),
+}
+
+impl AskingStop {
+    /// The exit status of the program.
+    pub fn exit_status(self) -> u8
+        ensures { result ≡ asking_stop_status self }
+    {
+        match self {
+            AskingStop::Hex => 2,
+            AskingStop::Session(_) | AskingStop::Client(_) | AskingStop::Shape(..) => 7,
+            AskingStop::Program(fault) => fault.exit_status(),
+        }
+    }
+}
+
+impl From<Fault> for AskingStop {
+    ghost use Rattle.enip_commands.specs.declared.asking.AskingStop.TheVariants.{Program};
+
+    ghost from_gives = { λ fault stop. stop ≡ Program fault };
+
+    fn from(fault: Fault) -> AskingStop {
+        AskingStop::Program(fault)
+    }
+}
+
+impl From<AllocError> for AskingStop {
+    ghost use Rattle.enip_commands.specs.declared.asking.AskingStop.TheVariants.{Program};
+    ghost use Rattle.enip_commands.specs.declared.fault.Fault.TheVariants.{Memory};
+
+    ghost from_gives = { λ _ stop. stop ≡ Program Memory };
+
+    fn from(_error: AllocError) -> AskingStop {
+        AskingStop::Program(Fault::Memory)
+    }
+}
+
+impl From<io::Error> for AskingStop {
+    ghost use Rattle.enip_commands.specs.Asking.{IsOfDevice};
+
+    ghost from_gives = { λ _ stop. IsOfDevice stop };
+
+    fn from(error: io::Error) -> AskingStop {
+        AskingStop::Program(Fault::from(error))
+    }
+}
+
+impl From<AskFault> for AskingStop {
+    ghost use Rattle.enip_commands.specs.Asking.{stop_of};
+
+    ghost from_gives = { λ fault stop. stop ≡ stop_of fault };
+
+    fn from(fault: AskFault) -> AskingStop {
+        match fault {
+            AskFault::Read | AskFault::Write | AskFault::Ended | AskFault::Spent => {
+                AskingStop::Program(Fault::Device)
+            }
+            AskFault::Client(ClientFault::Memory) => AskingStop::Program(Fault::Memory),
+            AskFault::Client(fault) => AskingStop::Client(fault),
+            // the connection takes no such request (ours)
+            AskFault::Submit(_) => AskingStop::Client(ClientFault::Request),
+        }
+    }
+}
+
+/// Asks once over a reader and a writer, on a connection or not, and prints the reply on `output` in a style: its
+/// data, or `refused 0xGG`, with ` 0xEEEE` where the first additional word is not 0.
+///
+/// # Errors
+///
+/// `Session` where the device refuses the session; `Client` with the client's fault, with `Request` where the
+/// connection refuses the request, with `Malformed` where the reply is none; `Shape` where its data are no values of
+/// the style's type; `Program` where a device failed, the input ended, or memory was refused.
+pub fn ask_over<R: Source, W: Sink, O: Write + Drop>(
+    alloc: Global,
+    reader: &mut R,
+    writer: &mut W,
+    request: &[u8],
+    connected: bool,
+    style: Style,
+    output: O,
+) -> Result<Replied, AskingStop>
+    requires reads { R.failures reader.old < u64.MAX }
+    requires writes { W.failures writer.old < u64.MAX }
+    ensures { IfErr result IsOfExchange }
+{
+    let mut output = BufWriter::new(alloc, output)?;
+    let mut reply = ReplyBuf::new();
+    let asked = ask_once(alloc, reader, writer, request, connected, &mut reply);
+    print_asked(alloc, &mut output, style, asked, reply.as_slice())
+}
+
+/// Asks once, with a client for that.
+///
+/// # Errors
+///
+/// As of `ask_over`, and `Client` with `Refused` where the connection was not opened or not closed.
+fn ask_once<R: Source, W: Sink>(
+    alloc: Global,
+    reader: &mut R,
+    writer: &mut W,
+    request: &[u8],
+    connected: bool,
+    reply: &mut ReplyBuf,
+) -> Result<(), AskingStop>
+    requires reads { R.failures reader.old < u64.MAX }
+    requires writes { W.failures writer.old < u64.MAX }
+    ensures { IfErr result IsOfExchange }
+{
+    let mut client = match Client::new(alloc, &WANTS) {
+        Ok(client) => client,
+        Err(fault) => return Err(AskingStop::from(AskFault::Client(fault))),
+    };
+    let asked = ask(&mut client, reader, writer, request, connected, reply);
+    stop_where_refused(asked, client.is_registered())
+}
+
+/// Why an exchange was not completed. A status is that of the session where it is not registered.
+fn stop_where_refused(asked: Result<(), AskFault>, is_registered: bool) -> Result<(), AskingStop>
+    ensures { IfErr result IsOfExchange }
+{
+    match asked {
+        Ok(()) => Ok(()),
+        Err(AskFault::Client(ClientFault::Status(status))) if !is_registered => {
+            Err(AskingStop::Session(status))
+        }
+        Err(fault) => Err(AskingStop::from(fault)),
+    }
+}
+
+/// Prints the reply to what was asked, or why a connection was not opened or not closed.
+fn print_asked<O: Write>(
+    alloc: Global,
+    output: &mut O,
+    style: Style,
+    asked: Result<(), AskingStop>,
+    reply: &[u8],
+) -> Result<Replied, AskingStop>
+    requires { IfErr asked IsOfExchange }
+    ensures { IfErr result IsOfExchange }
+{
+    let replied = match asked {
+        Ok(()) => print_reply(alloc, output, style, reply)?,
+        Err(AskingStop::Client(ClientFault::Refused(status, extended))) => {
+            print_refusal(alloc, output, style, status, extended)?
+        }
+        Err(stop) => return Err(stop),
+    };
+    output.flush()?;
+    Ok(replied)
+}
+
+/// Prints a reply in a style.
+pub(crate) fn print_reply<O: Write>(
+    alloc: Global,
+    output: &mut O,
+    style: Style,
+    bytes: &[u8],
+) -> Result<Replied, AskingStop>
+    ensures told { IfOk result (IsReplyTold bytes.now) }
+    ensures untold { IfErr result (IsUntold style bytes.now) }
+{
+    if style.is_json {
+        let line = reply_object(alloc, style, bytes)?;
+        writeln!(output, "{}", line.text)?;
+        return Ok(line.replied);
+    }
+    let Ok(reply) = ReplyView::read(bytes) else {
+        return Err(AskingStop::Client(ClientFault::Malformed));
+    };
+    // general status 0 is success (message router)
+    if reply.status != 0 {
+        let extended = reply.additional_word(0).unwrap_or(0);
+        return print_refused(output, reply.status, extended);
+    }
+    print_data(alloc, output, style, reply.data)?;
+    Ok(Replied::Done)
+}
+
+/// The object of a reply, and how the reply was told by it.
+#[derive(Drop)]
+pub(crate) struct ReplyObject {
+    pub(crate) replied: Replied,
+    pub(crate) text: String,
+}
+
+/// The object of a reply.
+pub(crate) fn reply_object(
+    alloc: Global,
+    style: Style,
+    bytes: &[u8],
+) -> Result<ReplyObject, AskingStop>
+    ensures told { IfOk result (λ told. IsReplyTold bytes.now told.replied) }
+    ensures untold { IfErr result (IsUntold style bytes.now) }
+{
+    let Ok(reply) = ReplyView::read(bytes) else {
+        return Err(AskingStop::Client(ClientFault::Malformed));
+    };
+    if reply.status != 0 {
+        let extended = reply.additional_word(0).unwrap_or(0);
+        return Ok(ReplyObject {
+            replied: Replied::Refused(reply.status, extended),
+            text: refusal_line(alloc, reply.status, extended)?,
+        });
+    }
+    Ok(ReplyObject {
+        replied: Replied::Done,
+        text: data_object(alloc, style, reply.data)?,
+    })
+}
+
+/// Prints a refusal in a style.
+fn print_refusal<O: Write>(
+    alloc: Global,
+    output: &mut O,
+    style: Style,
+    status: u8,
+    extended: u16,
+) -> Result<Replied, AskingStop>
+    ensures told { IfOk result (λ replied. replied ≡ Replied.Refused status extended) }
+    ensures untold { IfErr result IsOfDevice }
+{
+    if style.is_json {
+        writeln!(output, "{}", refusal_line(alloc, status, extended)?)?;
+        return Ok(Replied::Refused(status, extended));
+    }
+    print_refused(output, status, extended)
+}
+
+/// Prints that a request was refused: `refused 0xGG`, with ` 0xEEEE` where the first additional word is not 0.
+fn print_refused<O: Write>(output: &mut O, status: u8, extended: u16) -> Result<Replied, AskingStop>
+    ensures told { IfOk result (λ replied. replied ≡ Replied.Refused status extended) }
+    ensures untold { IfErr result IsOfDevice }
+{
+    write!(output, "refused {status:#04x}")?;
+    if extended != 0 {
+        write!(output, " {extended:#06x}")?;
+    }
+    output.write_all(b"\n")?;
+    Ok(Replied::Refused(status, extended))
+}
+
+/// The exit status of the program, with a line on `errors` where no reply was told.
+pub fn end_asking<E: Write + Drop>(told: Result<Replied, AskingStop>, errors: E) -> u8
+    ensures { result ≡ asking_status told }
+{
+    let mut errors = errors;
+    match told {
+        Ok(replied) => replied.exit_status(),
+        Err(stop) => {
+            let _ = writeln!(errors, "{stop}");
+            stop.exit_status()
+        }
+    }
+}

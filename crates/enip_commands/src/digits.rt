@@ -1,0 +1,91 @@
+//! Bytes as hexadecimal digits, read and printed.
+
+ghost use Rattle.std.specs.Prelude.{◌≡◌, true, is_some, IfOk, IfErr, OnOk, Some};
+ghost use Rattle.std.specs.Result.{result_ok};
+ghost use Rattle.hex.specs.Hex.{decode_of};
+ghost use Rattle.enip_commands.specs.Digits.{without_spaces, bytes_spelled};
+ghost use Rattle.enip_commands.specs.Statuses.{IsOfDevices};
+
+use crate::fault::Fault;
+use std::io::{self, Write};
+use std::{fmt, str};
+
+/// How many bytes are spelled at a time.
+const BLOCK: usize = 128;
+
+/// Reads hexadecimal digits, with spaces or without, and says whether they spell bytes, perhaps none.
+/// `digits` is room for the digits without their spaces.
+pub fn decode(text: &[u8], digits: &mut Vec<u8>, bytes: &mut Vec<u8>) -> Result<bool, Fault>
+    ensures read { IfOk result (λ spelled. spelled ≡ is_some (bytes_spelled text.now)) }
+    ensures bytes { IfOk result (λ spelled. spelled ≡ true → bytes_spelled text.now ≡ Some bytes.new.items) }
+    ensures refused { IfErr result IsOfDevices }
+{
+    if !text.contains(&b' ') {
+        return decode_digits(text, bytes);
+    }
+    copy_digits(text, digits)?;
+    decode_digits(digits.as_slice(), bytes)
+}
+
+/// Copies a text without its spaces.
+fn copy_digits(text: &[u8], digits: &mut Vec<u8>) -> Result<(), Fault>
+    ensures copied { OnOk result (digits.new.items ≡ without_spaces text.now) }
+    ensures refused { IfErr result IsOfDevices }
+{
+    digits.clear();
+    for byte in text {
+        if *byte != b' ' {
+            digits.push(*byte)?;
+        }
+    }
+    Ok(())
+}
+
+/// Reads hexadecimal digits, and says whether they spell bytes, perhaps none.
+fn decode_digits(digits: &[u8], bytes: &mut Vec<u8>) -> Result<bool, Fault>
+    ensures read { IfOk result (λ spelled. spelled ≡ is_some (result_ok (decode_of digits.now))) }
+    ensures bytes { IfOk result (λ spelled. spelled ≡ true → result_ok (decode_of digits.now) ≡ Some bytes.new.items) }
+    ensures refused { IfErr result IsOfDevices }
+{
+    if digits.len() % 2 != 0 {
+        return Ok(false);
+    }
+    bytes.resize(digits.len() / 2, 0)?;
+    Ok(hex::decode_to_slice(digits, bytes.as_mut_slice()).is_ok())
+}
+
+/// Prints the digits of bytes, two each.
+pub(crate) fn print_digits<W: Write>(output: &mut W, bytes: &[u8]) -> io::Result<()> {
+    let mut text = [0u8; 2 * BLOCK];
+    let mut rest = bytes;
+    while !rest.is_empty() {
+        let (block, others) = rest.split_at(rest.len().min(BLOCK));
+        let digits = &mut text[..2 * block.len()];
+        let _ = hex::encode_to_slice(block, digits);
+        output.write_all(digits)?;
+        rest = others;
+    }
+    Ok(())
+}
+
+/// Bytes that are printed as their digits, two each.
+#[derive(Clone, Copy)]
+pub struct Digits<'a>(pub &'a [u8]);
+
+impl fmt::Display for Digits<'_> {
+    ghost use Rattle.hex.specs.Hex.{encode_lower};
+
+    ghost output = { λ d. Some (encode_lower d.0.now) };
+
+    fn fmt<W: fmt::Write>(&self, f: &mut fmt::Formatter<W>) -> fmt::Result {
+        for byte in self.0 {
+            let mut pair = [0; 2];
+            let _ = hex::encode_to_slice([*byte], &mut pair);
+            let Ok(text) = str::from_utf8(&pair) else {
+                return Err(fmt::Error);
+            };
+            f.write_str(text)?;
+        }
+        Ok(())
+    }
+}

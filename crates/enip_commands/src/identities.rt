@@ -1,0 +1,112 @@
+//! `enip identity --json` and `enip discover --json`: an object on a line for each identity.
+
+ghost use Rattle.std.specs.Prelude.{◌<◌, IfErr, OnOk};
+ghost use Rattle.std.specs.Io.KnownBytes.{Appends};
+ghost use Rattle.enip_client.specs.Listing.{sides};
+ghost use Rattle.enip_client.specs.Lists.{entries_left, entry_shown};
+ghost use Rattle.enip_commands.specs.Asking.{IsOfExchange};
+ghost use Rattle.enip_commands.specs.Identities.{AreIdentitiesTold, object_line, object_lines, datagram_objects};
+ghost use Rattle.enip_commands.specs.Statuses.{IsOfDevices};
+
+use crate::asking::AskingStop;
+use crate::fault::Fault;
+use crate::json::identity_line;
+use enip_client::{ListCommand, ListEntries, ListEntry, ask_list, read_list};
+use enip_wire::{FrameReader, Sink, Source};
+use std::alloc::Global;
+use std::io::{BufWriter, Write};
+
+/// Asks a device what it is over a reader and a writer, without a session, and prints an object on `output` for each
+/// identity.
+///
+/// # Errors
+///
+/// As of `list_over`.
+pub fn identities_over<R: Source, W: Sink, O: Write + Drop>(
+    alloc: Global,
+    reader: &mut R,
+    writer: &mut W,
+    output: O,
+) -> Result<(), AskingStop>
+    requires reads { R.failures reader.old < u64.MAX }
+    requires writes { W.failures writer.old < u64.MAX }
+    ensures { IfErr result IsOfExchange }
+{
+    let mut frames = FrameReader::new(alloc)?;
+    let mut output = BufWriter::new(alloc, output)?;
+    print_identities(alloc, &mut frames, reader, writer, &mut output)?;
+    output.flush()?;
+    Ok(())
+}
+
+/// Asks for the identities, and prints them.
+fn print_identities<R: Source, W: Sink, O: Write>(
+    alloc: Global,
+    frames: &mut FrameReader,
+    reader: &mut R,
+    writer: &mut W,
+    output: &mut O,
+) -> Result<(), AskingStop>
+    requires reads { R.failures reader.old < u64.MAX }
+    requires writes { W.failures writer.old < u64.MAX }
+    ensures { AreIdentitiesTold
+        (sides (R.left reader.old) (R.reads reader.old) (W.written writer.old))
+        (sides (R.left reader.new) (R.reads reader.new) (W.written writer.new))
+        (O.contents output.old) (O.contents output.new) result }
+{
+    let entries = ask_list(ListCommand::Identity, frames, reader, writer)?;
+    print_objects(alloc, output, entries)?;
+    Ok(())
+}
+
+/// Prints an object for each identity that a datagram answers to ListIdentity. A datagram that is no whole answer is
+/// left out.
+///
+/// # Errors
+///
+/// `Device` or `Memory` where the output failed, `Memory` where memory was refused.
+pub fn print_device_objects<O: Write>(
+    alloc: Global,
+    output: &mut O,
+    datagram: &[u8],
+) -> Result<(), Fault>
+    ensures printed { OnOk result (Appends (O.contents output.old) (O.contents output.new)
+        (datagram_objects datagram.now)) }
+    ensures refused { IfErr result IsOfDevices }
+{
+    let Ok(entries) = read_list(ListCommand::Identity, datagram) else {
+        return Ok(());
+    };
+    print_objects(alloc, output, entries)
+}
+
+/// Prints an object for each identity of a list.
+fn print_objects<O: Write>(
+    alloc: Global,
+    output: &mut O,
+    entries: ListEntries<'_>,
+) -> Result<(), Fault>
+    ensures printed { OnOk result (Appends (O.contents output.old) (O.contents output.new)
+        (object_lines (entries_left entries.entry))) }
+    ensures refused { IfErr result IsOfDevices }
+{
+    for entry in entries {
+        print_object(alloc, output, entry)?;
+    }
+    Ok(())
+}
+
+/// Prints the object of an identity. A service has none.
+fn print_object<O: Write>(alloc: Global, output: &mut O, entry: ListEntry<'_>) -> Result<(), Fault>
+    ensures printed { OnOk result (Appends (O.contents output.old) (O.contents output.new)
+        (object_line (entry_shown entry.entry))) }
+    ensures refused { IfErr result IsOfDevices }
+{
+    match &entry {
+        ListEntry::Identity(identity) => {
+            writeln!(output, "{}", identity_line(alloc, identity)?)?;
+        }
+        ListEntry::Service(_) => {}
+    }
+    Ok(())
+}

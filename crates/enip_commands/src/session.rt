@@ -1,0 +1,235 @@
+//! A session with a device in which requests are asked one after the other, on a connection or not.
+
+ghost use Rattle.std.specs.Prelude.{◌≡◌, ◌≤◌, length, IfOk, IfErr};
+ghost use Rattle.enip_commands.specs.Asking.{IsOfExchange};
+
+use crate::asking::{AskingStop, WANTS};
+use cip_objects::{REPLY_LIMIT, ReplyBuf};
+use enip_client::{AskFault, Client, ClientFault, Heard, Wants};
+use enip_wire::{Sink, Source, write_all};
+use std::alloc::Global;
+
+/// The most bytes of a read (ours).
+const LONGEST_READ: usize = 4_096;
+
+/// What is asked of the connection: as for one request, and that it lasts 512 packet intervals without a request.
+/// (Volume 1, connection timeout multiplier.)
+const LASTING: Wants = Wants {
+    timeout_multiplier: 7,
+    ..WANTS
+};
+
+/// A session with a device.
+#[derive(Drop)]
+pub struct Session {
+    client: Client,
+    connected: bool,
+    reply: ReplyBuf,
+}
+
+impl Session {
+    /// Begins a session over a reader and a writer, and opens a connection where that is asked for.
+    ///
+    /// # Errors
+    ///
+    /// `Session` where the device refuses the session, `Client` with the client's fault or with why the connection was
+    /// refused, `Program` where a device failed, the input ended, or memory was refused.
+    pub fn begin<R: Source, W: Sink>(
+        alloc: Global,
+        reader: &mut R,
+        writer: &mut W,
+        connected: bool,
+    ) -> Result<Session, AskingStop>
+        ensures { IfErr result IsOfExchange }
+    {
+        let client = match Client::new(alloc, &LASTING) {
+            Ok(client) => client,
+            Err(fault) => return Err(AskingStop::from(AskFault::Client(fault))),
+        };
+        let mut session = Session {
+            client,
+            connected,
+            reply: ReplyBuf::new(),
+        };
+        match session.register(reader, writer) {
+            Ok(()) => {}
+            Err(AskFault::Client(ClientFault::Status(status))) => {
+                return Err(AskingStop::Session(status));
+            }
+            Err(fault) => return Err(AskingStop::from(fault)),
+        }
+        if connected {
+            session.open(reader, writer)?;
+        }
+        Ok(session)
+    }
+
+    /// Asks once, and lends the reply of the device.
+    ///
+    /// # Errors
+    ///
+    /// `Client` with the client's fault, with `Request` where the connection refuses the request; `Program` where a
+    /// device failed or the input ended.
+    pub fn ask<R: Source, W: Sink>(
+        &mut self,
+        reader: &mut R,
+        writer: &mut W,
+        request: &[u8],
+    ) -> Result<&[u8], AskingStop>
+        ensures { IfErr result IsOfExchange }
+    {
+        self.send_request(writer, request)?;
+        hear(&mut self.client, reader, &mut self.reply)?;
+        Ok(self.reply.as_slice())
+    }
+
+    /// Closes the connection, where there is one, and ends the session.
+    ///
+    /// # Errors
+    ///
+    /// As of [`Session::ask`].
+    pub fn end<R: Source, W: Sink>(
+        &mut self,
+        reader: &mut R,
+        writer: &mut W,
+    ) -> Result<(), AskingStop>
+        ensures { IfErr result IsOfExchange }
+    {
+        if self.connected {
+            let frame = self.client.close().map_err(AskFault::Client)?;
+            send(writer, frame)?;
+            hear(&mut self.client, reader, &mut self.reply)?;
+        }
+        let frame = self.client.unregister().map_err(AskFault::Client)?;
+        send(writer, frame)?;
+        Ok(())
+    }
+
+    /// Registers the session.
+    fn register<R: Source, W: Sink>(
+        &mut self,
+        reader: &mut R,
+        writer: &mut W,
+    ) -> Result<(), AskFault> {
+        let frame = self.client.register()?;
+        send(writer, frame)?;
+        hear(&mut self.client, reader, &mut self.reply)
+    }
+
+    /// Opens the connection.
+    fn open<R: Source, W: Sink>(&mut self, reader: &mut R, writer: &mut W) -> Result<(), AskFault> {
+        let frame = self.client.open()?;
+        send(writer, frame)?;
+        hear(&mut self.client, reader, &mut self.reply)
+    }
+
+    /// Sends a request, on the connection or not.
+    fn send_request<W: Sink>(&mut self, writer: &mut W, request: &[u8]) -> Result<(), AskFault> {
+        if self.connected {
+            let frame = self.client.submit(request)?;
+            send(writer, frame)
+        } else {
+            let frame = self.client.unconnected(request)?;
+            send(writer, frame)
+        }
+    }
+}
+
+/// Sends a frame.
+///
+/// # Errors
+///
+/// `Write` where the writer failed.
+fn send<W: Sink>(writer: &mut W, frame: &[u8]) -> Result<(), AskFault> {
+    if writer.failures() == u64::MAX {
+        return Err(AskFault::Write);
+    }
+    match write_all(writer, frame) {
+        Ok(()) => Ok(()),
+        Err(_) => Err(AskFault::Write),
+    }
+}
+
+/// Reads until what is awaited is heard. A reply is left in `reply`.
+///
+/// # Errors
+///
+/// `Read`, `Ended` or `Spent`; `Client` with the client's fault, or with why an open or a close was refused.
+fn hear<R: Source>(
+    client: &mut Client,
+    reader: &mut R,
+    reply: &mut ReplyBuf,
+) -> Result<(), AskFault> {
+    let mut buffer = [0; LONGEST_READ];
+    for _ in 0..u64::MAX {
+        let size = read(reader, &mut buffer)?;
+        if hear_piece(client, &buffer[..size], reply)? {
+            return Ok(());
+        }
+    }
+    Err(AskFault::Spent)
+}
+
+/// Reads a byte or more.
+///
+/// # Errors
+///
+/// `Spent`, `Ended` or `Read`.
+fn read<R: Source>(reader: &mut R, into: &mut [u8; LONGEST_READ]) -> Result<usize, AskFault>
+    ensures within { IfOk result (λ size. size ≤ LONGEST_READ) }
+    ensures room { length into.new ≡ LONGEST_READ }
+{
+    if reader.reads() == u64::MAX || reader.failures() == u64::MAX {
+        return Err(AskFault::Spent);
+    }
+    match reader.read(into) {
+        // a read of no byte is the end of the stream
+        Ok(0) => Err(AskFault::Ended),
+        Ok(size) => Ok(size),
+        Err(_) => Err(AskFault::Read),
+    }
+}
+
+/// Hears a piece to its end, and says whether something awaited was heard.
+///
+/// # Errors
+///
+/// `Client`.
+fn hear_piece(client: &mut Client, piece: &[u8], reply: &mut ReplyBuf) -> Result<bool, AskFault> {
+    let mut is_heard = false;
+    let mut rest = piece;
+    for _ in 0..piece.len() {
+        let hearing = client.feed(rest);
+        let taken = hearing.taken;
+        is_heard |= keep(hearing.heard, reply)?;
+        rest = &rest[taken..];
+        if let Some(fault) = client.fault() {
+            return Err(AskFault::Client(fault));
+        }
+    }
+    Ok(is_heard)
+}
+
+/// Keeps a reply, and says whether something awaited was heard.
+///
+/// # Errors
+///
+/// `Client` where an open or a close was refused, or a reply is too long.
+fn keep(heard: Heard<'_>, reply: &mut ReplyBuf) -> Result<bool, AskFault> {
+    match heard {
+        Heard::Nothing => Ok(false),
+        Heard::Registered | Heard::Opened | Heard::Closed => Ok(true),
+        Heard::Refused(status, extended) => Err(AskFault::Client(ClientFault::Refused(
+            status, extended,
+        ))),
+        Heard::Reply(bytes) | Heard::Accepted(bytes) => {
+            // the room of a reply (ours)
+            if bytes.len() > REPLY_LIMIT {
+                return Err(AskFault::Client(ClientFault::Malformed));
+            }
+            reply.clear();
+            let _ = reply.try_extend_from_slice(bytes);
+            Ok(true)
+        }
+    }
+}

@@ -1,0 +1,331 @@
+//! `enip show`: lines of frames in, their fields out.
+//!
+//! Each line is shown part by part, up to the first fault in it, which is not a fault of the program.
+
+ghost use Rattle.std.specs.Prelude.{◌≡◌, ◌⊎◌, IfErr};
+ghost use Rattle.enip_commands.specs.Statuses.{IsOfDevices, IsStopOfDevices};
+
+use crate::digits::{decode, print_digits};
+use crate::fault::Fault;
+use crate::input_lines::{TakeLines, read_lines};
+use cip_bytes::protocol::Command;
+use cip_message::{PathFault, ReplyFault, ReplyView, RequestFault, RequestView, read_path};
+use enip_wire::{CpfFault, FrameReader, FrameView, Header, Held, cpf_items, rr_body, unit_body};
+use std::alloc::Global;
+use std::io::{self, BufWriter, Read, Write};
+use thiserror::Error;
+
+/// How many bytes of interface and timeout come before the packet's items. (Volume 2, SendRRData.)
+const BEFORE_ITEMS: usize = 6;
+
+/// Prints the fields of the frames of an input, one frame of hexadecimal digits a line, and answers the exit
+/// status of the program: 0, or 5 where a device or memory failed, with a line on `errors`.
+///
+/// A line that is no frame is shown as the fault that it has, and the lines after it are shown too.
+pub fn show<R: Read + Drop, W: Write + Drop, E: Write + Drop>(
+    alloc: Global,
+    input: R,
+    output: W,
+    errors: E,
+) -> u8
+    ensures { (result ≡ 0) ⊎ (result ≡ 5) }
+{
+    let mut errors = errors;
+    match show_frames(alloc, input, output) {
+        Ok(()) => 0,
+        Err(fault) => {
+            let _ = writeln!(errors, "{fault}");
+            fault.exit_status()
+        }
+    }
+}
+
+/// As `show`, and answers why it ended early.
+///
+/// # Errors
+///
+/// `Device` where the input could not be read or the output written. `Memory` where memory is refused.
+pub fn show_frames<R: Read + Drop, W: Write + Drop>(
+    alloc: Global,
+    input: R,
+    output: W,
+) -> Result<(), Fault>
+    ensures { IfErr result IsOfDevices }
+{
+    let mut printer = Printer {
+        output: BufWriter::new(alloc, output)?,
+        digits: Vec::new(alloc),
+        bytes: Vec::new(alloc),
+        reader: FrameReader::new(alloc)?,
+    };
+    read_lines(alloc, input, &mut printer)
+}
+
+/// Why a line is shown no further.
+#[derive(Clone, Copy, Debug, PartialEq, Eq, Error)]
+enum ShowingStop {
+    /// It is not hexadecimal.
+    #[error("hex")]
+    Hex,
+    /// It is not exactly one frame.
+    #[error("header")]
+    Header,
+    /// The body has no such items.
+    #[error("cpf {}", .0.number())]
+    Cpf(CpfFault),
+    /// The message is no request.
+    #[error("request {}", .0.number())]
+    Request(RequestFault),
+    /// The request's path is none.
+    #[error("path {}", .0.number())]
+    Path(PathFault),
+    /// The message is no reply.
+    #[error("reply {}", .0.number())]
+    Reply(ReplyFault),
+    /// The program itself failed.
+    #[error("{0}")]
+    Program(Fault),
+}
+
+impl From<Fault> for ShowingStop {
+    ghost use Rattle.enip_commands.specs.declared.showing.ShowingStop.TheVariants.{Program};
+
+    ghost from_gives = { λ fault stop. stop ≡ Program fault };
+
+    fn from(fault: Fault) -> ShowingStop {
+        ShowingStop::Program(fault)
+    }
+}
+
+impl From<io::Error> for ShowingStop {
+    ghost from_gives = { λ _ stop. IsStopOfDevices stop };
+
+    fn from(error: io::Error) -> ShowingStop {
+        ShowingStop::Program(Fault::from(error))
+    }
+}
+
+impl From<CpfFault> for ShowingStop {
+    ghost from_gives = { λ _ stop. IsStopOfDevices stop };
+
+    fn from(fault: CpfFault) -> ShowingStop {
+        ShowingStop::Cpf(fault)
+    }
+}
+
+impl From<RequestFault> for ShowingStop {
+    ghost from_gives = { λ _ stop. IsStopOfDevices stop };
+
+    fn from(fault: RequestFault) -> ShowingStop {
+        ShowingStop::Request(fault)
+    }
+}
+
+impl From<PathFault> for ShowingStop {
+    ghost from_gives = { λ _ stop. IsStopOfDevices stop };
+
+    fn from(fault: PathFault) -> ShowingStop {
+        ShowingStop::Path(fault)
+    }
+}
+
+impl From<ReplyFault> for ShowingStop {
+    ghost from_gives = { λ _ stop. IsStopOfDevices stop };
+
+    fn from(fault: ReplyFault) -> ShowingStop {
+        ShowingStop::Reply(fault)
+    }
+}
+
+/// Who shows the lines: the buffers of one line, and where the fields go.
+#[derive(Drop)]
+struct Printer<W: Write + Drop> {
+    output: BufWriter<W>,
+    digits: Vec<u8>,
+    bytes: Vec<u8>,
+    reader: FrameReader,
+}
+
+impl<W: Write + Drop> Printer<W> {
+    /// Shows a line up to its first fault.
+    fn show_line(&mut self, text: &[u8]) -> Result<(), ShowingStop>
+        ensures { IfErr result IsStopOfDevices }
+    {
+        if !decode(text, &mut self.digits, &mut self.bytes)? {
+            return Err(ShowingStop::Hex);
+        }
+        self.reader.clear();
+        let taken = self.reader.push(self.bytes.as_slice());
+        match self.reader.state() {
+            Held::Frame(frame) if taken == self.bytes.len() => show_frame(&mut self.output, frame),
+            _ => Err(ShowingStop::Header),
+        }
+    }
+
+    /// Shows a line, and its first fault.
+    fn print_line(&mut self, text: &[u8]) -> Result<(), Fault>
+        ensures { IfErr result IsOfDevices }
+    {
+        match self.show_line(text) {
+            Ok(()) => Ok(()),
+            Err(ShowingStop::Program(fault)) => Err(fault),
+            Err(stop) => {
+                writeln!(self.output, "fault {stop}")?;
+                Ok(())
+            }
+        }
+    }
+}
+
+impl<W: Write + Drop> TakeLines for Printer<W> {
+    ghost refuses = { λ _ _. ⊥ };
+
+    fn take_line(&mut self, text: &[u8], _number: u64) -> Result<(), Fault> {
+        self.print_line(text)
+    }
+
+    fn send(&mut self) -> Result<(), Fault> {
+        self.output.flush()?;
+        Ok(())
+    }
+}
+
+/// Shows a frame: its header, and what it carries of the router's messages.
+fn show_frame<W: Write>(output: &mut W, frame: FrameView<'_>) -> Result<(), ShowingStop>
+    ensures { IfErr result IsStopOfDevices }
+{
+    print_header(output, &frame.header)?;
+    match Command::of(frame.header.command) {
+        Some(Command::SendRRData) => {
+            let message = rr_body(frame.body)?;
+            print_items(output, frame.body)?;
+            show_message(output, message)
+        }
+        Some(Command::SendUnitData) => {
+            let (_connection, item) = unit_body(frame.body)?;
+            print_items(output, frame.body)?;
+            show_counted(output, item)
+        }
+        _ => Ok(()),
+    }
+}
+
+/// Prints the fields of a header.
+fn print_header<W: Write>(output: &mut W, header: &Header) -> io::Result<()> {
+    write!(
+        output,
+        "frame 0x{:04x} length {} session {} status 0x{:08x} context ",
+        header.command, header.length, header.session, header.status
+    )?;
+    print_digits(output, &header.context)?;
+    writeln!(output, " options {}", header.options)
+}
+
+/// Prints the type and the length of each item of a body, which is known to have its items.
+fn print_items<W: Write>(output: &mut W, body: &[u8]) -> Result<(), ShowingStop>
+    ensures { IfErr result IsStopOfDevices }
+{
+    let Some(items) = body.get(BEFORE_ITEMS..) else {
+        return Ok(());
+    };
+    for item in cpf_items(items)? {
+        writeln!(
+            output,
+            "item 0x{:04x} length {}",
+            item.kind,
+            item.bytes.len()
+        )?;
+    }
+    Ok(())
+}
+
+/// Shows the data of a connected item: the sequence count, and the message behind it. (Volume 1, transport
+/// class 3.)
+fn show_counted<W: Write>(output: &mut W, item: &[u8]) -> Result<(), ShowingStop>
+    ensures { IfErr result IsStopOfDevices }
+{
+    let [low, high, message @ ..] = item else {
+        return Err(ShowingStop::from(RequestFault::Short));
+    };
+    writeln!(output, "count {}", u16::from_le_bytes([*low, *high]))?;
+    show_message(output, message)
+}
+
+/// Shows a message of the router: a reply where bit 7 of its first byte is set, else a request.
+fn show_message<W: Write>(output: &mut W, message: &[u8]) -> Result<(), ShowingStop>
+    ensures { IfErr result IsStopOfDevices }
+{
+    match message {
+        [service, ..] if *service >= 0x80 => show_reply(output, message),
+        _ => show_request(output, message),
+    }
+}
+
+/// Shows a request and where it goes.
+fn show_request<W: Write>(output: &mut W, message: &[u8]) -> Result<(), ShowingStop>
+    ensures { IfErr result IsStopOfDevices }
+{
+    let request = RequestView::read(message)?;
+    let path = read_path(request.path)?;
+    write!(
+        output,
+        "request 0x{:02x} class {} instance {} attribute ",
+        request.service, path.class, path.instance
+    )?;
+    print_number(output, path.attribute)?;
+    output.write_all(b" member ")?;
+    print_number(output, path.member)?;
+    output.write_all(b" data ")?;
+    print_bytes(output, request.data)?;
+    output.write_all(b"\n")?;
+    Ok(())
+}
+
+/// Shows a reply, whose additional status words are printed as numbers of four digits.
+fn show_reply<W: Write>(output: &mut W, message: &[u8]) -> Result<(), ShowingStop>
+    ensures { IfErr result IsStopOfDevices }
+{
+    let reply = ReplyView::read(message)?;
+    write!(
+        output,
+        "reply 0x{:02x} status 0x{:02x} extended ",
+        reply.service, reply.status
+    )?;
+    print_words(output, &reply)?;
+    output.write_all(b" data ")?;
+    print_bytes(output, reply.data)?;
+    output.write_all(b"\n")?;
+    Ok(())
+}
+
+/// Prints a number, or `-` where there is none.
+fn print_number<W: Write>(output: &mut W, number: Option<u16>) -> io::Result<()> {
+    match number {
+        Some(number) => write!(output, "{number}"),
+        None => output.write_all(b"-"),
+    }
+}
+
+/// Prints bytes as digits, or `-` where there are none.
+fn print_bytes<W: Write>(output: &mut W, bytes: &[u8]) -> io::Result<()> {
+    if bytes.is_empty() {
+        output.write_all(b"-")
+    } else {
+        print_digits(output, bytes)
+    }
+}
+
+/// Prints the additional status words of a reply, joined, or `-` where there are none.
+fn print_words<W: Write>(output: &mut W, reply: &ReplyView<'_>) -> io::Result<()> {
+    if reply.additional.is_empty() {
+        return output.write_all(b"-");
+    }
+    // A reply has at most 255 of them.
+    for place in 0..255 {
+        let Some(word) = reply.additional_word(place) else {
+            break;
+        };
+        write!(output, "{word:04x}")?;
+    }
+    Ok(())
+}

@@ -1,0 +1,81 @@
+-- How a run is drawn: the lines of a ladder.
+use Rattle.std.specs.Prelude.{ℕ, ◌+◌, ◌-◌, ◌*◌, ◌^◌, min, nat_le, Bool, List, [], ◌∷◌, ◌++◌, length, take, replicate, codes}
+use Rattle.std.specs.Prelude.{Option, Some, None, false, if◌then◌else◌}
+use Rattle.std.specs.Fmt.{decimal, padded, padded_integral, format_spec}
+use Rattle.hex.specs.Hex.{encode_lower}
+use Rattle.enip_replay.specs.declared.rungs.Arrow.{Arrow}
+use Rattle.enip_replay.specs.declared.rungs.Field.{Field}
+use Rattle.enip_replay.specs.declared.rungs.Field.TheVariants as fields
+use Rattle.enip_replay.specs.declared.rungs.Note.{Note}
+use Rattle.enip_replay.specs.declared.rungs.Rung.{Rung}
+use Rattle.enip_replay.specs.declared.rungs.Way.{Way}
+use Rattle.enip_replay.specs.declared.rungs.Way.TheVariants as ways
+
+-- A request or a reply in digits, the end of one of more than ten bytes left out.
+abbrev pub message_text : List ℕ → List ℕ
+message_text bytes =
+    if nat_le (length bytes) 10 then encode_lower bytes else encode_lower (take 9 bytes) ++ codes ".."
+
+-- How many digits a count has.
+abbrev pub digits_of : ℕ → ℕ
+digits_of count =
+    if nat_le count 9 then 1
+    else (if nat_le count 99 then 2 else (if nat_le count 999 then 3 else (if nat_le count 9999 then 4 else 5)))
+
+-- How much of the 34 characters of a column is left behind a count and a message.
+abbrev pub room_behind : Arrow → ℕ
+room_behind a = 34 - (2 + digits_of a.count + 2 * min (length a.message.now) 10)
+
+-- A count and its message.
+abbrev pub item_text : Arrow → List ℕ
+item_text a = codes "-- " ++ decimal a.count ++ codes ": " ++ message_text a.message.now ++ codes " "
+
+abbrev pub head_of : List ℕ → Bool → List ℕ
+head_of head arrives = if arrives then head else codes "x"
+
+-- An arrow: its head stands where it points, a cross where it was lost.
+abbrev pub arrow_by : Way → Arrow → List ℕ
+arrow_by ways.There a =
+    (codes "-" ++ item_text a) ++ replicate (room_behind a - 6) 45 ++ head_of (codes ">") a.arrives
+arrow_by ways.Back a = head_of (codes "<") a.arrives ++ item_text a ++ replicate (room_behind a - 5) 45
+
+abbrev pub arrow_text : Arrow → List ℕ
+arrow_text a = arrow_by a.way a
+
+-- What stands between an end and the wire: 34 characters.
+abbrev pub field_text : Field → List ℕ
+field_text fields.Blank = replicate 34 32
+field_text (fields.Words words) = codes " " ++ words.now ++ replicate (34 - length words.now - 1) 32
+field_text (fields.Arrow arrow) = arrow_text arrow
+
+-- A text, and a number, with spaces behind them up to so many characters; a number with spaces before it.
+abbrev pub text_in : ℕ → List ℕ → List ℕ
+text_in width text = padded (format_spec 32 1 0 width (2 ^ 64 - 1)) text
+
+abbrev pub number_in : ℕ → ℕ → List ℕ
+number_in width n = padded_integral (format_spec 32 1 0 width (2 ^ 64 - 1)) false [] (decimal n)
+
+abbrev pub number_behind : ℕ → ℕ → List ℕ
+number_behind width n = padded_integral (format_spec 32 3 0 width (2 ^ 64 - 1)) false [] (decimal n)
+
+-- What stands beside the client: 15 characters.
+abbrev pub client_text : List ℕ → Option ℕ → List ℕ
+client_text words (Some number) = text_in 9 words ++ number_in 6 number ++ codes "|"
+client_text words None = text_in 15 words ++ codes "|"
+
+-- The position on the wire: 6 characters.
+abbrev pub position_text : Option ℕ → List ℕ
+position_text (Some position) = number_behind 4 position ++ codes "  "
+position_text None = codes "      "
+
+-- What stands beside the adapter.
+abbrev pub adapter_text : List ℕ → Option ℕ → List ℕ
+adapter_text [] number = []
+adapter_text (first ∷ more) (Some number) = codes "  " ++ (first ∷ more) ++ codes " " ++ decimal number
+adapter_text (first ∷ more) None = codes "  " ++ (first ∷ more)
+
+-- A line of the ladder.
+abbrev pub rung_text : Rung → List ℕ
+rung_text r =
+    client_text r.client.words.now r.client.number ++ field_text r.near ++ position_text r.position
+    ++ field_text r.far ++ codes "|" ++ adapter_text r.adapter.words.now r.adapter.number

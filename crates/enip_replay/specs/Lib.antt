@@ -1,0 +1,4 @@
+pub mod Script
+pub mod Outcome
+pub mod Replay
+pub mod Ladder

@@ -1,0 +1,501 @@
+//! `enip replay --ladder`: the same run as a picture, with the client, the wire and the adapter as three columns.
+//!
+//! Each rung is one event. A frame has its count and its request or reply, and its position in its direction:
+//!
+//! ```text
+//! submit 0  |--- 1: 32022064240105000000 -->  0                                 |
+//!           |                                 0  --- 1: 32022064240105000000 -->|  executes 0
+//!           |                                 0  x-- 1: b200000005000000 -------|
+//! ```
+
+ghost use Rattle.std.specs.Prelude.{IfErr};
+ghost use Rattle.enip_bench.specs.Reached.{IsNewAdapter};
+ghost use Rattle.enip_replay.specs.Replay.{IsStopOf};
+ghost use Rattle.enip_replay.specs.Script.{IsRefusedLine};
+ghost use Rattle.enip_commands.specs.Statuses.{EndsBy, IsOfDevices};
+
+use crate::outcome::{Outcome, Standing};
+use crate::replaying::{ReplayStop, bench_of, print_objects};
+use crate::rungs::{Arrow, Field, Note, Rung, Way};
+use crate::script::{event_of, is_skipped, line_fault};
+use byteorder::{ByteOrder, LittleEndian};
+use cip_bytes::protocol::SEQUENCE_COUNT_SIZE;
+use enip_adapter::Adapter;
+use enip_bench::{Bench, Event, Frames, Step};
+use enip_commands::{Fault, TakeLines, WANTS, read_lines};
+use enip_wire::{Header, unit_body};
+use std::alloc::Global;
+use std::io::{BufWriter, Write};
+
+/// What is said at the end. That it is so for every script is what `Bench::seen` promises.
+const SAME: &str = "both worlds show the same: what a world without counts or kept replies shows";
+
+/// The names of the columns.
+const HEAD: &str =
+    "            client                                 wire                               adapter";
+
+/// What is said where the adapter executes nothing, since the count is that of the reply that it keeps.
+const KEPT: &str = "kept reply of";
+
+/// How many counts there are. (Volume 1, transport class 3.)
+const COUNTS: usize = 65_536;
+
+/// Moves a client and an adapter by the lines of a script, and draws on `output` what became of each, and at the end
+/// prints where both stand. What was drawn before a line is refused is written.
+///
+/// # Errors
+///
+/// As `replay`.
+pub fn draw_replay<W: Write + Drop>(
+    alloc: Global,
+    adapter: Adapter,
+    script: &[u8],
+    output: W,
+) -> Result<(), ReplayStop>
+    requires { IsNewAdapter adapter }
+    ensures { IfErr result (IsStopOf adapter) }
+{
+    let bench = bench_of(alloc, adapter)?;
+    draw_script(alloc, bench, script, output)?;
+    Ok(())
+}
+
+/// Runs the lines of a script at a bench, and draws what became of them.
+fn draw_script<W: Write + Drop>(
+    alloc: Global,
+    bench: Bench,
+    script: &[u8],
+    output: W,
+) -> Result<(), Fault>
+    ensures { IfErr result (EndsBy (λ _ text. IsRefusedLine text)) }
+{
+    let mut output = BufWriter::new(alloc, output)?;
+    let mut climber = Climber {
+        alloc,
+        bench,
+        ladder: Ladder::new(alloc),
+        digits: Vec::new(alloc),
+    };
+    climb(alloc, script, &mut climber, &mut output)
+}
+
+/// Runs the lines of a script, and draws what became of them.
+fn climb<W: Write>(
+    alloc: Global,
+    script: &[u8],
+    climber: &mut Climber,
+    output: &mut W,
+) -> Result<(), Fault>
+    ensures { IfErr result (EndsBy (λ _ text. IsRefusedLine text)) }
+{
+    let ran = read_lines(alloc, script, climber);
+    climber.draw(output)?;
+    if ran.is_ok() {
+        climber.end(output)?;
+    }
+    output.flush()?;
+    ran
+}
+
+/// What happened, as it is drawn.
+#[derive(Drop)]
+enum Happened {
+    /// The request of a number was submitted or sent again, at a position.
+    Sent {
+        words: &'static str,
+        number: usize,
+        position: usize,
+    },
+    /// The frame sent at a position reached the adapter, which answered at a position, or did not.
+    Reached {
+        position: usize,
+        back: Option<usize>,
+    },
+    /// The frame sent back at a position reached the client, which accepted it or not.
+    Heard {
+        position: usize,
+        accepted: bool,
+    },
+    /// Something that moves no frame, at the client or at the adapter.
+    Aside {
+        words: String,
+        way: Way,
+    },
+}
+
+/// All that happened, and what lies in the frames that were sent.
+#[derive(Drop)]
+struct Ladder {
+    /// The requests, by number.
+    requests: Vec<Vec<u8>>,
+    /// The number of the request of each frame that was sent, by position, and whether it reached the adapter.
+    sent: Vec<(usize, bool)>,
+    /// Whether each frame that was sent back reached the client, by position.
+    heard: Vec<bool>,
+    happened: Vec<Happened>,
+}
+
+impl Ladder {
+    /// One of nothing.
+    fn new(alloc: Global) -> Ladder {
+        Ladder {
+            requests: Vec::new(alloc),
+            sent: Vec::new(alloc),
+            heard: Vec::new(alloc),
+            happened: Vec::new(alloc),
+        }
+    }
+
+    /// Puts what happened behind the rest.
+    fn put(&mut self, event: Event, happened: Happened) -> Result<(), Fault>
+        ensures { IfErr result IsOfDevices }
+    {
+        self.mark(&happened)?;
+        if let Happened::Sent { .. } = &happened {
+            self.keep(event)?;
+        }
+        self.happened.push(happened)?;
+        Ok(())
+    }
+
+    /// Marks the frames that were sent or have arrived.
+    fn mark(&mut self, happened: &Happened) -> Result<(), Fault>
+        ensures { IfErr result IsOfDevices }
+    {
+        match happened {
+            Happened::Sent { number, .. } => self.sent.push((*number, false))?,
+            Happened::Reached { position, back } => {
+                if let Some(sent) = self.sent.get_mut(*position) {
+                    sent.1 = true;
+                }
+                if back.is_some() {
+                    self.heard.push(false)?;
+                }
+            }
+            Happened::Heard { position, .. } => {
+                if let Some(heard) = self.heard.get_mut(*position) {
+                    *heard = true;
+                }
+            }
+            Happened::Aside { .. } => {}
+        }
+        Ok(())
+    }
+
+    /// Keeps the request that was submitted, if one was.
+    fn keep(&mut self, event: Event) -> Result<(), Fault>
+        ensures { IfErr result IsOfDevices }
+    {
+        if let Event::Submit(request) = event {
+            self.requests.push(request)?;
+        }
+        Ok(())
+    }
+
+    /// The number of the request that was submitted last.
+    fn last_number(&self) -> usize {
+        self.requests.len().saturating_sub(1)
+    }
+
+    /// The number of the request that was sent at a position.
+    fn number_at(&self, position: usize) -> usize {
+        self.sent.get(position).map_or(0, |sent| sent.0)
+    }
+
+    /// The arrow of the request that was sent at a position.
+    fn request_at(&self, position: usize, arrives: bool) -> Field<'_> {
+        let number = self.number_at(position);
+        Field::Arrow(Arrow {
+            way: Way::There,
+            arrives,
+            // counts go from the first on, and begin anew at 65,536 (transport class 3)
+            count: WANTS.first_count.wrapping_add((number % COUNTS) as u16),
+            message: self
+                .requests
+                .get(number)
+                .map_or(&[], |request| request.as_slice()),
+        })
+    }
+}
+
+/// The item in a frame that was sent back: its count and its reply.
+fn item_of(frame: &[u8]) -> (u16, &[u8]) {
+    if frame.len() < Header::SIZE {
+        return (0, &[]);
+    }
+    match unit_body(&frame[Header::SIZE..]) {
+        Ok((_, item)) if item.len() >= SEQUENCE_COUNT_SIZE => {
+            (LittleEndian::read_u16(item), &item[SEQUENCE_COUNT_SIZE..])
+        }
+        _ => (0, &[]),
+    }
+}
+
+/// What was drawn so far.
+#[derive(Clone, Copy)]
+struct Drawn {
+    /// The number of the request that was sent last.
+    submitted: usize,
+    /// The number of the request whose reply the adapter keeps.
+    kept: Option<usize>,
+}
+
+impl Drawn {
+    /// What the adapter does with the request of a number: the count of the one whose reply it keeps is known to it.
+    fn executed(&mut self, number: usize) -> &'static str {
+        if self.kept == Some(number) {
+            return KEPT;
+        }
+        self.kept = Some(number);
+        "executes"
+    }
+}
+
+/// The lines of a ladder.
+impl Ladder {
+    /// Draws all that happened. `back` are the frames that were sent back.
+    fn draw<'a, W: Write>(&'a self, back: &'a Frames, output: &mut W) -> Result<(), Fault>
+        ensures { IfErr result IsOfDevices }
+    {
+        writeln!(output, "{HEAD}")?;
+        let mut drawn = Drawn {
+            submitted: 0,
+            kept: None,
+        };
+        for happened in &self.happened {
+            self.draw_one(happened, back, &mut drawn, output)?;
+        }
+        Ok(())
+    }
+
+    /// Draws one thing that happened.
+    fn draw_one<'a, W: Write>(
+        &'a self,
+        happened: &'a Happened,
+        back: &'a Frames,
+        drawn: &mut Drawn,
+        output: &mut W,
+    ) -> Result<(), Fault>
+        ensures { IfErr result IsOfDevices }
+    {
+        match happened {
+            Happened::Sent {
+                words,
+                number,
+                position,
+            } => {
+                drawn.submitted = *number;
+                draw_rung(self.sent(words, *number, *position), output)
+            }
+            Happened::Reached {
+                position,
+                back: None,
+            } => draw_rung(self.reached(*position, "no connection", None), output),
+            Happened::Reached {
+                position,
+                back: Some(answer),
+            } => {
+                let number = self.number_at(*position);
+                let words = drawn.executed(number);
+                draw_rung(self.reached(*position, words, Some(number)), output)?;
+                draw_rung(self.answered(back, *answer), output)
+            }
+            Happened::Heard { position, accepted } => {
+                let number = accepted.then_some(drawn.submitted);
+                draw_rung(heard(back, *position, number), output)
+            }
+            Happened::Aside { words, way } => draw_rung(aside(words, *way), output),
+        }
+    }
+
+    /// The client sends a request.
+    fn sent(&self, words: &'static str, number: usize, position: usize) -> Rung<'_> {
+        let arrives = self.sent.get(position).is_some_and(|sent| sent.1);
+        Rung {
+            client: Note {
+                words,
+                number: Some(number),
+            },
+            near: self.request_at(position, arrives),
+            position: Some(position),
+            far: Field::Blank,
+            adapter: Note::BLANK,
+        }
+    }
+
+    /// A request reaches the adapter.
+    fn reached(&self, position: usize, words: &'static str, number: Option<usize>) -> Rung<'_> {
+        Rung {
+            client: Note::BLANK,
+            near: Field::Blank,
+            position: Some(position),
+            far: self.request_at(position, true),
+            adapter: Note { words, number },
+        }
+    }
+
+    /// The adapter sends a reply back.
+    fn answered<'a>(&'a self, back: &'a Frames, position: usize) -> Rung<'a> {
+        let arrives = self.heard.get(position).is_some_and(|heard| *heard);
+        Rung {
+            client: Note::BLANK,
+            near: Field::Blank,
+            position: Some(position),
+            far: reply_at(back, position, arrives),
+            adapter: Note::BLANK,
+        }
+    }
+}
+
+/// Draws a rung.
+fn draw_rung<W: Write>(rung: Rung<'_>, output: &mut W) -> Result<(), Fault>
+    ensures { IfErr result IsOfDevices }
+{
+    writeln!(output, "{rung}")?;
+    Ok(())
+}
+
+/// The arrow of the reply that was sent back at a position.
+fn reply_at(back: &Frames, position: usize, arrives: bool) -> Field<'_> {
+    let (count, message) = item_of(back.get(position).unwrap_or(&[]));
+    Field::Arrow(Arrow {
+        way: Way::Back,
+        arrives,
+        count,
+        message,
+    })
+}
+
+/// A reply reaches the client, which accepts it as that of a request, or ignores it.
+fn heard(back: &Frames, position: usize, number: Option<usize>) -> Rung<'_> {
+    let words = if number.is_some() {
+        "accepts"
+    } else {
+        "ignores"
+    };
+    Rung {
+        client: Note { words, number },
+        near: reply_at(back, position, true),
+        position: Some(position),
+        far: Field::Blank,
+        adapter: Note::BLANK,
+    }
+}
+
+/// Something moves no frame, at the end from which this way leads.
+fn aside(words: &str, way: Way) -> Rung<'_> {
+    let (near, far) = match way {
+        Way::There => (Field::Words(words), Field::Blank),
+        Way::Back => (Field::Blank, Field::Words(words)),
+    };
+    Rung {
+        client: Note::BLANK,
+        near,
+        position: None,
+        far,
+        adapter: Note::BLANK,
+    }
+}
+
+/// Both ends, and what happened to them.
+#[derive(Drop)]
+struct Climber {
+    alloc: Global,
+    bench: Bench,
+    ladder: Ladder,
+    digits: Vec<u8>,
+}
+
+impl Climber {
+    /// Does an event, and keeps what became of it.
+    fn run_event(&mut self, event: Event) -> Result<(), Fault>
+        ensures { IfErr result IsOfDevices }
+    {
+        let last = self.ladder.last_number();
+        let happened = what_happened(self.alloc, &event, self.bench.step(&event)?, last)?;
+        self.ladder.put(event, happened)
+    }
+
+    /// Draws what happened.
+    fn draw<W: Write>(&self, output: &mut W) -> Result<(), Fault>
+        ensures { IfErr result IsOfDevices }
+    {
+        self.ladder.draw(self.bench.seen().back, output)
+    }
+
+    /// Prints where both ends stand.
+    fn end<W: Write>(&self, output: &mut W) -> Result<(), Fault>
+        ensures { IfErr result IsOfDevices }
+    {
+        let seen = self.bench.seen();
+        print_objects(output, seen.objects)?;
+        writeln!(output, "{}", Standing(seen.stage))?;
+        writeln!(output, "{SAME}")?;
+        Ok(())
+    }
+}
+
+/// What is kept of an event and of what became of it. `last` is the number of the request that was submitted last.
+fn what_happened(
+    alloc: Global,
+    event: &Event,
+    step: Step<'_>,
+    last: usize,
+) -> Result<Happened, Fault>
+    ensures { IfErr result IsOfDevices }
+{
+    Ok(match (event, step) {
+        (_, Step::Sent(number, position)) => Happened::Sent {
+            words: "submit",
+            number: number as usize,
+            position,
+        },
+        (_, Step::Resent(Some(position))) => Happened::Sent {
+            words: "resend",
+            number: last,
+            position,
+        },
+        (Event::Reach(position), Step::Reached(back)) => Happened::Reached {
+            position: *position,
+            back,
+        },
+        (Event::Back(position), Step::Accepted(_)) => Happened::Heard {
+            position: *position,
+            accepted: true,
+        },
+        (Event::Back(position), Step::Ignored) => Happened::Heard {
+            position: *position,
+            accepted: false,
+        },
+        _ => Happened::Aside {
+            words: format!(in alloc; "{}", Outcome { event, step })?,
+            way: end_of(event),
+        },
+    })
+}
+
+/// The way that leads from the end at which an event happens.
+fn end_of(event: &Event) -> Way {
+    match event {
+        Event::Reach(_) | Event::Other(_) | Event::Shut => Way::Back,
+        _ => Way::There,
+    }
+}
+
+impl TakeLines for Climber {
+    ghost refuses = { λ _ text. IsRefusedLine text };
+
+    fn take_line(&mut self, text: &[u8], number: u64) -> Result<(), Fault> {
+        if is_skipped(text) {
+            return Ok(());
+        }
+        let Some(event) = event_of(self.alloc, text, &mut self.digits)? else {
+            return Err(Fault::Line(number, line_fault(text)));
+        };
+        self.run_event(event)
+    }
+
+    fn send(&mut self) -> Result<(), Fault> {
+        Ok(())
+    }
+}

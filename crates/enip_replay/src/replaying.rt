@@ -1,0 +1,249 @@
+//! `enip replay`: a client and an adapter side by side, moved by the lines of a script.
+
+ghost use Rattle.std.specs.Prelude.{◌≡◌, true, false, IfOk, IfErr, OnOk, OnErr};
+ghost use Rattle.std.specs.Io.Buffered.{writer_contents};
+ghost use Rattle.std.specs.Io.KnownBytes.{Appends, Keeps};
+ghost use Rattle.enip_bench.specs.Reached.{IsNewAdapter};
+ghost use Rattle.enip_bench.specs.Stored.{event_in};
+ghost use Rattle.enip_replay.specs.Replay.{IsOpeningOf, IsStopOf, IsDone, IsRun, ending};
+ghost use Rattle.enip_replay.specs.Replay.{objects_printed, assembly_printed, assemblies_printed};
+ghost use Rattle.enip_replay.specs.Script.{IsRefusedLine};
+ghost use Rattle.enip_commands.specs.Statuses.{EndsBy, IsOfDevices, replay_stop_status};
+
+use crate::outcome::{AssemblyData, Counter, Outcome, Standing};
+use crate::script::{event_of, is_skipped, line_fault};
+use cip_bytes::protocol::ASSEMBLY;
+use cip_objects::{Objects, ReplyBuf};
+use enip_adapter::Adapter;
+use enip_bench::{Bench, BenchFault, Event};
+use enip_client::Client;
+use enip_commands::{Fault, TakeLines, WANTS, read_lines};
+use std::alloc::Global;
+use std::io::{self, BufWriter, Write};
+use thiserror::Error;
+
+/// The attribute of an assembly that is its data. (Volume 1, Assembly.)
+const DATA: u16 = 3;
+
+/// The greatest instance that an assembly can have. (Volume 1, Assembly.)
+const LAST_INSTANCE: u32 = 65_535;
+
+/// Moves a client and an adapter by the lines of a script, and prints on `output` what became of each, and at the end
+/// where both stand.
+///
+/// Before a line is refused what the lines before it told is written.
+///
+/// # Errors
+///
+/// `Setup` where the client could not open its connection, or the second session could not begin. `Program` with
+/// `Line` and the number of the first line, from 1, that is refused; with `Device` where the output could not be
+/// written; with `Memory` where memory is refused.
+pub fn replay<W: Write + Drop>(
+    alloc: Global,
+    adapter: Adapter,
+    script: &[u8],
+    output: W,
+) -> Result<(), ReplayStop>
+    requires { IsNewAdapter adapter }
+    ensures { IfErr result (IsStopOf adapter) }
+{
+    let bench = bench_of(alloc, adapter)?;
+    play(alloc, bench, script, output)?;
+    Ok(())
+}
+
+/// Runs the lines of a script at a bench, and prints where both ends stand.
+fn play<W: Write + Drop>(alloc: Global, bench: Bench, script: &[u8], output: W) -> Result<(), Fault>
+    ensures { IfErr result (EndsBy (λ _ text. IsRefusedLine text)) }
+{
+    let output = BufWriter::new(alloc, output)?;
+    let mut player = Player {
+        alloc,
+        bench,
+        output,
+        digits: Vec::new(alloc),
+    };
+    let ran = read_lines(alloc, script, &mut player);
+    player.end(ran)
+}
+
+/// Why a replay ends early. Its text goes to standard error.
+#[derive(Clone, Copy, Debug, PartialEq, Eq, Error)]
+pub enum ReplayStop {
+    /// The client could not open its connection, or the second session could not begin.
+    #[error("setup")]
+    Setup,
+    /// The program itself failed.
+    #[error("{0}")]
+    Program(Fault),
+}
+
+impl ReplayStop {
+    /// The exit status of the program.
+    pub fn exit_status(self) -> u8
+        ensures { result ≡ replay_stop_status self }
+    {
+        match self {
+            ReplayStop::Setup => 6,
+            ReplayStop::Program(fault) => fault.exit_status(),
+        }
+    }
+}
+
+impl From<Fault> for ReplayStop {
+    ghost use Rattle.enip_replay.specs.declared.replaying.ReplayStop.TheVariants.{Program};
+
+    ghost from_gives = { λ fault stop. stop ≡ Program fault };
+
+    fn from(fault: Fault) -> ReplayStop {
+        ReplayStop::Program(fault)
+    }
+}
+
+impl From<io::Error> for ReplayStop {
+    ghost use Rattle.enip_replay.specs.Replay.{IsStopOfDevices};
+
+    ghost from_gives = { λ _ stop. IsStopOfDevices stop };
+
+    fn from(error: io::Error) -> ReplayStop {
+        ReplayStop::Program(Fault::from(error))
+    }
+}
+
+impl From<BenchFault> for ReplayStop {
+    ghost use Rattle.enip_replay.specs.Replay.{stop_of};
+
+    ghost from_gives = { λ fault stop. stop ≡ stop_of fault };
+
+    fn from(fault: BenchFault) -> ReplayStop {
+        match fault {
+            BenchFault::Memory => ReplayStop::Program(Fault::Memory),
+            BenchFault::Setup => ReplayStop::Setup,
+        }
+    }
+}
+
+/// An adapter and a client with its connection open.
+pub(crate) fn bench_of(alloc: Global, adapter: Adapter) -> Result<Bench, ReplayStop>
+    requires { IsNewAdapter adapter }
+    ensures made { IfOk result (IsOpeningOf adapter) }
+    ensures refused { IfErr result (IsStopOf adapter) }
+{
+    let Ok(client) = Client::new(alloc, &WANTS) else {
+        return Err(ReplayStop::Program(Fault::Memory));
+    };
+    Ok(Bench::new(alloc, adapter, client)?)
+}
+
+/// Both ends, and where what became of each event goes.
+#[derive(Drop)]
+struct Player<W: Write + Drop> {
+    alloc: Global,
+    bench: Bench,
+    output: BufWriter<W>,
+    digits: Vec<u8>,
+}
+
+impl<W: Write + Drop> Player<W> {
+    /// Runs a line, and says whether it is one that can be run.
+    fn run_line(&mut self, text: &[u8]) -> Result<bool, Fault>
+        ensures run { IfOk result (λ runs. runs ≡ true → IsRun text.now self.old.bench self.new.bench
+            (writer_contents W.contents self.old.output) (writer_contents W.contents self.new.output)) }
+        ensures line { IfOk result (λ runs. runs ≡ false → IsRefusedLine text.now) }
+        ensures refused { IfErr result IsOfDevices }
+    {
+        if is_skipped(text) {
+            return Ok(true);
+        }
+        let Some(event) = event_of(self.alloc, text, &mut self.digits)? else {
+            return Ok(false);
+        };
+        self.run_event(&event)?;
+        Ok(true)
+    }
+
+    /// Does an event, and tells what became of it.
+    fn run_event(&mut self, event: &Event) -> Result<(), Fault>
+        ensures done { OnOk result (IsDone (event_in event.now) self.old.bench self.new.bench
+            (writer_contents W.contents self.old.output) (writer_contents W.contents self.new.output)) }
+        ensures refused { IfErr result IsOfDevices }
+    {
+        let step = self.bench.step(event)?;
+        writeln!(self.output, "{}", Outcome { event, step })?;
+        Ok(())
+    }
+
+    /// Prints where both ends stand, where all lines were run.
+    fn end(&mut self, ran: Result<(), Fault>) -> Result<(), Fault>
+        ensures printed { OnOk ran (OnOk result (Appends (writer_contents W.contents self.old.output)
+            (writer_contents W.contents self.new.output) (ending self.old.bench))) }
+        ensures refused { OnOk ran (IfErr result IsOfDevices) }
+        ensures silent { IfErr ran (λ fault. (result ≡ Err fault) × (self.new ≡ self.old)) }
+    {
+        ran?;
+        let seen = self.bench.seen();
+        print_objects(&mut self.output, seen.objects)?;
+        writeln!(self.output, "{}", Standing(seen.stage))?;
+        self.output.flush()?;
+        Ok(())
+    }
+}
+
+impl<W: Write + Drop> TakeLines for Player<W> {
+    ghost refuses = { λ _ text. IsRefusedLine text };
+
+    fn take_line(&mut self, text: &[u8], number: u64) -> Result<(), Fault> {
+        if self.run_line(text)? {
+            Ok(())
+        } else {
+            Err(Fault::Line(number, line_fault(text)))
+        }
+    }
+
+    fn send(&mut self) -> Result<(), Fault> {
+        self.output.flush()?;
+        Ok(())
+    }
+}
+
+/// Prints the counter, and the data of each assembly, by rising instance.
+pub(crate) fn print_objects<W: Write>(output: &mut W, objects: &Objects) -> Result<(), Fault>
+    ensures printed { OnOk result (Appends (W.contents output.old) (W.contents output.new)
+        (objects_printed objects.now)) }
+    ensures refused { IfErr result IsOfDevices }
+{
+    writeln!(output, "{}", Counter::of(objects))?;
+    print_assemblies(output, objects)
+}
+
+/// Prints the data of each assembly, by rising instance.
+fn print_assemblies<W: Write>(output: &mut W, objects: &Objects) -> Result<(), Fault>
+    ensures printed { OnOk result (Appends (W.contents output.old) (W.contents output.new)
+        (assemblies_printed objects.now LAST_INSTANCE)) }
+    ensures refused { IfErr result IsOfDevices }
+{
+    let mut data = ReplyBuf::new();
+    for instance in 1..LAST_INSTANCE + 1 {
+        print_assembly(output, objects, instance, &mut data)?;
+    }
+    Ok(())
+}
+
+/// Prints the data of the assembly of an instance, if there is one; they are read into `data`.
+fn print_assembly<W: Write>(
+    output: &mut W,
+    objects: &Objects,
+    instance: u32,
+    data: &mut ReplyBuf,
+) -> Result<(), Fault>
+    ensures printed { OnOk result (Appends (W.contents output.old) (W.contents output.new)
+        (assembly_printed objects.now instance)) }
+    ensures refused { IfErr result IsOfDevices }
+{
+    if !objects.read_attribute(ASSEMBLY, instance, DATA, data) {
+        return Ok(());
+    }
+    let data = data.as_slice();
+    writeln!(output, "{}", AssemblyData { instance, data })?;
+    Ok(())
+}

@@ -1,0 +1,244 @@
+//! The rungs of a ladder: a line of text for what happened, with the client, the wire and the adapter as columns.
+
+ghost use Rattle.std.specs.Prelude.{◌≡◌, ◌≤◌, ◌*◌, min, length, replicate, Some};
+ghost use Rattle.std.specs.Fmt.{WritesOnOk};
+ghost use Rattle.enip_replay.specs.Ladder.{digits_of};
+
+use enip_commands::Digits;
+use std::fmt;
+
+/// How many characters an arrow has between an end and the wire.
+const WIDTH: usize = 34;
+
+/// How many bytes of a request or a reply are shown whole.
+const SHOWN: usize = 10;
+
+/// What lies between an end and the wire.
+#[derive(Clone, Copy)]
+pub(crate) enum Field<'a> {
+    /// Nothing.
+    Blank,
+    /// What became of an event that sends and delivers nothing.
+    Words(&'a str),
+    /// An item, with its count and its request or reply.
+    Arrow(Arrow<'a>),
+}
+
+/// Where an arrow points.
+#[derive(Clone, Copy)]
+pub(crate) enum Way {
+    /// From the client to the adapter.
+    There,
+    /// From the adapter to the client.
+    Back,
+}
+
+/// An item that is under way.
+#[derive(Clone, Copy)]
+pub(crate) struct Arrow<'a> {
+    pub(crate) way: Way,
+    /// Whether it arrives where the arrow points; a cross stands there if not.
+    pub(crate) arrives: bool,
+    pub(crate) count: u16,
+    /// The request or the reply.
+    pub(crate) message: &'a [u8],
+}
+
+impl fmt::Display for Field<'_> {
+    ghost use Rattle.enip_replay.specs.Ladder.{field_text};
+
+    ghost output = { λ field. Some (field_text field) };
+
+    fn fmt<W: fmt::Write>(&self, f: &mut fmt::Formatter<W>) -> fmt::Result {
+        match self {
+            Field::Blank => write_spaces(f, WIDTH),
+            Field::Words(words) => {
+                write!(f, " {words}")?;
+                write_spaces(f, WIDTH.saturating_sub(words.len()).saturating_sub(1))
+            }
+            Field::Arrow(arrow) => write!(f, "{arrow}"),
+        }
+    }
+}
+
+impl fmt::Display for Arrow<'_> {
+    ghost use Rattle.enip_replay.specs.Ladder.{arrow_text};
+
+    ghost output = { λ arrow. Some (arrow_text arrow) };
+
+    fn fmt<W: fmt::Write>(&self, f: &mut fmt::Formatter<W>) -> fmt::Result {
+        let (count, message) = (self.count, Message(self.message));
+        let room = WIDTH.saturating_sub(2 + digits_of(count) + message.width());
+        match self.way {
+            Way::There => {
+                write!(f, "--- {count}: {message} ")?;
+                write_dashes(f, room.saturating_sub(6))?;
+                f.write_str(if self.arrives { ">" } else { "x" })
+            }
+            Way::Back => {
+                f.write_str(if self.arrives { "<" } else { "x" })?;
+                write!(f, "-- {count}: {message} ")?;
+                write_dashes(f, room.saturating_sub(5))
+            }
+        }
+    }
+}
+
+/// A request or a reply as hexadecimal digits, the end of a long one left out.
+#[derive(Clone, Copy)]
+struct Message<'a>(&'a [u8]);
+
+impl Message<'_> {
+    /// How many characters it has.
+    fn width(self) -> usize
+        ensures width { result ≡ 2 * min (length self.entry.0.now) SHOWN }
+        ensures few { result ≤ 2 * SHOWN }
+    {
+        2 * self.0.len().min(SHOWN)
+    }
+}
+
+impl fmt::Display for Message<'_> {
+    ghost use Rattle.enip_replay.specs.Ladder.{message_text};
+
+    ghost output = { λ m. Some (message_text m.0.now) };
+
+    fn fmt<W: fmt::Write>(&self, f: &mut fmt::Formatter<W>) -> fmt::Result {
+        if self.0.len() <= SHOWN {
+            return write!(f, "{}", Digits(self.0));
+        }
+        write!(f, "{}..", Digits(&self.0[..SHOWN - 1]))
+    }
+}
+
+/// How many decimal digits a count has.
+fn digits_of(count: u16) -> usize
+    ensures digits { result ≡ digits_of count }
+    ensures few { result ≤ 5 }
+{
+    match count {
+        0..=9 => 1,
+        10..=99 => 2,
+        100..=999 => 3,
+        1_000..=9_999 => 4,
+        _ => 5,
+    }
+}
+
+/// Writes so many spaces.
+fn write_spaces<W: fmt::Write>(f: &mut fmt::Formatter<W>, count: usize) -> fmt::Result
+    ensures { WritesOnOk W.write_str_gives f.old result (replicate count 32) f.new }
+{
+    for _space in 0..count {
+        write!(f, " ")?;
+    }
+    Ok(())
+}
+
+/// Writes so many dashes.
+fn write_dashes<W: fmt::Write>(f: &mut fmt::Formatter<W>, count: usize) -> fmt::Result
+    ensures { WritesOnOk W.write_str_gives f.old result (replicate count 45) f.new }
+{
+    for _dash in 0..count {
+        write!(f, "-")?;
+    }
+    Ok(())
+}
+
+/// What stands beside an end, with the number of a request where it is about one.
+#[derive(Clone, Copy)]
+pub(crate) struct Note<'a> {
+    pub(crate) words: &'a str,
+    pub(crate) number: Option<usize>,
+}
+
+impl Note<'_> {
+    /// Nothing.
+    pub(crate) const BLANK: Note<'static> = Note {
+        words: "",
+        number: None,
+    };
+}
+
+/// A line of the ladder.
+#[derive(Clone, Copy)]
+pub(crate) struct Rung<'a> {
+    /// Beside the client: what was asked of it, or what it accepted.
+    pub(crate) client: Note<'a>,
+    /// Between the client and the wire.
+    pub(crate) near: Field<'a>,
+    /// The position on the wire, in the direction of the arrow.
+    pub(crate) position: Option<usize>,
+    /// Between the wire and the adapter.
+    pub(crate) far: Field<'a>,
+    /// Beside the adapter: what was executed.
+    pub(crate) adapter: Note<'a>,
+}
+
+impl fmt::Display for Rung<'_> {
+    ghost use Rattle.enip_replay.specs.Ladder.{rung_text};
+
+    ghost output = { λ rung. Some (rung_text rung) };
+
+    fn fmt<W: fmt::Write>(&self, f: &mut fmt::Formatter<W>) -> fmt::Result {
+        let (client, position) = (AtClient(self.client), OnWire(self.position));
+        let (near, far, adapter) = (self.near, self.far, AtAdapter(self.adapter));
+        write!(f, "{client}{near}{position}{far}|{adapter}")
+    }
+}
+
+/// What stands beside the client.
+#[derive(Clone, Copy)]
+struct AtClient<'a>(Note<'a>);
+
+impl fmt::Display for AtClient<'_> {
+    ghost use Rattle.enip_replay.specs.Ladder.{client_text};
+
+    ghost output = { λ c. Some (client_text c.0.words.now c.0.number) };
+
+    fn fmt<W: fmt::Write>(&self, f: &mut fmt::Formatter<W>) -> fmt::Result {
+        let words = self.0.words;
+        match self.0.number {
+            Some(number) => write!(f, "{words:<9}{number:<6}|"),
+            None => write!(f, "{words:<15}|"),
+        }
+    }
+}
+
+/// The position of a frame, if there is one.
+#[derive(Clone, Copy)]
+struct OnWire(Option<usize>);
+
+impl fmt::Display for OnWire {
+    ghost use Rattle.enip_replay.specs.Ladder.{position_text};
+
+    ghost output = { λ w. Some (position_text w.0) };
+
+    fn fmt<W: fmt::Write>(&self, f: &mut fmt::Formatter<W>) -> fmt::Result {
+        match self.0 {
+            Some(position) => write!(f, "{position:>4}  "),
+            None => f.write_str("      "),
+        }
+    }
+}
+
+/// What stands beside the adapter.
+#[derive(Clone, Copy)]
+struct AtAdapter<'a>(Note<'a>);
+
+impl fmt::Display for AtAdapter<'_> {
+    ghost use Rattle.enip_replay.specs.Ladder.{adapter_text};
+
+    ghost output = { λ a. Some (adapter_text a.0.words.now a.0.number) };
+
+    fn fmt<W: fmt::Write>(&self, f: &mut fmt::Formatter<W>) -> fmt::Result {
+        let words = self.0.words;
+        if words.is_empty() {
+            return Ok(());
+        }
+        match self.0.number {
+            Some(number) => write!(f, "  {words} {number}"),
+            None => write!(f, "  {words}"),
+        }
+    }
+}

@@ -1,0 +1,102 @@
+//! The lines that `enip replay` reads.
+
+ghost use Rattle.std.specs.Prelude.{◌≡◌, ◌<◌, ◌^◌, ◌++◌, None, IfSome, IfOk, IfErr, MatchOption, option_map};
+ghost use Rattle.std.specs.Option.{SomeIff};
+ghost use Rattle.std.specs.Str.Parse.{IsNumeral, digits_value};
+ghost use Rattle.enip_bench.specs.Stored.{event_in};
+ghost use Rattle.enip_commands.specs.Digits.{bytes_spelled};
+ghost use Rattle.enip_replay.specs.Script.{Means, IsMeaningless, IsNoWord, BeginsOtherwise, is_skipped};
+ghost use Rattle.enip_commands.specs.Statuses.{IsOfDevices};
+
+use enip_bench::Event;
+use enip_commands::{Fault, LineFault, decimal, decode};
+use std::alloc::Global;
+
+/// Whether a line is empty or a remark.
+pub(crate) fn is_skipped(text: &[u8]) -> bool
+    ensures { result ≡ is_skipped text.now }
+{
+    matches!(text, [] | [b'#', ..])
+}
+
+/// The event of a line: `submit HEX`, `resend`, `reach K`, `back J`, `other HEX`, `shut` or `giveup`. None where it is
+/// no such line. `digits` is room for digits without their spaces.
+///
+/// # Errors
+///
+/// `Memory` where memory is refused.
+pub(crate) fn event_of(
+    alloc: Global,
+    text: &[u8],
+    digits: &mut Vec<u8>,
+) -> Result<Option<Event>, Fault>
+    ensures meant { IfOk result (λ meant. MatchOption meant (IsMeaningless text.now)
+        (λ event. Means text.now (event_in event))) }
+    ensures refused { IfErr result IsOfDevices }
+{
+    if let Some(request) = behind(b"submit ", text) {
+        return Ok(bytes_of(alloc, request, digits)?.map(Event::Submit));
+    }
+    if let Some(request) = behind(b"other ", text) {
+        return Ok(bytes_of(alloc, request, digits)?.map(Event::Other));
+    }
+    if let Some(position) = behind(b"reach ", text) {
+        return Ok(position_of(position).map(Event::Reach));
+    }
+    if let Some(position) = behind(b"back ", text) {
+        return Ok(position_of(position).map(Event::Back));
+    }
+    Ok(event_of_word(text))
+}
+
+/// The event of a line of one word.
+fn event_of_word(text: &[u8]) -> Option<Event>
+    ensures meant { IfSome result (λ event. Means text.now (event_in event)) }
+    ensures other { result ≡ None → IsNoWord text.now }
+{
+    match text {
+        b"resend" => Some(Event::Resend),
+        b"shut" => Some(Event::Shut),
+        b"giveup" => Some(Event::GiveUp),
+        _ => None,
+    }
+}
+
+/// What stands behind a word.
+fn behind<'a>(word: &[u8], text: &'a [u8]) -> Option<&'a [u8]>
+    ensures { MatchOption result (BeginsOtherwise word.now text.now) (λ rest. text.now ≡ word.now ++ rest.now) }
+{
+    text.strip_prefix(word)
+}
+
+/// The position that decimal digits spell.
+fn position_of(digits: &[u8]) -> Option<usize>
+    ensures { SomeIff result (IsNumeral 10 digits.now × (digits_value 10 digits.now < 2 ^ 64))
+        (digits_value 10 digits.now) }
+{
+    Some(decimal(digits)? as usize)
+}
+
+/// The bytes that hexadecimal digits spell, perhaps none, with spaces or without.
+fn bytes_of(alloc: Global, text: &[u8], digits: &mut Vec<u8>) -> Result<Option<Vec<u8>>, Fault>
+    ensures spelled { IfOk result (λ bytes. option_map (λ b. b.items) bytes ≡ bytes_spelled text.now) }
+    ensures refused { IfErr result IsOfDevices }
+{
+    let mut bytes = Vec::new(alloc);
+    if decode(text, digits, &mut bytes)? {
+        Ok(Some(bytes))
+    } else {
+        Ok(None)
+    }
+}
+
+/// Why a line of a script is refused.
+pub(crate) fn line_fault(text: &[u8]) -> LineFault {
+    match text {
+        [b's', b'u', b'b', b'm', b'i', b't', b' ', ..] => LineFault::Submit,
+        [b'o', b't', b'h', b'e', b'r', b' ', ..] => LineFault::Other,
+        [b'r', b'e', b'a', b'c', b'h', b' ', ..] => LineFault::Reach,
+        [b'b', b'a', b'c', b'k', b' ', ..] => LineFault::Back,
+        _ => LineFault::Script,
+    }
+}

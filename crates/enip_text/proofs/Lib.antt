@@ -1,7 +1,0 @@
-pub mod StatusLemmas
-pub mod DigitLemmas
-pub mod LineLemmas
-pub mod OutcomeLemmas
-pub mod PathLemmas
-pub mod ReplayLemmas
-pub mod ListingLemmas

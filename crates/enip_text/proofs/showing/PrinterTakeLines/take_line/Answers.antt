@@ -1,5 +1,0 @@
-use Rattle.enip_text.proofs.StatusLemmas.{devices_at}
-use Rattle.enip_text.proofs.showing.PrinterTakeLines.take_line.Goals as goal
-
-pub returns : goal.returns
-returns g c = devices_at ⊥ c.args._number c.print_line.result c.print_line.ensures

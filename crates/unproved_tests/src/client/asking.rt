@@ -1,0 +1,252 @@
+//! Exchanges over devices that fail, in writes of one byte, and with requests that no command makes.
+
+ghost use Rattle.std.specs.Prelude.{None};
+
+use cip_class3::Refused;
+use cip_objects::ReplyBuf;
+use enip_client::{AskFault, Client, ClientFault, ask};
+use enip_wire::{Failed, MemorySink, MemorySource, Sink, Source};
+use std::alloc::Global;
+use std::process::Abort;
+use std::test::Fail;
+use test_fixtures::client::{
+    ADD, ADD_SENT, ADDED, CLOSE, CLOSED, GET, GET_SENT, GOT, IS_5, OPEN, OPENED, REGISTER,
+    REGISTERED, Stand, UNREGISTER, VENDOR, joined, made, standing,
+};
+
+/// A reader at its end, with the reads that it has counted.
+#[derive(Drop)]
+struct Counted {
+    reads: u64,
+}
+
+impl Source for Counted {
+    ghost left = { λ s. None };
+
+    ghost moment = { λ s. 0 };
+
+    ghost reads = { λ s. s.reads };
+
+    ghost failures = { λ s. 0 };
+
+    fn read(&mut self, into: &mut [u8]) -> Result<usize, Failed> {
+        self.reads += 1;
+        Ok(0)
+    }
+
+    fn moment(&self) -> u64 {
+        0
+    }
+
+    fn reads(&self) -> u64 {
+        self.reads
+    }
+
+    fn failures(&self) -> u64 {
+        0
+    }
+}
+
+/// An exchange over memory: where the client stands, what comes, how many bytes a read or a write has and after how many
+/// it fails, what is asked, what is told, and how many bytes of the frames are sent.
+struct Exchange<'a> {
+    name: &'static str,
+    stand: Stand,
+    heard: &'a [&'a [u8]],
+    largest_read: usize,
+    reads: u64,
+    largest_write: usize,
+    writes: u64,
+    request: &'a [u8],
+    connected: bool,
+    told: Result<(), AskFault>,
+    reply: &'a [u8],
+    sent: &'a [&'a [u8]],
+    count: usize,
+}
+
+/// An exchange in which no device fails.
+const WELL: Exchange<'static> = Exchange {
+    name: "no device fails",
+    stand: Stand::New,
+    heard: &[REGISTERED, GOT],
+    largest_read: 4_096,
+    reads: u64::MAX,
+    largest_write: 4_096,
+    writes: u64::MAX,
+    request: GET,
+    connected: false,
+    told: Ok(()),
+    reply: VENDOR,
+    sent: &[REGISTER, GET_SENT, UNREGISTER],
+    count: 100,
+};
+
+/// A request with bit 7 of its service.
+const NO_REQUEST: &[u8] = b"\xb2\x02\x20\x64\x24\x01";
+
+static EXCHANGES: [Exchange<'static>; 10] = [
+    WELL,
+    Exchange {
+        name: "each read and each write has one byte",
+        heard: &[REGISTERED, OPENED, ADDED, CLOSED],
+        largest_read: 1,
+        largest_write: 1,
+        request: ADD,
+        connected: true,
+        reply: IS_5,
+        sent: &[REGISTER, OPEN, ADD_SENT, CLOSE, UNREGISTER],
+        count: 256,
+        ..WELL
+    },
+    Exchange {
+        name: "no request, on a connection",
+        heard: &[REGISTERED, OPENED],
+        request: NO_REQUEST,
+        connected: true,
+        told: Err(AskFault::Submit(Refused::NoRequest)),
+        reply: &[],
+        sent: &[REGISTER, OPEN],
+        count: 114,
+        ..WELL
+    },
+    Exchange {
+        name: "no request, without a connection",
+        request: NO_REQUEST,
+        told: Err(AskFault::Client(ClientFault::Request)),
+        reply: &[],
+        count: 28,
+        ..WELL
+    },
+    Exchange {
+        name: "a client in use: nothing is read or written",
+        stand: Stand::AwaitsSession,
+        reads: 0,
+        writes: 0,
+        told: Err(AskFault::Client(ClientFault::State)),
+        reply: &[],
+        count: 0,
+        ..WELL
+    },
+    Exchange {
+        name: "a writer of 10 bytes a call fails after 0",
+        largest_write: 10,
+        writes: 0,
+        told: Err(AskFault::Write),
+        reply: &[],
+        count: 0,
+        ..WELL
+    },
+    Exchange {
+        name: "a writer of 10 bytes a call fails after 1",
+        largest_write: 10,
+        writes: 1,
+        told: Err(AskFault::Write),
+        reply: &[],
+        count: 10,
+        ..WELL
+    },
+    Exchange {
+        name: "a writer of 10 bytes a call fails after 3",
+        largest_write: 10,
+        writes: 3,
+        told: Err(AskFault::Write),
+        reply: &[],
+        count: 28,
+        ..WELL
+    },
+    Exchange {
+        name: "a writer of 10 bytes a call fails after 4",
+        largest_write: 10,
+        writes: 4,
+        told: Err(AskFault::Write),
+        reply: &[],
+        count: 38,
+        ..WELL
+    },
+    Exchange {
+        name: "a reader of 30 bytes a call fails at its second",
+        largest_read: 30,
+        reads: 1,
+        told: Err(AskFault::Read),
+        reply: &[],
+        count: 76,
+        ..WELL
+    },
+];
+
+/// What the exchange replies and sends.
+fn check_texts<A: Abort>(rt: &A, row: &Exchange<'_>, reply: &[u8], written: &[u8], sent: &[u8]) {
+    assert_eq!(rt; reply, row.reply, "{}", row.name);
+    assert_eq!(rt; Some(written), sent.get(..row.count), "{}", row.name);
+}
+
+/// Asks over any devices. Its contract says nothing, so that whoever calls it carries no state on.
+fn asked<A: Abort, R: Source, W: Sink>(
+    rt: &A,
+    client: &mut Client,
+    reader: &mut R,
+    writer: &mut W,
+    row: &Exchange<'_>,
+    reply: &mut ReplyBuf,
+) -> Result<(), AskFault> {
+    assert!(rt; reader.failures() < u64::MAX && writer.failures() < u64::MAX);
+    ask(client, reader, writer, row.request, row.connected, reply)
+}
+
+/// The exchange tells, replies and sends what the row says.
+fn check_devices<A: Abort>(
+    rt: &A,
+    client: &mut Client,
+    row: &Exchange<'_>,
+    heard: &[u8],
+    sent: &[u8],
+) {
+    assert!(rt; 0 < row.largest_read && 0 < row.largest_write);
+    let mut room = [0; 400];
+    let mut reader = MemorySource::new(heard, &[])
+        .with_largest_size(row.largest_read)
+        .with_failure_after(row.reads);
+    let mut writer = MemorySink::new(&mut room)
+        .with_largest_size(row.largest_write)
+        .with_failure_after(row.writes);
+    let mut reply = ReplyBuf::new();
+    let told = asked(rt, client, &mut reader, &mut writer, row, &mut reply);
+    assert_eq!(rt; told, row.told, "{}", row.name);
+    check_texts(rt, row, reply.as_slice(), writer.written(), sent);
+}
+
+fn check_exchange<A: Abort>(rt: &A, alloc: Global, row: &Exchange<'_>) -> Result<(), Fail> {
+    let heard = joined(alloc, row.heard)?;
+    let sent = joined(alloc, row.sent)?;
+    let mut client = standing(alloc, row.stand)?;
+    check_devices(rt, &mut client, row, heard.as_slice(), sent.as_slice());
+    Ok(())
+}
+
+#[test]
+fn exchanges_over_memory(rt: HostRuntime) -> Result<(), Fail> {
+    for row in &EXCHANGES {
+        check_exchange(&rt, rt.alloc(), row)?;
+    }
+    Ok(())
+}
+
+#[test]
+fn a_reader_that_counts_no_further_read(rt: HostRuntime) -> Result<(), Fail> {
+    let mut room = [0; 200];
+    let mut client = made(rt.alloc())?;
+    let mut writer = MemorySink::new(&mut room);
+    let mut reply = ReplyBuf::new();
+    let asked = ask(
+        &mut client,
+        &mut Counted { reads: u64::MAX },
+        &mut writer,
+        GET,
+        false,
+        &mut reply,
+    );
+    assert_eq!(rt; asked, Err(AskFault::Spent));
+    assert_eq!(rt; writer.written(), REGISTER);
+    Ok(())
+}

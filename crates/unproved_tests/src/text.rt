@@ -1,0 +1,11 @@
+//! Tests of `enip_commands` and `enip_config` together: readers and writers that fail, and a client beside an adapter.
+
+mod answering;
+mod asking;
+mod configuration;
+mod demo;
+mod exchanges;
+mod ladders;
+mod replaying;
+mod showing;
+mod streams;
