@@ -1,4 +1,4 @@
-// What bench/adapter measures beside: copies of bytes, an echo on a socket, and the client of both servers.
+// What performance/adapter measures beside: copies of bytes, an echo on a socket, and the client of both servers.
 //
 //   copy COUNT PIECE             copies the bytes of standard input so often, in pieces of at most so many bytes
 //   echo CONNECTIONS             prints its port, and sends back what it reads, one connection after another

@@ -1,4 +1,4 @@
-// What bench/peers measures beside: a server with epoll that reads and writes as `enip serve` does, and peers of both.
+// What performance/peers measures beside: a server with epoll that reads and writes as `enip serve` does, and peers of both.
 //
 //   serve PLACES                    prints its port, and answers each whole frame of its peers as a device of one
 //                                   object would that is written by hand: it reads header, session, items and path,

@@ -1,4 +1,4 @@
-/* A device by hand in C, as one writes it without the library, behind those calls of enip.h that bench/library.c makes.
+/* A device by hand in C, as one writes it without the library, behind those calls of enip.h that performance/library.c makes.
  *
  * It has what that configuration has: Identity, assembly 100 of 4 bytes and a counter, 16 peers and 64 connections. Of
  * the frames that are measured it checks what docs/PROTOCOL.md asks: header, session, items, path, object, size of the
