@@ -25,19 +25,19 @@ use thiserror::Error;
 #[derive(Clone, Copy, Debug, PartialEq, Eq, Error)]
 pub enum Refused {
     /// Another request waits for its reply.
-    #[error("a request waits for its reply")]
+    #[error("another request is waiting for its reply")]
     Busy = 1,
     /// The request and its count have more bytes than the O->T size.
     #[error("the request is longer than the connection's size")]
     TooLong = 2,
     /// The request has under 2 bytes, or a service with bit 7, as a reply has.
-    #[error("this is no request")]
+    #[error("not a request: 2 bytes or more, and a service below 0x80")]
     NoRequest = 3,
     /// Not answered any more: the originator goes on after it gave a request up.
     #[error("a request was given up")]
     GivenUp = 4,
     /// 65,535 requests were submitted since the last one whose reply was accepted, or since the opening.
-    #[error("too many requests were submitted since the last accepted reply")]
+    #[error("65,535 requests were submitted since the last accepted reply")]
     TooManyAbandoned = 5,
 }
 

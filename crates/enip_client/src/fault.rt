@@ -12,22 +12,22 @@ pub enum ClientFault {
     #[error("the call is not possible now")]
     State,
     /// An awaited reply has this encapsulation status, 32 bits.
-    #[error("an awaited reply has a status")]
+    #[error("an awaited reply has encapsulation status {0:#010x}")]
     Status(u32),
     /// An open or a close was refused: the general status, and the first additional word or 0.
-    #[error("an open or a close was refused")]
+    #[error("an open or a close was refused: general status {0:#04x}, extended status {1:#06x}")]
     Refused(u8, u16),
     /// A header came whose length is over 65,511.
-    #[error("a frame is too long")]
+    #[error("a frame is longer than 65,535 bytes")]
     TooLong,
     /// Memory was refused.
     #[error("memory was refused")]
     Memory,
     /// An awaited reply has another shape.
-    #[error("an awaited reply has another shape")]
+    #[error("an awaited reply is malformed")]
     Malformed,
     /// An unconnected request has under 2 or over 504 bytes, or a service with bit 7, as a reply has.
-    #[error("this is no unconnected request")]
+    #[error("not an unconnected request: 2 to 504 bytes, and a service below 0x80")]
     Request,
 }
 
@@ -54,10 +54,10 @@ impl ClientFault {
 #[derive(Clone, Copy, Debug, PartialEq, Eq, Error)]
 pub enum SubmitFault {
     /// The client refuses the call.
-    #[error("the client refuses the call")]
+    #[error("{0}")]
     Client(ClientFault),
     /// The originator's end of the connection refuses the request.
-    #[error("the connection refuses the request")]
+    #[error("{0}")]
     Refused(Refused),
 }
 
@@ -85,16 +85,16 @@ pub enum AskFault {
     #[error("the writer failed")]
     Write,
     /// The input ended before the exchange did.
-    #[error("the input ended")]
+    #[error("the input ended before the exchange was complete")]
     Ended,
     /// The client refuses a call, a reply has a fault that lasts, or an open or a close was refused.
-    #[error("the client met a fault")]
+    #[error("{0}")]
     Client(ClientFault),
     /// The connection refuses the request.
-    #[error("the connection refuses the request")]
+    #[error("{0}")]
     Submit(Refused),
     /// The reader counts no further read.
-    #[error("the reader counts no further read")]
+    #[error("the reader cannot count another read")]
     Spent,
 }
 

@@ -150,15 +150,6 @@ impl<W: Wire + Drop> Peers<W> {
         self.adapter.discover(datagram, room)
     }
 
-    /// Whether a wire may be ready.
-    pub fn is_any_ready(&self) -> bool
-        ensures { result ≡ list_any is_ready (state_of self.now).lines }
-    {
-        self.lines
-            .iter()
-            .any(|line| matches!(line, Some(line) if line.ready))
-    }
-
     /// The earliest moment at which something is to be done without anyone speaking, where there is one.
     pub fn next_moment(&self) -> Option<u64>
         ensures { result ≡ next_moment (state_of self.now) }

@@ -49,11 +49,7 @@ fn run<A: Abort>(
         }
         let end = peers.round(*moment);
         assert_eq!(rt; end.ended, *ended, "{moment}");
-        assert_eq!(rt;
-            (end.ready, end.next),
-            (peers.is_any_ready(), peers.next_moment()),
-            "{moment}"
-        );
+        assert_eq!(rt; end.next, peers.next_moment(), "{moment}");
         assert_eq!(rt; made.get(), *by_then, "{moment}");
     }
     assert_eq!(rt; made.get(), calls.len());
@@ -334,9 +330,10 @@ fn each_ready_peer_has_one_turn_a_round(rt: HostRuntime) -> Result<(), Fail> {
     for (calls, made) in calls.iter().zip(&made) {
         assert!(rt; peers.come(0, ScriptedWire::new(calls, made)).is_ok());
     }
-    for (ended, by_then) in [(0, 2), (1, 3), (0, 3)] {
-        assert!(rt; peers.is_any_ready() == (by_then < 3 || ended == 1));
-        assert_eq!(rt; peers.round(0).ended, ended);
+    for (ended, ready, by_then) in [(0, true, 2), (1, false, 3), (0, false, 3)] {
+        let end = peers.round(0);
+        assert_eq!(rt; end.ended, ended);
+        assert!(rt; end.ready == ready);
         for made in &made {
             assert_eq!(rt; made.get(), by_then);
         }
