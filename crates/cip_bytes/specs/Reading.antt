@@ -14,9 +14,9 @@ abbrev pub ◌>>◌ : {A B E : Type 0} → Result A E → Result B E → Result 
 (Err e) >> r = Err e
 
 -- what a step read, seen by view
-abbrev pub seen_by : {A B E : Type 0} → (A → B) → Result A E → Result B E
-seen_by view (Ok x) = Ok (view x)
-seen_by view (Err e) = Err e
+abbrev pub map_ok : {A B E : Type 0} → (A → B) → Result A E → Result B E
+map_ok view (Ok x) = Ok (view x)
+map_ok view (Err e) = Err e
 
 -- What a function returned, seen by view, is what reading gives.
 abbrev pub Gives : {X Y E : Type 0} → (X → Y) → Result X E → Result Y E → Type 0

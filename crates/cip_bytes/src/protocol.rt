@@ -10,7 +10,7 @@ ghost use Rattle.cip_bytes.specs.Protocol.{encapsulation_status_number, general_
 use std::fmt;
 
 /// The room of an unconnected request, and of the reply to one, in bytes. (Volume 2, UCMM requests.)
-pub const UNCONNECTED_ROOM: usize = 504;
+pub const UNCONNECTED_LIMIT: usize = 504;
 
 /// The least that a request has, in bytes: its service and the size of its path. (Volume 1, router request.)
 pub const SMALLEST_REQUEST: usize = 2;
@@ -26,7 +26,7 @@ pub const REPLY_LIMIT: usize = 4_000;
 pub const SEQUENCE_COUNT_SIZE: usize = 2;
 
 /// The largest size of a connection in one direction, in bytes: a sequence count and the longest reply (ours).
-pub const LARGEST_SIZE: usize = SEQUENCE_COUNT_SIZE + REPLY_LIMIT;
+pub const LARGEST_CONNECTION_SIZE: usize = SEQUENCE_COUNT_SIZE + REPLY_LIMIT;
 
 /// The smallest O->T size, in bytes: a sequence count and the smallest request (ours).
 pub const SMALLEST_O_TO_T_SIZE: u16 = 4;
@@ -36,7 +36,7 @@ pub const SMALLEST_T_TO_O_SIZE: u16 = 10;
 
 /// The largest size that the parameters of a Forward_Open can say: nine bits. (Volume 1, network connection
 /// parameters.)
-pub const LARGEST_SMALL_SIZE: u16 = 511;
+pub const LARGEST_FORWARD_OPEN_SIZE: u16 = 511;
 
 /// The class of the Identity object. (Volume 1, class codes.)
 pub const IDENTITY: u16 = 0x01;

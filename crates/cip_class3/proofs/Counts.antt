@@ -3,7 +3,7 @@ use Rattle.std.proofs.Common.{◌≡◌, ℕ, zero, suc, ◌+◌, ◌%◌, ◌<�
 use Rattle.std.proofs.lemmas.Bool.{and_parts, eqb-true, ltb-true}
 use Rattle.cip_class3.specs.Item.{sequence_count_of, NeighboursDiffer}
 use Rattle.cip_class3.specs.OriginatorRule.{OriginatorState, Phase, Idle, Waiting, GivenUp, originator_at_opening, MOST_UNACCEPTED, form_refusal, first_refusal, submit_refusal, with_next_request, answers, is_reply, idle_again, is_waiting}
-use Rattle.cip_class3.specs.Calls.{OriginatorCall, Submit, Resend, Receive, GiveUp, Event, Took, Accepted, after_submit, seen_of_submit, events_of, counts_taken, taken_since_accepted, AcceptedOnce}
+use Rattle.cip_class3.specs.Calls.{OriginatorCall, Submit, Resend, Receive, GiveUp, Event, Submitted, Accepted, after_submit, events_of_submit, events_of, counts_taken, taken_since_accepted, AcceptedOnce}
 use Rattle.cip_class3.specs.declared.originator.Refused.{Refused}
 use Rattle.cip_class3.specs.declared.originator.Refused.TheVariants as refusals
 
@@ -24,7 +24,7 @@ InOrder calls = (originator : OriginatorState) → originator.next < 2 ^ 16 →
 at_submit : (why : Option Refused) (originator : OriginatorState) (request : List ℕ) (calls : List OriginatorCall) →
     originator.next < 2 ^ 16 → InOrder calls →
     AreInOrder originator.next
-    (counts_taken (seen_of_submit why originator.next (events_of (after_submit why originator request) calls)))
+    (counts_taken (events_of_submit why originator.next (events_of (after_submit why originator request) calls)))
 at_submit None originator request calls fits later =
     one_more originator.next (counts_taken (events_of (with_next_request originator request) calls)) fits
     (later (with_next_request originator request) (omega arith))
@@ -78,66 +78,66 @@ counts_taken-differ first o_to_t_size t_to_o_size calls fits =
 -- what is to hold of the events from a state on
 abbrev Sound : Phase → List Event → Type 0
 Sound Idle events = AcceptedOnce events
-Sound (Waiting sequence_count request) events = AcceptedOnce (Took sequence_count ∷ events)
+Sound (Waiting sequence_count request) events = AcceptedOnce (Submitted sequence_count ∷ events)
 Sound GivenUp events = AcceptedOnce events
 
 abbrev state : ℕ → ℕ → ℕ → ℕ → Phase → OriginatorState
-state o_to_t_size t_to_o_size next tries phase = record { o_to_t_size = o_to_t_size; t_to_o_size = t_to_o_size; next = next; phase = phase; tries = tries }
+state o_to_t_size t_to_o_size next unaccepted phase = record { o_to_t_size = o_to_t_size; t_to_o_size = t_to_o_size; next = next; phase = phase; unaccepted = unaccepted }
 
 abbrev AllSound : List OriginatorCall → Type 0
-AllSound calls = (o_to_t_size t_to_o_size next tries : ℕ) (phase : Phase) → Sound phase (events_of (state o_to_t_size t_to_o_size next tries phase) calls)
+AllSound calls = (o_to_t_size t_to_o_size next unaccepted : ℕ) (phase : Phase) → Sound phase (events_of (state o_to_t_size t_to_o_size next unaccepted phase) calls)
 
-took_before : (sequence_count : ℕ) (events : List Event) → AcceptedOnce events → AcceptedOnce (Took sequence_count ∷ events)
+took_before : (sequence_count : ℕ) (events : List Event) → AcceptedOnce events → AcceptedOnce (Submitted sequence_count ∷ events)
 took_before sequence_count [] once = tt
-took_before sequence_count (Took next ∷ events) once = once
+took_before sequence_count (Submitted next ∷ events) once = once
 took_before sequence_count (Accepted same ∷ events) once = absurd once
 
-submit_sound : (why : Option Refused) (o_to_t_size t_to_o_size next tries : ℕ) (phase : Phase) (request : List ℕ) (calls : List OriginatorCall) →
-    AllSound calls → AcceptedOnce (events_of (state o_to_t_size t_to_o_size next tries phase) calls) →
-    let originator = state o_to_t_size t_to_o_size next tries phase in
-    AcceptedOnce (seen_of_submit why next (events_of (after_submit why originator request) calls))
-submit_sound None o_to_t_size t_to_o_size next tries phase request calls later once = later o_to_t_size t_to_o_size ((next + 1) % 2 ^ 16) (tries + 1) (Waiting next request)
-submit_sound (Some why) o_to_t_size t_to_o_size next tries phase request calls later once = once
+submit_sound : (why : Option Refused) (o_to_t_size t_to_o_size next unaccepted : ℕ) (phase : Phase) (request : List ℕ) (calls : List OriginatorCall) →
+    AllSound calls → AcceptedOnce (events_of (state o_to_t_size t_to_o_size next unaccepted phase) calls) →
+    let originator = state o_to_t_size t_to_o_size next unaccepted phase in
+    AcceptedOnce (events_of_submit why next (events_of (after_submit why originator request) calls))
+submit_sound None o_to_t_size t_to_o_size next unaccepted phase request calls later once = later o_to_t_size t_to_o_size ((next + 1) % 2 ^ 16) (unaccepted + 1) (Waiting next request)
+submit_sound (Some why) o_to_t_size t_to_o_size next unaccepted phase request calls later once = once
 
 -- while a request waits, none is taken
-waiting_sound : (room : Bool) (o_to_t_size t_to_o_size next tries sequence_count : ℕ) (waiting request : List ℕ) (calls : List OriginatorCall) → AllSound calls →
-    let originator = state o_to_t_size t_to_o_size next tries (Waiting sequence_count waiting) in
+waiting_sound : (room : Bool) (o_to_t_size t_to_o_size next unaccepted sequence_count : ℕ) (waiting request : List ℕ) (calls : List OriginatorCall) → AllSound calls →
+    let originator = state o_to_t_size t_to_o_size next unaccepted (Waiting sequence_count waiting) in
     let why : Option Refused = if room then Some refusals.Busy else Some refusals.TooManyAbandoned in
-    AcceptedOnce (Took sequence_count ∷ seen_of_submit why next (events_of (after_submit why originator request) calls))
-waiting_sound true o_to_t_size t_to_o_size next tries sequence_count waiting request calls later = later o_to_t_size t_to_o_size next tries (Waiting sequence_count waiting)
-waiting_sound false o_to_t_size t_to_o_size next tries sequence_count waiting request calls later = later o_to_t_size t_to_o_size next tries (Waiting sequence_count waiting)
+    AcceptedOnce (Submitted sequence_count ∷ events_of_submit why next (events_of (after_submit why originator request) calls))
+waiting_sound true o_to_t_size t_to_o_size next unaccepted sequence_count waiting request calls later = later o_to_t_size t_to_o_size next unaccepted (Waiting sequence_count waiting)
+waiting_sound false o_to_t_size t_to_o_size next unaccepted sequence_count waiting request calls later = later o_to_t_size t_to_o_size next unaccepted (Waiting sequence_count waiting)
 
-receive_sound : (is : Bool) (o_to_t_size t_to_o_size next tries sequence_count : ℕ) (request bytes : List ℕ) (calls : List OriginatorCall) →
+receive_sound : (is : Bool) (o_to_t_size t_to_o_size next unaccepted sequence_count : ℕ) (request bytes : List ℕ) (calls : List OriginatorCall) →
     answers t_to_o_size sequence_count (slice_index request 0) bytes ≡ is → AllSound calls →
-    let originator = state o_to_t_size t_to_o_size next tries (Waiting sequence_count request) in
-    AcceptedOnce (Took sequence_count ∷ (let later = events_of (if is then idle_again originator else originator) calls in
+    let originator = state o_to_t_size t_to_o_size next unaccepted (Waiting sequence_count request) in
+    AcceptedOnce (Submitted sequence_count ∷ (let later = events_of (if is then idle_again originator else originator) calls in
     if is then Accepted (sequence_count_of bytes) ∷ later else later))
-receive_sound true o_to_t_size t_to_o_size next tries sequence_count request bytes calls is later =
+receive_sound true o_to_t_size t_to_o_size next unaccepted sequence_count request bytes calls is later =
     (sym (eqb-true _ _ (and_parts _ _ ((and_parts _ _ is).0)).1), later o_to_t_size t_to_o_size next 0 Idle)
-receive_sound false o_to_t_size t_to_o_size next tries sequence_count request bytes calls is later = later o_to_t_size t_to_o_size next tries (Waiting sequence_count request)
+receive_sound false o_to_t_size t_to_o_size next unaccepted sequence_count request bytes calls is later = later o_to_t_size t_to_o_size next unaccepted (Waiting sequence_count request)
 
 sound : (calls : List OriginatorCall) → AllSound calls
-sound [] o_to_t_size t_to_o_size next tries Idle = tt
-sound [] o_to_t_size t_to_o_size next tries (Waiting sequence_count request) = tt
-sound [] o_to_t_size t_to_o_size next tries GivenUp = tt
-sound (Submit request ∷ calls) o_to_t_size t_to_o_size next tries Idle =
-    submit_sound (submit_refusal (state o_to_t_size t_to_o_size next tries Idle) request) o_to_t_size t_to_o_size next tries Idle request calls (sound calls)
-    (sound calls o_to_t_size t_to_o_size next tries Idle)
-sound (Submit request ∷ calls) o_to_t_size t_to_o_size next tries (Waiting sequence_count waiting) =
-    waiting_sound (nat_lt tries MOST_UNACCEPTED) o_to_t_size t_to_o_size next tries sequence_count waiting request calls (sound calls)
-sound (Submit request ∷ calls) o_to_t_size t_to_o_size next tries GivenUp =
-    submit_sound (submit_refusal (state o_to_t_size t_to_o_size next tries GivenUp) request) o_to_t_size t_to_o_size next tries GivenUp request calls (sound calls)
-    (sound calls o_to_t_size t_to_o_size next tries GivenUp)
-sound (Resend ∷ calls) o_to_t_size t_to_o_size next tries Idle = sound calls o_to_t_size t_to_o_size next tries Idle
-sound (Resend ∷ calls) o_to_t_size t_to_o_size next tries (Waiting sequence_count request) = sound calls o_to_t_size t_to_o_size next tries (Waiting sequence_count request)
-sound (Resend ∷ calls) o_to_t_size t_to_o_size next tries GivenUp = sound calls o_to_t_size t_to_o_size next tries GivenUp
-sound (Receive bytes ∷ calls) o_to_t_size t_to_o_size next tries Idle = sound calls o_to_t_size t_to_o_size next tries Idle
-sound (Receive bytes ∷ calls) o_to_t_size t_to_o_size next tries (Waiting sequence_count request) =
-    receive_sound _ o_to_t_size t_to_o_size next tries sequence_count request bytes calls refl (sound calls)
-sound (Receive bytes ∷ calls) o_to_t_size t_to_o_size next tries GivenUp = sound calls o_to_t_size t_to_o_size next tries GivenUp
-sound (GiveUp ∷ calls) o_to_t_size t_to_o_size next tries Idle = sound calls o_to_t_size t_to_o_size next tries Idle
-sound (GiveUp ∷ calls) o_to_t_size t_to_o_size next tries (Waiting sequence_count request) = took_before sequence_count (events_of (state o_to_t_size t_to_o_size next tries GivenUp) calls) (sound calls o_to_t_size t_to_o_size next tries GivenUp)
-sound (GiveUp ∷ calls) o_to_t_size t_to_o_size next tries GivenUp = sound calls o_to_t_size t_to_o_size next tries GivenUp
+sound [] o_to_t_size t_to_o_size next unaccepted Idle = tt
+sound [] o_to_t_size t_to_o_size next unaccepted (Waiting sequence_count request) = tt
+sound [] o_to_t_size t_to_o_size next unaccepted GivenUp = tt
+sound (Submit request ∷ calls) o_to_t_size t_to_o_size next unaccepted Idle =
+    submit_sound (submit_refusal (state o_to_t_size t_to_o_size next unaccepted Idle) request) o_to_t_size t_to_o_size next unaccepted Idle request calls (sound calls)
+    (sound calls o_to_t_size t_to_o_size next unaccepted Idle)
+sound (Submit request ∷ calls) o_to_t_size t_to_o_size next unaccepted (Waiting sequence_count waiting) =
+    waiting_sound (nat_lt unaccepted MOST_UNACCEPTED) o_to_t_size t_to_o_size next unaccepted sequence_count waiting request calls (sound calls)
+sound (Submit request ∷ calls) o_to_t_size t_to_o_size next unaccepted GivenUp =
+    submit_sound (submit_refusal (state o_to_t_size t_to_o_size next unaccepted GivenUp) request) o_to_t_size t_to_o_size next unaccepted GivenUp request calls (sound calls)
+    (sound calls o_to_t_size t_to_o_size next unaccepted GivenUp)
+sound (Resend ∷ calls) o_to_t_size t_to_o_size next unaccepted Idle = sound calls o_to_t_size t_to_o_size next unaccepted Idle
+sound (Resend ∷ calls) o_to_t_size t_to_o_size next unaccepted (Waiting sequence_count request) = sound calls o_to_t_size t_to_o_size next unaccepted (Waiting sequence_count request)
+sound (Resend ∷ calls) o_to_t_size t_to_o_size next unaccepted GivenUp = sound calls o_to_t_size t_to_o_size next unaccepted GivenUp
+sound (Receive bytes ∷ calls) o_to_t_size t_to_o_size next unaccepted Idle = sound calls o_to_t_size t_to_o_size next unaccepted Idle
+sound (Receive bytes ∷ calls) o_to_t_size t_to_o_size next unaccepted (Waiting sequence_count request) =
+    receive_sound _ o_to_t_size t_to_o_size next unaccepted sequence_count request bytes calls refl (sound calls)
+sound (Receive bytes ∷ calls) o_to_t_size t_to_o_size next unaccepted GivenUp = sound calls o_to_t_size t_to_o_size next unaccepted GivenUp
+sound (GiveUp ∷ calls) o_to_t_size t_to_o_size next unaccepted Idle = sound calls o_to_t_size t_to_o_size next unaccepted Idle
+sound (GiveUp ∷ calls) o_to_t_size t_to_o_size next unaccepted (Waiting sequence_count request) = took_before sequence_count (events_of (state o_to_t_size t_to_o_size next unaccepted GivenUp) calls) (sound calls o_to_t_size t_to_o_size next unaccepted GivenUp)
+sound (GiveUp ∷ calls) o_to_t_size t_to_o_size next unaccepted GivenUp = sound calls o_to_t_size t_to_o_size next unaccepted GivenUp
 
 -- from a state in which no request waits, a reply is accepted at most once for each request
 pub events_of-accepted_once : (first o_to_t_size t_to_o_size : ℕ) (calls : List OriginatorCall) → AcceptedOnce (events_of (originator_at_opening first o_to_t_size t_to_o_size) calls)
@@ -162,27 +162,27 @@ first_refusal-none since_accepted waits form is = go (nat_lt since_accepted MOST
 
 -- what is to hold of the events from a state on, of how many requests were taken since the last accepted reply
 abbrev Fewer : List OriginatorCall → Type 0
-Fewer calls = (originator : OriginatorState) → originator.tries ≤ MOST_UNACCEPTED →
-    taken_since_accepted originator.tries (events_of originator calls) ≤ MOST_UNACCEPTED
+Fewer calls = (originator : OriginatorState) → originator.unaccepted ≤ MOST_UNACCEPTED →
+    taken_since_accepted originator.unaccepted (events_of originator calls) ≤ MOST_UNACCEPTED
 
 submit_fewer : (why : Option Refused) (originator : OriginatorState) (request : List ℕ) (calls : List OriginatorCall) →
-    submit_refusal originator request ≡ why → originator.tries ≤ MOST_UNACCEPTED → Fewer calls →
-    taken_since_accepted originator.tries (seen_of_submit why originator.next (events_of (after_submit why originator request) calls))
+    submit_refusal originator request ≡ why → originator.unaccepted ≤ MOST_UNACCEPTED → Fewer calls →
+    taken_since_accepted originator.unaccepted (events_of_submit why originator.next (events_of (after_submit why originator request) calls))
     ≤ MOST_UNACCEPTED
 submit_fewer None originator request calls is fits later =
     later (with_next_request originator request)
-    (omega (arith, (first_refusal-none originator.tries (is_waiting originator.phase) (form_refusal originator.o_to_t_size request) is).room))
+    (omega (arith, (first_refusal-none originator.unaccepted (is_waiting originator.phase) (form_refusal originator.o_to_t_size request) is).room))
 submit_fewer (Some why) originator request calls is fits later = later originator fits
 
 receive_fewer : (is : Bool) (originator : OriginatorState) (bytes : List ℕ) (calls : List OriginatorCall) →
-    originator.tries ≤ MOST_UNACCEPTED → Fewer calls →
-    taken_since_accepted originator.tries (let later = events_of (if is then idle_again originator else originator) calls in
+    originator.unaccepted ≤ MOST_UNACCEPTED → Fewer calls →
+    taken_since_accepted originator.unaccepted (let later = events_of (if is then idle_again originator else originator) calls in
     if is then Accepted (sequence_count_of bytes) ∷ later else later) ≤ MOST_UNACCEPTED
 receive_fewer true originator bytes calls fits later = later (idle_again originator) (omega arith)
 receive_fewer false originator bytes calls fits later = later originator fits
 
-give_up_fewer : (is : Bool) (originator : OriginatorState) (calls : List OriginatorCall) → originator.tries ≤ MOST_UNACCEPTED → Fewer calls →
-    taken_since_accepted originator.tries (events_of (if is then record originator { phase = GivenUp } else originator) calls) ≤ MOST_UNACCEPTED
+give_up_fewer : (is : Bool) (originator : OriginatorState) (calls : List OriginatorCall) → originator.unaccepted ≤ MOST_UNACCEPTED → Fewer calls →
+    taken_since_accepted originator.unaccepted (events_of (if is then record originator { phase = GivenUp } else originator) calls) ≤ MOST_UNACCEPTED
 give_up_fewer true originator calls fits later = later (record originator { phase = GivenUp }) fits
 give_up_fewer false originator calls fits later = later originator fits
 

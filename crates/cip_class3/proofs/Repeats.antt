@@ -4,15 +4,15 @@ use Rattle.std.specs.List.{AllByRecursion}
 use Rattle.std.proofs.lemmas.Bool.{and_from, le-leb, eq-eqb, ne_eqb}
 use Rattle.cip_bytes.proofs.Bytes.{le2_again}
 use Rattle.cip_class3.specs.Item.{item, sequence_count_of, NeighboursDiffer}
-use Rattle.cip_class3.specs.TargetRule.{TargetState, Kept, TargetStep, step_of, after_execution, target_step, is_of_size, is_held, room_of}
+use Rattle.cip_class3.specs.TargetRule.{TargetState, KeptReply, TargetStep, step_of, after_execution, target_step, has_accepted_size, is_held, max_reply_size}
 use Rattle.cip_class3.specs.Deliveries.{Delivery, IsDeliverable, AreDelivered, items_of, requests_of, counts_from, answer_to, router_after, answers_to, router_after_requests, answers_once}
 use Rattle.cip_class3.specs.declared.target.Received.TheVariants.{Repeated, Executed}
 
 pub sequence_count_of-item : (sequence_count : ℕ) (message : List ℕ) → sequence_count < 2 ^ 16 → sequence_count_of (item sequence_count message) ≡ sequence_count
 sequence_count_of-item sequence_count message fits = le2_again sequence_count fits message
 
-pub is_of_size-item : (target : TargetState) (d : Delivery) → IsDeliverable target.o_to_t_size d → is_of_size target (item d.sequence_count d.request) ≡ true
-is_of_size-item target d fits =
+pub has_accepted_size-item : (target : TargetState) (d : Delivery) → IsDeliverable target.o_to_t_size d → has_accepted_size target (item d.sequence_count d.request) ≡ true
+has_accepted_size-item target d fits =
     let from : 4 ≤ length (item d.sequence_count d.request) = omega (arith, fits.request) in
     let to : length (item d.sequence_count d.request) ≤ target.o_to_t_size = omega (arith, fits.size) in
     and_from _ _ (le-leb _ _ from) (le-leb _ _ to)
@@ -22,13 +22,13 @@ abbrev pub holding : TargetState → ℕ → List ℕ → TargetState
 holding target sequence_count reply = record target { held = Some (record { sequence_count = sequence_count; reply = reply }) }
 
 -- the count of the next request isn't held
-not_held : (held : Option Kept) (d : Delivery) (deliveries : List Delivery) → NeighboursDiffer (counts_from held (d ∷ deliveries)) →
+not_held : (held : Option KeptReply) (d : Delivery) (deliveries : List Delivery) → NeighboursDiffer (counts_from held (d ∷ deliveries)) →
     is_held held d.sequence_count ≡ false
 not_held None d deliveries another = refl
 not_held (Some kept) d deliveries another = ne_eqb _ _ another.0
 
 -- and the counts from it on differ
-rest_differs : (held : Option Kept) (d : Delivery) (deliveries : List Delivery) → NeighboursDiffer (counts_from held (d ∷ deliveries)) →
+rest_differs : (held : Option KeptReply) (d : Delivery) (deliveries : List Delivery) → NeighboursDiffer (counts_from held (d ∷ deliveries)) →
     NeighboursDiffer (d.sequence_count ∷ map (λ x. x.sequence_count) deliveries)
 rest_differs None d deliveries another = another
 rest_differs (Some kept) d deliveries another = another.1
@@ -37,29 +37,29 @@ module _ {M : Type 0} (after : M → ℕ → List ℕ → M) (answer : M → ℕ
   abbrev step : TargetState → M → List ℕ → TargetStep M
   step target router bytes = target_step after answer target router bytes
 
-  step-executes : (target : TargetState) (router : M) (bytes : List ℕ) → is_of_size target bytes ≡ true →
+  step-executes : (target : TargetState) (router : M) (bytes : List ℕ) → has_accepted_size target bytes ≡ true →
       is_held target.held (sequence_count_of bytes) ≡ false → step target router bytes ≡ after_execution after answer target router bytes
   step-executes target router bytes sized other = rw (sized, other) refl
 
-  step-repeats : (target : TargetState) (router : M) (bytes : List ℕ) → is_of_size target bytes ≡ true →
+  step-repeats : (target : TargetState) (router : M) (bytes : List ℕ) → has_accepted_size target bytes ≡ true →
       is_held target.held (sequence_count_of bytes) ≡ true → step target router bytes ≡ step_of Repeated target router
   step-repeats target router bytes sized same = rw (sized, same) refl
 
   -- a request whose count isn't held is executed, and is then held
   pub step-first : (target : TargetState) (router : M) (d : Delivery) → IsDeliverable target.o_to_t_size d → is_held target.held d.sequence_count ≡ false →
       step target router (item d.sequence_count d.request)
-      ≡ step_of Executed (holding target d.sequence_count (answer router (room_of target) d.request)) (after router (room_of target) d.request)
+      ≡ step_of Executed (holding target d.sequence_count (answer router (max_reply_size target) d.request)) (after router (max_reply_size target) d.request)
   step-first target router d fits other =
-      step-executes target router (item d.sequence_count d.request) (is_of_size-item target d fits)
+      step-executes target router (item d.sequence_count d.request) (has_accepted_size-item target d fits)
       (ap (is_held target.held) (sequence_count_of-item d.sequence_count d.request fits.sequence_count) ∙ other)
-      ∙ ap (λ sequence_count. step_of Executed (holding target sequence_count (answer router (room_of target) d.request)) (after router (room_of target) d.request))
+      ∙ ap (λ sequence_count. step_of Executed (holding target sequence_count (answer router (max_reply_size target) d.request)) (after router (max_reply_size target) d.request))
       (sequence_count_of-item d.sequence_count d.request fits.sequence_count)
 
   -- a request whose count is held changes nothing
   pub step-again : (target : TargetState) (router : M) (d : Delivery) (reply : List ℕ) → IsDeliverable target.o_to_t_size d →
       step (holding target d.sequence_count reply) router (item d.sequence_count d.request) ≡ step_of Repeated (holding target d.sequence_count reply) router
   step-again target router d reply fits =
-      step-repeats (holding target d.sequence_count reply) router (item d.sequence_count d.request) (is_of_size-item (holding target d.sequence_count reply) d fits)
+      step-repeats (holding target d.sequence_count reply) router (item d.sequence_count d.request) (has_accepted_size-item (holding target d.sequence_count reply) d fits)
       (eq-eqb _ _ (sym (sequence_count_of-item d.sequence_count d.request fits.sequence_count)))
 
   repeats-router : (n : ℕ) (target : TargetState) (router : M) (d : Delivery) (reply : List ℕ) (items : List (List ℕ)) → IsDeliverable target.o_to_t_size d →
@@ -83,11 +83,11 @@ module _ {M : Type 0} (after : M → ℕ → List ℕ → M) (answer : M → ℕ
   all_once : (deliveries : List Delivery) (target : TargetState) (router : M) →
       AllByRecursion (IsDeliverable target.o_to_t_size) deliveries → NeighboursDiffer (counts_from target.held deliveries) →
       router_after after answer target router (items_of deliveries)
-      ≡ router_after_requests after answer (room_of target) router (requests_of deliveries)
+      ≡ router_after_requests after answer (max_reply_size target) router (requests_of deliveries)
   all_once [] target router each another = refl
   all_once (d ∷ deliveries) target router each another =
-      let reply = answer router (room_of target) d.request in
-      let next = after router (room_of target) d.request in
+      let reply = answer router (max_reply_size target) d.request in
+      let next = after router (max_reply_size target) d.request in
       ap (λ done. router_after after answer done.target done.router (replicate d.repeats (item d.sequence_count d.request) ++ items_of deliveries))
       (step-first target router d each.0 (not_held target.held d deliveries another))
       ∙ repeats-router d.repeats target next d reply (items_of deliveries) each.0
@@ -96,11 +96,11 @@ module _ {M : Type 0} (after : M → ℕ → List ℕ → M) (answer : M → ℕ
   all_same : (deliveries : List Delivery) (target : TargetState) (router : M) →
       AllByRecursion (IsDeliverable target.o_to_t_size) deliveries → NeighboursDiffer (counts_from target.held deliveries) →
       answers_to after answer target router (items_of deliveries)
-      ≡ answers_once after answer (room_of target) router deliveries
+      ≡ answers_once after answer (max_reply_size target) router deliveries
   all_same [] target router each another = refl
   all_same (d ∷ deliveries) target router each another =
-      let reply = answer router (room_of target) d.request in
-      let next = after router (room_of target) d.request in
+      let reply = answer router (max_reply_size target) d.request in
+      let next = after router (max_reply_size target) d.request in
       ap (λ done. answer_to done ∷ answers_to after answer done.target done.router (replicate d.repeats (item d.sequence_count d.request) ++ items_of deliveries))
       (step-first target router d each.0 (not_held target.held d deliveries another))
       ∙ ap (λ more. Some (item d.sequence_count reply) ∷ more)
@@ -111,10 +111,10 @@ module _ {M : Type 0} (after : M → ℕ → List ℕ → M) (answer : M → ℕ
   -- each request is executed once, in order
   pub router_after-items_of : (target : TargetState) (router : M) (deliveries : List Delivery) → AreDelivered target deliveries →
       router_after after answer target router (items_of deliveries)
-      ≡ router_after_requests after answer (room_of target) router (requests_of deliveries)
+      ≡ router_after_requests after answer (max_reply_size target) router (requests_of deliveries)
   router_after-items_of target router deliveries are = all_once deliveries target router are.each are.another
 
   -- each time that it comes it is answered with the same bytes
   pub answers_to-items_of : (target : TargetState) (router : M) (deliveries : List Delivery) → AreDelivered target deliveries →
-      answers_to after answer target router (items_of deliveries) ≡ answers_once after answer (room_of target) router deliveries
+      answers_to after answer target router (items_of deliveries) ≡ answers_once after answer (max_reply_size target) router deliveries
   answers_to-items_of target router deliveries are = all_same deliveries target router are.each are.another

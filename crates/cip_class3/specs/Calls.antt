@@ -14,7 +14,7 @@ pub data OriginatorCall : Type 0 where
 
 -- what a call can be seen to do: a request is taken with this count, or a reply with this count is accepted
 pub data Event : Type 0 where
-  Took : (sequence_count : ℕ) → Event
+  Submitted : (sequence_count : ℕ) → Event
   Accepted : (sequence_count : ℕ) → Event
 
 abbrev pub after_submit : Option Refused → OriginatorState → List ℕ → OriginatorState
@@ -28,35 +28,35 @@ after_call originator (Receive bytes) = after_item originator bytes
 after_call originator GiveUp = after_give_up originator
 
 -- what is seen of a submit, and then later
-abbrev pub seen_of_submit : Option Refused → ℕ → List Event → List Event
-seen_of_submit None sequence_count later = Took sequence_count ∷ later
-seen_of_submit (Some why) sequence_count later = later
+abbrev pub events_of_submit : Option Refused → ℕ → List Event → List Event
+events_of_submit None sequence_count later = Submitted sequence_count ∷ later
+events_of_submit (Some why) sequence_count later = later
 
 -- what is seen of a call, and then later
-abbrev pub seen_of_call : OriginatorState → OriginatorCall → List Event → List Event
-seen_of_call originator (Submit request) later =
-    seen_of_submit (submit_refusal originator request) originator.next later
-seen_of_call originator Resend later = later
-seen_of_call originator (Receive bytes) later =
+abbrev pub events_of_call : OriginatorState → OriginatorCall → List Event → List Event
+events_of_call originator (Submit request) later =
+    events_of_submit (submit_refusal originator request) originator.next later
+events_of_call originator Resend later = later
+events_of_call originator (Receive bytes) later =
     if is_reply originator.t_to_o_size originator.phase bytes then Accepted (sequence_count_of bytes) ∷ later else later
-seen_of_call originator GiveUp later = later
+events_of_call originator GiveUp later = later
 
 -- what is seen of the calls, in order
 abbrev pub events_of : OriginatorState → List OriginatorCall → List Event
 events_of originator [] = []
-events_of originator (call ∷ calls) = seen_of_call originator call (events_of (after_call originator call) calls)
+events_of originator (call ∷ calls) = events_of_call originator call (events_of (after_call originator call) calls)
 
 -- the counts of the requests that were taken
 abbrev pub counts_taken : List Event → List ℕ
 counts_taken [] = []
-counts_taken (Took sequence_count ∷ events) = sequence_count ∷ counts_taken events
+counts_taken (Submitted sequence_count ∷ events) = sequence_count ∷ counts_taken events
 counts_taken (Accepted sequence_count ∷ events) = counts_taken events
 
 -- How many requests were taken since the last one whose reply was accepted, after these events, where so many were
 -- before them.
 abbrev pub taken_since_accepted : ℕ → List Event → ℕ
 taken_since_accepted before [] = before
-taken_since_accepted before (Took sequence_count ∷ events) = taken_since_accepted (before + 1) events
+taken_since_accepted before (Submitted sequence_count ∷ events) = taken_since_accepted (before + 1) events
 taken_since_accepted before (Accepted sequence_count ∷ events) = taken_since_accepted 0 events
 
 -- Each accepted reply has the count of the request that was taken last before it, and no other is accepted
@@ -64,6 +64,6 @@ taken_since_accepted before (Accepted sequence_count ∷ events) = taken_since_a
 abbrev pub AcceptedOnce : List Event → Type 0
 AcceptedOnce [] = Unit {0}
 AcceptedOnce (Accepted sequence_count ∷ events) = ⊥
-AcceptedOnce (Took sequence_count ∷ []) = Unit {0}
-AcceptedOnce (Took sequence_count ∷ Accepted same ∷ events) = (sequence_count ≡ same) × AcceptedOnce events
-AcceptedOnce (Took sequence_count ∷ Took next ∷ events) = AcceptedOnce (Took next ∷ events)
+AcceptedOnce (Submitted sequence_count ∷ []) = Unit {0}
+AcceptedOnce (Submitted sequence_count ∷ Accepted same ∷ events) = (sequence_count ≡ same) × AcceptedOnce events
+AcceptedOnce (Submitted sequence_count ∷ Submitted next ∷ events) = AcceptedOnce (Submitted next ∷ events)

@@ -3,7 +3,7 @@ use Rattle.std.specs.Prelude.{ℕ, suc, ◌+◌, ◌≤◌, ◌<◌, ◌^◌, Op
 use Rattle.std.specs.Prelude.{replicate}
 use Rattle.std.specs.List.{flat_map, AllByRecursion}
 use Rattle.cip_class3.specs.Item.{item, NeighboursDiffer}
-use Rattle.cip_class3.specs.TargetRule.{TargetState, Kept, TargetStep, kept_bytes, target_step}
+use Rattle.cip_class3.specs.TargetRule.{TargetState, KeptReply, TargetStep, kept_bytes, target_step}
 use Rattle.cip_class3.specs.declared.target.Received.TheVariants.{Dropped, Repeated, Executed}
 
 -- a request with its count, and how often it comes again
@@ -26,7 +26,7 @@ abbrev pub requests_of : List Delivery → List (List ℕ)
 requests_of deliveries = map (λ d. d.request) deliveries
 
 -- the held count, if any, and the counts that come
-abbrev pub counts_from : Option Kept → List Delivery → List ℕ
+abbrev pub counts_from : Option KeptReply → List Delivery → List ℕ
 counts_from None deliveries = map (λ d. d.sequence_count) deliveries
 counts_from (Some kept) deliveries = kept.sequence_count ∷ map (λ d. d.sequence_count) deliveries
 
@@ -59,13 +59,13 @@ module _ {M : Type 0} (after : M → ℕ → List ℕ → M) (answer : M → ℕ
 
   -- the router after it executed each of the requests once, in this order
   abbrev pub router_after_requests : ℕ → M → List (List ℕ) → M
-  router_after_requests room router [] = router
-  router_after_requests room router (request ∷ requests) =
-      router_after_requests room (after router room request) requests
+  router_after_requests max_size router [] = router
+  router_after_requests max_size router (request ∷ requests) =
+      router_after_requests max_size (after router max_size request) requests
 
   -- each time that a request came, its count with the reply of its one execution
   abbrev pub answers_once : ℕ → M → List Delivery → List (Option (List ℕ))
-  answers_once room router [] = []
-  answers_once room router (d ∷ deliveries) =
-      replicate (suc d.repeats) (Some (item d.sequence_count (answer router room d.request)))
-      ++ answers_once room (after router room d.request) deliveries
+  answers_once max_size router [] = []
+  answers_once max_size router (d ∷ deliveries) =
+      replicate (suc d.repeats) (Some (item d.sequence_count (answer router max_size d.request)))
+      ++ answers_once max_size (after router max_size d.request) deliveries

@@ -1,8 +1,8 @@
 pub mod Calls
-pub mod Came
+pub mod ReceivedReply
 pub mod Deliveries
 pub mod Item
-pub mod Lent
+pub mod KeptReply
 pub mod Originator
 pub mod OriginatorRule
 pub mod Rows

@@ -1,7 +1,7 @@
 -- What a contract sees of an `Originator`.
 use Rattle.std.specs.Prelude.{◌≡◌, ℕ, ◌≤◌, List, length, take, drop}
 use Rattle.std.specs.Box.{boxed_slice_items}
-use Rattle.cip_bytes.specs.declared.protocol.TheConstants.{LARGEST_SIZE, SMALLEST_O_TO_T_SIZE, SMALLEST_T_TO_O_SIZE}
+use Rattle.cip_bytes.specs.declared.protocol.TheConstants.{LARGEST_CONNECTION_SIZE, SMALLEST_O_TO_T_SIZE, SMALLEST_T_TO_O_SIZE}
 use Rattle.cip_class3.specs.Item.{item}
 use Rattle.cip_class3.specs.OriginatorRule.{OriginatorState, Phase, Idle, Waiting, GivenUp}
 use Rattle.cip_class3.specs.declared.originator.Progress.{Progress}
@@ -20,11 +20,11 @@ originator_state originator = record {
   t_to_o_size = originator.t_to_o_size;
   next = originator.next;
   phase = phase_of originator.progress (boxed_slice_items originator.block);
-  tries = originator.tries;
+  unaccepted = originator.unaccepted;
 }
 
 -- an item of this count and length stands at the front of the block
-pub record StandsInFront (sequence_count item_length : ℕ) (block : List ℕ) : Type 0 where
+pub record IsAtFront (sequence_count item_length : ℕ) (block : List ℕ) : Type 0 where
   pub from : 4 ≤ item_length
   pub to : item_length ≤ length block
   pub item : take item_length block ≡ item sequence_count (drop 2 (take item_length block))
@@ -32,13 +32,13 @@ pub record StandsInFront (sequence_count item_length : ℕ) (block : List ℕ) :
 -- the item of the request that waits, if one does, is in the block
 abbrev pub HoldsItem : Progress → List ℕ → Type 0
 HoldsItem progress.Idle block = Unit {0}
-HoldsItem (progress.Waiting sequence_count length) block = StandsInFront sequence_count length block
+HoldsItem (progress.Waiting sequence_count length) block = IsAtFront sequence_count length block
 HoldsItem progress.GivenUp block = Unit {0}
 
 pub record IsOriginator (originator : Inside) : Type 0 where
   pub o_to_t_from : SMALLEST_O_TO_T_SIZE ≤ originator.o_to_t_size
-  pub o_to_t_to : originator.o_to_t_size ≤ LARGEST_SIZE
+  pub o_to_t_to : originator.o_to_t_size ≤ LARGEST_CONNECTION_SIZE
   pub t_to_o_from : SMALLEST_T_TO_O_SIZE ≤ originator.t_to_o_size
-  pub t_to_o_to : originator.t_to_o_size ≤ LARGEST_SIZE
+  pub t_to_o_to : originator.t_to_o_size ≤ LARGEST_CONNECTION_SIZE
   pub block : length (boxed_slice_items originator.block) ≡ originator.o_to_t_size
   pub item : HoldsItem originator.progress (boxed_slice_items originator.block)

@@ -21,12 +21,12 @@ pub record OriginatorState : Type 0 where
   pub t_to_o_size : ℕ
   pub next : ℕ
   pub phase : Phase
-  pub tries : ℕ
+  pub unaccepted : ℕ
 
 -- the originator of a connection that was just opened
 abbrev pub originator_at_opening : ℕ → ℕ → ℕ → OriginatorState
 originator_at_opening first o_to_t_size t_to_o_size =
-    record { o_to_t_size = o_to_t_size; t_to_o_size = t_to_o_size; next = first; phase = Idle; tries = 0 }
+    record { o_to_t_size = o_to_t_size; t_to_o_size = t_to_o_size; next = first; phase = Idle; unaccepted = 0 }
 
 -- the number of a refusal, by which it is printed
 abbrev pub refused_number : Refused → ℕ
@@ -66,7 +66,7 @@ first_refusal since_accepted waits form =
 -- why a request is not taken now, if it isn't
 abbrev pub submit_refusal : OriginatorState → List ℕ → Option Refused
 submit_refusal originator request =
-    first_refusal originator.tries (is_waiting originator.phase) (form_refusal originator.o_to_t_size request)
+    first_refusal originator.unaccepted (is_waiting originator.phase) (form_refusal originator.o_to_t_size request)
 
 -- the request waits with the next count, and the count after it is the next one, modulo 65,536
 abbrev pub with_next_request : OriginatorState → List ℕ → OriginatorState
@@ -74,7 +74,7 @@ with_next_request originator request =
     record originator {
       phase = Waiting originator.next request;
       next = (originator.next + 1) % 65536;
-      tries = originator.tries + 1;
+      unaccepted = originator.unaccepted + 1;
     }
 
 -- the item of the request that waits
@@ -98,7 +98,7 @@ is_reply t_to_o_size GivenUp bytes = false
 
 -- no request waits any more, and the requests are counted from here
 abbrev pub idle_again : OriginatorState → OriginatorState
-idle_again originator = record originator { phase = Idle; tries = 0 }
+idle_again originator = record originator { phase = Idle; unaccepted = 0 }
 
 -- after an item came
 abbrev pub after_item : OriginatorState → List ℕ → OriginatorState

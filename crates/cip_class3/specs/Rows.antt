@@ -47,7 +47,7 @@ submit_refusal-waiting = refl
 
 -- this many were submitted since the last accepted reply, and the last one was given up
 abbrev pub abandoned : ℕ → OriginatorState
-abandoned tries = record (after_give_up (with_next_request idle add_five)) { tries = tries }
+abandoned unaccepted = record (after_give_up (with_next_request idle add_five)) { unaccepted = unaccepted }
 
 -- after giving up a request is taken, up to the 65,535th since the last accepted reply
 pub submit_refusal-given_up : submit_refusal (abandoned 65534) add_five ≡ None
@@ -61,8 +61,8 @@ pub submit_refusal-last : submit_refusal (with_next_request (abandoned 65534) ad
 submit_refusal-last = refl
 
 -- its reply is accepted, and the submits are counted from there
-pub tries-accepted : (after_item (with_next_request (abandoned 65534) add_five) (0 ∷ 0 ∷ 0xb2 ∷ 0 ∷ 0 ∷ 0 ∷ [])).tries ≡ 0
-tries-accepted = refl
+pub unaccepted-accepted : (after_item (with_next_request (abandoned 65534) add_five) (0 ∷ 0 ∷ 0xb2 ∷ 0 ∷ 0 ∷ 0 ∷ [])).unaccepted ≡ 0
+unaccepted-accepted = refl
 
 -- count 0 follows count 65,535
 pub next-with_next_request : (with_next_request idle add_five).next ≡ 0

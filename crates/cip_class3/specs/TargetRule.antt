@@ -6,7 +6,7 @@ use Rattle.cip_class3.specs.declared.target.Received.{Received}
 use Rattle.cip_class3.specs.declared.target.Received.TheVariants.{Dropped, Repeated, Executed}
 
 -- an executed request's sequence count, and its reply
-pub record Kept : Type 0 where
+pub record KeptReply : Type 0 where
   pub sequence_count : ℕ
   pub reply : List ℕ
 
@@ -14,29 +14,29 @@ pub record Kept : Type 0 where
 pub record TargetState : Type 0 where
   pub o_to_t_size : ℕ
   pub t_to_o_size : ℕ
-  pub held : Option Kept
+  pub held : Option KeptReply
 
 -- the target of a connection that was just opened: no count is held, and count 0 isn't either
 abbrev pub target_at_opening : ℕ → ℕ → TargetState
 target_at_opening o_to_t_size t_to_o_size = record { o_to_t_size = o_to_t_size; t_to_o_size = t_to_o_size; held = None }
 
 -- what answers the request that is held
-abbrev pub kept_bytes : Option Kept → List ℕ
+abbrev pub kept_bytes : Option KeptReply → List ℕ
 kept_bytes None = []
 kept_bytes (Some kept) = item kept.sequence_count kept.reply
 
 -- the room that a reply has behind its count
-abbrev pub room_of : TargetState → ℕ
-room_of target = target.t_to_o_size - 2
+abbrev pub max_reply_size : TargetState → ℕ
+max_reply_size target = target.t_to_o_size - 2
 
 -- this count is held
-abbrev pub is_held : Option Kept → ℕ → Bool
+abbrev pub is_held : Option KeptReply → ℕ → Bool
 is_held None sequence_count = false
 is_held (Some kept) sequence_count = kept.sequence_count == sequence_count
 
 -- a count and a request of two bytes at least, within the O->T size
-abbrev pub is_of_size : TargetState → List ℕ → Bool
-is_of_size target bytes = nat_le 4 (length bytes) && nat_le (length bytes) target.o_to_t_size
+abbrev pub has_accepted_size : TargetState → List ℕ → Bool
+has_accepted_size target bytes = nat_le 4 (length bytes) && nat_le (length bytes) target.o_to_t_size
 
 -- what was done with an item, and the target and the router after it
 pub record TargetStep (M : Type 0) : Type 0 where
@@ -51,22 +51,22 @@ module _ {M : Type 0} (after : M → ℕ → List ℕ → M) (answer : M → ℕ
   -- the router has executed the item's request, and the target holds its count and reply
   abbrev pub after_execution : TargetState → M → List ℕ → TargetStep M
   after_execution target router bytes =
-      let room = room_of target in
-      let reply = answer router room (message_of bytes) in
-      let kept : Kept = record { sequence_count = sequence_count_of bytes; reply = reply } in
-      step_of Executed (record target { held = Some kept }) (after router room (message_of bytes))
+      let max_size = max_reply_size target in
+      let reply = answer router max_size (message_of bytes) in
+      let kept : KeptReply = record { sequence_count = sequence_count_of bytes; reply = reply } in
+      step_of Executed (record target { held = Some kept }) (after router max_size (message_of bytes))
 
   -- What a target does with an item. One of another size is dropped. The held count is a repeat, and
   -- changes nothing. Every other count is executed and held with its reply, also where nothing is held.
   abbrev pub target_step : TargetState → M → List ℕ → TargetStep M
   target_step target router bytes =
-      if is_of_size target bytes then
+      if has_accepted_size target bytes then
       (if is_held target.held (sequence_count_of bytes) then step_of Repeated target router
       else after_execution target router bytes)
       else step_of Dropped target router
 
 -- an item that isn't dropped: a count and a request, within the O->T size
-pub record IsTaken (target : TargetState) (bytes : List ℕ) : Type 0 where
+pub record IsAccepted (target : TargetState) (bytes : List ℕ) : Type 0 where
   pub holds_a_request : 4 ≤ length bytes
   pub fits : length bytes ≤ target.o_to_t_size
 
@@ -75,5 +75,5 @@ abbrev pub IsRepeat : TargetState → List ℕ → Type 0
 IsRepeat target bytes = IsTrue (is_held target.held (sequence_count_of bytes))
 
 -- an item with another count than the held one, or where none is held
-abbrev pub HasAnotherCount : TargetState → List ℕ → Type 0
-HasAnotherCount target bytes = IsTrue (not (is_held target.held (sequence_count_of bytes)))
+abbrev pub HasNewCount : TargetState → List ℕ → Type 0
+HasNewCount target bytes = IsTrue (not (is_held target.held (sequence_count_of bytes)))

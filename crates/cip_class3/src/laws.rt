@@ -4,7 +4,7 @@
 
 ghost use Rattle.std.specs.Prelude.{◌≡◌, ℕ, ◌+◌, ◌%◌, ◌<◌, ◌≤◌, ◌^◌, List, length, slice_index};
 ghost use Rattle.cip_class3.specs.Item.{NeighboursDiffer};
-ghost use Rattle.cip_class3.specs.TargetRule.{TargetState, room_of};
+ghost use Rattle.cip_class3.specs.TargetRule.{TargetState, max_reply_size};
 ghost use Rattle.cip_class3.specs.Deliveries.{Delivery, AreDelivered, items_of, requests_of, router_after, answers_to};
 ghost use Rattle.cip_class3.specs.Deliveries.{router_after_requests, answers_once};
 ghost use Rattle.cip_class3.specs.OriginatorRule.{originator_at_opening, MOST_UNACCEPTED};
@@ -22,12 +22,12 @@ pub fn each_request_once<R: Router>()
     ensures once { (target : TargetState) (router : R) (deliveries : List Delivery) →
         AreDelivered target deliveries →
         router_after R.after R.answer target router (items_of deliveries)
-        ≡ router_after_requests R.after R.answer (room_of target) router (requests_of deliveries) }
+        ≡ router_after_requests R.after R.answer (max_reply_size target) router (requests_of deliveries) }
     // Each time a request comes, its count and the reply of its one execution answer it.
     ensures same_bytes { (target : TargetState) (router : R) (deliveries : List Delivery) →
         AreDelivered target deliveries →
         answers_to R.after R.answer target router (items_of deliveries)
-        ≡ answers_once R.after R.answer (room_of target) router deliveries }
+        ≡ answers_once R.after R.answer (max_reply_size target) router deliveries }
 {}
 
 /// The counts that an originator takes follow one another, whatever the calls: that of the n-th request, from 0

@@ -13,6 +13,6 @@ pub mod laws;
 mod originator;
 mod target;
 
-pub use cip_bytes::protocol::LARGEST_SIZE;
+pub use cip_bytes::protocol::LARGEST_CONNECTION_SIZE;
 pub use originator::{Came, Originator, Refused, Stage};
-pub use target::{Kept, Received, Target};
+pub use target::{KeptReply, Received, Target};

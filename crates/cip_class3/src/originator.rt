@@ -12,8 +12,8 @@ ghost use Rattle.cip_class3.specs.OriginatorRule.{answers};
 use crate::item::write_item;
 use byteorder::{ByteOrder, LittleEndian};
 use cip_bytes::protocol::{
-    LARGEST_SIZE, SEQUENCE_COUNT_SIZE, SMALLEST_O_TO_T_SIZE, SMALLEST_REPLY, SMALLEST_REQUEST,
-    SMALLEST_T_TO_O_SIZE,
+    LARGEST_CONNECTION_SIZE, SEQUENCE_COUNT_SIZE, SMALLEST_O_TO_T_SIZE, SMALLEST_REPLY,
+    SMALLEST_REQUEST, SMALLEST_T_TO_O_SIZE,
 };
 use cip_message::reply_service;
 use std::alloc::{AllocError, Global};
@@ -92,7 +92,7 @@ pub struct Originator {
     /// The sequence count of the next request.
     next: u16,
     /// How many requests were submitted since the last one whose reply was accepted.
-    tries: u16,
+    unaccepted: u16,
     progress: Progress,
     /// The item of the request that waits, at the front of as many bytes as the O->T size.
     block: BoxedSlice<u8>,
@@ -114,7 +114,7 @@ impl Originator {
     ghost use Rattle.cip_class3.specs.OriginatorRule.{originator_at_opening, submit_refusal, with_next_request};
     ghost use Rattle.cip_class3.specs.OriginatorRule.{waiting_item, after_item, accepted_reply, is_waiting};
     ghost use Rattle.cip_class3.specs.OriginatorRule.{after_give_up, stage_of, is_reply};
-    ghost use Rattle.cip_class3.specs.Came.{reply_in};
+    ghost use Rattle.cip_class3.specs.ReceivedReply.{reply_in};
     ghost use Rattle.cip_class3.specs.contracts.originator.Originator.{the_row};
 
     /// The end of a connection that was just opened, whose first request has the count `first`.
@@ -131,16 +131,16 @@ impl Originator {
         t_to_o_size: u16,
     ) -> Result<Originator, AllocError>
         requires o_to_t_from { SMALLEST_O_TO_T_SIZE ≤ o_to_t_size }
-        requires o_to_t_to { o_to_t_size ≤ LARGEST_SIZE }
+        requires o_to_t_to { o_to_t_size ≤ LARGEST_CONNECTION_SIZE }
         requires t_to_o_from { SMALLEST_T_TO_O_SIZE ≤ t_to_o_size }
-        requires t_to_o_to { t_to_o_size ≤ LARGEST_SIZE }
+        requires t_to_o_to { t_to_o_size ≤ LARGEST_CONNECTION_SIZE }
         ensures { IfOk result (λ originator. originator ≡ originator_at_opening first o_to_t_size t_to_o_size) }
     {
         Ok(Originator {
             o_to_t_size,
             t_to_o_size,
             next: first,
-            tries: 0,
+            unaccepted: 0,
             progress: Progress::Idle,
             block: vec![in alloc; 0; o_to_t_size as usize]?.into_boxed_slice(),
         })
@@ -156,7 +156,7 @@ impl Originator {
         ensures allowed { OnOk result (submit_refusal self.old request.now ≡ None) }
         ensures lent { IfOk result (λ lent. lent.now ≡ item self.old.next request.now) }
         ensures fits { IfOk result (λ lent. length lent.now ≤ self.old.o_to_t_size) }
-        ensures within { IfOk result (λ lent. length lent.now ≤ LARGEST_SIZE) }
+        ensures within { IfOk result (λ lent. length lent.now ≤ LARGEST_CONNECTION_SIZE) }
         ensures* after { sem 𝓛 (Rests the_row self.entry (λ new.
             IfErr result (λ _. new ≡ self.old) × IfOk result (λ _. new ≡ with_next_request self.old request.now))) }
     {
@@ -172,7 +172,7 @@ impl Originator {
         };
         // After count 65,535 comes count 0 (the originator's end).
         self.next = sequence_count.wrapping_add(1);
-        self.tries += 1;
+        self.unaccepted += 1;
         Ok(&self.block.as_slice()[..length])
     }
 
@@ -180,7 +180,7 @@ impl Originator {
     pub fn resend(&self) -> Option<&[u8]>
         ensures lent { option_map (λ lent. lent.now) result ≡ waiting_item self.now.phase }
         ensures fits { IfSome result (λ lent. length lent.now ≤ self.now.o_to_t_size) }
-        ensures within { IfSome result (λ lent. length lent.now ≤ LARGEST_SIZE) }
+        ensures within { IfSome result (λ lent. length lent.now ≤ LARGEST_CONNECTION_SIZE) }
     {
         match self.progress {
             Progress::Waiting { length, .. } => Some(&self.block.as_slice()[..length]),
@@ -197,7 +197,7 @@ impl Originator {
             return Came::Ignored;
         }
         self.progress = Progress::Idle;
-        self.tries = 0;
+        self.unaccepted = 0;
         Came::Accepted(&item[SEQUENCE_COUNT_SIZE..])
     }
 
@@ -231,7 +231,7 @@ impl Originator {
         ensures { result ≡ submit_refusal self.now request.now }
     {
         // The next count would be one that may still be held, or on the way (the originator's end).
-        if self.tries == MOST_UNACCEPTED {
+        if self.unaccepted == MOST_UNACCEPTED {
             return Some(Refused::TooManyAbandoned);
         }
         if matches!(self.progress, Progress::Waiting { .. }) {

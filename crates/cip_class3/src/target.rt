@@ -4,13 +4,14 @@
 ghost use Rattle.std.specs.Prelude.{◌≡◌, ℕ, ◌≤◌, ◌+◌, ◌-◌, ◌<◌, Option, Some, None, IfSome, length};
 ghost use Rattle.std.specs.Option.{option_map};
 ghost use Rattle.cip_class3.specs.TargetRule.{kept_bytes};
-ghost use Rattle.cip_class3.specs.Lent.{kept_of};
+ghost use Rattle.cip_class3.specs.KeptReply.{kept_of};
 ghost use Rattle.cip_class3.specs.Item.{message_of};
 
 use arrayvec::ArrayVec;
 use byteorder::{ByteOrder, LittleEndian};
 use cip_bytes::protocol::{
-    LARGEST_SIZE, SEQUENCE_COUNT_SIZE, SMALLEST_O_TO_T_SIZE, SMALLEST_REQUEST, SMALLEST_T_TO_O_SIZE,
+    LARGEST_CONNECTION_SIZE, SEQUENCE_COUNT_SIZE, SMALLEST_O_TO_T_SIZE, SMALLEST_REQUEST,
+    SMALLEST_T_TO_O_SIZE,
 };
 use cip_objects::{ReplyBuf, Router};
 use std::marker::Model;
@@ -28,7 +29,7 @@ pub enum Received {
 
 /// The sequence count and the reply of the request that was executed last.
 #[derive(Clone, Copy, Debug, PartialEq, Eq)]
-pub struct Kept<'a> {
+pub struct KeptReply<'a> {
     /// The request's sequence count.
     pub sequence_count: u16,
     /// The reply to it.
@@ -59,17 +60,17 @@ impl Model for Target {
 }
 
 impl Target {
-    ghost use Rattle.cip_class3.specs.TargetRule.{target_at_opening, step_of, target_step, IsTaken, IsRepeat};
-    ghost use Rattle.cip_class3.specs.TargetRule.{HasAnotherCount};
+    ghost use Rattle.cip_class3.specs.TargetRule.{target_at_opening, step_of, target_step, IsAccepted, IsRepeat};
+    ghost use Rattle.cip_class3.specs.TargetRule.{HasNewCount};
 
     /// The end of a connection that was just opened, which holds nothing.
     ///
     /// The sizes are in bytes, and count the item's two bytes of sequence count.
     pub fn new(o_to_t_size: u16, t_to_o_size: u16) -> Target
         requires o_to_t_from { SMALLEST_O_TO_T_SIZE ≤ o_to_t_size }
-        requires o_to_t_to { o_to_t_size ≤ LARGEST_SIZE }
+        requires o_to_t_to { o_to_t_size ≤ LARGEST_CONNECTION_SIZE }
         requires t_to_o_from { SMALLEST_T_TO_O_SIZE ≤ t_to_o_size }
-        requires t_to_o_to { t_to_o_size ≤ LARGEST_SIZE }
+        requires t_to_o_to { t_to_o_size ≤ LARGEST_CONNECTION_SIZE }
         ensures { result ≡ target_at_opening o_to_t_size t_to_o_size }
     {
         Target {
@@ -87,11 +88,11 @@ impl Target {
             ≡ target_step R.after R.answer self.old router.old item.now }
 
         // A repeat changes nothing: the router's state is equal, and the same bytes answer it.
-        ensures repeat { IsTaken self.old item.now → IsRepeat self.old item.now →
+        ensures repeat { IsAccepted self.old item.now → IsRepeat self.old item.now →
             (result ≡ Received.Repeated) × (router.new ≡ router.old)
             × (kept_bytes self.new.held ≡ kept_bytes self.old.held) }
         // Any other count is executed, also with the bytes of the request before it.
-        ensures another { IsTaken self.old item.now → HasAnotherCount self.old item.now →
+        ensures another { IsAccepted self.old item.now → HasNewCount self.old item.now →
             (result ≡ Received.Executed)
             × (router.new ≡ R.after router.old (self.old.t_to_o_size - 2) (message_of item.now)) }
     {
@@ -106,22 +107,22 @@ impl Target {
         if self.held == Some(sequence_count) {
             return Received::Repeated;
         }
-        let room = self.t_to_o_size as usize - SEQUENCE_COUNT_SIZE;
-        router.execute(&item[SEQUENCE_COUNT_SIZE..], room, &mut self.reply);
+        let max_size = self.t_to_o_size as usize - SEQUENCE_COUNT_SIZE;
+        router.execute(&item[SEQUENCE_COUNT_SIZE..], max_size, &mut self.reply);
         self.held = Some(sequence_count);
         Received::Executed
     }
 
     /// The held count and reply: what answers the connection's last request. `None` before the first execution.
     #[inline(always)]
-    pub fn kept(&self) -> Option<Kept<'_>>
+    pub fn kept(&self) -> Option<KeptReply<'_>>
         ensures held { option_map kept_of result ≡ self.now.held }
         // With its count the reply has no more bytes than the T->O size.
         ensures fits { IfSome result (λ kept. length kept.reply.now + SEQUENCE_COUNT_SIZE ≤ self.now.t_to_o_size) }
-        ensures within { IfSome result (λ kept. length kept.reply.now + SEQUENCE_COUNT_SIZE ≤ LARGEST_SIZE) }
+        ensures within { IfSome result (λ kept. length kept.reply.now + SEQUENCE_COUNT_SIZE ≤ LARGEST_CONNECTION_SIZE) }
     {
         match self.held {
-            Some(sequence_count) => Some(Kept {
+            Some(sequence_count) => Some(KeptReply {
                 sequence_count,
                 reply: self.reply.as_slice(),
             }),

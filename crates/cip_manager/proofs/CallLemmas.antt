@@ -36,15 +36,15 @@ length-said ForwardClose Long = refl
 -- An open leaves all as it was and refuses, or opens what it asks for.
 pub after_open : (P : Turn → Type 0) (layout : Layout) (manager : ManagerState) (now session : ℕ) (bytes : List ℕ)
     → ((reply : List ℕ) → (general_status reply == SUCCESS) ≡ false → P (record { manager = manager; reply = reply }))
-    → ((asked : Opening) → opening_check manager asked ≡ Ok tt → P (decided_opening (service_in layout) manager now session asked (Ok tt)))
+    → ((opening : Opening) → opening_check manager opening ≡ Ok tt → P (decided_opening (service_in layout) manager now session opening (Ok tt)))
     → P (open_turn_in layout manager now session bytes)
 after_open P layout manager now session bytes stays opens = read (open_in layout bytes)
   where
-    decide : (asked : Opening) (check : Result (Unit {0}) ExtendedStatus) → opening_check manager asked ≡ check
-        → P (decided_opening (service_in layout) manager now session asked check)
-    decide asked (Err extended) e =
-        stays (failure_reply (service_in layout) extended asked.triad) (failure-said (service_in layout) extended asked.triad)
-    decide asked (Ok passed) e = opens asked e
+    decide : (opening : Opening) (check : Result (Unit {0}) ExtendedStatus) → opening_check manager opening ≡ check
+        → P (decided_opening (service_in layout) manager now session opening check)
+    decide opening (Err extended) e =
+        stays (failure_reply (service_in layout) extended opening.triad) (failure-said (service_in layout) extended opening.triad)
+    decide opening (Ok passed) e = opens opening e
 
     read : (request : Result Open LengthFault) → P (read_opening_turn layout manager now session request)
     read (Err fault) = stays (length_reply (service_in layout) fault) (length-said (service_in layout) fault)

@@ -4,7 +4,7 @@ use Rattle.std.specs.Prelude.{◌==◌, nat_le, is_some}
 use Rattle.std.specs.List.{list_any, AllByRecursion}
 use Rattle.std.proofs.lemmas.Bool.{and_parts}
 use Rattle.std.proofs.lemmas.Bool.Decides.{nat_tests}
-use Rattle.cip_bytes.specs.declared.protocol.TheConstants.{LARGEST_SIZE, SMALLEST_O_TO_T_SIZE, SMALLEST_T_TO_O_SIZE}
+use Rattle.cip_bytes.specs.declared.protocol.TheConstants.{LARGEST_CONNECTION_SIZE, SMALLEST_O_TO_T_SIZE, SMALLEST_T_TO_O_SIZE}
 use Rattle.cip_bytes.specs.declared.protocol.ExtendedStatus.{ExtendedStatus}
 use Rattle.cip_bytes.specs.declared.protocol.ExtendedStatus.TheVariants.{DoubleOpen, Transport, ConnectionParameter, ConnectionSize, Rpi, OutOfConnections, ApplicationPath, PathSegment}
 use Rattle.cip_bytes.specs.Reading.{◌>>◌}
@@ -14,7 +14,7 @@ use Rattle.cip_manager.specs.declared.opening.Opening.{Opening}
 use Rattle.cip_manager.specs.Check.{demand, refusal_by, first_failure}
 use Rattle.cip_manager.specs.Connection.{has_triad}
 use Rattle.cip_manager.specs.Manager.{ManagerState}
-use Rattle.cip_manager.specs.Opening.{are_point_to_point, is_size, key_in, key_refusal, names_message_router, path_checks, field_checks, room_checks, opening_check}
+use Rattle.cip_manager.specs.Opening.{are_point_to_point, is_size, key_in, key_refusal, names_message_router, path_checks, field_checks, table_checks, opening_check}
 
 -- the first failure of joined lists is that of the first list, or else that of the rest
 pub first_failure-append : (checks rest : List (Result (Unit {0}) ExtendedStatus)) → first_failure (checks ++ rest) ≡ first_failure checks >> first_failure rest
@@ -23,25 +23,25 @@ first_failure-append (Ok passed ∷ checks) rest = first_failure-append checks r
 first_failure-append (Err extended ∷ checks) rest = refl
 
 -- so an opening is refused by its path, or else by its other fields, or else by what is open
-pub opening_check-parts : (manager : ManagerState) (asked : Opening)
-    → opening_check manager asked ≡ first_failure (path_checks manager.device asked) >> first_failure (field_checks asked) >> first_failure (room_checks manager asked.triad)
-opening_check-parts manager asked =
-    first_failure-append (path_checks manager.device asked ++ field_checks asked) (room_checks manager asked.triad)
-    ∙ ap (λ (front : Result (Unit {0}) ExtendedStatus). front >> first_failure (room_checks manager asked.triad))
-    (first_failure-append (path_checks manager.device asked) (field_checks asked))
+pub opening_check-parts : (manager : ManagerState) (opening : Opening)
+    → opening_check manager opening ≡ first_failure (path_checks manager.device opening) >> first_failure (field_checks opening) >> first_failure (table_checks manager opening.triad)
+opening_check-parts manager opening =
+    first_failure-append (path_checks manager.device opening ++ field_checks opening) (table_checks manager opening.triad)
+    ∙ ap (λ (front : Result (Unit {0}) ExtendedStatus). front >> first_failure (table_checks manager opening.triad))
+    (first_failure-append (path_checks manager.device opening) (field_checks opening))
 
-pub path-refuses : (manager : ManagerState) (asked : Opening) (extended : ExtendedStatus) → first_failure (path_checks manager.device asked) ≡ Err extended
-    → opening_check manager asked ≡ Err extended
-path-refuses manager asked extended e =
-    opening_check-parts manager asked
-    ∙ ap (λ (path : Result (Unit {0}) ExtendedStatus). path >> first_failure (field_checks asked) >> first_failure (room_checks manager asked.triad)) e
+pub path-refuses : (manager : ManagerState) (opening : Opening) (extended : ExtendedStatus) → first_failure (path_checks manager.device opening) ≡ Err extended
+    → opening_check manager opening ≡ Err extended
+path-refuses manager opening extended e =
+    opening_check-parts manager opening
+    ∙ ap (λ (path : Result (Unit {0}) ExtendedStatus). path >> first_failure (field_checks opening) >> first_failure (table_checks manager opening.triad)) e
 
-pub fields-refuse : (manager : ManagerState) (asked : Opening) (extended : ExtendedStatus) → first_failure (path_checks manager.device asked) ≡ Ok tt
-    → first_failure (field_checks asked) ≡ Err extended → opening_check manager asked ≡ Err extended
-fields-refuse manager asked extended e f =
-    opening_check-parts manager asked
-    ∙ ap (λ (path : Result (Unit {0}) ExtendedStatus). path >> first_failure (field_checks asked) >> first_failure (room_checks manager asked.triad)) e
-    ∙ ap (λ (fields : Result (Unit {0}) ExtendedStatus). fields >> first_failure (room_checks manager asked.triad)) f
+pub fields-refuse : (manager : ManagerState) (opening : Opening) (extended : ExtendedStatus) → first_failure (path_checks manager.device opening) ≡ Ok tt
+    → first_failure (field_checks opening) ≡ Err extended → opening_check manager opening ≡ Err extended
+fields-refuse manager opening extended e f =
+    opening_check-parts manager opening
+    ∙ ap (λ (path : Result (Unit {0}) ExtendedStatus). path >> first_failure (field_checks opening) >> first_failure (table_checks manager opening.triad)) e
+    ∙ ap (λ (fields : Result (Unit {0}) ExtendedStatus). fields >> first_failure (table_checks manager opening.triad)) f
 
 -- where none of joined lists fails, none of either does
 both-pass : (a b : Result (Unit {0}) ExtendedStatus) → (a >> b) ≡ Ok tt → (a ≡ Ok tt) × (b ≡ Ok tt)
@@ -73,14 +73,14 @@ above : (n : ℕ) → not (eqb n 0) ≡ true → 0 < n
 above n e = grind (arith, nat_tests)
 
 -- its bytes are a path, with a key that the device meets, to the Message Router
-pub record HasPath (device : Device) (asked : Opening) : Type 0 where
-  pub path : is_some asked.path ≡ true
-  pub key : key_refusal device (key_in asked.path) ≡ None
-  pub message_router : names_message_router asked.path ≡ true
+pub record HasPath (device : Device) (opening : Opening) : Type 0 where
+  pub path : is_some opening.path ≡ true
+  pub key : key_refusal device (key_in opening.path) ≡ None
+  pub message_router : names_message_router opening.path ≡ true
 
-pub has_path : (device : Device) (asked : Opening) → first_failure (path_checks device asked) ≡ Ok tt → HasPath device asked
-has_path device asked e =
-    let passed = all-passed (path_checks device asked) e in
+pub has_path : (device : Device) (opening : Opening) → first_failure (path_checks device opening) ≡ Ok tt → HasPath device opening
+has_path device opening e =
+    let passed = all-passed (path_checks device opening) e in
     record {
       path = demand-passed _ PathSegment passed.0;
       key = none-refuses _ passed.1.0;
@@ -88,20 +88,20 @@ has_path device asked e =
     }
 
 -- transport, type and multiplier, sizes and O->T RPI are such as a connection can have
-pub record HasFields (asked : Opening) : Type 0 where
-  pub transport : (asked.is_server && (asked.transport_class == 3)) ≡ true
-  pub parameters : (are_point_to_point asked && nat_le asked.timeout_multiplier 7) ≡ true
-  pub sizes : (is_size SMALLEST_O_TO_T_SIZE LARGEST_SIZE asked.o_to_t && is_size SMALLEST_T_TO_O_SIZE LARGEST_SIZE asked.t_to_o) ≡ true
-  pub rpi : 0 < asked.o_to_t.rpi
+pub record HasFields (opening : Opening) : Type 0 where
+  pub transport : (opening.is_server && (opening.transport_class == 3)) ≡ true
+  pub parameters : (are_point_to_point opening && nat_le opening.timeout_multiplier 7) ≡ true
+  pub sizes : (is_size SMALLEST_O_TO_T_SIZE LARGEST_CONNECTION_SIZE opening.o_to_t && is_size SMALLEST_T_TO_O_SIZE LARGEST_CONNECTION_SIZE opening.t_to_o) ≡ true
+  pub rpi : 0 < opening.o_to_t.rpi
 
-pub has_fields : (asked : Opening) → first_failure (field_checks asked) ≡ Ok tt → HasFields asked
-has_fields asked e =
-    let passed = all-passed (field_checks asked) e in
+pub has_fields : (opening : Opening) → first_failure (field_checks opening) ≡ Ok tt → HasFields opening
+has_fields opening e =
+    let passed = all-passed (field_checks opening) e in
     record {
       transport = demand-passed _ Transport passed.0;
       parameters = demand-passed _ ConnectionParameter passed.1.0;
       sizes = demand-passed _ ConnectionSize passed.1.1.0;
-      rpi = above asked.o_to_t.rpi (demand-passed _ Rpi passed.1.1.1.0);
+      rpi = above opening.o_to_t.rpi (demand-passed _ Rpi passed.1.1.1.0);
     }
 
 -- no open connection has the triad, a place is free, and an ID is left
@@ -110,9 +110,9 @@ pub record HasRoom (manager : ManagerState) (triad : Triad) : Type 0 where
   pub place_left : length manager.connections < manager.places
   pub id_left : manager.next_id < 2 ^ 32
 
-pub has_room : (manager : ManagerState) (triad : Triad) → first_failure (room_checks manager triad) ≡ Ok tt → HasRoom manager triad
+pub has_room : (manager : ManagerState) (triad : Triad) → first_failure (table_checks manager triad) ≡ Ok tt → HasRoom manager triad
 has_room manager triad e =
-    let passed = all-passed (room_checks manager triad) e in
+    let passed = all-passed (table_checks manager triad) e in
     let left = and_parts _ _ (demand-passed _ OutOfConnections passed.1.0) in
     record {
       new_triad = not-false _ (demand-passed _ DoubleOpen passed.0);
@@ -121,17 +121,17 @@ has_room manager triad e =
     }
 
 -- what each of the checks says, by its name
-pub record PassesChecks (manager : ManagerState) (asked : Opening) : Type 0 where
-  pub path : HasPath manager.device asked
-  pub fields : HasFields asked
-  pub room : HasRoom manager asked.triad
+pub record PassesChecks (manager : ManagerState) (opening : Opening) : Type 0 where
+  pub path : HasPath manager.device opening
+  pub fields : HasFields opening
+  pub room : HasRoom manager opening.triad
 
-pub passes_checks : (manager : ManagerState) (asked : Opening) → opening_check manager asked ≡ Ok tt → PassesChecks manager asked
-passes_checks manager asked e =
-    let first = passed-append (path_checks manager.device asked ++ field_checks asked) (room_checks manager asked.triad) e in
-    let front = passed-append (path_checks manager.device asked) (field_checks asked) first.0 in
+pub passes_checks : (manager : ManagerState) (opening : Opening) → opening_check manager opening ≡ Ok tt → PassesChecks manager opening
+passes_checks manager opening e =
+    let first = passed-append (path_checks manager.device opening ++ field_checks opening) (table_checks manager opening.triad) e in
+    let front = passed-append (path_checks manager.device opening) (field_checks opening) first.0 in
     record {
-      path = has_path manager.device asked front.0;
-      fields = has_fields asked front.1;
-      room = has_room manager asked.triad first.1;
+      path = has_path manager.device opening front.0;
+      fields = has_fields opening front.1;
+      room = has_room manager opening.triad first.1;
     }

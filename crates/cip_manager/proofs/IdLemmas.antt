@@ -30,21 +30,21 @@ record Draws (next after : ℕ) (ids : List ℕ) : Type 0 where
 abbrev given : Turn → List ℕ
 given turn = cond (general_status turn.reply == SUCCESS) (o_to_t_id_in turn.reply ∷ []) []
 
-given-opened : (layout : Layout) (manager : ManagerState) (now session : ℕ) (asked : Opening)
-    → o_to_t_id_in (open_success (service_in layout) manager.next_id asked) ≡ manager.next_id
-    → given (decided_opening (service_in layout) manager now session asked (Ok tt)) ≡ manager.next_id ∷ []
-given-opened small manager now session asked e = ap (λ id. id ∷ []) e
-given-opened large manager now session asked e = ap (λ id. id ∷ []) e
+given-opened : (layout : Layout) (manager : ManagerState) (now session : ℕ) (opening : Opening)
+    → o_to_t_id_in (open_success (service_in layout) manager.next_id opening) ≡ manager.next_id
+    → given (decided_opening (service_in layout) manager now session opening (Ok tt)) ≡ manager.next_id ∷ []
+given-opened small manager now session opening e = ap (λ id. id ∷ []) e
+given-opened large manager now session opening e = ap (λ id. id ∷ []) e
 
 draws-open : (layout : Layout) (manager : ManagerState) (now session : ℕ) (bytes : List ℕ) →
     Draws manager.next_id (open_turn_in layout manager now session bytes).manager.next_id (given (open_turn_in layout manager now session bytes))
 draws-open layout manager now session bytes =
     after_open (λ turn. Draws manager.next_id turn.manager.next_id (given turn)) layout manager now session bytes
     (λ reply refused. record { drawn = inl (ap (λ b. cond b (o_to_t_id_in reply ∷ []) []) refused, refl) })
-    (λ asked check. record {
+    (λ opening check. record {
       drawn = inr (
-        given-opened layout manager now session asked
-            (little_number-reads_back 4 manager.next_id [] (passes_checks manager asked check).room.id_left),
+        given-opened layout manager now session opening
+            (little_number-reads_back 4 manager.next_id [] (passes_checks manager opening check).room.id_left),
         refl,
       );
     })
@@ -102,16 +102,16 @@ differ-filter p manager d = record {
   drawn = All-filter p (λ c. c.o_to_t_id < manager.next_id) manager.connections d.drawn;
 }
 
-differ-opening : (manager : ManagerState) (now session : ℕ) (asked : Opening) → HasRoom manager asked.triad → Differ manager → Differ (with_opening manager now session asked)
-differ-opening manager now session asked room d =
+differ-opening : (manager : ManagerState) (now session : ℕ) (opening : Opening) → HasRoom manager opening.triad → Differ manager → Differ (with_opening manager now session opening)
+differ-opening manager now session opening room d =
     let cs = manager.connections in
-    let new : Connection = new_connection manager.next_id now session asked in
+    let new : Connection = new_connection manager.next_id now session opening in
     record {
       apart = all_pairs_push AreApart cs new d.apart (λ k e h. record {
         ids = d.drawn k e h;
         triads = λ same.
-            let has : has_triad asked.triad (get_or cs k e) ≡ true = ap (λ t. is_same_triad t asked.triad) same ∙ same_triad-same asked.triad in
-            let not_has : has_triad asked.triad (get_or cs k e) ≡ false = none-has (has_triad asked.triad) cs room.new_triad k e h in
+            let has : has_triad opening.triad (get_or cs k e) ≡ true = ap (λ t. is_same_triad t opening.triad) same ∙ same_triad-same opening.triad in
+            let not_has : has_triad opening.triad (get_or cs k e) ≡ false = none-has (has_triad opening.triad) cs room.new_triad k e h in
             cc;
       });
       drawn = All-push (λ c. c.o_to_t_id < manager.next_id + 1) cs new (All-weaker (λ c. c.o_to_t_id < manager.next_id) (λ c. c.o_to_t_id < manager.next_id + 1) (λ c h. omega arith) cs d.drawn) (omega arith);
@@ -121,7 +121,7 @@ module _ {M : Type 0} (after : M → ℕ → List ℕ → M) (answer : M → ℕ
   differ-call : (state : State M) (call : ManagerCall) → Differ state.manager → Differ (state_after_call after answer state call).manager
   differ-call state (Opens layout now session bytes) d =
       after_open (λ turn. Differ turn.manager) layout state.manager now session bytes (λ reply refused. d)
-      (λ asked check. differ-opening state.manager now session asked (passes_checks state.manager asked check).room d)
+      (λ opening check. differ-opening state.manager now session opening (passes_checks state.manager opening check).room d)
   differ-call state (Closes session bytes) d =
       after_close Differ state.manager session bytes d (λ request e. differ-filter (λ c. not (is_of_session_with session (triad_of request) c)) state.manager d)
   differ-call state (Receives now session id bytes) d =

@@ -3,7 +3,7 @@ use Rattle.std.proofs.Common.{◌≡◌, ℕ, List, [], ◌∷◌, Bool, true, f
 use Rattle.std.specs.Prelude.{find, is_some}
 use Rattle.cip_class3.specs.declared.target.Received.TheVariants.{Dropped, Repeated}
 use Rattle.cip_class3.specs.Item.{sequence_count_of}
-use Rattle.cip_class3.specs.TargetRule.{TargetState, TargetStep, step_of, target_step, after_execution, is_of_size, is_held}
+use Rattle.cip_class3.specs.TargetRule.{TargetState, TargetStep, step_of, target_step, after_execution, has_accepted_size, is_held}
 use Rattle.cip_manager.specs.declared.connection.Connection.{Connection}
 use Rattle.cip_manager.specs.Connection.{is_named, is_answered, after_item, deadline_at_item}
 use Rattle.cip_manager.specs.Items.{with_first, Reply, turn_of_found, item_turn, is_taken_by, is_taken}
@@ -26,9 +26,9 @@ module _ {M : Type 0} (after : M → ℕ → List ℕ → M) (answer : M → ℕ
     same : b ≡ false → step.target ≡ target
     still : b ≡ false → step.router ≡ router
 
-  target_step-says : (target : TargetState) (router : M) (bytes : List ℕ) → Says (is_of_size target bytes) target router (target_step after answer target router bytes)
+  target_step-says : (target : TargetState) (router : M) (bytes : List ℕ) → Says (has_accepted_size target bytes) target router (target_step after answer target router bytes)
   target_step-says target router bytes =
-      elim (is_of_size target bytes) as (
+      elim (has_accepted_size target bytes) as (
       λ b. Says b target router (cond b (cond (is_held target.held (sequence_count_of bytes)) (step_of Repeated target router) (after_execution after answer target router bytes)) (step_of Dropped target router))
       ) [
         | true ↦ elim (is_held target.held (sequence_count_of bytes)) as (
@@ -73,7 +73,7 @@ module _ {M : Type 0} (after : M → ℕ → List ℕ → M) (answer : M → ℕ
       go None f e = (refl, refl)
       go (Some c) f e =
           let step : TargetStep M = target_step after answer c.target router bytes in
-          let says : Says (is_of_size c.target bytes) c.target router step = target_step-says c.target router bytes in
+          let says : Says (has_accepted_size c.target bytes) c.target router step = target_step-says c.target router bytes in
           let not_answered : is_answered step.received ≡ false = dropped (is_answered step.received) _ e in
-          let not_of_size : is_of_size c.target bytes ≡ false = sym says.answered ∙ not_answered in
+          let not_of_size : has_accepted_size c.target bytes ≡ false = sym says.answered ∙ not_answered in
           (ap (λ x. with_first (is_named session id) x cs) (same c step not_answered (says.same not_of_size)) ∙ with_first-same (is_named session id) c cs f, says.still not_of_size)

@@ -8,10 +8,10 @@ use Rattle.cip_manager.specs.Connection.{is_named}
 use Rattle.cip_manager.specs.Items.{with_first, ConnectionTurn, answer_of, turn_of_connection, turn_of_found, item_turn}
 
 -- a change of the first is a change at its place
-with_first-place : {X : Type 0} → (test : X → Bool) (y : X) (xs : List X) → with_first test y xs ≡ slice_set xs (position_or_len test xs) y
-with_first-place test y [] = refl
-with_first-place {X} test y (x ∷ xs) =
-    let rest : with_first test y xs ≡ slice_set xs (position_or_len test xs) y = with_first-place test y xs in
+with_first-position : {X : Type 0} → (test : X → Bool) (y : X) (xs : List X) → with_first test y xs ≡ slice_set xs (position_or_len test xs) y
+with_first-position test y [] = refl
+with_first-position {X} test y (x ∷ xs) =
+    let rest : with_first test y xs ≡ slice_set xs (position_or_len test xs) y = with_first-position test y xs in
     let next : suc (position_or_len test xs) ≡ 1 + position_or_len test xs = omega arith in
     elim (test x) as (λ b. cond b (y ∷ xs) (x ∷ with_first test y xs) ≡ slice_set (x ∷ xs) (cond (not b) (1 + position_or_len test xs) 0) y) [
       | true ↦ refl
@@ -43,7 +43,7 @@ first_at {X} test xs i e = go (ltb (position_or_len test xs) (length xs)) refl e
         subst (λ k. IsFirst test xs k) here (record {
           within = ltb-true _ _ t;
           found = λ d. find_at test xs ∙ slice_get-within xs _ d (ltb-true _ _ t);
-          changed = λ y. with_first-place test y xs;
+          changed = λ y. with_first-position test y xs;
         })
     go false t f = cc
 

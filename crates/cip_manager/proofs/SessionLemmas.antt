@@ -41,9 +41,9 @@ module _ {M : Type 0} (after : M → ℕ → List ℕ → M) (answer : M → ℕ
       let cs = state.manager.connections in
       after_open (λ turn. of_session session turn.manager.connections ≡ filter (λ c. true) (of_session session cs)) layout state.manager now other bytes
       (λ reply refused. sym (filter-true (of_session session cs)))
-      (λ asked check.
-      filter-append (is_of_session session) cs (new_connection state.manager.next_id now other asked ∷ [])
-      ∙ (ap (λ b. of_session session cs ++ cond b (new_connection state.manager.next_id now other asked ∷ []) []) (ne_eqb other session differ)
+      (λ opening check.
+      filter-append (is_of_session session) cs (new_connection state.manager.next_id now other opening ∷ [])
+      ∙ (ap (λ b. of_session session cs ++ cond b (new_connection state.manager.next_id now other opening ∷ []) []) (ne_eqb other session differ)
       ∙ (append-nil (of_session session cs) ∙ sym (filter-true (of_session session cs)))))
   call-of_other session state (Closes other bytes) differ =
       let cs = state.manager.connections in
@@ -79,7 +79,7 @@ module _ {M : Type 0} (after : M → ℕ → List ℕ → M) (answer : M → ℕ
       let cs = state.manager.connections in
       after_open (λ turn. find (is_named session id) turn.manager.connections ≡ Some c) layout state.manager now other bytes
       (λ reply refused. found)
-      (λ asked check. find-append (is_named session id) c cs (new_connection state.manager.next_id now other asked ∷ []) found)
+      (λ opening check. find-append (is_named session id) c cs (new_connection state.manager.next_id now other opening ∷ []) found)
   call-is_spared session id c state (Closes other bytes) found spared =
       after_close (λ m. find (is_named session id) m.connections ≡ Some c) state.manager other bytes
       found

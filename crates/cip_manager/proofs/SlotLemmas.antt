@@ -27,9 +27,9 @@ module _ (slab : Slab Connection) where
   within entries connections i named same h = omega (arith, length-listed entries named, ap length same, h)
 
   -- where connections leave a place, the entries do
-  pub leaves-place : (entries : List Entry) (connections : List Connection) (places : ℕ) → AllByRecursion (Names slab) entries → listed slab entries ≡ connections
+  pub leaves-position : (entries : List Entry) (connections : List Connection) (places : ℕ) → AllByRecursion (Names slab) entries → listed slab entries ≡ connections
       → length connections < places → length entries < places
-  leaves-place entries connections places named same h = omega (arith, length-listed entries named, ap length same, h)
+  leaves-position entries connections places named same h = omega (arith, length-listed entries named, ap length same, h)
 
   -- their IDs are those of the entries
   pub ids-listed : (entries : List Entry) → AllByRecursion (Names slab) entries → map (λ c. c.o_to_t_id) (listed slab entries) ≡ ids entries

@@ -19,10 +19,10 @@ module _ {X : Type 0} where
   drop-remove (x ∷ xs) (suc i) = drop-remove xs i
 
   -- what stands from the place on is what the test let through of what stood there
-  pub record IsKeptFrom (p : X → Bool) (old now : List X) (place : ℕ) : Type 0 where
-    pub within : place ≤ length now
+  pub record IsKeptFrom (p : X → Bool) (old now : List X) (position : ℕ) : Type 0 where
+    pub within : position ≤ length now
     pub same : filter p now ≡ filter p old
-    pub passes : filter p (drop place now) ≡ drop place now
+    pub passes : filter p (drop position now) ≡ drop position now
 
   pub IsKeptFrom-end : (p : X → Bool) (xs : List X) → IsKeptFrom p xs xs (length xs)
   IsKeptFrom-end p xs = record {
@@ -32,28 +32,28 @@ module _ {X : Type 0} where
   }
 
   -- one that passes stays
-  pub IsKeptFrom-kept : (p : X → Bool) (old now : List X) (place : ℕ) (d : X) → 0 < place → p (get_or now (place - 1) d) ≡ true
-      → IsKeptFrom p old now place → IsKeptFrom p old now (place - 1)
-  IsKeptFrom-kept p old now place d h t kept =
-      let at : ℕ = place - 1 in
-      let rest : drop (at + 1) now ≡ drop place now = ap (λ i. drop i now) {x = at + 1} {y = place} (omega arith) in
-      let parts : drop at now ≡ get_or now at d ∷ drop place now = drop_more now at d (omega (arith, kept.within)) ∙ ap (λ xs. get_or now at d ∷ xs) rest in
+  pub IsKeptFrom-kept : (p : X → Bool) (old now : List X) (position : ℕ) (d : X) → 0 < position → p (get_or now (position - 1) d) ≡ true
+      → IsKeptFrom p old now position → IsKeptFrom p old now (position - 1)
+  IsKeptFrom-kept p old now position d h t kept =
+      let at : ℕ = position - 1 in
+      let rest : drop (at + 1) now ≡ drop position now = ap (λ i. drop i now) {x = at + 1} {y = position} (omega arith) in
+      let parts : drop at now ≡ get_or now at d ∷ drop position now = drop_more now at d (omega (arith, kept.within)) ∙ ap (λ xs. get_or now at d ∷ xs) rest in
       record {
         within = omega (arith, kept.within);
         same = kept.same;
         passes =
             ap (filter p) parts
-            ∙ (ap (λ b. cond b (get_or now at d ∷ filter p (drop place now)) (filter p (drop place now))) t
+            ∙ (ap (λ b. cond b (get_or now at d ∷ filter p (drop position now)) (filter p (drop position now))) t
             ∙ (ap (λ xs. get_or now at d ∷ xs) kept.passes ∙ sym parts));
       }
 
   -- one that fails is taken out
-  pub IsKeptFrom-removed : (p : X → Bool) (old now : List X) (place : ℕ) (d : X) → 0 < place → p (get_or now (place - 1) d) ≡ false
-      → IsKeptFrom p old now place → IsKeptFrom p old (remove now (place - 1)) (place - 1)
-  IsKeptFrom-removed p old now place d h f kept =
-      let at : ℕ = place - 1 in
+  pub IsKeptFrom-removed : (p : X → Bool) (old now : List X) (position : ℕ) (d : X) → 0 < position → p (get_or now (position - 1) d) ≡ false
+      → IsKeptFrom p old now position → IsKeptFrom p old (remove now (position - 1)) (position - 1)
+  IsKeptFrom-removed p old now position d h f kept =
+      let at : ℕ = position - 1 in
       let here : at < length now = omega (arith, kept.within) in
-      let rest : drop at (remove now at) ≡ drop place now = drop-remove now at ∙ ap (λ i. drop i now) {x = suc at} {y = place} (omega arith) in
+      let rest : drop at (remove now at) ≡ drop position now = drop-remove now at ∙ ap (λ i. drop i now) {x = suc at} {y = position} (omega arith) in
       record {
         within = omega (arith, length-remove now at here);
         same = filter-remove p now at d here f ∙ kept.same;

@@ -3,7 +3,7 @@ use Rattle.std.specs.Prelude.{ℕ, Bool, false, if◌then◌else◌, List, [], �
 use Rattle.std.specs.Option.{option_map}
 use Rattle.cip_class3.specs.declared.target.Received.{Received}
 use Rattle.cip_class3.specs.Item.{item}
-use Rattle.cip_class3.specs.TargetRule.{Kept, target_step, is_of_size, kept_bytes}
+use Rattle.cip_class3.specs.TargetRule.{KeptReply, target_step, has_accepted_size, kept_bytes}
 use Rattle.cip_manager.specs.declared.connection.Connection.{Connection}
 use Rattle.cip_manager.specs.declared.manager.KeptAnswer.{KeptAnswer}
 use Rattle.cip_manager.specs.Connection.{is_named, is_answered, after_item}
@@ -21,7 +21,7 @@ abbrev pub reply_of : Connection → Reply
 reply_of connection = record { id = connection.t_to_o_id; bytes = kept_bytes connection.target.held }
 
 -- the same where something is held, and nothing where nothing is
-abbrev pub kept_reply : ℕ → Kept → Reply
+abbrev pub kept_reply : ℕ → KeptReply → Reply
 kept_reply id kept = record { id = id; bytes = item kept.sequence_count kept.reply }
 
 abbrev pub held_reply : Connection → Option Reply
@@ -79,7 +79,7 @@ module _ {M : Type 0} (after : M → ℕ → List ℕ → M) (answer : M → ℕ
 -- whether the item has a connection, and a size that its target takes
 abbrev pub is_taken_by : Option Connection → List ℕ → Bool
 is_taken_by None bytes = false
-is_taken_by (Some connection) bytes = is_of_size connection.target bytes
+is_taken_by (Some connection) bytes = has_accepted_size connection.target bytes
 
 abbrev pub is_taken : List Connection → ℕ → ℕ → List ℕ → Bool
 is_taken connections session id bytes = is_taken_by (find (is_named session id) connections) bytes

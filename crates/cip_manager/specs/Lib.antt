@@ -6,8 +6,8 @@ pub mod Items
 pub mod Manager
 pub mod Opening
 pub mod Replies
-pub mod Room
+pub mod Soundness
 pub mod Rows
 pub mod Runs
 pub mod Table
-pub mod Watching
+pub mod ConnectionInfo

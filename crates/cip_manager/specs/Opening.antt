@@ -5,7 +5,7 @@
 use Rattle.std.specs.Prelude.{◌≡◌, ℕ, ◌+◌, ◌^◌, ◌≤◌, nat_lt, nat_le, ◌==◌, Bool, false, not, ◌&&◌, is_some, is_none}
 use Rattle.std.specs.Prelude.{List, [], ◌∷◌, ◌++◌, length, Option, Some, None, Result, Ok, Err}
 use Rattle.std.specs.List.{list_any}
-use Rattle.cip_bytes.specs.declared.protocol.TheConstants.{LARGEST_SIZE, MESSAGE_ROUTER, SMALLEST_O_TO_T_SIZE, SMALLEST_T_TO_O_SIZE}
+use Rattle.cip_bytes.specs.declared.protocol.TheConstants.{LARGEST_CONNECTION_SIZE, MESSAGE_ROUTER, SMALLEST_O_TO_T_SIZE, SMALLEST_T_TO_O_SIZE}
 use Rattle.cip_bytes.specs.declared.protocol.ManagerService.{ManagerService}
 use Rattle.cip_bytes.specs.declared.protocol.ManagerService.TheVariants.{ForwardOpen, LargeForwardOpen}
 use Rattle.cip_bytes.specs.declared.protocol.GeneralStatus.TheVariants.{Success}
@@ -75,7 +75,7 @@ abbrev pub is_point_to_point : Direction → Bool
 is_point_to_point direction = direction.connection_type == 2
 
 abbrev pub are_point_to_point : Opening → Bool
-are_point_to_point asked = is_point_to_point asked.o_to_t && is_point_to_point asked.t_to_o
+are_point_to_point opening = is_point_to_point opening.o_to_t && is_point_to_point opening.t_to_o
 
 -- the size of an item, its count included, is from the first number to the second
 abbrev pub is_size : ℕ → ℕ → Direction → Bool
@@ -104,66 +104,66 @@ names_message_router (Some o) = is_message_router o.path
 
 -- those of its path: it names this device, and its Message Router
 abbrev pub path_checks : Device → Opening → List (Result (Unit {0}) ExtendedStatus)
-path_checks device asked =
-    demand (is_some asked.path) PathSegment
-    ∷ refusal_by (key_refusal device (key_in asked.path))
-    ∷ demand (names_message_router asked.path) ApplicationPath
+path_checks device opening =
+    demand (is_some opening.path) PathSegment
+    ∷ refusal_by (key_refusal device (key_in opening.path))
+    ∷ demand (names_message_router opening.path) ApplicationPath
     ∷ []
 
 -- those of its other fields, whatever is open already
 abbrev pub field_checks : Opening → List (Result (Unit {0}) ExtendedStatus)
-field_checks asked =
-    demand (asked.is_server && (asked.transport_class == 3)) Transport
-    ∷ demand (are_point_to_point asked && nat_le asked.timeout_multiplier 7) ConnectionParameter
-    ∷ demand (is_size SMALLEST_O_TO_T_SIZE LARGEST_SIZE asked.o_to_t
-    && is_size SMALLEST_T_TO_O_SIZE LARGEST_SIZE asked.t_to_o) ConnectionSize
-    ∷ demand (not (asked.o_to_t.rpi == 0)) Rpi
+field_checks opening =
+    demand (opening.is_server && (opening.transport_class == 3)) Transport
+    ∷ demand (are_point_to_point opening && nat_le opening.timeout_multiplier 7) ConnectionParameter
+    ∷ demand (is_size SMALLEST_O_TO_T_SIZE LARGEST_CONNECTION_SIZE opening.o_to_t
+    && is_size SMALLEST_T_TO_O_SIZE LARGEST_CONNECTION_SIZE opening.t_to_o) ConnectionSize
+    ∷ demand (not (opening.o_to_t.rpi == 0)) Rpi
     ∷ []
 
 -- those of what is open already
-abbrev pub room_checks : ManagerState → Triad → List (Result (Unit {0}) ExtendedStatus)
-room_checks manager triad =
+abbrev pub table_checks : ManagerState → Triad → List (Result (Unit {0}) ExtendedStatus)
+table_checks manager triad =
     demand (not (list_any (has_triad triad) manager.connections)) DoubleOpen
     ∷ demand (nat_lt (length manager.connections) manager.places && nat_lt manager.next_id (2 ^ 32)) OutOfConnections
     ∷ []
 
 -- all of them, in their order
 abbrev pub opening_checks : ManagerState → Opening → List (Result (Unit {0}) ExtendedStatus)
-opening_checks manager asked =
-    path_checks manager.device asked ++ field_checks asked ++ room_checks manager asked.triad
+opening_checks manager opening =
+    path_checks manager.device opening ++ field_checks opening ++ table_checks manager opening.triad
 
 -- why it is refused: the first check that fails
 abbrev pub opening_check : ManagerState → Opening → Result (Unit {0}) ExtendedStatus
-opening_check manager asked = first_failure (opening_checks manager asked)
+opening_check manager opening = first_failure (opening_checks manager opening)
 
 -- what a connection can be made of
-pub record CanBeOpened (asked : Opening) : Type 0 where
-  pub multiplier : asked.timeout_multiplier ≤ 7
-  pub o_to_t_from : SMALLEST_O_TO_T_SIZE ≤ asked.o_to_t.size
-  pub o_to_t_to : asked.o_to_t.size ≤ LARGEST_SIZE
-  pub t_to_o_from : SMALLEST_T_TO_O_SIZE ≤ asked.t_to_o.size
-  pub t_to_o_to : asked.t_to_o.size ≤ LARGEST_SIZE
+pub record CanBeOpened (opening : Opening) : Type 0 where
+  pub multiplier : opening.timeout_multiplier ≤ 7
+  pub o_to_t_from : SMALLEST_O_TO_T_SIZE ≤ opening.o_to_t.size
+  pub o_to_t_to : opening.o_to_t.size ≤ LARGEST_CONNECTION_SIZE
+  pub t_to_o_from : SMALLEST_T_TO_O_SIZE ≤ opening.t_to_o.size
+  pub t_to_o_to : opening.t_to_o.size ≤ LARGEST_CONNECTION_SIZE
 
 -- the connection that an opening asks for, with this ID
 abbrev pub new_connection : ℕ → ℕ → ℕ → Opening → Connection
-new_connection id now session asked =
-    let timeout = timeout_of asked.o_to_t.rpi asked.timeout_multiplier in
+new_connection id now session opening =
+    let timeout = timeout_of opening.o_to_t.rpi opening.timeout_multiplier in
     record {
       session = session;
       o_to_t_id = id;
-      t_to_o_id = asked.t_to_o_id;
-      triad = asked.triad;
+      t_to_o_id = opening.t_to_o_id;
+      triad = opening.triad;
       timeout = timeout;
       deadline = deadline_at_opening now timeout;
-      target = target_at_opening asked.o_to_t.size asked.t_to_o.size;
+      target = target_at_opening opening.o_to_t.size opening.t_to_o.size;
     }
 
 -- it is opened behind the others, and draws the next ID
 abbrev pub with_opening : ManagerState → ℕ → ℕ → Opening → ManagerState
-with_opening manager now session asked =
+with_opening manager now session opening =
     record manager {
       next_id = manager.next_id + 1;
-      connections = manager.connections ++ new_connection manager.next_id now session asked ∷ [];
+      connections = manager.connections ++ new_connection manager.next_id now session opening ∷ [];
     }
 
 -- The next ID is drawn, and the reply has it. One more connection, with this ID, is open behind the others.
@@ -171,29 +171,29 @@ pub record OpensNext (old new : ManagerState) (reply : List ℕ) : Type 0 where
   pub places : new.places ≡ old.places
   pub device : new.device ≡ old.device
   pub drawn : new.next_id ≡ old.next_id + 1
-  pub told : o_to_t_id_in reply ≡ old.next_id
+  pub id_in_reply : o_to_t_id_in reply ≡ old.next_id
   pub connection : Connection
   pub id : connection.o_to_t_id ≡ old.next_id
   pub behind : new.connections ≡ old.connections ++ connection ∷ []
 
 -- the reply to an opening that succeeds
 abbrev pub open_success : ManagerService → ℕ → Opening → List ℕ
-open_success service id asked =
+open_success service id opening =
     reply_of_service service Success []
-    (open_success_data id asked.t_to_o_id asked.triad asked.o_to_t.rpi asked.t_to_o.rpi)
+    (open_success_data id opening.t_to_o_id opening.triad opening.o_to_t.rpi opening.t_to_o.rpi)
 
 -- what follows the checks
 abbrev pub decided_opening : ManagerService → ManagerState → ℕ → ℕ → Opening → Result (Unit {0}) ExtendedStatus → Turn
-decided_opening service manager now session asked (Err extended) =
-    turn manager (failure_reply service extended asked.triad)
-decided_opening service manager now session asked (Ok passed) =
-    turn (with_opening manager now session asked) (open_success service manager.next_id asked)
+decided_opening service manager now session opening (Err extended) =
+    turn manager (failure_reply service extended opening.triad)
+decided_opening service manager now session opening (Ok passed) =
+    turn (with_opening manager now session opening) (open_success service manager.next_id opening)
 
 -- An opening of a session at a moment, by one service or the other: the first check that fails refuses it, and then
 -- nothing is changed.
 abbrev pub opening_turn : ManagerService → ManagerState → ℕ → ℕ → Opening → Turn
-opening_turn service manager now session asked =
-    decided_opening service manager now session asked (opening_check manager asked)
+opening_turn service manager now session opening =
+    decided_opening service manager now session opening (opening_check manager opening)
 
 -- a layout's service, what its bytes spell, and what that asks for
 abbrev pub service_in : Layout → ManagerService

@@ -24,14 +24,14 @@ ghost use Rattle.std.specs.Prelude.{◌≡◌, ◌+◌, ◌≤◌, length, IfSom
 ghost use Rattle.std.specs.Option.{option_map};
 ghost use Rattle.std.specs.Borrow.{sem};
 ghost use Rattle.std.specs.Io.BufRead.{Rests};
-ghost use Rattle.cip_manager.specs.Watching.{watched};
+ghost use Rattle.cip_manager.specs.ConnectionInfo.{connection_info};
 ghost use Rattle.cip_manager.specs.Opening.{CanBeOpened, new_connection};
 ghost use Rattle.cip_manager.specs.Items.{view as reply_in, held_reply, connection_turn, turn_of_connection, answer_of};
 ghost use Rattle.cip_manager.specs.Connection.{timeout_of, moment_after, is_of_session_with, is_answered};
 
 use crate::manager::KeptAnswer;
 use crate::opening::Opening;
-use cip_bytes::protocol::{LARGEST_SIZE, SEQUENCE_COUNT_SIZE};
+use cip_bytes::protocol::{LARGEST_CONNECTION_SIZE, SEQUENCE_COUNT_SIZE};
 use cip_class3::{Received, Target};
 use cip_message::CloseRequest;
 use cip_objects::Router;
@@ -65,7 +65,7 @@ impl Triad {
 
 /// What a look at an open connection tells.
 #[derive(Clone, Copy, Debug, Default)]
-pub struct Watched {
+pub struct ConnectionInfo {
     /// The O->T connection ID, 32 bits. It never comes again.
     pub id: u32,
     /// The handle of the session that opened it, 32 bits.
@@ -79,7 +79,7 @@ pub struct Watched {
 pub struct Connection {
     /// The session that opened it.
     pub session: u32,
-    // The ID of items to the target, which was drawn for it. Nothing reads it but `watched` and definitions: what is
+    // The ID of items to the target, which was drawn for it. Nothing reads it but `connection_info` and definitions: what is
     // looked for by an ID is found in the index, which counts each comparison.
     o_to_t_id: u32,
     /// The ID of items to the originator, which asked for it.
@@ -97,27 +97,27 @@ impl Connection {
     ghost use Rattle.cip_manager.specs.contracts.connection.Connection.{the_row};
 
     /// The connection that an opening asks for, which holds nothing yet.
-    pub fn new(id: u32, now: u64, session: u32, asked: &Opening) -> Connection
-        requires { CanBeOpened asked.now }
-        ensures { result ≡ new_connection id now session asked.now }
+    pub fn new(id: u32, now: u64, session: u32, opening: &Opening) -> Connection
+        requires { CanBeOpened opening.now }
+        ensures { result ≡ new_connection id now session opening.now }
     {
-        let timeout = timeout_of(asked.o_to_t.rpi, asked.timeout_multiplier);
+        let timeout = timeout_of(opening.o_to_t.rpi, opening.timeout_multiplier);
         Connection {
             session,
             o_to_t_id: id,
-            t_to_o_id: asked.t_to_o_id,
-            triad: asked.triad,
+            t_to_o_id: opening.t_to_o_id,
+            triad: opening.triad,
             timeout,
             deadline: moment_after(now, timeout.max(LEAST_FIRST_TIMEOUT)),
-            target: Target::new(asked.o_to_t.size, asked.t_to_o.size),
+            target: Target::new(opening.o_to_t.size, opening.t_to_o.size),
         }
     }
 
     /// What a look at it tells.
-    pub fn watched(&self) -> Watched
-        ensures { result ≡ watched self.now }
+    pub fn connection_info(&self) -> ConnectionInfo
+        ensures { result ≡ connection_info self.now }
     {
-        Watched {
+        ConnectionInfo {
             id: self.o_to_t_id,
             session: self.session,
             deadline: self.deadline,
@@ -165,7 +165,7 @@ impl Connection {
         ensures answer { option_map reply_in result
             ≡ answer_of (turn_of_connection R.after R.answer self.old now item.now router.old) }
         ensures router { router.new ≡ (turn_of_connection R.after R.answer self.old now item.now router.old).router }
-        ensures fits { IfSome result (λ answer. length answer.reply.now + SEQUENCE_COUNT_SIZE ≤ LARGEST_SIZE) }
+        ensures fits { IfSome result (λ answer. length answer.reply.now + SEQUENCE_COUNT_SIZE ≤ LARGEST_CONNECTION_SIZE) }
     {
         let received = self.receive(now, item, router);
         self.answer_to(received)
@@ -175,7 +175,7 @@ impl Connection {
     #[inline(always)]
     pub fn answer_to(&self, received: Received) -> Option<KeptAnswer<'_>>
         ensures reply { option_map reply_in result ≡ (if is_answered received then held_reply self.now else None) }
-        ensures fits { IfSome result (λ answer. length answer.reply.now + SEQUENCE_COUNT_SIZE ≤ LARGEST_SIZE) }
+        ensures fits { IfSome result (λ answer. length answer.reply.now + SEQUENCE_COUNT_SIZE ≤ LARGEST_CONNECTION_SIZE) }
     {
         if received == Received::Dropped {
             return None;

@@ -9,7 +9,7 @@ use std::cmp::Ordering;
 use std::marker::Model;
 
 /// The most entries that an index has room for.
-const MOST_ENTRIES: usize = 64;
+const MAX_ENTRIES: usize = 64;
 
 /// How many comparisons with an ID were made.
 #[derive(Clone, Copy, Debug, Default, PartialEq, Eq)]
@@ -30,7 +30,7 @@ pub struct Entry {
 /// all connections takes their keys, one place after the other, and no ID.
 #[derive(Drop)]
 pub struct Index {
-    entries: ArrayVec<Entry, MOST_ENTRIES>,
+    entries: ArrayVec<Entry, MAX_ENTRIES>,
 }
 
 impl Model for Index {
@@ -68,24 +68,24 @@ impl Index {
 
     /// How the ID of the entry at a place stands to an ID. This is one step.
     #[inline(always)]
-    pub fn compare(&self, place: usize, id: u32, steps: &mut Steps) -> Ordering
-        requires place { place < length self.now }
+    pub fn compare(&self, position: usize, id: u32, steps: &mut Steps) -> Ordering
+        requires position { position < length self.now }
         requires counts { steps.old.count + 1 < 2 ^ 64 }
-        ensures order { result ≡ nat_cmp (slice_index (ids self.now) place) id }
+        ensures order { result ≡ nat_cmp (slice_index (ids self.now) position) id }
         ensures counted { steps.new.count ≡ steps.old.count + 1 }
     {
         steps.count += 1;
-        self.entries[place].id.cmp(&id)
+        self.entries[position].id.cmp(&id)
     }
 
     /// The key of the entry at a place.
     #[inline(always)]
-    pub fn key(&self, place: usize) -> usize
-        requires { place < length self.now }
-        ensures key { result ≡ slice_index (keys self.now) place }
+    pub fn key(&self, position: usize) -> usize
+        requires { position < length self.now }
+        ensures key { result ≡ slice_index (keys self.now) position }
         ensures rising { Rises (ids self.now) }
     {
-        self.entries[place].key
+        self.entries[position].key
     }
 
     /// Puts an entry at the end, with an ID above the others.
@@ -98,12 +98,12 @@ impl Index {
     }
 
     /// Takes out the entry at a place, and answers its key. Those behind it close up.
-    pub fn remove(&mut self, place: usize) -> usize
-        requires { place < length self.old }
-        ensures key { result ≡ slice_index (keys self.old) place }
-        ensures removed { self.new ≡ remove self.old place }
+    pub fn remove(&mut self, position: usize) -> usize
+        requires { position < length self.old }
+        ensures key { result ≡ slice_index (keys self.old) position }
+        ensures removed { self.new ≡ remove self.old position }
         ensures rising { Rises (ids self.old) }
     {
-        self.entries.remove(place).key
+        self.entries.remove(position).key
     }
 }

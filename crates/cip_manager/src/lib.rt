@@ -20,6 +20,6 @@ mod search;
 mod slots;
 mod table;
 
-pub use connection::Watched;
+pub use connection::ConnectionInfo;
 pub use index::Steps;
 pub use manager::{KeptAnswer, LONGEST_REPLY, Manager};

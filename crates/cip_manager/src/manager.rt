@@ -9,17 +9,19 @@ ghost use Rattle.cip_manager.specs.Items.{view as reply_in, item_turn, is_taken}
 ghost use Rattle.cip_manager.specs.Check.{first_failure};
 ghost use Rattle.cip_manager.specs.Connection.{has_id, earliest_deadline};
 ghost use Rattle.cip_manager.specs.Index.{binary_digits};
-ghost use Rattle.cip_manager.specs.Watching.{watched};
+ghost use Rattle.cip_manager.specs.ConnectionInfo.{connection_info};
 ghost use Rattle.cip_manager.specs.declared.connection.Connection.{Connection as OpenConnection};
-ghost use Rattle.cip_manager.specs.Opening.{CanBeOpened, room_checks};
+ghost use Rattle.cip_manager.specs.Opening.{CanBeOpened, table_checks};
 
-use crate::connection::{Connection, Triad, Watched};
+use crate::connection::{Connection, ConnectionInfo, Triad};
 use crate::group::Group;
 use crate::index::Steps;
 use crate::opening::Opening;
 use crate::reply::{write_close_success, write_failure, write_length_fault, write_open_success};
 use crate::table::Table;
-use cip_bytes::protocol::{ExtendedStatus, LARGEST_SIZE, ManagerService, SEQUENCE_COUNT_SIZE};
+use cip_bytes::protocol::{
+    ExtendedStatus, LARGEST_CONNECTION_SIZE, ManagerService, SEQUENCE_COUNT_SIZE,
+};
 use cip_message::{CloseRequest, Device, OpenRequest};
 use cip_objects::{ReplyBuf, Router};
 use std::alloc::{AllocError, Global};
@@ -53,7 +55,7 @@ impl Model for Manager {
 
     ghost Value = { ManagerState };
 
-    ghost use Rattle.cip_manager.specs.Room.{IsNumbered};
+    ghost use Rattle.cip_manager.specs.Soundness.{IsNumbered};
 
     ghost view = { λ m. record {
       places = m.table.places;
@@ -113,8 +115,8 @@ impl Manager {
     {
         match OpenRequest::read(data) {
             Ok(request) => {
-                let asked = Opening::of(&request);
-                self.open_as_asked(ManagerService::ForwardOpen, now, session, &asked, reply);
+                let opening = Opening::of(&request);
+                self.open_connection(ManagerService::ForwardOpen, now, session, &opening, reply);
             }
             Err(fault) => write_length_fault(ManagerService::ForwardOpen, fault, reply),
         }
@@ -133,12 +135,12 @@ impl Manager {
     {
         match OpenRequest::read_large(data) {
             Ok(request) => {
-                let asked = Opening::of_large(&request);
-                self.open_as_asked(
+                let opening = Opening::of_large(&request);
+                self.open_connection(
                     ManagerService::LargeForwardOpen,
                     now,
                     session,
-                    &asked,
+                    &opening,
                     reply,
                 );
             }
@@ -191,7 +193,7 @@ impl Manager {
         ensures router { router.new
             ≡ (item_turn R.after R.answer self.old.connections now session id item.now router.old).router }
         // With its count the reply has no more bytes than the largest size.
-        ensures fits { IfSome result (λ answer. length answer.reply.now + SEQUENCE_COUNT_SIZE ≤ LARGEST_SIZE) }
+        ensures fits { IfSome result (λ answer. length answer.reply.now + SEQUENCE_COUNT_SIZE ≤ LARGEST_CONNECTION_SIZE) }
     {
         self.table.receive(now, session, id, item, router)
     }
@@ -217,11 +219,11 @@ impl Manager {
     }
 
     /// What a look at the connection at a place tells. Places count from 0, in the order of opening.
-    pub fn watched(&self, place: usize) -> Watched
-        requires { place < length self.now.connections }
-        ensures { (d : OpenConnection) → result ≡ watched (slice_index_or self.now.connections place d) }
+    pub fn connection_info(&self, position: usize) -> ConnectionInfo
+        requires { position < length self.now.connections }
+        ensures { (d : OpenConnection) → result ≡ connection_info (slice_index_or self.now.connections position d) }
     {
-        self.table.watched(place)
+        self.table.connection_info(position)
     }
 
     /// The earliest moment, in microseconds, at which `expire` ends a connection: the earliest deadline of an open one.
@@ -265,46 +267,46 @@ impl Manager {
         write_close_success(triad, reply);
     }
 
-    fn open_as_asked(
+    fn open_connection(
         &mut self,
         service: ManagerService,
         now: u64,
         session: u32,
-        asked: &Opening,
+        opening: &Opening,
         reply: &mut ReplyBuf,
     )
-        ensures turn { turn self.new reply.new.items ≡ opening_turn service self.old now session asked.now }
+        ensures turn { turn self.new reply.new.items ≡ opening_turn service self.old now session opening.now }
         ensures refused { general_status reply.new.items ≢ SUCCESS → self.new ≡ self.old }
         ensures opened { general_status reply.new.items ≡ SUCCESS → OpensNext self.old self.new reply.new.items }
         ensures fits { length reply.new.items ≤ LONGEST_REPLY }
     {
-        if let Err(extended) = self.check(asked) {
-            write_failure(service, extended, asked.triad, reply);
+        if let Err(extended) = self.check(opening) {
+            write_failure(service, extended, opening.triad, reply);
             return;
         }
         let id = self.next_id as u32;
         self.next_id += 1;
         self.table
-            .push(id, Connection::new(id, now, session, asked));
-        write_open_success(service, id, asked, reply);
+            .push(id, Connection::new(id, now, session, opening));
+        write_open_success(service, id, opening, reply);
     }
 
     /// Why an opening is refused: the first check that fails.
-    fn check(&self, asked: &Opening) -> Result<(), ExtendedStatus>
-        ensures check { result ≡ opening_check self.now asked.now }
-        ensures can_be { OnOk result (CanBeOpened asked.now) }
-        ensures place { OnOk result (length self.now.connections < self.now.places) }
+    fn check(&self, opening: &Opening) -> Result<(), ExtendedStatus>
+        ensures check { result ≡ opening_check self.now opening.now }
+        ensures can_be { OnOk result (CanBeOpened opening.now) }
+        ensures position { OnOk result (length self.now.connections < self.now.places) }
         ensures id { OnOk result (self.now.next_id < 2 ^ 32) }
     {
-        asked.check_path(&self.device)?;
-        asked.check_fields()?;
-        self.check_room(asked.triad)
+        opening.check_path(&self.device)?;
+        opening.check_fields()?;
+        self.check_table(opening.triad)
     }
 
     /// The checks of what is open already.
-    fn check_room(&self, triad: Triad) -> Result<(), ExtendedStatus>
-        ensures check { result ≡ first_failure (room_checks self.now triad) }
-        ensures place { OnOk result (length self.now.connections < self.now.places) }
+    fn check_table(&self, triad: Triad) -> Result<(), ExtendedStatus>
+        ensures check { result ≡ first_failure (table_checks self.now triad) }
+        ensures position { OnOk result (length self.now.connections < self.now.places) }
         ensures id { OnOk result (self.now.next_id < 2 ^ 32) }
     {
         if self.table.has_any(&Group::WithTriad(triad)) {

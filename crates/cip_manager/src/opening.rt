@@ -9,14 +9,15 @@ ghost use Rattle.cip_manager.specs.Opening.{path_checks, field_checks, CanBeOpen
 
 use crate::connection::Triad;
 use cip_bytes::protocol::{
-    ExtendedStatus, LARGEST_SIZE, MESSAGE_ROUTER, SMALLEST_O_TO_T_SIZE, SMALLEST_T_TO_O_SIZE,
+    ExtendedStatus, LARGEST_CONNECTION_SIZE, MESSAGE_ROUTER, SMALLEST_O_TO_T_SIZE,
+    SMALLEST_T_TO_O_SIZE,
 };
 use cip_message::{
     Device, Key, LargeParameters, OpenPath, OpenRequest, Parameters, Path, read_open_path,
 };
 
 /// The greatest timeout multiplier: 512 times the RPI.
-const GREATEST_MULTIPLIER: u8 = 7;
+const GREATEST_TIMEOUT_MULTIPLIER: u8 = 7;
 
 /// What is asked for one direction of a connection.
 #[derive(Clone, Copy)]
@@ -57,9 +58,9 @@ impl Direction {
     }
 
     fn has_size_from(self, least: u16) -> bool
-        ensures { result ≡ is_size least LARGEST_SIZE self }
+        ensures { result ≡ is_size least LARGEST_CONNECTION_SIZE self }
     {
-        least <= self.size && usize::from(self.size) <= LARGEST_SIZE
+        least <= self.size && usize::from(self.size) <= LARGEST_CONNECTION_SIZE
     }
 }
 
@@ -86,7 +87,7 @@ impl Opening {
     {
         let o_to_t = Direction::of(request.o_to_t_rpi, request.o_to_t_parameters);
         let t_to_o = Direction::of(request.t_to_o_rpi, request.t_to_o_parameters);
-        Opening::asked(o_to_t, t_to_o, request)
+        Opening::with_directions(o_to_t, t_to_o, request)
     }
 
     /// What a Large_Forward_Open asks for.
@@ -95,11 +96,15 @@ impl Opening {
     {
         let o_to_t = Direction::of_large(request.o_to_t_rpi, request.o_to_t_parameters);
         let t_to_o = Direction::of_large(request.t_to_o_rpi, request.t_to_o_parameters);
-        Opening::asked(o_to_t, t_to_o, request)
+        Opening::with_directions(o_to_t, t_to_o, request)
     }
 
     /// What a request asks for in either layout, and what for either direction.
-    fn asked<P>(o_to_t: Direction, t_to_o: Direction, request: &OpenRequest<'_, P>) -> Opening
+    fn with_directions<P>(
+        o_to_t: Direction,
+        t_to_o: Direction,
+        request: &OpenRequest<'_, P>,
+    ) -> Opening
         ensures { (bits : P → ℕ) → result ≡ opening_with o_to_t t_to_o (view_by bits request.now) }
     {
         Opening {
@@ -144,7 +149,7 @@ impl Opening {
         }
         if !self.o_to_t.is_point_to_point()
             || !self.t_to_o.is_point_to_point()
-            || self.timeout_multiplier > GREATEST_MULTIPLIER
+            || self.timeout_multiplier > GREATEST_TIMEOUT_MULTIPLIER
         {
             return Err(ExtendedStatus::ConnectionParameter);
         }

@@ -70,15 +70,15 @@ pub fn write_failure(
 }
 
 /// The connection was opened with this O->T ID.
-pub fn write_open_success(service: ManagerService, id: u32, asked: &Opening, reply: &mut ReplyBuf)
-    ensures { reply.new.items ≡ open_success service id asked.now }
+pub fn write_open_success(service: ManagerService, id: u32, opening: &Opening, reply: &mut ReplyBuf)
+    ensures { reply.new.items ≡ open_success service id opening.now }
 {
     begin(service, GeneralStatus::Success, reply);
     append_u32(reply, id);
-    append_u32(reply, asked.t_to_o_id);
-    append_triad(asked.triad, reply);
-    append_u32(reply, asked.o_to_t.rpi);
-    append_u32(reply, asked.t_to_o.rpi);
+    append_u32(reply, opening.t_to_o_id);
+    append_triad(opening.triad, reply);
+    append_u32(reply, opening.o_to_t.rpi);
+    append_u32(reply, opening.t_to_o.rpi);
     append(reply, &[0, 0]);
 }
 

@@ -8,9 +8,9 @@ use std::cmp::Ordering;
 
 /// The place of the entry with an ID. It takes no more steps than the number of entries has binary digits.
 #[inline(always)]
-pub fn place_of(index: &Index, id: u32, steps: &mut Steps) -> Option<usize>
+pub fn position_of(index: &Index, id: u32, steps: &mut Steps) -> Option<usize>
     requires { steps.old.count ≤ 18446744073709551608 }
-    ensures place { result ≡ position (λ other. other == id) (ids index.now) }
+    ensures found { result ≡ position (λ other. other == id) (ids index.now) }
     ensures bound { steps.new.count ≤ steps.old.count + binary_digits (length index.now) }
     ensures seven { steps.new.count ≤ steps.old.count + 7 }
     ensures rises { steps.old.count ≤ steps.new.count }

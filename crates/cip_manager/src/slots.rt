@@ -11,7 +11,7 @@ ghost use Rattle.cip_manager.specs.declared.connection.Connection.{Connection as
 
 use crate::connection::Connection;
 use crate::manager::KeptAnswer;
-use cip_bytes::protocol::{LARGEST_SIZE, SEQUENCE_COUNT_SIZE};
+use cip_bytes::protocol::{LARGEST_CONNECTION_SIZE, SEQUENCE_COUNT_SIZE};
 use cip_objects::Router;
 use slab::Slab;
 use std::alloc::{AllocError, Global};
@@ -91,7 +91,7 @@ impl Slots {
             option_map reply_in result ≡ answer_of (turn_of_connection R.after R.answer c now item.now router.old) }
         ensures router { (c : OpenConnection) → get self.old key ≡ Some c →
             router.new ≡ (turn_of_connection R.after R.answer c now item.now router.old).router }
-        ensures fits { IfSome result (λ answer. length answer.reply.now + SEQUENCE_COUNT_SIZE ≤ LARGEST_SIZE) }
+        ensures fits { IfSome result (λ answer. length answer.reply.now + SEQUENCE_COUNT_SIZE ≤ LARGEST_CONNECTION_SIZE) }
     {
         self.kept[key].serve(now, item, router)
     }

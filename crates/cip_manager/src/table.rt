@@ -9,17 +9,17 @@ ghost use Rattle.std.specs.Io.BufRead.{Rests};
 ghost use Rattle.cip_manager.specs.declared.connection.Connection.{Connection as OpenConnection};
 ghost use Rattle.cip_manager.specs.Connection.{has_id, is_open_at, earliest_deadline};
 ghost use Rattle.cip_manager.specs.Index.{binary_digits};
-ghost use Rattle.cip_manager.specs.Watching.{watched};
+ghost use Rattle.cip_manager.specs.ConnectionInfo.{connection_info};
 ghost use Rattle.cip_manager.specs.Items.{view as reply_in, item_turn};
 ghost use Rattle.cip_manager.specs.Table.{is_in, no_entry, AreBelow};
 
-use crate::connection::{Connection, Watched};
+use crate::connection::{Connection, ConnectionInfo};
 use crate::group::Group;
 use crate::index::{Index, Steps};
 use crate::manager::KeptAnswer;
-use crate::search::place_of;
+use crate::search::position_of;
 use crate::slots::Slots;
-use cip_bytes::protocol::{LARGEST_SIZE, SEQUENCE_COUNT_SIZE};
+use cip_bytes::protocol::{LARGEST_CONNECTION_SIZE, SEQUENCE_COUNT_SIZE};
 use cip_objects::Router;
 use std::alloc::{AllocError, Global};
 use std::marker::Model;
@@ -40,7 +40,7 @@ impl Model for Table {
     ghost Value = { TableState };
 
     ghost use Rattle.cip_manager.specs.Table.{listed};
-    ghost use Rattle.cip_manager.specs.Room.{IsSound};
+    ghost use Rattle.cip_manager.specs.Soundness.{IsSound};
 
     ghost view = { λ t. record { places = t.places; connections = listed t.connections t.index } };
 
@@ -85,8 +85,8 @@ impl Table {
     pub fn has_any(&self, group: &Group) -> bool
         ensures { result ≡ list_any (is_in group.now) self.now.connections }
     {
-        for place in 0..self.len() {
-            if group.has(self.at(place)) {
+        for position in 0..self.len() {
+            if group.has(self.at(position)) {
                 return true;
             }
         }
@@ -102,20 +102,20 @@ impl Table {
         ensures seven { steps.new.count ≤ steps.old.count + 7 }
         ensures rises { steps.old.count ≤ steps.new.count }
     {
-        place_of(&self.index, id, steps).is_some()
+        position_of(&self.index, id, steps).is_some()
     }
 
     /// What a look at the connection at a place tells. Places count from 0, in the order of opening.
-    pub fn watched(&self, place: usize) -> Watched
-        requires { place < length self.now.connections }
-        ensures { (d : OpenConnection) → result ≡ watched (slice_index_or self.now.connections place d) }
+    pub fn connection_info(&self, position: usize) -> ConnectionInfo
+        requires { position < length self.now.connections }
+        ensures { (d : OpenConnection) → result ≡ connection_info (slice_index_or self.now.connections position d) }
     {
-        self.at(place).watched()
+        self.at(position).connection_info()
     }
 
     /// Opens a connection behind the others. Its ID is above theirs.
     pub fn push(&mut self, id: u32, connection: Connection)
-        requires place { length self.old.connections < self.old.places }
+        requires position { length self.old.connections < self.old.places }
         requires id { id ≡ connection.o_to_t_id }
         requires above { AreBelow connection.o_to_t_id self.old.connections }
         ensures pushed { self.new
@@ -134,9 +134,9 @@ impl Table {
             ≡ record self.old { connections = filter (λ c. not (is_in group.now c)) self.old.connections } }
         ensures below { (n : ℕ) → AreBelow n self.old.connections → AreBelow n self.new.connections }
     {
-        for place in (0..self.len()).rev() {
-            if group.has(self.at(place)) {
-                self.remove(place);
+        for position in (0..self.len()).rev() {
+            if group.has(self.at(position)) {
+                self.remove(position);
             }
         }
     }
@@ -159,8 +159,8 @@ impl Table {
         ensures { result ≡ earliest_deadline self.now.connections }
     {
         let mut earliest = None;
-        for place in 0..self.len() {
-            earliest = Some(earlier(self.at(place).deadline, earliest));
+        for position in 0..self.len() {
+            earliest = Some(earlier(self.at(position).deadline, earliest));
         }
         earliest
     }
@@ -187,12 +187,12 @@ impl Table {
             ≡ (item_turn R.after R.answer self.old.connections now session id item.now router.old).reply }
         ensures router { router.new
             ≡ (item_turn R.after R.answer self.old.connections now session id item.now router.old).router }
-        ensures fits { IfSome result (λ answer. length answer.reply.now + SEQUENCE_COUNT_SIZE ≤ LARGEST_SIZE) }
+        ensures fits { IfSome result (λ answer. length answer.reply.now + SEQUENCE_COUNT_SIZE ≤ LARGEST_CONNECTION_SIZE) }
     {
-        let Some(place) = place_of(&self.index, id, &mut Steps::default()) else {
+        let Some(position) = position_of(&self.index, id, &mut Steps::default()) else {
             return None;
         };
-        let key = self.index.key(place);
+        let key = self.index.key(position);
         let connection = self.connections.at(key);
         if connection.session != session {
             return None;
@@ -203,11 +203,11 @@ impl Table {
 
     /// The connection at a place.
     #[inline(always)]
-    fn at(&self, place: usize) -> &Connection
-        requires { place < length self.now.connections }
-        ensures { (d : OpenConnection) → result.now ≡ slice_index_or self.now.connections place d }
+    fn at(&self, position: usize) -> &Connection
+        requires { position < length self.now.connections }
+        ensures { (d : OpenConnection) → result.now ≡ slice_index_or self.now.connections position d }
     {
-        self.connections.at(self.index.key(place))
+        self.connections.at(self.index.key(position))
     }
 
     /// Ends the connections whose deadline is at or before a moment, and finds the earliest deadline of the others.
@@ -222,11 +222,11 @@ impl Table {
     }
 
     /// Ends the connection at a place.
-    fn remove(&mut self, place: usize)
-        requires { place < length self.old.connections }
-        ensures { self.new ≡ record self.old { connections = remove self.old.connections place } }
+    fn remove(&mut self, position: usize)
+        requires { position < length self.old.connections }
+        ensures { self.new ≡ record self.old { connections = remove self.old.connections position } }
     {
-        let key = self.index.remove(place);
+        let key = self.index.remove(position);
         self.connections.remove(key);
     }
 }

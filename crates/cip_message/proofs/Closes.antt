@@ -7,7 +7,7 @@ use Rattle.cip_bytes.specs.Reading.{Gives}
 use Rattle.cip_message.specs.declared.close.CloseRequest.{CloseRequest}
 use Rattle.cip_message.specs.declared.open.LengthFault.{LengthFault}
 use Rattle.cip_message.specs.declared.open.LengthFault.TheVariants.{Short, Long}
-use Rattle.cip_message.specs.Close.{Close, IsClose, SpellsClose, close_with, close_fields, close_of, said_length, view}
+use Rattle.cip_message.specs.Close.{Close, IsClose, SpellsClose, close_with, close_fields, close_of, expected_length, view}
 use Rattle.cip_bytes.proofs.Bytes.{AreBytes-drop, le2_again, le4_again, at1, at2, at4, parts_then}
 use Rattle.cip_bytes.proofs.Steps.{gives_iff, iff_then}
 
@@ -62,7 +62,7 @@ fields_fit b n fits e len =
       path = AreBytes-drop 12 b fits;
     }
 
-close_text : (b : List ℕ) → AreBytes b → length b ≡ said_length b → SpellsClose (close_fields b) b
+close_text : (b : List ℕ) → AreBytes b → length b ≡ expected_length b → SpellsClose (close_fields b) b
 unfolding close_fields
 close_text b fits len =
     let n = slice_index b 10 in
@@ -78,7 +78,7 @@ close_text b fits len =
 spelled_length : (r : ℕ) (c : Close) → length (close_with r c) ≡ 12 + length c.path
 spelled_length r c = omega arith
 
-spelled_said : (r : ℕ) (c : Close) → IsClose c → said_length (close_with r c) ≡ 12 + length c.path
+spelled_said : (r : ℕ) (c : Close) → IsClose c → expected_length (close_with r c) ≡ 12 + length c.path
 spelled_said r c h = let whole = h.whole_words in omega arith
 
 spelled_fields : (r : ℕ) (c : Close) → IsClose c → close_fields (close_with r c) ≡ c
@@ -110,33 +110,33 @@ tests_long false false c e = absurd cc
 close_taken : (b : List ℕ) (c : Close) → AreBytes b → close_of b ≡ Ok c → SpellsClose c b
 unfolding close_of
 close_taken b c fits e =
-    let t = tests_ok (ltb (length b) (said_length b)) (ltb (said_length b) (length b)) (close_fields b) c e in
-    let low : said_length b ≤ length b = ltb-false _ _ t.0 in
-    let high : length b ≤ said_length b = ltb-false _ _ t.1 in
+    let t = tests_ok (ltb (length b) (expected_length b)) (ltb (expected_length b) (length b)) (close_fields b) c e in
+    let low : expected_length b ≤ length b = ltb-false _ _ t.0 in
+    let high : length b ≤ expected_length b = ltb-false _ _ t.1 in
     subst (λ (d : Close). SpellsClose d b) t.2 (close_text b fits (omega arith))
 
-close_as_said : (b : List ℕ) (c : Close) → length b ≡ said_length b → close_fields b ≡ c → close_of b ≡ Ok c
+close_as_said : (b : List ℕ) (c : Close) → length b ≡ expected_length b → close_fields b ≡ c → close_of b ≡ Ok c
 unfolding close_of
 close_as_said b c len e =
-    let low : ltb (length b) (said_length b) ≡ false = le-ltb _ _ (omega arith) in
-    let high : ltb (said_length b) (length b) ≡ false = le-ltb _ _ (omega arith) in
+    let low : ltb (length b) (expected_length b) ≡ false = le-ltb _ _ (omega arith) in
+    let high : ltb (expected_length b) (length b) ≡ false = le-ltb _ _ (omega arith) in
     rw (low, high) (ap (λ (d : Close). Ok d) e)
 
 close_again : (b : List ℕ) (c : Close) → SpellsClose c b → close_of b ≡ Ok c
 close_again b c h =
-    close_as_said b c (ap length h.spelled ∙ spelled_length h.reserved c ∙ sym (ap said_length h.spelled ∙ spelled_said h.reserved c h.is_close))
+    close_as_said b c (ap length h.spelled ∙ spelled_length h.reserved c ∙ sym (ap expected_length h.spelled ∙ spelled_said h.reserved c h.is_close))
     (ap close_fields h.spelled ∙ spelled_fields h.reserved c h.is_close)
 
-short_iff : (b : List ℕ) → (close_of b ≡ Err Short) ↔ (length b < said_length b)
+short_iff : (b : List ℕ) → (close_of b ≡ Err Short) ↔ (length b < expected_length b)
 unfolding close_of
 short_iff b =
-    ((λ e. ltb-true _ _ (tests_short (ltb (length b) (said_length b)) (ltb (said_length b) (length b)) (close_fields b) e)), (λ h. rw (lt-ltb (length b) (said_length b) h) refl))
+    ((λ e. ltb-true _ _ (tests_short (ltb (length b) (expected_length b)) (ltb (expected_length b) (length b)) (close_fields b) e)), (λ h. rw (lt-ltb (length b) (expected_length b) h) refl))
 
-long_iff : (b : List ℕ) → (close_of b ≡ Err Long) ↔ (said_length b < length b)
+long_iff : (b : List ℕ) → (close_of b ≡ Err Long) ↔ (expected_length b < length b)
 unfolding close_of
 long_iff b = (
-  (λ e. ltb-true _ _ (tests_long (ltb (length b) (said_length b)) (ltb (said_length b) (length b)) (close_fields b) e)),
-  (λ h. let low : ltb (length b) (said_length b) ≡ false = le-ltb _ _ (omega arith) in rw (low, lt-ltb (said_length b) (length b) h) refl),
+  (λ e. ltb-true _ _ (tests_long (ltb (length b) (expected_length b)) (ltb (expected_length b) (length b)) (close_fields b) e)),
+  (λ h. let low : ltb (length b) (expected_length b) ≡ false = le-ltb _ _ (omega arith) in rw (low, lt-ltb (expected_length b) (length b) h) refl),
 )
 
 -- ---- of what a reader returned
@@ -144,8 +144,8 @@ long_iff b = (
 pub reads_close : (b : List ℕ) (r : Result CloseRequest LengthFault) → AreBytes b → Gives view r (close_of b) → (c : Close) → Gives view r (Ok c) ↔ SpellsClose c b
 reads_close b r fits e c = iff_then (gives_iff view r (close_of b) (Ok c) e) (close_taken b c fits, close_again b c)
 
-pub reads_short : (b : List ℕ) (r : Result CloseRequest LengthFault) → Gives view r (close_of b) → Gives view r (Err Short) ↔ (length b < said_length b)
+pub reads_short : (b : List ℕ) (r : Result CloseRequest LengthFault) → Gives view r (close_of b) → Gives view r (Err Short) ↔ (length b < expected_length b)
 reads_short b r e = iff_then (gives_iff view r (close_of b) (Err Short) e) (short_iff b)
 
-pub reads_long : (b : List ℕ) (r : Result CloseRequest LengthFault) → Gives view r (close_of b) → Gives view r (Err Long) ↔ (said_length b < length b)
+pub reads_long : (b : List ℕ) (r : Result CloseRequest LengthFault) → Gives view r (close_of b) → Gives view r (Err Long) ↔ (expected_length b < length b)
 reads_long b r e = iff_then (gives_iff view r (close_of b) (Err Long) e) (long_iff b)

@@ -10,7 +10,7 @@ use Rattle.cip_message.specs.declared.open_path.OpenPath.{OpenPath}
 use Rattle.cip_message.specs.Path.{IsPath}
 use Rattle.cip_message.specs.PathReading.{segment_of, class_of, path_of}
 use Rattle.cip_message.specs.Key.{IsKey, key, key_of}
-use Rattle.cip_message.specs.OpenPath.{key_text, IsOpenPath, with_key, behind_key, open_path_of}
+use Rattle.cip_message.specs.OpenPath.{key_text, IsOpenPath, with_key, path_after_key, open_path_of}
 use Rattle.cip_bytes.specs.Numbers.{AreBytes}
 use Rattle.cip_bytes.proofs.Bytes.{AreBytes-take, AreBytes-drop}
 use Rattle.cip_bytes.proofs.Steps.{chosen}
@@ -24,7 +24,7 @@ with_key_some : (k : Option Key) (r : Result Path PathFault) (o : OpenPath) → 
 with_key_some k (Ok p) o e = (p, refl, cc)
 with_key_some k (Err f) o e = absurd cc
 
-behind_key_some : (k : Option Key) (b : List ℕ) (o : OpenPath) → behind_key k b ≡ Some o → (j : Key) × (k ≡ Some j) × (with_key (Some j) (path_of b) ≡ Some o)
+behind_key_some : (k : Option Key) (b : List ℕ) (o : OpenPath) → path_after_key k b ≡ Some o → (j : Key) × (k ≡ Some j) × (with_key (Some j) (path_of b) ≡ Some o)
 behind_key_some None b o e = absurd cc
 behind_key_some (Some j) b o e = (j, refl, e)
 
@@ -35,9 +35,9 @@ long false r o e = e
 taken : (b : List ℕ) (o : OpenPath) → AreBytes b → open_path_of b ≡ Some o → IsOpenPath o b
 unfolding open_path_of
 taken b o fits e =
-    elim (chosen (eqb (slice_index b 0) 0x34) (cond (ltb (length b) 10) None (behind_key (key_of (take 10 b)) (drop 10 b))) (with_key None (path_of b)) (Some o) e) [
+    elim (chosen (eqb (slice_index b 0) 0x34) (cond (ltb (length b) 10) None (path_after_key (key_of (take 10 b)) (drop 10 b))) (with_key None (path_of b)) (Some o) e) [
       | inl h ↦
-          let k = behind_key_some (key_of (take 10 b)) (drop 10 b) o (long (ltb (length b) 10) (behind_key (key_of (take 10 b)) (drop 10 b)) o h.1) in
+          let k = behind_key_some (key_of (take 10 b)) (drop 10 b) o (long (ltb (length b) 10) (path_after_key (key_of (take 10 b)) (drop 10 b)) o h.1) in
           let p = with_key_some (Some k.0) (path_of (drop 10 b)) o k.2 in
           let key_is = key_taken (take 10 b) k.0 (AreBytes-take 10 b fits) k.1 in
           subst (λ (x : OpenPath). IsOpenPath x b) p.2

@@ -10,7 +10,7 @@ use Rattle.cip_message.specs.declared.open.LengthFault.{LengthFault}
 use Rattle.cip_message.specs.declared.open.LengthFault.TheVariants.{Short, Long}
 use Rattle.cip_bytes.proofs.Bytes.{AreBytes-drop, le2_again, le4_again, at1, at2, at3, at4, Parts, parts_then}
 use Rattle.cip_bytes.proofs.Steps.{ok_is, gives_iff, iff_then}
-use Rattle.cip_message.specs.Open.{Open, Layout, small, large, width, before_path, IsOpenIn, SpellsIn, front, back_in, open_with_in, open_fields_in, open_of_in, said_length_in, OneOpenIn}
+use Rattle.cip_message.specs.Open.{Open, Layout, small, large, width, before_path, IsOpenIn, SpellsIn, front, back_in, open_with_in, open_fields_in, open_of_in, expected_length_in, OneOpenIn}
 use Rattle.cip_bytes.proofs.Joined.{same_front}
 
 abbrev pub made : ℕ → ℕ → ℕ → ℕ → ℕ → ℕ → ℕ → ℕ → ℕ → ℕ → ℕ → ℕ → ℕ → List ℕ → Open
@@ -118,7 +118,7 @@ fields_fit layout b n fits e len = record {
   path = AreBytes-drop (before_path layout) b fits;
 }
 
-open_text : (layout : Layout) (b : List ℕ) → AreBytes b → length b ≡ said_length_in layout b → SpellsIn layout (open_fields_in layout b) b
+open_text : (layout : Layout) (b : List ℕ) → AreBytes b → length b ≡ expected_length_in layout b → SpellsIn layout (open_fields_in layout b) b
 open_text layout b fits len =
     let n = words_at layout b in
     let o = open_fields_in layout b in
@@ -139,7 +139,7 @@ spelled_length : (layout : Layout) (r : ℕ) (o : Open) → length (open_with_in
 spelled_length small r o = omega arith
 spelled_length large r o = omega arith
 
-spelled_said : (layout : Layout) (r : ℕ) (o : Open) → IsOpenIn layout o → said_length_in layout (open_with_in layout r o) ≡ before_path layout + length o.path
+spelled_said : (layout : Layout) (r : ℕ) (o : Open) → IsOpenIn layout o → expected_length_in layout (open_with_in layout r o) ≡ before_path layout + length o.path
 spelled_said small r o h = let whole = h.whole_words in omega arith
 spelled_said large r o h = let whole = h.whole_words in omega arith
 
@@ -176,37 +176,37 @@ tests_long false false o e = absurd cc
 
 open_taken : (layout : Layout) (b : List ℕ) (o : Open) → AreBytes b → open_of_in layout b ≡ Ok o → SpellsIn layout o b
 open_taken layout b o fits e =
-    let said = said_length_in layout b in
-    let t = tests_ok (ltb (length b) said) (ltb said (length b)) (open_fields_in layout b) o e in
-    let low : said ≤ length b = ltb-false _ _ t.0 in
-    let high : length b ≤ said = ltb-false _ _ t.1 in
+    let expected = expected_length_in layout b in
+    let t = tests_ok (ltb (length b) expected) (ltb expected (length b)) (open_fields_in layout b) o e in
+    let low : expected ≤ length b = ltb-false _ _ t.0 in
+    let high : length b ≤ expected = ltb-false _ _ t.1 in
     subst (λ (q : Open). SpellsIn layout q b) t.2 (open_text layout b fits (omega arith))
 
-open_as_said : (layout : Layout) (b : List ℕ) (o : Open) → length b ≡ said_length_in layout b → open_fields_in layout b ≡ o → open_of_in layout b ≡ Ok o
+open_as_said : (layout : Layout) (b : List ℕ) (o : Open) → length b ≡ expected_length_in layout b → open_fields_in layout b ≡ o → open_of_in layout b ≡ Ok o
 open_as_said layout b o len e =
-    let said = said_length_in layout b in
-    let low : ltb (length b) said ≡ false = le-ltb _ _ (omega arith) in
-    let high : ltb said (length b) ≡ false = le-ltb _ _ (omega arith) in
+    let expected = expected_length_in layout b in
+    let low : ltb (length b) expected ≡ false = le-ltb _ _ (omega arith) in
+    let high : ltb expected (length b) ≡ false = le-ltb _ _ (omega arith) in
     rw (low, high) (ap (λ (q : Open). Ok q) e)
 
-as_said : (layout : Layout) (o : Open) (b : List ℕ) → SpellsIn layout o b → length b ≡ said_length_in layout b
+as_said : (layout : Layout) (o : Open) (b : List ℕ) → SpellsIn layout o b → length b ≡ expected_length_in layout b
 as_said layout o b h =
-    ap length h.spelled ∙ spelled_length layout h.reserved o ∙ sym (ap (said_length_in layout) h.spelled ∙ spelled_said layout h.reserved o h.is_open)
+    ap length h.spelled ∙ spelled_length layout h.reserved o ∙ sym (ap (expected_length_in layout) h.spelled ∙ spelled_said layout h.reserved o h.is_open)
 
 open_again : (layout : Layout) (b : List ℕ) (o : Open) → SpellsIn layout o b → open_of_in layout b ≡ Ok o
 open_again layout b o h =
     open_as_said layout b o (as_said layout o b h) (ap (open_fields_in layout) h.spelled ∙ spelled_fields layout h.reserved o h.is_open)
 
-short_iff : (layout : Layout) (b : List ℕ) → (open_of_in layout b ≡ Err Short) ↔ (length b < said_length_in layout b)
+short_iff : (layout : Layout) (b : List ℕ) → (open_of_in layout b ≡ Err Short) ↔ (length b < expected_length_in layout b)
 short_iff layout b =
-    let said = said_length_in layout b in
-    ((λ e. ltb-true _ _ (tests_short (ltb (length b) said) (ltb said (length b)) (open_fields_in layout b) e)), (λ h. rw (lt-ltb (length b) said h) refl))
+    let expected = expected_length_in layout b in
+    ((λ e. ltb-true _ _ (tests_short (ltb (length b) expected) (ltb expected (length b)) (open_fields_in layout b) e)), (λ h. rw (lt-ltb (length b) expected h) refl))
 
-long_iff : (layout : Layout) (b : List ℕ) → (open_of_in layout b ≡ Err Long) ↔ (said_length_in layout b < length b)
+long_iff : (layout : Layout) (b : List ℕ) → (open_of_in layout b ≡ Err Long) ↔ (expected_length_in layout b < length b)
 long_iff layout b =
-    let said = said_length_in layout b in (
-      (λ e. ltb-true _ _ (tests_long (ltb (length b) said) (ltb said (length b)) (open_fields_in layout b) e)),
-      (λ h. let low : ltb (length b) said ≡ false = le-ltb _ _ (omega arith) in rw (low, lt-ltb said (length b) h) refl),
+    let expected = expected_length_in layout b in (
+      (λ e. ltb-true _ _ (tests_long (ltb (length b) expected) (ltb expected (length b)) (open_fields_in layout b) e)),
+      (λ h. let low : ltb (length b) expected ≡ false = le-ltb _ _ (omega arith) in rw (low, lt-ltb expected (length b) h) refl),
     )
 
 -- ---- of what a reader returned
@@ -215,10 +215,10 @@ module _ {P : Type 0} (view : OpenRequest P → Open) (layout : Layout) (b : Lis
   pub reads_open : AreBytes b → Gives view r (open_of_in layout b) → (o : Open) → Gives view r (Ok o) ↔ SpellsIn layout o b
   reads_open fits e o = iff_then (gives_iff view r (open_of_in layout b) (Ok o) e) (open_taken layout b o fits, open_again layout b o)
 
-  pub reads_short : Gives view r (open_of_in layout b) → Gives view r (Err Short) ↔ (length b < said_length_in layout b)
+  pub reads_short : Gives view r (open_of_in layout b) → Gives view r (Err Short) ↔ (length b < expected_length_in layout b)
   reads_short e = iff_then (gives_iff view r (open_of_in layout b) (Err Short) e) (short_iff layout b)
 
-  pub reads_long : Gives view r (open_of_in layout b) → Gives view r (Err Long) ↔ (said_length_in layout b < length b)
+  pub reads_long : Gives view r (open_of_in layout b) → Gives view r (Err Long) ↔ (expected_length_in layout b < length b)
   reads_long e = iff_then (gives_iff view r (open_of_in layout b) (Err Long) e) (long_iff layout b)
 
 -- ---- one open request at the front

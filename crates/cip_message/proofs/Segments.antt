@@ -11,7 +11,7 @@ use Rattle.cip_message.specs.declared.path.Kind.TheVariants as kinds
 use Rattle.cip_message.specs.declared.path.PathFault.{PathFault}
 use Rattle.cip_message.specs.declared.path.PathFault.TheVariants as fault
 use Rattle.cip_bytes.specs.Numbers.{le, AreBytes}
-use Rattle.cip_message.specs.Path.{In8, In16, In32, IsSegment, IsFirstByte, BeginsNone, IsFront}
+use Rattle.cip_message.specs.Path.{In8, In16, In32, IsSegment, IsFirstByte, BeginsNoSegment, IsFront}
 use Rattle.cip_message.specs.PathReading.{value8_of, value16_of, value32_of, with_kind, kind_of, segment_of_kind, has_32_bits, in_format, of_kind, segment_at, segment_of}
 use Rattle.cip_bytes.proofs.Bytes.{le2_back, le4_back, le2_again, le4_again}
 use Rattle.cip_bytes.proofs.Steps.{bind_ok, ok_is, err_is}
@@ -297,7 +297,7 @@ segment_again (Attribute v) s r (inr h) = again_from16 0x31 v s r Attribute (λ 
 
 -- what a segment's reader found wrong with bytes that aren't empty
 abbrev pub SegmentFault : PathFault → List ℕ → Type 0
-SegmentFault fault.Segment b = BeginsNone b
+SegmentFault fault.Segment b = BeginsNoSegment b
 SegmentFault fault.Cut b = IsFront b
 SegmentFault fault.Order b = ⊥
 
@@ -336,7 +336,7 @@ none_row x b read not_ (row16 kind is first e) = absurd (not_ first)
 none_row x b read not_ (row32 kind is first e) = absurd (not_ first)
 none_row x b read not_ (none n e) = e
 
-pub segment_none : (b : List ℕ) → BeginsNone b → segment_of b ≡ Err fault.Segment
+pub segment_none : (b : List ℕ) → BeginsNoSegment b → segment_of b ≡ Err fault.Segment
 unfolding segment_of
 segment_none b h =
     ap segment_of h.begins ∙ none_row h.first (h.first ∷ h.more) (segment_at h.first (h.first ∷ h.more)) h.not_first (row_of h.first (h.first ∷ h.more))

@@ -56,8 +56,8 @@ view v = record {
 }
 
 -- how long a text says it is: 12 bytes, and the path that byte 10 counts in words (0 where it ends before)
-abbrev pub said_length : List ℕ → ℕ
-said_length b = 12 + 2 * slice_index b 10
+abbrev pub expected_length : List ℕ → ℕ
+expected_length b = 12 + 2 * slice_index b 10
 
 -- the fields at their places
 unfoldable pub close_fields : List ℕ → Close
@@ -73,6 +73,6 @@ close_fields b = record {
 -- reading a close request
 unfoldable pub close_of : List ℕ → Result Close LengthFault
 close_of b =
-    if nat_lt (length b) (said_length b) then Err Short
-    else if nat_lt (said_length b) (length b) then Err Long
+    if nat_lt (length b) (expected_length b) then Err Short
+    else if nat_lt (expected_length b) (length b) then Err Long
     else Ok (close_fields b)

@@ -99,8 +99,8 @@ OneOpenIn layout = (o q : Open) (a b x y : List ℕ) → SpellsIn layout o a →
 
 -- how long a text says it is: the bytes before the path, and the path that the last of them counts in words (0
 -- where the text ends before)
-abbrev pub said_length_in : Layout → List ℕ → ℕ
-said_length_in layout b = before_path layout + 2 * slice_index b (31 + 2 * width layout)
+abbrev pub expected_length_in : Layout → List ℕ → ℕ
+expected_length_in layout b = before_path layout + 2 * slice_index b (31 + 2 * width layout)
 
 -- the fields at their places
 abbrev pub open_fields_in : Layout → List ℕ → Open
@@ -124,8 +124,8 @@ open_fields_in layout b = record {
 -- reading an open request
 abbrev pub open_of_in : Layout → List ℕ → Result Open LengthFault
 open_of_in layout b =
-    if nat_lt (length b) (said_length_in layout b) then Err Short
-    else if nat_lt (said_length_in layout b) (length b) then Err Long
+    if nat_lt (length b) (expected_length_in layout b) then Err Short
+    else if nat_lt (expected_length_in layout b) (length b) then Err Long
     else Ok (open_fields_in layout b)
 
 -- what an open request of the code shows, by the bits of its parameters
@@ -167,8 +167,8 @@ abbrev pub view : OpenRequest Parameters → Open
 view v = view_by (λ (parameters : Parameters). parameters.bits) v
 
 -- 36 bytes, and the path that byte 35 counts in words
-abbrev pub said_length : List ℕ → ℕ
-said_length b = said_length_in small b
+abbrev pub expected_length : List ℕ → ℕ
+expected_length b = expected_length_in small b
 
 unfoldable pub open_fields : List ℕ → Open
 open_fields b = open_fields_in small b
@@ -195,8 +195,8 @@ abbrev pub large_view : OpenRequest LargeParameters → Open
 large_view v = view_by (λ (parameters : LargeParameters). parameters.bits) v
 
 -- 40 bytes, and the path that byte 39 counts in words
-abbrev pub large_said_length : List ℕ → ℕ
-large_said_length b = said_length_in large b
+abbrev pub large_expected_length : List ℕ → ℕ
+large_expected_length b = expected_length_in large b
 
 unfoldable pub large_open_fields : List ℕ → Open
 large_open_fields b = open_fields_in large b

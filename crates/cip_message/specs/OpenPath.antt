@@ -27,13 +27,13 @@ with_key k (Ok p) = Some (record { key = k; path = p })
 with_key k (Err e) = None
 
 -- the path behind a key
-abbrev pub behind_key : Option Key → List ℕ → Option OpenPath
-behind_key None rest = None
-behind_key (Some k) rest = with_key (Some k) (path_of rest)
+abbrev pub path_after_key : Option Key → List ℕ → Option OpenPath
+path_after_key None rest = None
+path_after_key (Some k) rest = with_key (Some k) (path_of rest)
 
 -- reading them: the first byte of a key begins no path
 unfoldable pub open_path_of : List ℕ → Option OpenPath
 open_path_of b =
     if slice_index b 0 == 0x34 then
-    (if nat_lt (length b) 10 then None else behind_key (key_of (take 10 b)) (drop 10 b))
+    (if nat_lt (length b) 10 then None else path_after_key (key_of (take 10 b)) (drop 10 b))
     else with_key None (path_of b)

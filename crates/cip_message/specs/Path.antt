@@ -58,7 +58,7 @@ IsFirstByte x =
     ⊎ ((x ≡ 0x29) ⊎ ((x ≡ 0x30) ⊎ (x ≡ 0x31))))))))
 
 -- the bytes begin with the first byte of no segment
-pub record BeginsNone (b : List ℕ) : Type 0 where
+pub record BeginsNoSegment (b : List ℕ) : Type 0 where
   pub first : ℕ
   pub more : List ℕ
   pub begins : b ≡ first ∷ more
@@ -92,7 +92,7 @@ pub record EndsEarly (gs : List Segment) (b : List ℕ) : Type 0 where
 
 -- what is wrong with b, which follows the segments gs
 abbrev pub IsWrong : PathFault → List Segment → List ℕ → Type 0
-IsWrong fault.Segment gs b = BeginsNone b
+IsWrong fault.Segment gs b = BeginsNoSegment b
 IsWrong fault.Cut gs b = IsFront b
 IsWrong fault.Order gs b = IsOutOfOrder gs b ⊎ EndsEarly gs b
 

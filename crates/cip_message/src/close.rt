@@ -3,7 +3,7 @@
 ghost use Rattle.std.specs.Prelude.{◌≡◌, ◌↔◌, ◌+◌, ◌%◌, ◌<◌, ◌≤◌, ◌++◌, length, IsOk, OnOk, OnErr};
 ghost use Rattle.arrayvec.specs.ArrayVec.{array_vec_len};
 ghost use Rattle.cip_bytes.specs.Reading.{Gives};
-ghost use Rattle.cip_message.specs.Close.{Close, IsClose, SpellsClose, close, view, said_length, close_fields};
+ghost use Rattle.cip_message.specs.Close.{Close, IsClose, SpellsClose, close, view, expected_length, close_fields};
 ghost use Rattle.cip_message.specs.Close.{close_of};
 
 use crate::open::LengthFault;
@@ -38,8 +38,8 @@ impl<'a> CloseRequest<'a> {
     pub fn read(bytes: &'a [u8]) -> Result<CloseRequest<'a>, LengthFault>
         // What is read is spelled so, and what is spelled so is read.
         ensures close_request { (c : Close) → Gives view result (Ok c) ↔ SpellsClose c bytes.now }
-        ensures short { Gives view result (Err LengthFault.Short) ↔ (length bytes.now < said_length bytes.now) }
-        ensures long { Gives view result (Err LengthFault.Long) ↔ (said_length bytes.now < length bytes.now) }
+        ensures short { Gives view result (Err LengthFault.Short) ↔ (length bytes.now < expected_length bytes.now) }
+        ensures long { Gives view result (Err LengthFault.Long) ↔ (expected_length bytes.now < length bytes.now) }
         ensures exact { Gives view result (close_of bytes.now) }
     {
         close_at(bytes)
@@ -82,11 +82,11 @@ fn close_at(bytes: &[u8]) -> Result<CloseRequest<'_>, LengthFault>
         return Err(LengthFault::Short);
     }
     // byte 10 counts the words of the path; a reserved byte follows it (Forward_Close)
-    let said = SIZE_BEFORE_PATH + 2 * usize::from(bytes[10]);
-    if bytes.len() < said {
+    let expected = SIZE_BEFORE_PATH + 2 * usize::from(bytes[10]);
+    if bytes.len() < expected {
         return Err(LengthFault::Short);
     }
-    if said < bytes.len() {
+    if expected < bytes.len() {
         return Err(LengthFault::Long);
     }
     Ok(fields_at(bytes))

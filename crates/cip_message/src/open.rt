@@ -5,9 +5,9 @@ ghost use Rattle.std.specs.Prelude.{◌≡◌, ◌↔◌, ◌+◌, ◌*◌, ◌%
 ghost use Rattle.arrayvec.specs.ArrayVec.{array_vec_len};
 ghost use Rattle.cip_bytes.specs.Reading.{Gives};
 ghost use Rattle.cip_message.specs.Open.{Open, FrontFits, IsOpen, SpellsOpen, front, «open», view};
-ghost use Rattle.cip_message.specs.Open.{said_length, open_of, is_server_of};
+ghost use Rattle.cip_message.specs.Open.{expected_length, open_of, is_server_of};
 ghost use Rattle.cip_message.specs.Open.{class_of_transport, length_fault_number};
-ghost use Rattle.cip_message.specs.Open.{IsLargeOpen, SpellsLarge, large_open, large_view, large_said_length};
+ghost use Rattle.cip_message.specs.Open.{IsLargeOpen, SpellsLarge, large_open, large_view, large_expected_length};
 ghost use Rattle.cip_message.specs.Open.{large_open_of, width, before_path, IsOpenIn, BackFitsIn, back_in, open_with_in};
 ghost use Rattle.cip_message.specs.Open.{open_of_in, open_fields_in, view_by};
 
@@ -100,8 +100,8 @@ impl<'a> OpenRequest<'a> {
     pub fn read(bytes: &'a [u8]) -> Result<OpenRequest<'a>, LengthFault>
         // What is read is spelled so, and what is spelled so is read.
         ensures open_request { (o : Open) → Gives view result (Ok o) ↔ SpellsOpen o bytes.now }
-        ensures short { Gives view result (Err LengthFault.Short) ↔ (length bytes.now < said_length bytes.now) }
-        ensures long { Gives view result (Err LengthFault.Long) ↔ (said_length bytes.now < length bytes.now) }
+        ensures short { Gives view result (Err LengthFault.Short) ↔ (length bytes.now < expected_length bytes.now) }
+        ensures long { Gives view result (Err LengthFault.Long) ↔ (expected_length bytes.now < length bytes.now) }
         ensures exact { Gives view result (open_of bytes.now) }
     {
         open_at(bytes)
@@ -131,8 +131,8 @@ impl<'a> OpenRequest<'a, LargeParameters> {
     pub fn read_large(bytes: &'a [u8]) -> Result<OpenRequest<'a, LargeParameters>, LengthFault>
         // What is read is spelled so, and what is spelled so is read.
         ensures open_request { (o : Open) → Gives large_view result (Ok o) ↔ SpellsLarge o bytes.now }
-        ensures short { Gives large_view result (Err LengthFault.Short) ↔ (length bytes.now < large_said_length bytes.now) }
-        ensures long { Gives large_view result (Err LengthFault.Long) ↔ (large_said_length bytes.now < length bytes.now) }
+        ensures short { Gives large_view result (Err LengthFault.Short) ↔ (length bytes.now < large_expected_length bytes.now) }
+        ensures long { Gives large_view result (Err LengthFault.Long) ↔ (large_expected_length bytes.now < length bytes.now) }
         ensures exact { Gives large_view result (large_open_of bytes.now) }
     {
         open_at(bytes)
@@ -194,7 +194,7 @@ impl<P: DirectionParameters> OpenRequest<'_, P> {
 
     /// Appends the fields from the timeout multiplier on, up to the path.
     fn append_back<const N: usize>(&self, out: &mut ArrayVec<u8, N>)
-        requires room { array_vec_len out.old + 14 + 2 * width P.layout ≤ N }
+        requires capacity { array_vec_len out.old + 14 + 2 * width P.layout ≤ N }
         requires counted { length self.now.path.now ≤ 510 }
         ensures text { out.new.items ≡ out.old.items ++ back_in P.layout 0 (view_by P.bits self.now) }
         ensures len { array_vec_len out.new ≡ array_vec_len out.old + 14 + 2 * width P.layout }
@@ -228,11 +228,11 @@ fn open_at<P: DirectionParameters>(bytes: &[u8]) -> Result<OpenRequest<'_, P>, L
         return Err(LengthFault::Short);
     }
     // the byte before the path counts the words of it (Forward_Open, Large_Forward_Open)
-    let said = before_path + 2 * usize::from(bytes[before_path - 1]);
-    if bytes.len() < said {
+    let expected = before_path + 2 * usize::from(bytes[before_path - 1]);
+    if bytes.len() < expected {
         return Err(LengthFault::Short);
     }
-    if said < bytes.len() {
+    if expected < bytes.len() {
         return Err(LengthFault::Long);
     }
     Ok(fields_at(bytes))

@@ -303,7 +303,7 @@ fn size_optional(value: Option<u16>) -> usize
 /// Appends the shortest spelling of a value of 16 bits, `first` being that of 8 bits.
 fn append16<const N: usize>(out: &mut ArrayVec<u8, N>, first: u8, value: u16)
     requires first { first < 2 ^ 7 }
-    requires room { array_vec_len out.old + length (short16 first value) ≤ N }
+    requires capacity { array_vec_len out.old + length (short16 first value) ≤ N }
     ensures { out.new.items ≡ out.old.items ++ short16 first value }
 {
     if value < 0x100 {
@@ -317,7 +317,7 @@ fn append16<const N: usize>(out: &mut ArrayVec<u8, N>, first: u8, value: u16)
 /// The same of a value of 32 bits.
 fn append32<const N: usize>(out: &mut ArrayVec<u8, N>, first: u8, value: u32)
     requires first { first < 2 ^ 7 }
-    requires room { array_vec_len out.old + length (short32 first value) ≤ N }
+    requires capacity { array_vec_len out.old + length (short32 first value) ≤ N }
     ensures { out.new.items ≡ out.old.items ++ short32 first value }
 {
     if value < 0x1_0000 {
@@ -331,7 +331,7 @@ fn append32<const N: usize>(out: &mut ArrayVec<u8, N>, first: u8, value: u32)
 /// The same of a value that may be missing.
 fn append_optional<const N: usize>(out: &mut ArrayVec<u8, N>, first: u8, value: Option<u16>)
     requires first { first < 2 ^ 7 }
-    requires room { array_vec_len out.old + length (short_optional first value) ≤ N }
+    requires capacity { array_vec_len out.old + length (short_optional first value) ≤ N }
     ensures { out.new.items ≡ out.old.items ++ short_optional first value }
 {
     if let Some(value) = value {

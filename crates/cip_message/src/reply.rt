@@ -72,14 +72,14 @@ impl<'a> ReplyView<'a> {
     }
 
     /// The additional status word at that place, if there is one.
-    pub fn additional_word(&self, place: usize) -> Option<u16>
-        ensures { result ≡ slice_get (view self.now).additional place }
+    pub fn additional_word(&self, index: usize) -> Option<u16>
+        ensures { result ≡ slice_get (view self.now).additional index }
     {
         let words = self.additional;
-        if words.len() / 2 <= place {
+        if words.len() / 2 <= index {
             return None;
         }
-        Some(LittleEndian::read_u16(&words[2 * place..]))
+        Some(LittleEndian::read_u16(&words[2 * index..]))
     }
 }
 
@@ -158,9 +158,9 @@ pub fn write_reply<const N: usize>(
     ensures again { reply_of (reply (reply_to service status additional.now «data».now))
         ≡ Ok (reply_to service status additional.now «data».now) }
 {
-    let room = out.remaining_capacity();
+    let capacity = out.remaining_capacity();
     let before = 4 + 2 * additional.len();
-    if room < before || room - before < data.len() {
+    if capacity < before || capacity - before < data.len() {
         return Err(Full);
     }
     append(

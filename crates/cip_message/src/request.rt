@@ -69,9 +69,9 @@ impl<'a> RequestView<'a> {
         ensures spelled { OnOk result (IsRequest (view self.now)) }
         ensures err { OnErr result (out.new ≡ out.old) }
     {
-        let room = out.remaining_capacity();
+        let capacity = out.remaining_capacity();
         let before = 2 + self.path.len();
-        if room < before || room - before < self.data.len() {
+        if capacity < before || capacity - before < self.data.len() {
             return Err(Full);
         }
         append_u8(out, self.service);

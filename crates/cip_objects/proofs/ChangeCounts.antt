@@ -175,13 +175,13 @@ by_fit : (over : Bool) (m : Contents) (i : ℕ) (text : List ℕ) (o : Outcome) 
 by_fit true m i text o x = silent m i text (reply_to text (refusal_status ReplyDataTooLarge) []) refl
 by_fit false m i text o x = told m i text (reply_of_outcome text o) o x refl x.done
 
-by_outcome : (m : Contents) (i room : ℕ) (text : List ℕ) (r : Result Outcome Refusal) → ((o : Outcome) → r ≡ Ok o → Effect m i text o) → Stepped m i text (or_refusal m text (r >>= with_reply room text))
-by_outcome m i room text (Err s) x = silent m i text (reply_to text (refusal_status s) []) (no_success s)
-by_outcome m i room text (Ok o) x = by_fit (nat_lt room (length (reply_of_outcome text o))) m i text o (x o refl)
+by_outcome : (m : Contents) (i max_size : ℕ) (text : List ℕ) (r : Result Outcome Refusal) → ((o : Outcome) → r ≡ Ok o → Effect m i text o) → Stepped m i text (or_refusal m text (r >>= with_reply max_size text))
+by_outcome m i max_size text (Err s) x = silent m i text (reply_to text (refusal_status s) []) (no_success s)
+by_outcome m i max_size text (Ok o) x = by_fit (nat_lt max_size (length (reply_of_outcome text o))) m i text o (x o refl)
 
-stepped : (m : Contents) (i room : ℕ) (text : List ℕ) → Stepped m i text (exec m room text)
+stepped : (m : Contents) (i max_size : ℕ) (text : List ℕ) → Stepped m i text (exec m max_size text)
 unfolding exec
-stepped m i room text = by_outcome m i room text (outcome m text) (λ o e. effect m i text o e)
+stepped m i max_size text = by_outcome m i max_size text (outcome m text) (λ o e. effect m i text o e)
 
 small : (n : ℕ) → n < 2 ^ 32 → n ≡ (n + 0) % 2 ^ 32
 small n h = let e : n + 0 ≡ n = omega arith in sym (ap (λ k. k % 2 ^ 32) e ∙ mod-eq_of_lt h)

@@ -285,13 +285,13 @@ by_fit : (over : Bool) (m : Contents) (text : List ℕ) (o : Outcome) → IsCoun
 by_fit true m text o h x = silent m text (reply_to text (refusal_status ReplyDataTooLarge) []) h refl
 by_fit false m text o h x = told m text (reply_of_outcome text o) o x refl x.done
 
-by_outcome : (m : Contents) (room : ℕ) (text : List ℕ) (r : Result Outcome Refusal) → IsCounter m → ((o : Outcome) → r ≡ Ok o → Effect m text o) → Stepped m text (or_refusal m text (r >>= with_reply room text))
-by_outcome m room text (Err s) h x = silent m text (reply_to text (refusal_status s) []) h (no_success s)
-by_outcome m room text (Ok o) h x = by_fit (nat_lt room (length (reply_of_outcome text o))) m text o h (x o refl)
+by_outcome : (m : Contents) (max_size : ℕ) (text : List ℕ) (r : Result Outcome Refusal) → IsCounter m → ((o : Outcome) → r ≡ Ok o → Effect m text o) → Stepped m text (or_refusal m text (r >>= with_reply max_size text))
+by_outcome m max_size text (Err s) h x = silent m text (reply_to text (refusal_status s) []) h (no_success s)
+by_outcome m max_size text (Ok o) h x = by_fit (nat_lt max_size (length (reply_of_outcome text o))) m text o h (x o refl)
 
-stepped : (m : Contents) (room : ℕ) (text : List ℕ) → IsCounter m → AreBytes text → Stepped m text (exec m room text)
+stepped : (m : Contents) (max_size : ℕ) (text : List ℕ) → IsCounter m → AreBytes text → Stepped m text (exec m max_size text)
 unfolding exec
-stepped m room text h b = by_outcome m room text (outcome m text) h (λ o e. effect m text o h b e)
+stepped m max_size text h b = by_outcome m max_size text (outcome m text) h (λ o e. effect m text o h b e)
 
 twice : (a b c : ℕ) → ((a + b) % 2 ^ 32 + c) % 2 ^ 32 ≡ (a + (b + c)) % 2 ^ 32
 twice a b c = omega arith

@@ -13,7 +13,7 @@ use Rattle.cip_objects.specs.declared.service.Service.{Service}
 use Rattle.cip_objects.specs.declared.status.Refusal.{Refusal}
 use Rattle.cip_objects.specs.declared.status.Completion.TheVariants.{Whole}
 use Rattle.cip_bytes.specs.Reading.{◌>>=◌, ◌>>◌}
-use Rattle.cip_objects.specs.Check.{demand, exactly}
+use Rattle.cip_objects.specs.Check.{demand, check_size}
 use Rattle.cip_objects.specs.Contents.{Contents, value_at, bytes_at, udint_at, with_change}
 use Rattle.cip_objects.specs.ReadServices.{Answer, service_at, named_member}
 use Rattle.cip_objects.specs.ChangeServices.{Change, after_add, with_bytes_at, is_allowed, set_attribute_single, set_member, add, clear}
@@ -64,7 +64,7 @@ set_effect m path content c e =
     let a = bound (ok_or path.attribute _) _ c e in
     let v = bound (ok_or (value_at m path.class path.instance a.value) _) _ c a.rest in
     let n = bound (ok_or (settable_size m.shapes path.class path.instance a.value) _) _ c v.rest in
-    let x = after_check (exactly n.value content) _ c n.rest in
+    let x = after_check (check_size n.value content) _ c n.rest in
     let w = after_check (demand (is_allowed m path.class content) _) _ c x.1 in
     let done = same_ok (record { after = with_change m path.class path.instance a.value content; content = [] }) c w.1 in
     record {
@@ -89,7 +89,7 @@ unfolding set_member
 member_effect m path content c e =
     let s = bound (named_member m.shapes path) _ c e in
     let n = bound (ok_or (settable_size m.shapes 4 path.instance 3) _) _ c s.rest in
-    let x = after_check (exactly s.value.size content) _ c n.rest in
+    let x = after_check (check_size s.value.size content) _ c n.rest in
     let done = same_ok _ c x.1 in
     record {
       value = with_bytes_at (bytes_at m 4 path.instance 3) s.value.offset content;
@@ -109,7 +109,7 @@ at_most a b e = grind (arith, nat_tests)
 pub add_effect : (m : Contents) (content : List ℕ) (c : Change) → add m content ≡ Ok c → Adds m content c
 unfolding add
 add_effect m content c e =
-    let x = after_check (exactly 4 content) _ c e in
+    let x = after_check (check_size 4 content) _ c e in
     let w = after_check (demand (nat_le (udint_at m 100 1 1 + little_number 4 content) (udint_at m 100 1 2)) _) _ c x.1 in
     let done = same_ok _ c w.1 in
     record {
@@ -125,7 +125,7 @@ pub record Clears (m : Contents) (c : Change) : Type 0 where
 pub clear_effect : (m : Contents) (content : List ℕ) (c : Change) → clear m content ≡ Ok c → Clears m c
 unfolding clear
 clear_effect m content c e =
-    let x = after_check (exactly 0 content) _ c e in
+    let x = after_check (check_size 0 content) _ c e in
     let done = same_ok _ c x.1 in
     record {
       leaves = sym (ap (λ z. z.after) done);

@@ -6,7 +6,7 @@ use Rattle.cip_objects.specs.declared.status.Refusal.{Refusal}
 use Rattle.cip_objects.specs.declared.status.Refusal.TheVariants.{ReplyDataTooLarge}
 use Rattle.cip_bytes.specs.declared.protocol.GeneralStatus.TheVariants.{Success}
 use Rattle.cip_objects.specs.Contents.{Contents}
-use Rattle.cip_objects.specs.Execution.{Outcome, outcome, outcome_left, outcome_in_room, reply_to, Executed, with_reply, or_refusal, exec}
+use Rattle.cip_objects.specs.Execution.{Outcome, outcome, outcome_result, outcome_within, reply_to, Executed, with_reply, or_refusal, exec}
 use Rattle.cip_objects.specs.ExecutionLaws.{reply_of_outcome}
 use Rattle.cip_bytes.specs.Protocol.{general_status_number}
 use Rattle.cip_objects.specs.Status.{completion_status, refusal_status}
@@ -38,7 +38,7 @@ answered_by over text o = cond {A = Result (List ℕ) Refusal} over (Err ReplyDa
 
 -- the room was too small, or it was not
 went : (over : Bool) (m : Contents) (text : List ℕ) (o : Outcome) (new : Contents) (result : Result Completion Refusal) (reply : List ℕ) → OnErr result (new ≡ m)
-    → outcome_left new result reply ≡ left_by over text o
+    → outcome_result new result reply ≡ left_by over text o
     → IsExecuted (or_refusal m text (answered_by over text o)) text new result reply
 went true m text o new (Ok status) reply un e = absurd (cc)
 went true m text o new (Err s) reply un e = record {
@@ -53,19 +53,19 @@ went false m text o new (Ok status) reply un e =
       text_is = ap (λ x. set x.content 2 (general_status_number (completion_status x.status))) same;
     }
 
-is_executed : (m : Contents) (room : ℕ) (text : List ℕ) (r : Result Outcome Refusal) (new : Contents) (result : Result Completion Refusal) (reply : List ℕ) → OnErr result (new ≡ m)
-    → outcome_left new result reply ≡ outcome_in_room room (reply_to text Success []) r
-    → IsExecuted (or_refusal m text (r >>= with_reply room text)) text new result reply
-is_executed m room text (Err s) new (Ok status) reply un e = absurd (cc)
-is_executed m room text (Err s) new (Err t) reply un e = record {
+is_executed : (m : Contents) (max_size : ℕ) (text : List ℕ) (r : Result Outcome Refusal) (new : Contents) (result : Result Completion Refusal) (reply : List ℕ) → OnErr result (new ≡ m)
+    → outcome_result new result reply ≡ outcome_within max_size (reply_to text Success []) r
+    → IsExecuted (or_refusal m text (r >>= with_reply max_size text)) text new result reply
+is_executed m max_size text (Err s) new (Ok status) reply un e = absurd (cc)
+is_executed m max_size text (Err s) new (Err t) reply un e = record {
   state = un;
   text_is = ap (λ x. reply_to text (refusal_status x) []) (same_err t s e);
 }
-is_executed m room text (Ok o) new result reply un e =
-    went (nat_lt room (length (reply_of_outcome text o))) m text o new result reply un e
+is_executed m max_size text (Ok o) new result reply un e =
+    went (nat_lt max_size (length (reply_of_outcome text o))) m text o new result reply un e
 
-pub executed : (m : Contents) (room : ℕ) (text : List ℕ) (new : Contents) (result : Result Completion Refusal) (reply : List ℕ) → OnErr result (new ≡ m) → outcome_left new result reply ≡ outcome_in_room room (reply_to text Success []) (outcome m text) → (new ≡ (exec m room text).after) × (finished text result reply ≡ (exec m room text).answer)
+pub executed : (m : Contents) (max_size : ℕ) (text : List ℕ) (new : Contents) (result : Result Completion Refusal) (reply : List ℕ) → OnErr result (new ≡ m) → outcome_result new result reply ≡ outcome_within max_size (reply_to text Success []) (outcome m text) → (new ≡ (exec m max_size text).after) × (finished text result reply ≡ (exec m max_size text).answer)
 unfolding exec
-executed m room text new result reply un e =
-    let x = is_executed m room text (outcome m text) new result reply un e in
+executed m max_size text new result reply un e =
+    let x = is_executed m max_size text (outcome m text) new result reply un e in
     (x.state, x.text_is)

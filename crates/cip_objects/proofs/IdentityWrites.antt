@@ -7,7 +7,7 @@ use Rattle.cip_bytes.specs.declared.protocol.TheConstants.{IDENTITY, ASSEMBLY, C
 use Rattle.cip_objects.specs.ObjectMap.{key}
 use Rattle.cip_objects.specs.Contents.{with_value}
 use Rattle.cip_objects.specs.DeviceWrites.{with_device_status, with_device_state}
-use Rattle.cip_objects.specs.Entries.{IdentityValues, Block, CounterValues, Attributes, Entries, entries_at, attribute_in, class_attributes, identity_attributes, counter_attributes, greatest_of, entries_of, contents_of, shape_of, tally_of, device_of}
+use Rattle.cip_objects.specs.Entries.{IdentityValues, AssemblyValues, CounterValues, Attributes, Entries, entries_at, attribute_in, class_attributes, identity_attributes, counter_attributes, greatest_of, entries_of, contents_of, shape_of, tally_of, device_of}
 use Rattle.cip_objects.proofs.Lookup.{blocks_of}
 use Rattle.cip_objects.proofs.Map.{Updates, updates_front, updates_back, absent_at, updates_at}
 use Rattle.cip_objects.proofs.Writes.{assembled, written}
@@ -36,7 +36,7 @@ replaced (b ∷ before) after a v old h x =
     behind (eqb x b.0) (eqb x a) (Some b.1) (Some v) _ _ (apart x a b.0 n.0) (replaced before after a v old n.1 x)
 
 -- the contents with another value of the Identity object
-identity_written : (d e : IdentityValues) (bs : List Block) (c : CounterValues) (a : ℕ) (v : List ℕ) → ((x : ℕ) → attribute_in x (identity_attributes e) ≡ cond (eqb x a) (Some v) (attribute_in x (identity_attributes d))) → device_of e ≡ device_of d → contents_of e bs c ≡ with_value (contents_of d bs c) IDENTITY 1 a v
+identity_written : (d e : IdentityValues) (bs : List AssemblyValues) (c : CounterValues) (a : ℕ) (v : List ℕ) → ((x : ℕ) → attribute_in x (identity_attributes e) ≡ cond (eqb x a) (Some v) (attribute_in x (identity_attributes d))) → device_of e ≡ device_of d → contents_of e bs c ≡ with_value (contents_of d bs c) IDENTITY 1 a v
 unfolding contents_of entries_of
 identity_written d e bs c a v h same =
     let q = key IDENTITY 1 a in
@@ -72,12 +72,12 @@ before_state d =
     ∷ (7, length d.name ∷ d.name)
     ∷ []
 
-pub status_written : (d : IdentityValues) (bs : List Block) (c : CounterValues) (v : ℕ) → contents_of (record d { status = v }) bs c ≡ with_device_status (contents_of d bs c) v
+pub status_written : (d : IdentityValues) (bs : List AssemblyValues) (c : CounterValues) (v : ℕ) → contents_of (record d { status = v }) bs c ≡ with_device_status (contents_of d bs c) v
 status_written d bs c v =
     identity_written d (record d { status = v }) bs c 5 (little_bytes 2 v)
     (replaced (before_status d) (after_status d) 5 (little_bytes 2 v) (little_bytes 2 d.status) refl) refl
 
-pub state_written : (d : IdentityValues) (bs : List Block) (c : CounterValues) (v : ℕ) → contents_of (record d { state = v }) bs c ≡ with_value (contents_of d bs c) IDENTITY 1 8 (v ∷ [])
+pub state_written : (d : IdentityValues) (bs : List AssemblyValues) (c : CounterValues) (v : ℕ) → contents_of (record d { state = v }) bs c ≡ with_value (contents_of d bs c) IDENTITY 1 8 (v ∷ [])
 state_written d bs c v =
     identity_written d (record d { state = v }) bs c 8 (v ∷ [])
     (replaced (before_state d) [] 8 (v ∷ []) (d.state ∷ []) refl) refl

@@ -2,7 +2,7 @@ pub mod Blocks
 pub mod Map
 pub mod Lookup
 pub mod Shapes
-pub mod Destinations
+pub mod ObjectRefs
 pub mod Writes
 pub mod Numbers
 pub mod Words

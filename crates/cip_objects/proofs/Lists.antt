@@ -15,11 +15,11 @@ use Rattle.cip_objects.specs.declared.service.Service.TheVariants.{GetAttributes
 use Rattle.cip_objects.specs.declared.status.Refusal.{Refusal}
 use Rattle.cip_bytes.specs.declared.protocol.GeneralStatus.TheVariants.{Success}
 use Rattle.cip_objects.specs.declared.status.Refusal.TheVariants.{AttributeNotSupported, NotEnoughData}
-use Rattle.cip_objects.specs.Check.{demand, exactly}
+use Rattle.cip_objects.specs.Check.{demand, check_size}
 use Rattle.cip_objects.specs.Contents.{Contents, value_at}
-use Rattle.cip_objects.specs.ReadServices.{Answer, service_at, list_entry_of, list_entry, is_there, all_there, list_completion, get_attribute_single, get_attribute_list}
+use Rattle.cip_objects.specs.ReadServices.{Answer, service_at, list_entry_of, list_entry, has_attribute, has_all_attributes, list_completion, get_attribute_single, get_attribute_list}
 use Rattle.cip_objects.specs.Execution.{Outcome, outcome_of_read, perform, outcome, with_reply, or_refusal, exec, reply_to}
-use Rattle.cip_objects.specs.Laws.{Reads}
+use Rattle.cip_objects.specs.Laws.{IsRequestWith}
 use Rattle.cip_objects.specs.Lists.{IsGet, AreGets, entries_of_replies, list_law}
 use Rattle.cip_objects.specs.Router.{general_status}
 use Rattle.cip_objects.specs.Service.{service_code}
@@ -66,7 +66,7 @@ list_offers shapes class instance s e =
     (shape_at instance shapes) s e
 
 -- what a single get makes where the attribute isn't there
-get_misses : (m : Contents) (get path : List ℕ) (p : Path) (a : ℕ) → Reads get 0x0e path [] → path_of path ≡ Ok p
+get_misses : (m : Contents) (get path : List ℕ) (p : Path) (a : ℕ) → IsRequestWith get 0x0e path [] → path_of path ≡ Ok p
     → service_at m.shapes p.class p.instance 0x0e ≡ Ok GetAttributeSingle → p.attribute ≡ Some a
     → value_at m p.class p.instance a ≡ None → outcome m get ≡ Err AttributeNotSupported
 unfolding outcome get_attribute_single
@@ -75,7 +75,7 @@ get_misses m get path p a e f g h v = rw (e, f, g, h, v) refl
 -- what a reply tells of one attribute
 record Tells (m : Contents) (p : Path) (a : ℕ) (reply : List ℕ) : Type 0 where
   entry : le 2 a ++ (le 2 (general_status reply) ++ drop 4 reply) ≡ list_entry m p a
-  there : eqb (general_status reply) 0x00 ≡ is_there m p a
+  there : eqb (general_status reply) 0x00 ≡ has_attribute m p a
 
 told_value : (m : Contents) (p : Path) (a : ℕ) (get value reply : List ℕ) → value_at m p.class p.instance a ≡ Some value
     → reply ≡ reply_to get Success value → Tells m p a reply
@@ -93,10 +93,10 @@ told_missing m p a get reply v e = record {
   there = ap (λ r. eqb (general_status r) 0x00) e ∙ sym (ap is_some v);
 }
 
-get_refuses : (m : Contents) (room : ℕ) (get : List ℕ) → outcome m get ≡ Err AttributeNotSupported
-    → (exec m room get).answer ≡ reply_to get (refusal_status AttributeNotSupported) []
+get_refuses : (m : Contents) (max_size : ℕ) (get : List ℕ) → outcome m get ≡ Err AttributeNotSupported
+    → (exec m max_size get).answer ≡ reply_to get (refusal_status AttributeNotSupported) []
 unfolding exec
-get_refuses m room get e = ap (λ r. (or_refusal m get (r >>= with_reply room get)).answer) e
+get_refuses m max_size get e = ap (λ r. (or_refusal m get (r >>= with_reply max_size get)).answer) e
 
 -- the entry of an attribute that is there has its value
 length-list_entry : (m : Contents) (p : Path) (a : ℕ) (value : List ℕ) → value_at m p.class p.instance a ≡ Some value
@@ -105,46 +105,46 @@ unfolding list_entry
 length-list_entry m p a value v = ap (λ o. length (list_entry_of a o)) v
     ∙ (let e : suc (suc (suc (suc (length value)))) ≡ 4 + length value = omega arith in e)
 
-tells_of : (m : Contents) (room : ℕ) (p : Path) (a : ℕ) (get : List ℕ) (o : Option (List ℕ))
+tells_of : (m : Contents) (max_size : ℕ) (p : Path) (a : ℕ) (get : List ℕ) (o : Option (List ℕ))
     → value_at m p.class p.instance a ≡ o → service_at m.shapes p.class p.instance 0x0e ≡ Ok GetAttributeSingle
-    → IsGet p a get → length (list_entry m p a) ≤ room → Tells m p a (exec m room get).answer
-tells_of m room p a get (Some value) v c g h =
+    → IsGet p a get → length (list_entry m p a) ≤ max_size → Tells m p a (exec m max_size get).answer
+tells_of m max_size p a get (Some value) v c g h =
     let q : Path = record { class = p.class; instance = p.instance; attribute = Some a; member = g.member } in
-    told_value m p a get value (exec m room get).answer v
-    (got m room get value (get_makes m get g.path value q a g.reads g.names c refl v)
+    told_value m p a get value (exec m max_size get).answer v
+    (got m max_size get value (get_makes m get g.path value q a g.reads g.names c refl v)
     (omega (arith, length-list_entry m p a value v)))
-tells_of m room p a get None v c g h =
+tells_of m max_size p a get None v c g h =
     let q : Path = record { class = p.class; instance = p.instance; attribute = Some a; member = g.member } in
-    told_missing m p a get (exec m room get).answer v
-    (get_refuses m room get (get_misses m get g.path q a g.reads g.names c refl v))
+    told_missing m p a get (exec m max_size get).answer v
+    (get_refuses m max_size get (get_misses m get g.path q a g.reads g.names c refl v))
 
 -- what the single replies tell of all attributes
 record TellAll (m : Contents) (p : Path) (attributes : List ℕ) (replies : List (List ℕ)) : Type 0 where
   entries : entries_of_replies attributes replies ≡ flat_map (list_entry m p) attributes
-  there : list_all (λ reply. eqb (general_status reply) 0x00) replies ≡ all_there m p attributes
+  there : list_all (λ reply. eqb (general_status reply) 0x00) replies ≡ has_all_attributes m p attributes
 
 regrouped : (a b c d : List ℕ) → a ++ (b ++ (c ++ d)) ≡ (a ++ (b ++ c)) ++ d
 regrouped a b c d = sym (simp append_assoc)
 
-tell_all : (m : Contents) (room : ℕ) (p : Path) (attributes : List ℕ) (gets : List (List ℕ))
+tell_all : (m : Contents) (max_size : ℕ) (p : Path) (attributes : List ℕ) (gets : List (List ℕ))
     → service_at m.shapes p.class p.instance 0x0e ≡ Ok GetAttributeSingle → AreGets p attributes gets
-    → length (flat_map (list_entry m p) attributes) ≤ room
-    → TellAll m p attributes (map (λ get. (exec m room get).answer) gets)
-tell_all m room p [] [] c g h = record { entries = refl; there = refl }
-tell_all m room p [] (get ∷ gets) c g h = absurd g
-tell_all m room p (a ∷ attributes) [] c g h = absurd g
-tell_all m room p (a ∷ attributes) (get ∷ gets) c g h =
+    → length (flat_map (list_entry m p) attributes) ≤ max_size
+    → TellAll m p attributes (map (λ get. (exec m max_size get).answer) gets)
+tell_all m max_size p [] [] c g h = record { entries = refl; there = refl }
+tell_all m max_size p [] (get ∷ gets) c g h = absurd g
+tell_all m max_size p (a ∷ attributes) [] c g h = absurd g
+tell_all m max_size p (a ∷ attributes) (get ∷ gets) c g h =
     let n = length-append (list_entry m p a) (flat_map (list_entry m p) attributes) in
-    let one = tells_of m room p a get (value_at m p.class p.instance a) refl c g.0 (omega arith) in
-    let rest = tell_all m room p attributes gets c g.1 (omega arith) in
-    let reply = (exec m room get).answer in
-    let replies = map (λ x. (exec m room x).answer) gets in
+    let one = tells_of m max_size p a get (value_at m p.class p.instance a) refl c g.0 (omega arith) in
+    let rest = tell_all m max_size p attributes gets c g.1 (omega arith) in
+    let reply = (exec m max_size get).answer in
+    let replies = map (λ x. (exec m max_size x).answer) gets in
     record {
       entries = regrouped (le 2 a) (le 2 (general_status reply)) (drop 4 reply) (entries_of_replies attributes replies)
           ∙ ap (λ x. x ++ entries_of_replies attributes replies) one.entry
           ∙ ap (λ x. list_entry m p a ++ x) rest.entries;
       there = ap (λ t. t && list_all (λ x. eqb (general_status x) 0x00) replies) one.there
-          ∙ ap (λ t. is_there m p a && t) rest.there;
+          ∙ ap (λ t. has_attribute m p a && t) rest.there;
     }
 
 length-words_of : (n : ℕ) (xs : List ℕ) → length xs ≡ 2 * n → length (words_of xs) ≡ n
@@ -167,7 +167,7 @@ same_ok x y e = cc
 -- a list that was got
 record Lists (m : Contents) (p : Path) (content : List ℕ) (o : Outcome) : Type 0 where
   size : length content ≡ 2 + 2 * little_number 2 content
-  status : o.status ≡ list_completion (all_there m p (words_of (drop 2 content)))
+  status : o.status ≡ list_completion (has_all_attributes m p (words_of (drop 2 content)))
   data_is : o.content ≡ le 2 (little_number 2 content) ++ flat_map (list_entry m p) (words_of (drop 2 content))
 
 lists : (m : Contents) (p : Path) (content : List ℕ) (a : Answer) → get_attribute_list m p content ≡ Ok a
@@ -175,7 +175,7 @@ lists : (m : Contents) (p : Path) (content : List ℕ) (a : Answer) → get_attr
 unfolding get_attribute_list
 lists m p content a e =
     let x = after_check (demand (nat_le 2 (length content)) NotEnoughData) _ a e in
-    let y = after_check (exactly (2 + 2 * little_number 2 content) content) _ a x.1 in
+    let y = after_check (check_size (2 + 2 * little_number 2 content) content) _ a x.1 in
     let done = same_ok _ a y.1 in
     record {
       size = exact_size (2 + 2 * little_number 2 content) content y.0;
@@ -199,7 +199,7 @@ record WasList (m : Contents) (p : Path) (content : List ℕ) (o : Outcome) : Ty
   offers : service_at m.shapes p.class p.instance 0x03 ≡ Ok GetAttributeList
   lists : Lists m p content o
 
-was_list : (m : Contents) (list path content : List ℕ) (p : Path) (o : Outcome) → Reads list 0x03 path content
+was_list : (m : Contents) (list path content : List ℕ) (p : Path) (o : Outcome) → IsRequestWith list 0x03 path content
     → path_of path ≡ Ok p → outcome m list ≡ Ok o → WasList m p content o
 was_list m list path content p o e f done =
     let g = goes m list o done in
@@ -225,20 +225,20 @@ counted p content gets e g =
     ∙ sym (length-gets p (words_of (drop 2 content)) gets g)
 
 pub list_is_gets : list_law
-list_is_gets m room list path content p gets e f g fine =
-    let x = exec_outcome m room list fine in
+list_is_gets m max_size list path content p gets e f g fine =
+    let x = exec_outcome m max_size list fine in
     let w = was_list m list path content p x.made e f x.is_made in
     let attributes = words_of (drop 2 content) in
     let n = length-append (le 2 (little_number 2 content)) (flat_map (list_entry m p) attributes) in
     let size : length x.made.content ≡ length
     (le 2 (little_number 2 content) ++ flat_map (list_entry m p) attributes) = ap length w.lists.data_is in
     let fits = x.fits in
-    let t = tell_all m room p attributes gets (list_offers m.shapes p.class p.instance GetAttributeList w.offers) g
+    let t = tell_all m max_size p attributes gets (list_offers m.shapes p.class p.instance GetAttributeList w.offers) g
     (omega arith) in
     x.answer
     ∙ ap (λ s. reply_to list (completion_status s) x.made.content) (w.lists.status ∙ ap list_completion (sym t.there))
     ∙ ap (λ c. reply_to list
     (completion_status (list_completion (list_all (λ reply. eqb (general_status reply) 0x00)
-    (map (λ get. (exec m room get).answer) gets)))) c)
+    (map (λ get. (exec m max_size get).answer) gets)))) c)
     (w.lists.data_is ∙ ap (λ k. le 2 k ++ flat_map (list_entry m p) attributes) (counted p content gets w.lists.size g)
     ∙ ap (λ k. le 2 (length gets) ++ k) (sym t.entries))

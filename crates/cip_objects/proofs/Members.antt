@@ -16,7 +16,7 @@ use Rattle.cip_objects.specs.Contents.{Contents, bytes_at, with_change}
 use Rattle.cip_objects.specs.ReadServices.{service_at, is_data, named_member, get_member}
 use Rattle.cip_objects.specs.ChangeServices.{with_bytes_at, set_member}
 use Rattle.cip_objects.specs.Execution.{Outcome, perform, outcome, exec}
-use Rattle.cip_objects.specs.Laws.{Reads}
+use Rattle.cip_objects.specs.Laws.{IsRequestWith}
 use Rattle.cip_objects.specs.Members.{AreWhole, member_after_set_law}
 use Rattle.cip_objects.specs.Service.{service_code}
 use Rattle.cip_objects.specs.Tables.{Shape, shape_at, span_in, member_at, services_of}
@@ -119,7 +119,7 @@ same_request q r e = cc
 same_path : (q r : Path) → ◌≡◌ {A = Result Path PathFault} (Ok q) (Ok r) → q ≡ r
 same_path q r e = cc
 
-pub was_member : (m : Contents) (set path value : List ℕ) (o : Outcome) → Reads set 0x19 path value
+pub was_member : (m : Contents) (set path value : List ℕ) (o : Outcome) → IsRequestWith set 0x19 path value
     → outcome m set ≡ Ok o → (p : Path) × WasMember m path value p o
 was_member m set path value o e done =
     let g = goes m set o done in
@@ -145,7 +145,7 @@ was_member m set path value o e done =
     )
 
 -- what a get of a member makes
-member_makes : (m : Contents) (get path value : List ℕ) (p : Path) (span : Span) → Reads get 0x18 path []
+member_makes : (m : Contents) (get path value : List ℕ) (p : Path) (span : Span) → IsRequestWith get 0x18 path []
     → path_of path ≡ Ok p → service_at m.shapes p.class p.instance 0x18 ≡ Ok GetMember → named_member m.shapes p ≡ Ok span
     → take span.size (drop span.offset (bytes_at m 4 p.instance 3)) ≡ value
     → outcome m get ≡ Ok (record { after = m; status = Whole; content = value })
@@ -166,8 +166,8 @@ spliced_read old value span new e size h =
     ∙ slice_same old value span.offset (omega arith)
 
 pub member_after_set : member_after_set_law
-member_after_set m room later set get path value whole e f s fits =
-    let x = went_well m room set s in
+member_after_set m max_size later set get path value whole e f s fits =
+    let x = went_well m max_size set s in
     let w = was_member m set path value x.0 e x.1 in
     let p = w.0 in
     let old = bytes_at m 4 p.instance 3 in
@@ -178,5 +178,5 @@ member_after_set m room later set get path value whole e f s fits =
     (fits_in m p w.1.span whole (named m.shapes p w.1.span w.1.names)) in
     let made = member_makes n get path value p w.1.span f w.1.is_path
     (member_offers m.shapes p.class p.instance SetMember w.1.offers) w.1.names slice in
-    ap (λ k. (exec m room set).answer ∷ (exec k later get).answer ∷ []) (x.2 ∙ w.1.leaves)
-    ∙ ap (λ r. (exec m room set).answer ∷ r ∷ []) (got n later get value made fits)
+    ap (λ k. (exec m max_size set).answer ∷ (exec k later get).answer ∷ []) (x.2 ∙ w.1.leaves)
+    ∙ ap (λ r. (exec m max_size set).answer ∷ r ∷ []) (got n later get value made fits)

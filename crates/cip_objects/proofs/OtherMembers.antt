@@ -10,12 +10,12 @@ use Rattle.cip_objects.specs.declared.service.Service.TheVariants.{GetMember}
 use Rattle.cip_objects.specs.declared.status.Refusal.{Refusal}
 use Rattle.cip_objects.specs.declared.status.Completion.TheVariants.{Whole}
 use Rattle.cip_bytes.specs.Reading.{◌>>=◌, ◌>>◌}
-use Rattle.cip_objects.specs.Check.{exactly}
+use Rattle.cip_objects.specs.Check.{check_size}
 use Rattle.cip_objects.specs.Contents.{Contents, bytes_at, with_change}
 use Rattle.cip_objects.specs.ReadServices.{Answer, answer, service_at, named_member, get_member}
 use Rattle.cip_objects.specs.ChangeServices.{with_bytes_at}
 use Rattle.cip_objects.specs.Execution.{Outcome, outcome_of_read, perform, outcome, with_reply, or_refusal, exec, reply_to}
-use Rattle.cip_objects.specs.Laws.{Reads}
+use Rattle.cip_objects.specs.Laws.{IsRequestWith}
 use Rattle.cip_objects.specs.Members.{AreWhole, set_member_leaves_others_law}
 use Rattle.cip_objects.specs.Tables.{shape_at}
 use Rattle.cip_objects.specs.Status.{completion_status}
@@ -35,15 +35,15 @@ record AreAlike (m n : Contents) (q : Path) : Type 0 where
 
 by_span : (r : Result Span Refusal) (x y : List ℕ)
     → ((span : Span) → r ≡ Ok span → take span.size (drop span.offset x) ≡ take span.size (drop span.offset y))
-    → (r >>= λ (span : Span). exactly 0 [] >> answer Whole (take span.size (drop span.offset x))) ≡
-    (r >>= λ (span : Span). exactly 0 [] >> answer Whole (take span.size (drop span.offset y)))
+    → (r >>= λ (span : Span). check_size 0 [] >> answer Whole (take span.size (drop span.offset x))) ≡
+    (r >>= λ (span : Span). check_size 0 [] >> answer Whole (take span.size (drop span.offset y)))
 by_span (Ok span) x y h = ap (λ v. answer Whole v) (h span refl)
 by_span (Err s) x y h = refl
 
 member_alike : (m n : Contents) (q : Path) → AreAlike m n q → get_member n q [] ≡ get_member m q []
 unfolding get_member
 member_alike m n q h =
-    ap (λ s. named_member s q >>= λ (span : Span). exactly 0 [] >> answer Whole
+    ap (λ s. named_member s q >>= λ (span : Span). check_size 0 [] >> answer Whole
     (take span.size (drop span.offset (bytes_at n 4 q.instance 3)))) h.shapes
     ∙ by_span (named_member m.shapes q) (bytes_at n 4 q.instance 3) (bytes_at m 4 q.instance 3) h.slices
 
@@ -53,36 +53,36 @@ placed_alike : (over : Bool) (m n : Contents) (text : List ℕ) (a : Answer)
 placed_alike true m n text a = refl
 placed_alike false m n text a = refl
 
-reads_alike : (m n : Contents) (room : ℕ) (text : List ℕ) (r : Result Answer Refusal)
-    → (or_refusal n text ((outcome_of_read n r) >>= with_reply room text)).answer ≡ (or_refusal m text ((outcome_of_read m r) >>= with_reply room text)).answer
-reads_alike m n room text (Ok a) = placed_alike (nat_lt room (length (reply_to text (completion_status a.status) a.content))) m n text a
-reads_alike m n room text (Err s) = refl
+reads_alike : (m n : Contents) (max_size : ℕ) (text : List ℕ) (r : Result Answer Refusal)
+    → (or_refusal n text ((outcome_of_read n r) >>= with_reply max_size text)).answer ≡ (or_refusal m text ((outcome_of_read m r) >>= with_reply max_size text)).answer
+reads_alike m n max_size text (Ok a) = placed_alike (nat_lt max_size (length (reply_to text (completion_status a.status) a.content))) m n text a
+reads_alike m n max_size text (Err s) = refl
 
-by_chosen : (m n : Contents) (room : ℕ) (text : List ℕ) (q : Path) (r : Result Service Refusal)
+by_chosen : (m n : Contents) (max_size : ℕ) (text : List ℕ) (q : Path) (r : Result Service Refusal)
     → ((s : Service) → r ≡ Ok s → s ≡ GetMember) → get_member n q [] ≡ get_member m q []
-    → (or_refusal n text ((r >>= λ s. perform n s q []) >>= with_reply room text)).answer ≡
-    (or_refusal m text ((r >>= λ s. perform m s q []) >>= with_reply room text)).answer
-by_chosen m n room text q (Err s) h e = refl
-by_chosen m n room text q (Ok s) h e =
-    ap (λ k. (or_refusal n text ((perform n k q []) >>= with_reply room text)).answer) (h s refl)
-    ∙ ap (λ r. (or_refusal n text ((outcome_of_read n r) >>= with_reply room text)).answer) e
-    ∙ reads_alike m n room text (get_member m q [])
-    ∙ ap (λ k. (or_refusal m text ((perform m k q []) >>= with_reply room text)).answer) (sym (h s refl))
+    → (or_refusal n text ((r >>= λ s. perform n s q []) >>= with_reply max_size text)).answer ≡
+    (or_refusal m text ((r >>= λ s. perform m s q []) >>= with_reply max_size text)).answer
+by_chosen m n max_size text q (Err s) h e = refl
+by_chosen m n max_size text q (Ok s) h e =
+    ap (λ k. (or_refusal n text ((perform n k q []) >>= with_reply max_size text)).answer) (h s refl)
+    ∙ ap (λ r. (or_refusal n text ((outcome_of_read n r) >>= with_reply max_size text)).answer) e
+    ∙ reads_alike m n max_size text (get_member m q [])
+    ∙ ap (λ k. (or_refusal m text ((perform m k q []) >>= with_reply max_size text)).answer) (sym (h s refl))
 
-outcome_is : (m : Contents) (get path : List ℕ) (q : Path) → Reads get 0x18 path [] → path_of path ≡ Ok q
+outcome_is : (m : Contents) (get path : List ℕ) (q : Path) → IsRequestWith get 0x18 path [] → path_of path ≡ Ok q
     → outcome m get ≡ (service_at m.shapes q.class q.instance 0x18 >>= λ s. perform m s q [])
 unfolding outcome
 outcome_is m get path q e f = rw (e, f) refl
 
-answers_alike : (m n : Contents) (room : ℕ) (get path : List ℕ) (q : Path) → Reads get 0x18 path []
-    → path_of path ≡ Ok q → AreAlike m n q → (exec n room get).answer ≡ (exec m room get).answer
+answers_alike : (m n : Contents) (max_size : ℕ) (get path : List ℕ) (q : Path) → IsRequestWith get 0x18 path []
+    → path_of path ≡ Ok q → AreAlike m n q → (exec n max_size get).answer ≡ (exec m max_size get).answer
 unfolding exec
-answers_alike m n room get path q e f h =
-    ap (λ r. (or_refusal n get (r >>= with_reply room get)).answer) (outcome_is n get path q e f)
-    ∙ ap (λ s. (or_refusal n get ((service_at s q.class q.instance 0x18 >>= λ k. perform n k q []) >>= with_reply room get)).answer) h.shapes
-    ∙ by_chosen m n room get q (service_at m.shapes q.class q.instance 0x18)
+answers_alike m n max_size get path q e f h =
+    ap (λ r. (or_refusal n get (r >>= with_reply max_size get)).answer) (outcome_is n get path q e f)
+    ∙ ap (λ s. (or_refusal n get ((service_at s q.class q.instance 0x18 >>= λ k. perform n k q []) >>= with_reply max_size get)).answer) h.shapes
+    ∙ by_chosen m n max_size get q (service_at m.shapes q.class q.instance 0x18)
     (λ s is. is_get_member s (chosen_code m.shapes q.class q.instance 0x18 s is)) (member_alike m n q h)
-    ∙ ap (λ r. (or_refusal m get (r >>= with_reply room get)).answer) (sym (outcome_is m get path q e f))
+    ∙ ap (λ r. (or_refusal m get (r >>= with_reply max_size get)).answer) (sym (outcome_is m get path q e f))
 
 alike : (m n : Contents) (q : Path) → n ≡ m → AreAlike m n q
 alike m n q e = record {
@@ -161,7 +161,7 @@ by_assembly m n path value p q o whole w e other (inr apart) =
 same_path : (q r : Path) → ◌≡◌ {A = Result Path PathFault} (Ok q) (Ok r) → q ≡ r
 same_path q r e = cc
 
-either : (m n : Contents) (set path value : List ℕ) (p q : Path) → AreWhole m → Reads set 0x19 path value
+either : (m n : Contents) (set path value : List ℕ) (p q : Path) → AreWhole m → IsRequestWith set 0x19 path value
     → path_of path ≡ Ok p → ((q.instance ≡ p.instance) × (q.member ≡ p.member) → ⊥)
     → (n ≡ m) ⊎ ((o : Outcome) × (outcome m set ≡ Ok o) × (n ≡ o.after)) → AreAlike m n q
 either m n set path value p q whole e f other (inl same) = alike m n q same
@@ -172,6 +172,6 @@ either m n set path value p q whole e f other (inr x) =
     (eqb_tells q.instance p.instance)
 
 pub set_member_leaves_others : set_member_leaves_others_law
-set_member_leaves_others m room later set path value get names p q whole e f g h other =
-    answers_alike m (exec m room set).after later get names q g h
-    (either m (exec m room set).after set path value p q whole e f other (exec_left m room set))
+set_member_leaves_others m max_size later set path value get names p q whole e f g h other =
+    answers_alike m (exec m max_size set).after later get names q g h
+    (either m (exec m max_size set).after set path value p q whole e f other (exec_left m max_size set))

@@ -12,7 +12,7 @@ use Rattle.cip_objects.specs.Contents.{Contents}
 use Rattle.cip_objects.specs.ReadServices.{get_attribute_single, get_attributes_all, get_attribute_list, get_member}
 use Rattle.cip_objects.specs.Execution.{Outcome, perform, outcome, Executed, with_reply, or_refusal, exec}
 use Rattle.cip_objects.specs.ExecutionLaws.{reply_of_outcome, is_outcome}
-use Rattle.cip_objects.specs.Laws.{refused_law, any_room_law}
+use Rattle.cip_objects.specs.Laws.{refused_law, any_max_size_law}
 use Rattle.cip_objects.specs.Router.{general_status}
 use Rattle.cip_bytes.specs.Protocol.{general_status_number}
 use Rattle.cip_objects.specs.Status.{completion_status}
@@ -34,21 +34,21 @@ never : {A : Type 0} (n : ℕ) → IsFine n → (n ≡ 0x00 → ⊥) → (n ≡ 
 never n (inl e) f g = absurd (f e)
 never n (inr e) f g = absurd (g e)
 
-bare : (m : Contents) (room : ℕ) (text : List ℕ) (r : Result Outcome Refusal) (q : Result Executed Refusal)
-    → (r >>= with_reply room text) ≡ q → (general_status (or_refusal m text q).answer ≡ 0x00 → ⊥)
+bare : (m : Contents) (max_size : ℕ) (text : List ℕ) (r : Result Outcome Refusal) (q : Result Executed Refusal)
+    → (r >>= with_reply max_size text) ≡ q → (general_status (or_refusal m text q).answer ≡ 0x00 → ⊥)
     → (general_status (or_refusal m text q).answer ≡ 0x0a → ⊥) → IsBare m (or_refusal m text q)
-bare m room text r (Err s) e f g = record { few = refl; same = refl }
-bare m room text r (Ok x) e f g =
-    let p = is_outcome room text r x e in
+bare m max_size text r (Err s) e f g = record { few = refl; same = refl }
+bare m max_size text r (Ok x) e f g =
+    let p = is_outcome max_size text r x e in
     never (general_status x.answer) (subst (λ a. IsFine (general_status a)) (sym p.answer) (says p.made.status)) f g
 
-exec_bare : (m : Contents) (room : ℕ) (text : List ℕ) → (general_status (exec m room text).answer ≡ 0x00 → ⊥)
-    → (general_status (exec m room text).answer ≡ 0x0a → ⊥) → IsBare m (exec m room text)
+exec_bare : (m : Contents) (max_size : ℕ) (text : List ℕ) → (general_status (exec m max_size text).answer ≡ 0x00 → ⊥)
+    → (general_status (exec m max_size text).answer ≡ 0x0a → ⊥) → IsBare m (exec m max_size text)
 unfolding exec
-exec_bare m room text f g = bare m room text (outcome m text) (outcome m text >>= with_reply room text) refl f g
+exec_bare m max_size text f g = bare m max_size text (outcome m text) (outcome m text >>= with_reply max_size text) refl f g
 
 pub refused : refused_law
-refused m room text f g = let b = exec_bare m room text f g in (b.few, b.same)
+refused m max_size text f g = let b = exec_bare m max_size text f g in (b.few, b.same)
 
 -- an outcome left the map, or its reply is short
 abbrev IsQuick : Contents → List ℕ → Outcome → Type 0
@@ -76,24 +76,24 @@ abbrev settled : Contents → Result Outcome Refusal → Contents
 settled m (Ok o) = o.after
 settled m (Err s) = m
 
-placed_settled : (over : Bool) (m : Contents) (room : ℕ) (text : List ℕ) (o : Outcome)
-    → nat_lt room (length (reply_of_outcome text o)) ≡ over → 8 ≤ room → IsQuick m text o
+placed_settled : (over : Bool) (m : Contents) (max_size : ℕ) (text : List ℕ) (o : Outcome)
+    → nat_lt max_size (length (reply_of_outcome text o)) ≡ over → 8 ≤ max_size → IsQuick m text o
     → (or_refusal m text (answered_by over text o)).after ≡ o.after
-placed_settled true m room text o e h (inl same) = sym same
-placed_settled true m room text o e h (inr short) = absurd (grind (arith, nat_tests))
-placed_settled false m room text o e h q = refl
+placed_settled true m max_size text o e h (inl same) = sym same
+placed_settled true m max_size text o e h (inr short) = absurd (grind (arith, nat_tests))
+placed_settled false m max_size text o e h q = refl
 
-reply_settled : (m : Contents) (room : ℕ) (text : List ℕ) (r : Result Outcome Refusal) → 8 ≤ room
-    → ((o : Outcome) → r ≡ Ok o → IsQuick m text o) → (or_refusal m text (r >>= with_reply room text)).after ≡ settled m r
-reply_settled m room text (Err s) h q = refl
-reply_settled m room text (Ok o) h q = placed_settled
-    (nat_lt room (length (reply_of_outcome text o))) m room text o refl h (q o refl)
+reply_settled : (m : Contents) (max_size : ℕ) (text : List ℕ) (r : Result Outcome Refusal) → 8 ≤ max_size
+    → ((o : Outcome) → r ≡ Ok o → IsQuick m text o) → (or_refusal m text (r >>= with_reply max_size text)).after ≡ settled m r
+reply_settled m max_size text (Err s) h q = refl
+reply_settled m max_size text (Ok o) h q = placed_settled
+    (nat_lt max_size (length (reply_of_outcome text o))) m max_size text o refl h (q o refl)
 
 -- with room for 8 bytes, the map after an execution is that of its outcome
-pub exec_settled : (m : Contents) (room : ℕ) (text : List ℕ) → 8 ≤ room
-    → (exec m room text).after ≡ settled m (outcome m text)
+pub exec_settled : (m : Contents) (max_size : ℕ) (text : List ℕ) → 8 ≤ max_size
+    → (exec m max_size text).after ≡ settled m (outcome m text)
 unfolding exec
-exec_settled m room text h = reply_settled m room text (outcome m text) h (λ o e. outcome_quick m text o e)
+exec_settled m max_size text h = reply_settled m max_size text (outcome m text) h (λ o e. outcome_quick m text o e)
 
-pub any_room : any_room_law
-any_room m room other text h k = exec_settled m room text h ∙ sym (exec_settled m other text k)
+pub any_max_size : any_max_size_law
+any_max_size m max_size other text h k = exec_settled m max_size text h ∙ sym (exec_settled m other text k)

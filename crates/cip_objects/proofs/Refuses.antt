@@ -43,26 +43,26 @@ not_both : (n : ℕ) → (eqb n 0x00 || eqb n 0x0a) ≡ false → IsFine n → �
 not_both n h (inl e) = grind (arith, nat_tests)
 not_both n h (inr e) = grind (arith, nat_tests)
 
-by_refusal : (m : Contents) (room : ℕ) (text : List ℕ) (r : Result Outcome Refusal) (q : Result Executed Refusal)
-    → (r >>= with_reply room text) ≡ q → IsFine (general_status (or_refusal m text q).answer)
-    → IsOutcome room text r (or_refusal m text q)
-by_refusal m room text r (Ok x) e f = is_outcome room text r x e
-by_refusal m room text r (Err s) e f = absurd (not_both (general_status_number (refusal_status s)) (none_fine s) f)
+by_refusal : (m : Contents) (max_size : ℕ) (text : List ℕ) (r : Result Outcome Refusal) (q : Result Executed Refusal)
+    → (r >>= with_reply max_size text) ≡ q → IsFine (general_status (or_refusal m text q).answer)
+    → IsOutcome max_size text r (or_refusal m text q)
+by_refusal m max_size text r (Ok x) e f = is_outcome max_size text r x e
+by_refusal m max_size text r (Err s) e f = absurd (not_both (general_status_number (refusal_status s)) (none_fine s) f)
 
 -- a reply that says one of these is that of an outcome
-pub exec_outcome : (m : Contents) (room : ℕ) (text : List ℕ) → IsFine (general_status (exec m room text).answer)
-    → IsOutcome room text (outcome m text) (exec m room text)
+pub exec_outcome : (m : Contents) (max_size : ℕ) (text : List ℕ) → IsFine (general_status (exec m max_size text).answer)
+    → IsOutcome max_size text (outcome m text) (exec m max_size text)
 unfolding exec
-exec_outcome m room text f = by_refusal m room text (outcome m text) (outcome m text >>= with_reply room text) refl f
+exec_outcome m max_size text f = by_refusal m max_size text (outcome m text) (outcome m text >>= with_reply max_size text) refl f
 
-either : (m : Contents) (room : ℕ) (text : List ℕ) (r : Result Outcome Refusal) (q : Result Executed Refusal)
-    → (r >>= with_reply room text) ≡ q
+either : (m : Contents) (max_size : ℕ) (text : List ℕ) (r : Result Outcome Refusal) (q : Result Executed Refusal)
+    → (r >>= with_reply max_size text) ≡ q
     → ((or_refusal m text q).after ≡ m) ⊎ ((o : Outcome) × (r ≡ Ok o) × ((or_refusal m text q).after ≡ o.after))
-either m room text r (Ok x) e = let p = is_outcome room text r x e in inr (p.made, p.is_made, p.after)
-either m room text r (Err s) e = inl refl
+either m max_size text r (Ok x) e = let p = is_outcome max_size text r x e in inr (p.made, p.is_made, p.after)
+either m max_size text r (Err s) e = inl refl
 
 -- an execution leaves the contents, or what its outcome left
-pub exec_left : (m : Contents) (room : ℕ) (text : List ℕ)
-    → ((exec m room text).after ≡ m) ⊎ ((o : Outcome) × (outcome m text ≡ Ok o) × ((exec m room text).after ≡ o.after))
+pub exec_left : (m : Contents) (max_size : ℕ) (text : List ℕ)
+    → ((exec m max_size text).after ≡ m) ⊎ ((o : Outcome) × (outcome m text ≡ Ok o) × ((exec m max_size text).after ≡ o.after))
 unfolding exec
-exec_left m room text = either m room text (outcome m text) (outcome m text >>= with_reply room text) refl
+exec_left m max_size text = either m max_size text (outcome m text) (outcome m text >>= with_reply max_size text) refl

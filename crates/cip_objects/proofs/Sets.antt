@@ -16,7 +16,7 @@ use Rattle.cip_objects.specs.ReadServices.{service_at, get_attribute_single}
 use Rattle.cip_objects.specs.ChangeServices.{set_attribute_single, set_member, add, clear}
 use Rattle.cip_objects.specs.Execution.{Outcome, perform, outcome, with_reply, or_refusal, exec, reply_to}
 use Rattle.cip_objects.specs.ExecutionLaws.{exec_too_large}
-use Rattle.cip_objects.specs.Laws.{Reads, too_large_law, changes_fit_law, get_after_set_law, set_leaves_others_law}
+use Rattle.cip_objects.specs.Laws.{IsRequestWith, too_large_law, changes_fit_law, get_after_set_law, set_leaves_others_law}
 use Rattle.cip_objects.specs.Router.{general_status}
 use Rattle.cip_objects.specs.Service.{service_code}
 use Rattle.cip_objects.specs.Tables.{Shape, shape_at, services_of}
@@ -27,27 +27,27 @@ use Rattle.cip_objects.proofs.ReadAfterSet.{value_at-same, value_at-other}
 use Rattle.cip_objects.proofs.Refuses.{exec_outcome, exec_left}
 
 pub too_large : too_large_law
-too_large m room text e = exec_too_large m room text e
+too_large m max_size text e = exec_too_large m max_size text e
 
 pub changes_fit : changes_fit_law
-changes_fit m SetAttributeSingle path content text o room h e fits =
+changes_fit m SetAttributeSingle path content text o max_size h e fits =
     let c = change_effect (set_attribute_single m path content) o e in
     let none : o.content ≡ [] = c.content ∙ (set_effect m path content c.change c.first).answers in
     rw none (omega arith)
-changes_fit m SetMember path content text o room h e fits =
+changes_fit m SetMember path content text o max_size h e fits =
     let c = change_effect (set_member m path content) o e in
     let none : o.content ≡ [] = c.content ∙ (member_effect m path content c.change c.first).answers in
     rw none (omega arith)
-changes_fit m Add path content text o room h e fits =
+changes_fit m Add path content text o max_size h e fits =
     let c = change_effect (add m content) o e in
     rw (c.content ∙ (add_effect m content c.change c.first).answers) fits
-changes_fit m Clear path content text o room h e fits =
+changes_fit m Clear path content text o max_size h e fits =
     let c = change_effect (clear m content) o e in
     rw (c.content ∙ (clear_effect m content c.change c.first).answers) fits
-changes_fit m GetAttributesAll path content text o room h e fits = absurd h
-changes_fit m GetAttributeList path content text o room h e fits = absurd h
-changes_fit m GetAttributeSingle path content text o room h e fits = absurd h
-changes_fit m GetMember path content text o room h e fits = absurd h
+changes_fit m GetAttributesAll path content text o max_size h e fits = absurd h
+changes_fit m GetAttributeList path content text o max_size h e fits = absurd h
+changes_fit m GetAttributeSingle path content text o max_size h e fits = absurd h
+changes_fit m GetMember path content text o max_size h e fits = absurd h
 
 -- a service of code 0x10 is Set_Attribute_Single
 is_set : (s : Service) → service_code s ≡ 0x10 → s ≡ SetAttributeSingle
@@ -74,7 +74,7 @@ same_request q r e = cc
 same_path : (q r : Path) → ◌≡◌ {A = Result Path PathFault} (Ok q) (Ok r) → q ≡ r
 same_path q r e = cc
 
-was_set : (m : Contents) (set path value : List ℕ) (o : Outcome) → Reads set 0x10 path value → outcome m set ≡ Ok o → (p : Path) × WasSet m path value p o
+was_set : (m : Contents) (set path value : List ℕ) (o : Outcome) → IsRequestWith set 0x10 path value → outcome m set ≡ Ok o → (p : Path) × WasSet m path value p o
 was_set m set path value o e done =
     let g = goes m set o done in
     let q : g.request ≡ record { service = 0x10; path = path; «data» = value } = same_request g.request _ (sym g.is_request ∙ e) in
@@ -113,7 +113,7 @@ offers_get shapes class instance s e =
     table_get (eqb class 1) (eqb class 4) (eqb class 6) (eqb class 100) (eqb instance 0) (eqb instance 1) (shape_at instance shapes) s e
 
 -- what a get makes where the attribute is there
-pub get_makes : (m : Contents) (get path value : List ℕ) (p : Path) (a : ℕ) → Reads get 0x0e path [] → path_of path ≡ Ok p → service_at m.shapes p.class p.instance 0x0e ≡ Ok GetAttributeSingle → p.attribute ≡ Some a → value_at m p.class p.instance a ≡ Some value → outcome m get ≡ Ok (record { after = m; status = Whole; content = value })
+pub get_makes : (m : Contents) (get path value : List ℕ) (p : Path) (a : ℕ) → IsRequestWith get 0x0e path [] → path_of path ≡ Ok p → service_at m.shapes p.class p.instance 0x0e ≡ Ok GetAttributeSingle → p.attribute ≡ Some a → value_at m p.class p.instance a ≡ Some value → outcome m get ≡ Ok (record { after = m; status = Whole; content = value })
 unfolding outcome get_attribute_single
 get_makes m get path value p a e f g h v = rw (e, f, g, h, v) refl
 
@@ -135,26 +135,26 @@ got m later get value e h =
     ap (λ r. (or_refusal m get (r >>= with_reply later get)).answer) e ∙ fits_later m later get value h
 
 -- a reply that says success is that of an outcome, which was left
-pub went_well : (m : Contents) (room : ℕ) (text : List ℕ) → general_status (exec m room text).answer ≡ 0 → (o : Outcome) × (outcome m text ≡ Ok o) × ((exec m room text).after ≡ o.after)
-went_well m room text s = let p = exec_outcome m room text (inl s) in (p.made, p.is_made, p.after)
+pub went_well : (m : Contents) (max_size : ℕ) (text : List ℕ) → general_status (exec m max_size text).answer ≡ 0 → (o : Outcome) × (outcome m text ≡ Ok o) × ((exec m max_size text).after ≡ o.after)
+went_well m max_size text s = let p = exec_outcome m max_size text (inl s) in (p.made, p.is_made, p.after)
 
 pub get_after_set : get_after_set_law
-get_after_set m room later set get path value e f s fits =
-    let x = went_well m room set s in
+get_after_set m max_size later set get path value e f s fits =
+    let x = went_well m max_size set s in
     let w = was_set m set path value x.0 e x.1 in
     let p = w.0 in
     let n = with_change m p.class p.instance w.1.attribute value in
     let made = get_makes n get path value p w.1.attribute f w.1.is_path (offers_get m.shapes p.class p.instance SetAttributeSingle w.1.offers) w.1.named (value_at-same m p.class p.instance w.1.attribute value) in
-    ap (λ k. (exec m room set).answer ∷ (exec k later get).answer ∷ []) (x.2 ∙ w.1.leaves)
-    ∙ ap (λ r. (exec m room set).answer ∷ r ∷ []) (got n later get value made fits)
+    ap (λ k. (exec m max_size set).answer ∷ (exec k later get).answer ∷ []) (x.2 ∙ w.1.leaves)
+    ∙ ap (λ r. (exec m max_size set).answer ∷ r ∷ []) (got n later get value made fits)
 
 other_key : (d c j i b a : ℕ) → ((d ≡ c) × (j ≡ i) × (b ≡ a) → ⊥) → eqb d c && (eqb j i && eqb b a) ≡ false
 other_key d c j i b a h = grind (arith, nat_tests)
 
-leaves_others : (m : Contents) (room : ℕ) (set path value : List ℕ) (p : Path) → Reads set 0x10 path value → path_of path ≡ Ok p → (class instance attribute : ℕ) → ((class ≡ p.class) × (instance ≡ p.instance) × (Some attribute ≡ p.attribute) → ⊥)
-    → ((exec m room set).after ≡ m) ⊎ ((o : Outcome) × (outcome m set ≡ Ok o) × ((exec m room set).after ≡ o.after)) → value_at (exec m room set).after class instance attribute ≡ value_at m class instance attribute
-leaves_others m room set path value p e f class instance attribute other (inl same) = ap (λ k. value_at k class instance attribute) same
-leaves_others m room set path value p e f class instance attribute other (inr x) =
+leaves_others : (m : Contents) (max_size : ℕ) (set path value : List ℕ) (p : Path) → IsRequestWith set 0x10 path value → path_of path ≡ Ok p → (class instance attribute : ℕ) → ((class ≡ p.class) × (instance ≡ p.instance) × (Some attribute ≡ p.attribute) → ⊥)
+    → ((exec m max_size set).after ≡ m) ⊎ ((o : Outcome) × (outcome m set ≡ Ok o) × ((exec m max_size set).after ≡ o.after)) → value_at (exec m max_size set).after class instance attribute ≡ value_at m class instance attribute
+leaves_others m max_size set path value p e f class instance attribute other (inl same) = ap (λ k. value_at k class instance attribute) same
+leaves_others m max_size set path value p e f class instance attribute other (inr x) =
     let w = was_set m set path value x.0 e x.1 in
     let here : w.0 ≡ p = same_path w.0 p (sym w.1.is_path ∙ f) in
     ap (λ k. value_at k class instance attribute) (x.2 ∙ w.1.leaves)
@@ -163,5 +163,5 @@ leaves_others m room set path value p e f class instance attribute other (inr x)
     (λ k. other (k.0 ∙ ap (λ y. y.class) here, k.1 ∙ ap (λ y. y.instance) here, ap (λ n. Some n) k.2 ∙ sym w.1.named ∙ ap (λ y. y.attribute) here)))
 
 pub set_leaves_others : set_leaves_others_law
-set_leaves_others m room set path value p e f class instance attribute other =
-    leaves_others m room set path value p e f class instance attribute other (exec_left m room set)
+set_leaves_others m max_size set path value p e f class instance attribute other =
+    leaves_others m max_size set path value p e f class instance attribute other (exec_left m max_size set)

@@ -1,7 +1,7 @@
 -- What can be set, and the length that it has.
 use Rattle.std.proofs.Common.{◌≡◌, ℕ, List, length, Some, Ok, arith}
 use Rattle.std.proofs.lemmas.Bool.Decides.{nat_tests}
-use Rattle.cip_objects.specs.Check.{exactly}
+use Rattle.cip_objects.specs.Check.{check_size}
 use Rattle.cip_objects.specs.Tables.{Shape, settable_size}
 
 -- what can be set in an assembly is its data
@@ -26,5 +26,5 @@ settable_limit shapes class instance attribute n e h = record {
 }
 
 -- the length that was tested
-pub exact_size : (n : ℕ) (content : List ℕ) → exactly n content ≡ Ok tt → length content ≡ n
+pub exact_size : (n : ℕ) (content : List ℕ) → check_size n content ≡ Ok tt → length content ≡ n
 exact_size n content e = grind (arith, nat_tests)

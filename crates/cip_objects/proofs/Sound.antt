@@ -7,7 +7,7 @@ use Rattle.cip_objects.specs.declared.config.Config.{Config}
 use Rattle.cip_objects.specs.declared.config.AssemblyConfig.{AssemblyConfig}
 use Rattle.cip_objects.specs.declared.config.ConfigFault.{ConfigFault}
 use Rattle.cip_objects.specs.Limits.{LONGEST_DATA}
-use Rattle.cip_objects.specs.Configuration.{fault_of, is_misnamed, is_missized, is_wrongly_split, is_misnumbered, instances, block_of}
+use Rattle.cip_objects.specs.Configuration.{fault_of, is_invalid_name, is_invalid_size, are_invalid_members, are_invalid_instances, instances, assembly_of_config}
 use Rattle.cip_objects.specs.Entries.{NoneIsClass}
 
 pub record IsSound (c : Config) : Type 0 where
@@ -15,7 +15,7 @@ pub record IsSound (c : Config) : Type 0 where
   pub few : length c.assemblies.items ≤ 16
   pub small : All (λ a. sum a.members.items ≤ LONGEST_DATA) c.assemblies.items
   pub split : All (λ a. length a.members.items ≤ 64) c.assemblies.items
-  pub numbered : NoneIsClass (map block_of c.assemblies.items)
+  pub numbered : NoneIsClass (map assembly_of_config c.assemblies.items)
   pub counter : c.counter.value ≤ c.counter.limit
 
 none_cond : (b : Bool) (x : ConfigFault) (r : Option ConfigFault) → cond b (Some x) r ≡ None → (b ≡ false) × (r ≡ None)
@@ -37,28 +37,28 @@ at_most a b e = grind (arith, nat_tests)
 above : (n : ℕ) → eqb n 0 ≡ false → 0 < n
 above n e = grind (arith, nat_tests)
 
-numbers : (xs : List AssemblyConfig) → is_misnumbered (instances xs) ≡ false → NoneIsClass (map block_of xs)
+numbers : (xs : List AssemblyConfig) → are_invalid_instances (instances xs) ≡ false → NoneIsClass (map assembly_of_config xs)
 numbers [] e = tt
 numbers (x ∷ xs) e =
-    let here = or_false _ (is_misnumbered (instances xs)) e in
+    let here = or_false _ (are_invalid_instances (instances xs)) e in
     let number = or_false (eqb x.instance 0) _ here.0 in
     (above x.instance number.0, numbers xs here.1)
 
 pub sound : (c : Config) → fault_of c ≡ None → IsSound c
 unfolding fault_of
 sound c e =
-    let name = none_cond (is_misnamed (string_bytes c.name)) _ _ e in
-    let size = none_cond (nat_lt 16 (length c.assemblies.items) || list_any is_missized c.assemblies.items) _ _ name.1 in
-    let split = none_cond (list_any is_wrongly_split c.assemblies.items) _ _ size.1 in
-    let number = none_cond (is_misnumbered (instances c.assemblies.items)) _ _ split.1 in
+    let name = none_cond (is_invalid_name (string_bytes c.name)) _ _ e in
+    let size = none_cond (nat_lt 16 (length c.assemblies.items) || list_any is_invalid_size c.assemblies.items) _ _ name.1 in
+    let split = none_cond (list_any are_invalid_members c.assemblies.items) _ _ size.1 in
+    let number = none_cond (are_invalid_instances (instances c.assemblies.items)) _ _ split.1 in
     let limit = none_cond (nat_lt c.counter.limit c.counter.value) _ _ number.1 in
     let named = or_false (nat_lt 32 (length (string_bytes c.name))) _ name.0 in
-    let exact_size = or_false (nat_lt 16 (length c.assemblies.items)) (list_any is_missized c.assemblies.items) size.0 in
+    let exact_size = or_false (nat_lt 16 (length c.assemblies.items)) (list_any is_invalid_size c.assemblies.items) size.0 in
     record {
       name = at_most 32 (length (string_bytes c.name)) named.0;
       few = at_most 16 (length c.assemblies.items) exact_size.0;
-      small = λ k d h. at_most LONGEST_DATA (sum (get_or c.assemblies.items k d).members.items) (or_false _ _ (none_any is_missized c.assemblies.items exact_size.1 k d h)).1;
-      split = λ k d h. at_most 64 (length (get_or c.assemblies.items k d).members.items) (or_false _ _ (none_any is_wrongly_split c.assemblies.items split.0 k d h)).0;
+      small = λ k d h. at_most LONGEST_DATA (sum (get_or c.assemblies.items k d).members.items) (or_false _ _ (none_any is_invalid_size c.assemblies.items exact_size.1 k d h)).1;
+      split = λ k d h. at_most 64 (length (get_or c.assemblies.items k d).members.items) (or_false _ _ (none_any are_invalid_members c.assemblies.items split.0 k d h)).0;
       numbered = numbers c.assemblies.items number.0;
       counter = at_most c.counter.limit c.counter.value limit.0;
     }

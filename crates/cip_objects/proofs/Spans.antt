@@ -88,18 +88,18 @@ slice_same old bytes k h =
     ∙ take_at bytes (drop (k + length bytes) old) (length bytes) refl
 
 -- what lies before it is as it was
-pub slice_before : (old bytes : List ℕ) (k place size : ℕ) → k + length bytes ≤ length old → place + size ≤ k
-    → take size (drop place (with_bytes_at old k bytes)) ≡ take size (drop place old)
-slice_before old bytes k place size h near =
-    sym (drop-take place size (with_bytes_at old k bytes))
-    ∙ ap (drop place) (take-append-le (place + size) (take k old) (bytes ++ drop (k + length bytes) old)
-    (omega (arith, length-take-le k old (omega arith))) ∙ take-take (place + size) k old near)
-    ∙ drop-take place size old
+pub slice_before : (old bytes : List ℕ) (k offset size : ℕ) → k + length bytes ≤ length old → offset + size ≤ k
+    → take size (drop offset (with_bytes_at old k bytes)) ≡ take size (drop offset old)
+slice_before old bytes k offset size h near =
+    sym (drop-take offset size (with_bytes_at old k bytes))
+    ∙ ap (drop offset) (take-append-le (offset + size) (take k old) (bytes ++ drop (k + length bytes) old)
+    (omega (arith, length-take-le k old (omega arith))) ∙ take-take (offset + size) k old near)
+    ∙ drop-take offset size old
 
 -- and so is what lies behind it
-pub slice_behind : (old bytes : List ℕ) (k place : ℕ) → k + length bytes ≤ length old → k + length bytes ≤ place
-    → drop place (with_bytes_at old k bytes) ≡ drop place old
-slice_behind old bytes k place h far =
-    ap (drop place) (sym (append_assoc (take k old) bytes (drop (k + length bytes) old)))
-    ∙ drop-append-drop (k + length bytes) old (take k old ++ bytes) place far
+pub slice_behind : (old bytes : List ℕ) (k offset : ℕ) → k + length bytes ≤ length old → k + length bytes ≤ offset
+    → drop offset (with_bytes_at old k bytes) ≡ drop offset old
+slice_behind old bytes k offset h far =
+    ap (drop offset) (sym (append_assoc (take k old) bytes (drop (k + length bytes) old)))
+    ∙ drop-append-drop (k + length bytes) old (take k old ++ bytes) offset far
     (omega (arith, length-append (take k old) bytes, length-take-le k old (omega arith)))

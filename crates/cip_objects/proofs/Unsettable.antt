@@ -9,7 +9,7 @@ use Rattle.cip_objects.specs.declared.assembly.Span.{Span}
 use Rattle.cip_objects.specs.declared.service.Service.{Service}
 use Rattle.cip_objects.specs.declared.service.Service.TheVariants.{GetAttributesAll, GetAttributeList, GetAttributeSingle, SetAttributeSingle, GetMember, SetMember, Add, Clear}
 use Rattle.cip_objects.specs.declared.status.Refusal.{Refusal}
-use Rattle.cip_objects.specs.Check.{exactly}
+use Rattle.cip_objects.specs.Check.{check_size}
 use Rattle.cip_objects.specs.Contents.{Contents, value_at, bytes_at, udint_at, with_change}
 use Rattle.cip_objects.specs.ReadServices.{named_member, get_attribute_single, get_attributes_all, get_attribute_list, get_member}
 use Rattle.cip_objects.specs.ChangeServices.{Change, after_add, with_bytes_at, set_attribute_single, set_member, add, clear}
@@ -39,7 +39,7 @@ unfolding set_member
 splices m path content c e =
     let s = bound (named_member m.shapes path) _ c e in
     let n = bound (ok_or (settable_size m.shapes 4 path.instance 3) _) _ c s.rest in
-    let x = after_check (exactly s.value.size content) _ c n.rest in
+    let x = after_check (check_size s.value.size content) _ c n.rest in
     record {
       span = s.value;
       all = n.value;
@@ -129,9 +129,9 @@ either_kept m n text d j b h (inr x) =
     let k = perform_kept m g.service g.path g.request.data x.0 d j b g.is_performed h in
     record { shapes = ap (λ y. y.shapes) x.2 ∙ k.shapes; value = ap (λ y. value_at y d j b) x.2 ∙ k.value }
 
-exec_kept : (m : Contents) (room : ℕ) (text : List ℕ) (d j b : ℕ) → IsKept m.shapes d j b
-    → Keeps m (exec m room text).after d j b
-exec_kept m room text d j b h = either_kept m (exec m room text).after text d j b h (exec_left m room text)
+exec_kept : (m : Contents) (max_size : ℕ) (text : List ℕ) (d j b : ℕ) → IsKept m.shapes d j b
+    → Keeps m (exec m max_size text).after d j b
+exec_kept m max_size text d j b h = either_kept m (exec m max_size text).after text d j b h (exec_left m max_size text)
 
 kept_over : (m : Contents) (requests : List (ℕ × List ℕ)) (d j b : ℕ) → IsKept m.shapes d j b
     → value_at (run m requests).after d j b ≡ value_at m d j b

@@ -10,9 +10,9 @@ use Rattle.cip_objects.specs.declared.config.AssemblyConfig.{AssemblyConfig}
 use Rattle.cip_objects.specs.declared.service.Service.{Service}
 use Rattle.cip_objects.specs.declared.service.Service.TheVariants.{GetAttributesAll, GetAttributeList, GetAttributeSingle, SetAttributeSingle, GetMember, SetMember, Add, Clear}
 use Rattle.cip_objects.specs.ChangeServices.{Change, with_bytes_at, set_attribute_single, set_member, add, clear}
-use Rattle.cip_objects.specs.Configuration.{block_of}
+use Rattle.cip_objects.specs.Configuration.{assembly_of_config}
 use Rattle.cip_objects.specs.Contents.{Contents, bytes_at, udint_at, with_change}
-use Rattle.cip_objects.specs.Entries.{IdentityValues, Block, CounterValues, attribute_in, class_attributes, block_at, greatest_of, shape_of, contents_of, NoneIsClass}
+use Rattle.cip_objects.specs.Entries.{IdentityValues, AssemblyValues, CounterValues, attribute_in, class_attributes, assembly_at, greatest_of, shape_of, contents_of, NoneIsClass}
 use Rattle.cip_objects.specs.Execution.{Outcome, perform, outcome, exec}
 use Rattle.cip_objects.proofs.Lookup.{block_value}
 use Rattle.cip_objects.specs.Members.{AreWhole, whole_law}
@@ -135,34 +135,34 @@ stays_whole m (r ∷ requests) h = stays_whole (exec m r.0 r.1).after requests
     (either_whole m (exec m r.0 r.1).after r.1 h (exec_left m r.0 r.1))
 
 -- each assembly has data of its size
-abbrev pub BlocksAreWhole : List Block → Type 0
+abbrev pub BlocksAreWhole : List AssemblyValues → Type 0
 BlocksAreWhole [] = Unit {0}
 BlocksAreWhole (b ∷ bs) = (length b.content ≡ sum b.members) × BlocksAreWhole bs
 
-pub whole_blocks : (xs : List AssemblyConfig) → BlocksAreWhole (map block_of xs)
+pub whole_blocks : (xs : List AssemblyConfig) → BlocksAreWhole (map assembly_of_config xs)
 whole_blocks [] = tt
 whole_blocks (x ∷ xs) = (length-replicate (sum x.members.items) 0, whole_blocks xs)
 
-record OfBlock (i : ℕ) (b : Block) : Type 0 where
+record OfBlock (i : ℕ) (b : AssemblyValues) : Type 0 where
   above : 0 < i
   whole : length b.content ≡ sum b.members
 
-of_front : (t : Bool) (x : Block) (xs : List Block) (i : ℕ) (b : Block) → eqb x.instance i ≡ t → 0 < x.instance
-    → length x.content ≡ sum x.members → (block_at i xs ≡ Some b → OfBlock i b)
-    → cond t (Some x) (block_at i xs) ≡ Some b → OfBlock i b
+of_front : (t : Bool) (x : AssemblyValues) (xs : List AssemblyValues) (i : ℕ) (b : AssemblyValues) → eqb x.instance i ≡ t → 0 < x.instance
+    → length x.content ≡ sum x.members → (assembly_at i xs ≡ Some b → OfBlock i b)
+    → cond t (Some x) (assembly_at i xs) ≡ Some b → OfBlock i b
 of_front true x xs i b t above whole later e =
     let here = same_some x b e in
     let same : x.instance ≡ i = eqb-true x.instance i t in
     record { above = omega arith; whole = ap (λ k. length k.content) (sym here) ∙ whole ∙ ap (λ k. sum k.members) here }
 of_front false x xs i b t above whole later e = later e
 
-of_block : (bs : List Block) (i : ℕ) (b : Block) → NoneIsClass bs → BlocksAreWhole bs → block_at i bs ≡ Some b
+of_block : (bs : List AssemblyValues) (i : ℕ) (b : AssemblyValues) → NoneIsClass bs → BlocksAreWhole bs → assembly_at i bs ≡ Some b
     → OfBlock i b
 of_block [] i b h w e = absurd (cc)
 of_block (x ∷ xs) i b h w e = of_front (eqb x.instance i) x xs i b refl h.0 w.0 (λ g. of_block xs i b h.1 w.1 g) e
 
-at_block : (d : IdentityValues) (bs : List Block) (c : CounterValues) (i : ℕ) (s : Shape) (o : Option Block)
-    → NoneIsClass bs → BlocksAreWhole bs → block_at i bs ≡ o → option_map shape_of o ≡ Some s
+at_block : (d : IdentityValues) (bs : List AssemblyValues) (c : CounterValues) (i : ℕ) (s : Shape) (o : Option AssemblyValues)
+    → NoneIsClass bs → BlocksAreWhole bs → assembly_at i bs ≡ o → option_map shape_of o ≡ Some s
     → length (bytes_at (contents_of d bs c) 4 i 3) ≡ sum s.members
 at_block d bs c i s None h w e f = absurd (cc)
 at_block d bs c i s (Some b) h w e f =
@@ -172,11 +172,11 @@ at_block d bs c i s (Some b) h w e f =
     let read : bytes_at (contents_of d bs c) 4 i 3 ≡ b.content = ap (λ o. unwrap_or o [])
     (value_at-contents_of d bs c h 4 i 3)
     ∙ ap (λ t. unwrap_or (cond t (attribute_in 3 (class_attributes 2 (greatest_of bs) (length bs)))
-    (block_value 3 (block_at i bs))) []) (eqb-other i 0 (λ z. omega arith))
+    (block_value 3 (assembly_at i bs))) []) (eqb-other i 0 (λ z. omega arith))
     ∙ ap (λ o. unwrap_or (block_value 3 o) []) e in
     ap length read ∙ here.whole ∙ ap (λ k. sum k.members) shape
 
-pub contents_whole : (d : IdentityValues) (bs : List Block) (c : CounterValues) → NoneIsClass bs → BlocksAreWhole bs
+pub contents_whole : (d : IdentityValues) (bs : List AssemblyValues) (c : CounterValues) → NoneIsClass bs → BlocksAreWhole bs
     → AreWhole (contents_of d bs c)
-contents_whole d bs c h w i s e = at_block d bs c i s (block_at i bs) h w refl
+contents_whole d bs c h w i s e = at_block d bs c i s (assembly_at i bs) h w refl
     (sym (shape_at-contents d bs c (contents_of d bs c) i refl) ∙ e)

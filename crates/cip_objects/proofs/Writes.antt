@@ -9,8 +9,8 @@ use Rattle.cip_objects.specs.Tables.{Shape}
 use Rattle.cip_objects.specs.Changes.{Tally}
 use Rattle.cip_bytes.specs.declared.protocol.TheConstants.{IDENTITY, ASSEMBLY, COUNTER}
 use Rattle.cip_objects.specs.Contents.{Contents, with_value, bytes_at}
-use Rattle.cip_objects.specs.Places.{IsFirst}
-use Rattle.cip_objects.specs.Entries.{IdentityValues, Block, CounterValues, Entries, entries_at, attribute_in, class_attributes, identity_attributes, block_attributes, counter_attributes, block_at, greatest_of, entries_of, contents_of, shape_of, tally_of, device_of, NoneIsClass}
+use Rattle.cip_objects.specs.FirstOf.{IsFirst}
+use Rattle.cip_objects.specs.Entries.{IdentityValues, AssemblyValues, CounterValues, Entries, entries_at, attribute_in, class_attributes, identity_attributes, assembly_attributes, counter_attributes, assembly_at, greatest_of, entries_of, contents_of, shape_of, tally_of, device_of, NoneIsClass}
 use Rattle.cip_objects.proofs.Blocks.{eqb-other, first_at}
 use Rattle.cip_objects.proofs.Lookup.{block_value}
 use Rattle.cip_objects.specs.ChangeServices.{with_bytes_at}
@@ -18,37 +18,37 @@ use Rattle.cip_objects.proofs.Lookup.{blocks_of, value_at-contents_of}
 use Rattle.cip_objects.proofs.Map.{find_append, Updates, Absent, insert_updates, updates_front, updates_back, absent_at, updates_at}
 
 -- the assemblies with these data at one place
-abbrev pub with_content : List Block → ℕ → List ℕ → List Block
+abbrev pub with_content : List AssemblyValues → ℕ → List ℕ → List AssemblyValues
 with_content [] k v = []
 with_content (b ∷ bs) zero v = record b { content = v } ∷ bs
 with_content (b ∷ bs) (suc k) v = b ∷ with_content bs k v
 
-pub set-content : (bs : List Block) (k : ℕ) (v : List ℕ) (d : Block) → set bs k (record (get_or bs k d) { content = v }) ≡ with_content bs k v
+pub set-content : (bs : List AssemblyValues) (k : ℕ) (v : List ℕ) (d : AssemblyValues) → set bs k (record (get_or bs k d) { content = v }) ≡ with_content bs k v
 set-content [] k v d = refl
 set-content (b ∷ bs) zero v d = refl
 set-content (b ∷ bs) (suc k) v d = ap (λ l. b ∷ l) (set-content bs k v d)
 
-pub length-content : (bs : List Block) (k : ℕ) (v : List ℕ) → length (with_content bs k v) ≡ length bs
+pub length-content : (bs : List AssemblyValues) (k : ℕ) (v : List ℕ) → length (with_content bs k v) ≡ length bs
 length-content [] k v = refl
 length-content (b ∷ bs) zero v = refl
 length-content (b ∷ bs) (suc k) v = ap suc (length-content bs k v)
 
-pub greatest-content : (bs : List Block) (k : ℕ) (v : List ℕ) → greatest_of (with_content bs k v) ≡ greatest_of bs
+pub greatest-content : (bs : List AssemblyValues) (k : ℕ) (v : List ℕ) → greatest_of (with_content bs k v) ≡ greatest_of bs
 greatest-content [] k v = refl
 greatest-content (b ∷ bs) zero v = refl
 greatest-content (b ∷ bs) (suc k) v = ap (max b.instance) (greatest-content bs k v)
 
-pub shapes-content : (bs : List Block) (k : ℕ) (v : List ℕ) → map shape_of (with_content bs k v) ≡ map shape_of bs
+pub shapes-content : (bs : List AssemblyValues) (k : ℕ) (v : List ℕ) → map shape_of (with_content bs k v) ≡ map shape_of bs
 shapes-content [] k v = refl
 shapes-content (b ∷ bs) zero v = refl
 shapes-content (b ∷ bs) (suc k) v = ap (λ l. shape_of b ∷ l) (shapes-content bs k v)
 
-pub tallies-content : (bs : List Block) (k : ℕ) (v : List ℕ) → map tally_of (with_content bs k v) ≡ map tally_of bs
+pub tallies-content : (bs : List AssemblyValues) (k : ℕ) (v : List ℕ) → map tally_of (with_content bs k v) ≡ map tally_of bs
 tallies-content [] k v = refl
 tallies-content (b ∷ bs) zero v = refl
 tallies-content (b ∷ bs) (suc k) v = ap (λ l. tally_of b ∷ l) (tallies-content bs k v)
 
-pub numbered-content : (bs : List Block) (k : ℕ) (v : List ℕ) → NoneIsClass bs → NoneIsClass (with_content bs k v)
+pub numbered-content : (bs : List AssemblyValues) (k : ℕ) (v : List ℕ) → NoneIsClass bs → NoneIsClass (with_content bs k v)
 numbered-content [] k v h = tt
 numbered-content (b ∷ bs) zero v h = h
 numbered-content (b ∷ bs) (suc k) v h = (h.0, numbered-content bs k v h.1)
@@ -63,9 +63,9 @@ apart : (n a b : ℕ) → (a ≡ b → ⊥) → eqb n a ≡ true → eqb n b ≡
 apart n a b h e = grind (arith, nat_tests)
 
 -- one assembly with other data
-block_updates : (b : Block) (v : List ℕ) → Updates (key ASSEMBLY b.instance 3) v (entries_at ASSEMBLY b.instance (block_attributes b)) (entries_at ASSEMBLY b.instance (block_attributes (record b { content = v })))
+block_updates : (b : AssemblyValues) (v : List ℕ) → Updates (key ASSEMBLY b.instance 3) v (entries_at ASSEMBLY b.instance (assembly_attributes b)) (entries_at ASSEMBLY b.instance (assembly_attributes (record b { content = v })))
 block_updates b v =
-    updates_at ASSEMBLY b.instance 3 v (block_attributes b) (block_attributes (record b { content = v }))
+    updates_at ASSEMBLY b.instance 3 v (assembly_attributes b) (assembly_attributes (record b { content = v }))
     (λ a. set_data (eqb a 1) (eqb a 3) (eqb a 4) (little_bytes 2 (length b.members)) b.content v (little_bytes 2 (sum b.members)) (apart a 3 1 (λ e. omega arith)))
 
 updates_key : (i j : ℕ) (v : List ℕ) (old new : Entries) → i ≡ j → Updates (key ASSEMBLY i 3) v old new → Updates (key ASSEMBLY j 3) v old new
@@ -74,18 +74,18 @@ updates_key i j v old new e u = subst (λ n. Updates (key ASSEMBLY n 3) v old ne
 other_instance : (i j : ℕ) → (j ≡ i → ⊥) → eqb ASSEMBLY ASSEMBLY && eqb i j ≡ false
 other_instance i j h = eqb-other i j (λ e. h (sym e))
 
-pub blocks_update : (bs : List Block) (i k : ℕ) (v : List ℕ) (d : Block) → IsFirst (λ b. b.instance) bs i k → Updates (key ASSEMBLY i 3) v (blocks_of bs) (blocks_of (with_content bs k v))
+pub blocks_update : (bs : List AssemblyValues) (i k : ℕ) (v : List ℕ) (d : AssemblyValues) → IsFirst (λ b. b.instance) bs i k → Updates (key ASSEMBLY i 3) v (blocks_of bs) (blocks_of (with_content bs k v))
 blocks_update [] i k v d f = absurd (omega (arith, f.within))
 blocks_update (b ∷ bs) i zero v d f =
-    updates_front (key ASSEMBLY i 3) v (entries_at ASSEMBLY b.instance (block_attributes b)) (entries_at ASSEMBLY b.instance (block_attributes (record b { content = v }))) (blocks_of bs)
+    updates_front (key ASSEMBLY i 3) v (entries_at ASSEMBLY b.instance (assembly_attributes b)) (entries_at ASSEMBLY b.instance (assembly_attributes (record b { content = v }))) (blocks_of bs)
     (updates_key b.instance i v _ _ (f.here d) (block_updates b v))
 blocks_update (b ∷ bs) i (suc k) v d f =
-    updates_back (key ASSEMBLY i 3) v (entries_at ASSEMBLY b.instance (block_attributes b)) (blocks_of bs) (blocks_of (with_content bs k v))
-    (absent_at (key ASSEMBLY i 3) ASSEMBLY b.instance (block_attributes b) (other_instance i b.instance (f.before 0 d (omega arith))))
+    updates_back (key ASSEMBLY i 3) v (entries_at ASSEMBLY b.instance (assembly_attributes b)) (blocks_of bs) (blocks_of (with_content bs k v))
+    (absent_at (key ASSEMBLY i 3) ASSEMBLY b.instance (assembly_attributes b) (other_instance i b.instance (f.before 0 d (omega arith))))
     (blocks_update bs i k v d (record { within = omega (arith, f.within); here = f.here; before = λ j e lt. f.before (suc j) e (omega arith) }))
 
 -- the first with that number is of no class itself
-pub first_above : (bs : List Block) (i k : ℕ) (d : Block) → NoneIsClass bs → IsFirst (λ b. b.instance) bs i k → 0 < i
+pub first_above : (bs : List AssemblyValues) (i k : ℕ) (d : AssemblyValues) → NoneIsClass bs → IsFirst (λ b. b.instance) bs i k → 0 < i
 first_above [] i k d h f = absurd (omega (arith, f.within))
 first_above (b ∷ bs) i zero d h f = let e = f.here d in omega (arith, h.0, e)
 first_above (b ∷ bs) i (suc k) d h f =
@@ -115,13 +115,13 @@ absent_front k front rest a b = record {
 }
 
 -- no assembly has an attribute of the counter
-absent_blocks : (a : ℕ) (bs : List Block) → Absent (key COUNTER 1 a) (blocks_of bs)
+absent_blocks : (a : ℕ) (bs : List AssemblyValues) → Absent (key COUNTER 1 a) (blocks_of bs)
 absent_blocks a [] = record { misses = λ q e. refl }
 absent_blocks a (b ∷ bs) =
-    absent_front (key COUNTER 1 a) (entries_at ASSEMBLY b.instance (block_attributes b)) (blocks_of bs)
-    (absent_at (key COUNTER 1 a) ASSEMBLY b.instance (block_attributes b) refl) (absent_blocks a bs)
+    absent_front (key COUNTER 1 a) (entries_at ASSEMBLY b.instance (assembly_attributes b)) (blocks_of bs)
+    (absent_at (key COUNTER 1 a) ASSEMBLY b.instance (assembly_attributes b) refl) (absent_blocks a bs)
 
-assembled_counter : (d : IdentityValues) (g n a : ℕ) (v : List ℕ) (bs : List Block) (old new : Entries) → Updates (key COUNTER 1 a) v old new → Updates (key COUNTER 1 a) v (assembled d g n (blocks_of bs) old) (assembled d g n (blocks_of bs) new)
+assembled_counter : (d : IdentityValues) (g n a : ℕ) (v : List ℕ) (bs : List AssemblyValues) (old new : Entries) → Updates (key COUNTER 1 a) v old new → Updates (key COUNTER 1 a) v (assembled d g n (blocks_of bs) old) (assembled d g n (blocks_of bs) new)
 assembled_counter d g n a v bs old new u =
     let q = key COUNTER 1 a in
     updates_back q v (entries_at IDENTITY 0 (class_attributes 1 1 1)) _ _ (absent_at q IDENTITY 0 (class_attributes 1 1 1) refl)
@@ -139,7 +139,7 @@ written old new m q v shapes changes u e f g = λ i. record {
 }
 
 -- the contents with other data in one assembly
-pub content_written : (d : IdentityValues) (bs : List Block) (c : CounterValues) (i k : ℕ) (v : List ℕ) (e : Block) → NoneIsClass bs → IsFirst (λ b. b.instance) bs i k → contents_of d (with_content bs k v) c ≡ with_value (contents_of d bs c) ASSEMBLY i 3 v
+pub content_written : (d : IdentityValues) (bs : List AssemblyValues) (c : CounterValues) (i k : ℕ) (v : List ℕ) (e : AssemblyValues) → NoneIsClass bs → IsFirst (λ b. b.instance) bs i k → contents_of d (with_content bs k v) c ≡ with_value (contents_of d bs c) ASSEMBLY i 3 v
 unfolding contents_of entries_of
 content_written d bs c i k v e h f =
     ap (λ g. record { values = from_entries (assembled d g (length (with_content bs k v)) (blocks_of (with_content bs k v)) (entries_at COUNTER 1 (counter_attributes c))); shapes = map shape_of (with_content bs k v); device = device_of d; changes = map tally_of (with_content bs k v) }) (greatest-content bs k v)
@@ -149,7 +149,7 @@ content_written d bs c i k v e h f =
     refl (shapes-content bs k v) (tallies-content bs k v)
 
 -- the contents with another number of the counter
-counter_written : (d : IdentityValues) (bs : List Block) (c n : CounterValues) (a : ℕ) (v : List ℕ) → ((x : ℕ) → attribute_in x (counter_attributes n) ≡ cond (eqb x a) (Some v) (attribute_in x (counter_attributes c))) → contents_of d bs n ≡ with_value (contents_of d bs c) COUNTER 1 a v
+counter_written : (d : IdentityValues) (bs : List AssemblyValues) (c n : CounterValues) (a : ℕ) (v : List ℕ) → ((x : ℕ) → attribute_in x (counter_attributes n) ≡ cond (eqb x a) (Some v) (attribute_in x (counter_attributes c))) → contents_of d bs n ≡ with_value (contents_of d bs c) COUNTER 1 a v
 unfolding contents_of entries_of
 counter_written d bs c n a v h =
     written (assembled d (greatest_of bs) (length bs) (blocks_of bs) (entries_at COUNTER 1 (counter_attributes c))) (assembled d (greatest_of bs) (length bs) (blocks_of bs) (entries_at COUNTER 1 (counter_attributes n))) (contents_of d bs c) (key COUNTER 1 a) v (map shape_of bs) (map tally_of bs)
@@ -174,38 +174,38 @@ third_set false true false x y z v h k = refl
 third_set false false true x y z v h k = refl
 third_set false false false x y z v h k = refl
 
-pub value_written : (d : IdentityValues) (bs : List Block) (c : CounterValues) (v : ℕ) → contents_of d bs (record c { value = v }) ≡ with_value (contents_of d bs c) COUNTER 1 1 (little_bytes 4 v)
+pub value_written : (d : IdentityValues) (bs : List AssemblyValues) (c : CounterValues) (v : ℕ) → contents_of d bs (record c { value = v }) ≡ with_value (contents_of d bs c) COUNTER 1 1 (little_bytes 4 v)
 value_written d bs c v =
     counter_written d bs c (record c { value = v }) 1 (little_bytes 4 v)
     (λ x. first_set (eqb x 1) (eqb x 2) (eqb x 3) (little_bytes 4 c.value) (little_bytes 4 c.limit) (little_bytes 4 c.additions) (little_bytes 4 v))
 
-pub limit_written : (d : IdentityValues) (bs : List Block) (c : CounterValues) (v : ℕ) → contents_of d bs (record c { limit = v }) ≡ with_value (contents_of d bs c) COUNTER 1 2 (little_bytes 4 v)
+pub limit_written : (d : IdentityValues) (bs : List AssemblyValues) (c : CounterValues) (v : ℕ) → contents_of d bs (record c { limit = v }) ≡ with_value (contents_of d bs c) COUNTER 1 2 (little_bytes 4 v)
 limit_written d bs c v =
     counter_written d bs c (record c { limit = v }) 2 (little_bytes 4 v)
     (λ x. second_set (eqb x 1) (eqb x 2) (eqb x 3) (little_bytes 4 c.value) (little_bytes 4 c.limit) (little_bytes 4 c.additions) (little_bytes 4 v) (apart x 2 1 (λ e. omega arith)))
 
-pub additions_written : (d : IdentityValues) (bs : List Block) (c : CounterValues) (v : ℕ) → contents_of d bs (record c { additions = v }) ≡ with_value (contents_of d bs c) COUNTER 1 3 (little_bytes 4 v)
+pub additions_written : (d : IdentityValues) (bs : List AssemblyValues) (c : CounterValues) (v : ℕ) → contents_of d bs (record c { additions = v }) ≡ with_value (contents_of d bs c) COUNTER 1 3 (little_bytes 4 v)
 additions_written d bs c v =
     counter_written d bs c (record c { additions = v }) 3 (little_bytes 4 v)
     (λ x. third_set (eqb x 1) (eqb x 2) (eqb x 3) (little_bytes 4 c.value) (little_bytes 4 c.limit) (little_bytes 4 c.additions) (little_bytes 4 v) (apart x 3 1 (λ e. omega arith)) (apart x 3 2 (λ e. omega arith)))
 
 -- the data of an assembly are what the map holds at its attribute 3
-pub content_read : (d : IdentityValues) (bs : List Block) (c : CounterValues) (m : Contents) (i k : ℕ) (e : Block) → contents_of d bs c ≡ m → NoneIsClass bs → IsFirst (λ b. b.instance) bs i k → bytes_at m ASSEMBLY i 3 ≡ (get_or bs k e).content
+pub content_read : (d : IdentityValues) (bs : List AssemblyValues) (c : CounterValues) (m : Contents) (i k : ℕ) (e : AssemblyValues) → contents_of d bs c ≡ m → NoneIsClass bs → IsFirst (λ b. b.instance) bs i k → bytes_at m ASSEMBLY i 3 ≡ (get_or bs k e).content
 content_read d bs c m i k e is h f =
     ap (λ x. bytes_at x ASSEMBLY i 3) (sym is)
     ∙ ap (λ o. unwrap_or o []) (value_at-contents_of d bs c h ASSEMBLY i 3)
-    ∙ ap (λ t. unwrap_or (cond t (attribute_in 3 (class_attributes 2 (greatest_of bs) (length bs))) (block_value 3 (block_at i bs))) []) (eqb-other i 0 (let above = first_above bs i k e h f in λ z. omega arith))
+    ∙ ap (λ t. unwrap_or (cond t (attribute_in 3 (class_attributes 2 (greatest_of bs) (length bs))) (block_value 3 (assembly_at i bs))) []) (eqb-other i 0 (let above = first_above bs i k e h f in λ z. omega arith))
     ∙ ap (λ o. unwrap_or (block_value 3 o) []) (first_at bs i k e f)
 
 -- the contents once the first assembly of a number has other data
-pub content_set : (d : IdentityValues) (bs : List Block) (c : CounterValues) (m : Contents) (i k : ℕ) (b : Block) (new : Block) (offset : ℕ) (bytes : List ℕ) → contents_of d bs c ≡ m → NoneIsClass bs → IsFirst (λ b. b.instance) bs i k → b ≡ get_or bs k b → new ≡ record b { content = with_bytes_at b.content offset bytes } → contents_of d (set bs k new) c ≡ with_value m ASSEMBLY i 3 (with_bytes_at (bytes_at m ASSEMBLY i 3) offset bytes)
+pub content_set : (d : IdentityValues) (bs : List AssemblyValues) (c : CounterValues) (m : Contents) (i k : ℕ) (b : AssemblyValues) (new : AssemblyValues) (offset : ℕ) (bytes : List ℕ) → contents_of d bs c ≡ m → NoneIsClass bs → IsFirst (λ b. b.instance) bs i k → b ≡ get_or bs k b → new ≡ record b { content = with_bytes_at b.content offset bytes } → contents_of d (set bs k new) c ≡ with_value m ASSEMBLY i 3 (with_bytes_at (bytes_at m ASSEMBLY i 3) offset bytes)
 content_set d bs c m i k b new offset bytes is h f here e =
-    ap (λ x. contents_of d (set bs k x) c) (e ∙ ap (λ (x : Block). record x { content = with_bytes_at b.content offset bytes }) here)
+    ap (λ x. contents_of d (set bs k x) c) (e ∙ ap (λ (x : AssemblyValues). record x { content = with_bytes_at b.content offset bytes }) here)
     ∙ ap (λ l. contents_of d l c) (set-content bs k (with_bytes_at b.content offset bytes) b)
     ∙ content_written d bs c i k (with_bytes_at b.content offset bytes) b h f
     ∙ ap (λ x. with_value x ASSEMBLY i 3 (with_bytes_at b.content offset bytes)) is
     ∙ ap (λ x. with_value m ASSEMBLY i 3 (with_bytes_at x offset bytes)) (ap (λ x. x.content) here ∙ sym (content_read d bs c m i k b is h f))
 
-pub numbered_set : (bs : List Block) (k : ℕ) (b new : Block) (v : List ℕ) → NoneIsClass bs → b ≡ get_or bs k b → new ≡ record b { content = v } → NoneIsClass (set bs k new)
+pub numbered_set : (bs : List AssemblyValues) (k : ℕ) (b new : AssemblyValues) (v : List ℕ) → NoneIsClass bs → b ≡ get_or bs k b → new ≡ record b { content = v } → NoneIsClass (set bs k new)
 numbered_set bs k b new v h here e =
-    subst NoneIsClass (sym (ap (λ x. set bs k x) (e ∙ ap (λ (x : Block). record x { content = v }) here) ∙ set-content bs k v b)) (numbered-content bs k v h)
+    subst NoneIsClass (sym (ap (λ x. set bs k x) (e ∙ ap (λ (x : AssemblyValues). record x { content = v }) here) ∙ set-content bs k v b)) (numbered-content bs k v h)

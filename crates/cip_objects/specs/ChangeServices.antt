@@ -10,7 +10,7 @@ use Rattle.cip_objects.specs.declared.status.Refusal.{Refusal}
 use Rattle.cip_objects.specs.declared.status.Refusal.TheVariants.{AttributeNotSupported, AttributeNotSettable}
 use Rattle.cip_objects.specs.declared.status.Refusal.TheVariants.{InvalidAttributeValue, InvalidParameter}
 use Rattle.cip_bytes.specs.Reading.{◌>>=◌, ◌>>◌}
-use Rattle.cip_objects.specs.Check.{demand, exactly}
+use Rattle.cip_objects.specs.Check.{demand, check_size}
 use Rattle.cip_objects.specs.Contents.{Contents, value_at, bytes_at, udint_at, with_value, with_change}
 use Rattle.cip_objects.specs.ReadServices.{named_member}
 use Rattle.cip_objects.specs.Tables.{settable_size}
@@ -25,9 +25,9 @@ abbrev pub change : Contents → List ℕ → Result Change Refusal
 change after content = Ok (record { after = after; content = content })
 
 -- what a call answered, with the data that its answer stands for, and the contents that it left
-abbrev pub change_left : {A : Type 0} → (A → List ℕ) → Contents → Result A Refusal → Result Change Refusal
-change_left bytes after (Ok x) = change after (bytes x)
-change_left bytes after (Err s) = Err s
+abbrev pub change_result : {A : Type 0} → (A → List ℕ) → Contents → Result A Refusal → Result Change Refusal
+change_result bytes after (Ok x) = change after (bytes x)
+change_result bytes after (Err s) = Err s
 
 -- the counter's limit is never set below its value
 abbrev pub is_allowed : Contents → ℕ → List ℕ → Bool
@@ -45,20 +45,20 @@ set_attribute_single m path content = do
   attribute ← ok_or path.attribute AttributeNotSupported
   value ← ok_or (value_at m path.class path.instance attribute) AttributeNotSupported
   size ← ok_or (settable_size m.shapes path.class path.instance attribute) AttributeNotSettable
-  exactly size content
+  check_size size content
   demand (is_allowed m path.class content) InvalidAttributeValue
   change (with_change m path.class path.instance attribute content) []
 
 -- old with these bytes from a place on
 abbrev pub with_bytes_at : List ℕ → ℕ → List ℕ → List ℕ
-with_bytes_at old place bytes = take place old ++ (bytes ++ drop (place + length bytes) old)
+with_bytes_at old offset bytes = take offset old ++ (bytes ++ drop (offset + length bytes) old)
 
 -- Set_Member: the member has these data from then on
 unfoldable pub set_member : Contents → Path → List ℕ → Result Change Refusal
 set_member m path content = do
   span ← named_member m.shapes path
   all ← ok_or (settable_size m.shapes ASSEMBLY path.instance 3) AttributeNotSettable
-  exactly span.size content
+  check_size span.size content
   change (with_change m ASSEMBLY path.instance 3
       (with_bytes_at (bytes_at m ASSEMBLY path.instance 3) span.offset content)) []
 
@@ -70,7 +70,7 @@ after_add m total =
 -- Add: the value grows by the number in the data, unless it came over the limit
 unfoldable pub add : Contents → List ℕ → Result Change Refusal
 add m content = do
-  exactly 4 content
+  check_size 4 content
   demand (nat_le (udint_at m COUNTER 1 1 + little_number 4 content) (udint_at m COUNTER 1 2)) InvalidParameter
   change (after_add m (udint_at m COUNTER 1 1 + little_number 4 content))
       (le 4 (udint_at m COUNTER 1 1 + little_number 4 content))
@@ -78,5 +78,5 @@ add m content = do
 -- Clear: the value is 0, and the old one is answered
 unfoldable pub clear : Contents → List ℕ → Result Change Refusal
 clear m content = do
-  exactly 0 content
+  check_size 0 content
   change (with_value m COUNTER 1 1 (le 4 0)) (le 4 (udint_at m COUNTER 1 1))

@@ -9,7 +9,7 @@ demand true refusal = Ok tt
 demand false refusal = Err refusal
 
 -- the data of a service that takes exactly this many bytes
-abbrev pub exactly : ℕ → List ℕ → Result (Unit {0}) Refusal
-exactly size content =
+abbrev pub check_size : ℕ → List ℕ → Result (Unit {0}) Refusal
+check_size size content =
     if nat_lt (length content) size then Err NotEnoughData
     else (if nat_lt size (length content) then Err TooMuchData else Ok tt)

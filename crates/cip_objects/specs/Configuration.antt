@@ -10,7 +10,7 @@ use Rattle.cip_objects.specs.declared.config.ConfigFault.TheVariants.{Name, Size
 use Rattle.cip_objects.specs.declared.config.ConfigFault.TheVariants.{Memory}
 use Rattle.cip_objects.specs.Limits.{LONGEST_DATA}
 use Rattle.cip_objects.specs.Contents.{Contents}
-use Rattle.cip_objects.specs.Entries.{IdentityValues, Block, CounterValues, contents_of}
+use Rattle.cip_objects.specs.Entries.{IdentityValues, AssemblyValues, CounterValues, contents_of}
 
 -- the numbers by which the faults are printed
 abbrev pub config_fault_number : ConfigFault → ℕ
@@ -22,21 +22,21 @@ config_fault_number Limit = 5
 config_fault_number Memory = 6
 
 -- a name of over 32 bytes, or with a byte outside 0x20 to 0x7e
-abbrev pub is_misnamed : List ℕ → Bool
-is_misnamed name = nat_lt 32 (length name) || list_any (λ byte. nat_lt byte 0x20 || nat_lt 0x7e byte) name
+abbrev pub is_invalid_name : List ℕ → Bool
+is_invalid_name name = nat_lt 32 (length name) || list_any (λ byte. nat_lt byte 0x20 || nat_lt 0x7e byte) name
 
 -- an assembly of no byte, or of more than one can have
-abbrev pub is_missized : AssemblyConfig → Bool
-is_missized a = (sum a.members.items == 0) || nat_lt LONGEST_DATA (sum a.members.items)
+abbrev pub is_invalid_size : AssemblyConfig → Bool
+is_invalid_size a = (sum a.members.items == 0) || nat_lt LONGEST_DATA (sum a.members.items)
 
 -- an assembly of over 64 members, or with one of 0 bytes
-abbrev pub is_wrongly_split : AssemblyConfig → Bool
-is_wrongly_split a = nat_lt 64 (length a.members.items) || list_any (λ size. size == 0) a.members.items
+abbrev pub are_invalid_members : AssemblyConfig → Bool
+are_invalid_members a = nat_lt 64 (length a.members.items) || list_any (λ size. size == 0) a.members.items
 
 -- a number that is 0, the class itself, or stands twice
-abbrev pub is_misnumbered : List ℕ → Bool
-is_misnumbered [] = false
-is_misnumbered (n ∷ ns) = ((n == 0) || list_any (λ m. m == n) ns) || is_misnumbered ns
+abbrev pub are_invalid_instances : List ℕ → Bool
+are_invalid_instances [] = false
+are_invalid_instances (n ∷ ns) = ((n == 0) || list_any (λ m. m == n) ns) || are_invalid_instances ns
 
 abbrev pub instances : List AssemblyConfig → List ℕ
 instances assemblies = map (λ a. a.instance) assemblies
@@ -44,10 +44,10 @@ instances assemblies = map (λ a. a.instance) assemblies
 -- the first check that fails, but for want of memory
 unfoldable pub fault_of : Config → Option ConfigFault
 fault_of c =
-    if is_misnamed (string_bytes c.name) then Some Name
-    else (if nat_lt 16 (length c.assemblies.items) || list_any is_missized c.assemblies.items then Some Size
-    else (if list_any is_wrongly_split c.assemblies.items then Some Members
-    else (if is_misnumbered (instances c.assemblies.items) then Some DoubleInstance
+    if is_invalid_name (string_bytes c.name) then Some Name
+    else (if nat_lt 16 (length c.assemblies.items) || list_any is_invalid_size c.assemblies.items then Some Size
+    else (if list_any are_invalid_members c.assemblies.items then Some Members
+    else (if are_invalid_instances (instances c.assemblies.items) then Some DoubleInstance
     else (if nat_lt c.counter.limit c.counter.value then Some Limit
     else None))))
 
@@ -66,8 +66,8 @@ identity_of c = record {
 }
 
 -- an assembly of a configuration: its data begin as zeros, and nobody has written them
-abbrev pub block_of : AssemblyConfig → Block
-block_of a = record {
+abbrev pub assembly_of_config : AssemblyConfig → AssemblyValues
+assembly_of_config a = record {
   instance = a.instance;
   settable = a.settable;
   members = a.members.items;
@@ -81,4 +81,4 @@ counter_of c = record { value = c.counter.value; limit = c.counter.limit; additi
 
 -- the contents of a configuration
 unfoldable pub contents_of_config : Config → Contents
-contents_of_config c = contents_of (identity_of c) (map block_of c.assemblies.items) (counter_of c)
+contents_of_config c = contents_of (identity_of c) (map assembly_of_config c.assemblies.items) (counter_of c)

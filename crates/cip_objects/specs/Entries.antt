@@ -28,7 +28,7 @@ pub record IdentityValues : Type 0 where
   pub state : ℕ
 
 -- an assembly: its shape, its data, and how often a peer wrote them
-pub record Block : Type 0 where
+pub record AssemblyValues : Type 0 where
   pub instance : ℕ
   pub settable : Bool
   pub members : List ℕ
@@ -74,32 +74,32 @@ identity_attributes d =
     ∷ []
 
 -- number of members, data, size
-abbrev pub block_attributes : Block → Attributes
-block_attributes b = (1, little_bytes 2 (length b.members)) ∷ (3, b.content) ∷ (4, little_bytes 2 (sum b.members)) ∷ []
+abbrev pub assembly_attributes : AssemblyValues → Attributes
+assembly_attributes b = (1, little_bytes 2 (length b.members)) ∷ (3, b.content) ∷ (4, little_bytes 2 (sum b.members)) ∷ []
 
 -- value, limit, additions
 abbrev pub counter_attributes : CounterValues → Attributes
 counter_attributes c = (1, little_bytes 4 c.value) ∷ (2, little_bytes 4 c.limit) ∷ (3, little_bytes 4 c.additions) ∷ []
 
 -- the greatest instance number, 0 where there is none
-abbrev pub greatest_of : List Block → ℕ
+abbrev pub greatest_of : List AssemblyValues → ℕ
 greatest_of [] = 0
 greatest_of (b ∷ bs) = max b.instance (greatest_of bs)
 
 -- every entry of the map, instance by instance
-unfoldable pub entries_of : IdentityValues → List Block → CounterValues → Entries
+unfoldable pub entries_of : IdentityValues → List AssemblyValues → CounterValues → Entries
 entries_of d bs c =
     entries_at IDENTITY 0 (class_attributes 1 1 1)
     ++ (entries_at IDENTITY 1 (identity_attributes d)
     ++ (entries_at ASSEMBLY 0 (class_attributes 2 (greatest_of bs) (length bs))
-    ++ (flat_map (λ b. entries_at ASSEMBLY b.instance (block_attributes b)) bs
+    ++ (flat_map (λ b. entries_at ASSEMBLY b.instance (assembly_attributes b)) bs
     ++ (entries_at COUNTER 0 (class_attributes 1 1 1)
     ++ entries_at COUNTER 1 (counter_attributes c)))))
 
-abbrev pub shape_of : Block → Shape
+abbrev pub shape_of : AssemblyValues → Shape
 shape_of b = record { instance = b.instance; settable = b.settable; members = b.members }
 
-abbrev pub tally_of : Block → Tally
+abbrev pub tally_of : AssemblyValues → Tally
 tally_of b = record { instance = b.instance; changes = b.changes }
 
 abbrev pub device_of : IdentityValues → Device
@@ -112,7 +112,7 @@ device_of d = record {
 }
 
 -- the contents that these values make
-unfoldable pub contents_of : IdentityValues → List Block → CounterValues → Contents
+unfoldable pub contents_of : IdentityValues → List AssemblyValues → CounterValues → Contents
 contents_of d bs c =
     record {
       values = from_entries (entries_of d bs c);
@@ -122,11 +122,11 @@ contents_of d bs c =
     }
 
 -- the assembly of this instance number: the first, if one stood twice
-abbrev pub block_at : ℕ → List Block → Option Block
-block_at instance [] = None
-block_at instance (b ∷ bs) = if b.instance == instance then Some b else block_at instance bs
+abbrev pub assembly_at : ℕ → List AssemblyValues → Option AssemblyValues
+assembly_at instance [] = None
+assembly_at instance (b ∷ bs) = if b.instance == instance then Some b else assembly_at instance bs
 
 -- no assembly has the number of the class itself
-abbrev pub NoneIsClass : List Block → Type 0
+abbrev pub NoneIsClass : List AssemblyValues → Type 0
 NoneIsClass [] = Unit {0}
 NoneIsClass (b ∷ bs) = (0 < b.instance) × NoneIsClass bs

@@ -59,20 +59,20 @@ path_or_refusal (Ok p) = Ok p
 path_or_refusal (Err f) = Err PathSegmentError
 
 -- a text that has no more bytes than the room
-abbrev pub in_room : ℕ → List ℕ → Result (List ℕ) Refusal
-in_room room text = if nat_lt room (length text) then Err ReplyDataTooLarge else Ok text
+abbrev pub within_max_size : ℕ → List ℕ → Result (List ℕ) Refusal
+within_max_size max_size text = if nat_lt max_size (length text) then Err ReplyDataTooLarge else Ok text
 
 -- an outcome whose data are written behind a front, where that fits into the room
-abbrev pub outcome_in_room : ℕ → List ℕ → Result Outcome Refusal → Result Outcome Refusal
-outcome_in_room room front r = do
+abbrev pub outcome_within : ℕ → List ℕ → Result Outcome Refusal → Result Outcome Refusal
+outcome_within max_size front r = do
   o ← r
-  text ← in_room room (front ++ o.content)
+  text ← within_max_size max_size (front ++ o.content)
   Ok (record { after = o.after; status = o.status; content = text })
 
 -- what a call answered, and the contents and the text that it left
-abbrev pub outcome_left : Contents → Result Completion Refusal → List ℕ → Result Outcome Refusal
-outcome_left after (Ok completion) text = Ok (record { after = after; status = completion; content = text })
-outcome_left after (Err s) text = Err s
+abbrev pub outcome_result : Contents → Result Completion Refusal → List ℕ → Result Outcome Refusal
+outcome_result after (Ok completion) text = Ok (record { after = after; status = completion; content = text })
+outcome_result after (Err s) text = Err s
 
 -- the outcome of a request, apart from the room for its reply: the first check that fails decides
 unfoldable pub outcome : Contents → List ℕ → Result Outcome Refusal
@@ -94,8 +94,8 @@ pub record Executed : Type 0 where
 
 -- an outcome with its reply, where that fits into the room
 abbrev pub with_reply : ℕ → List ℕ → Outcome → Result Executed Refusal
-with_reply room text o = do
-  answer ← in_room room (reply_to text (completion_status o.status) o.content)
+with_reply max_size text o = do
+  answer ← within_max_size max_size (reply_to text (completion_status o.status) o.content)
   Ok (record { after = o.after; answer = answer })
 
 -- a request that is refused changes nothing, and its reply has no data
@@ -105,7 +105,7 @@ or_refusal m text (Err s) = record { after = m; answer = reply_to text (refusal_
 
 -- the execution of a request, with so much room for its reply: the room is the last check
 unfoldable pub exec : Contents → ℕ → List ℕ → Executed
-exec m room text = or_refusal m text (outcome m text >>= with_reply room text)
+exec m max_size text = or_refusal m text (outcome m text >>= with_reply max_size text)
 
 -- the map after these requests, each a room and a text, from left to right, and their replies
 pub record Ran : Type 0 where

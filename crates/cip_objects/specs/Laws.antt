@@ -16,14 +16,14 @@ use Rattle.cip_objects.specs.Tables.{settable_size}
 use Rattle.cip_bytes.specs.declared.protocol.TheConstants.{COUNTER}
 
 -- the text is a request of this service, with this path and these data
-abbrev pub Reads : List ℕ → ℕ → List ℕ → List ℕ → Type 0
-Reads text service path content = request_of text ≡ Ok (record { service = service; path = path; «data» = content })
+abbrev pub IsRequestWith : List ℕ → ℕ → List ℕ → List ℕ → Type 0
+IsRequestWith text service path content = request_of text ≡ Ok (record { service = service; path = path; «data» = content })
 
 -- a reply that is too large goes with the map as it was
 abbrev pub too_large_law : Type 0
 too_large_law =
-    (m : Contents) (room : ℕ) (text : List ℕ) → general_status (exec m room text).answer ≡ REPLY_TOO_LARGE
-    → (exec m room text).after ≡ m
+    (m : Contents) (max_size : ℕ) (text : List ℕ) → general_status (exec m max_size text).answer ≡ REPLY_TOO_LARGE
+    → (exec m max_size text).after ≡ m
 
 -- the services that change the map
 abbrev pub IsChanging : Service → Type 0
@@ -39,36 +39,36 @@ IsChanging GetMember = ⊥
 -- with room for 8 bytes or more each service that changes the map gives a reply that fits
 abbrev pub changes_fit_law : Type 0
 changes_fit_law =
-    (m : Contents) (service : Service) (path : Path) (content text : List ℕ) (o : Outcome) (room : ℕ)
-    → IsChanging service → perform m service path content ≡ Ok o → 8 ≤ room
-    → length (reply_to text (completion_status o.status) o.content) ≤ room
+    (m : Contents) (service : Service) (path : Path) (content text : List ℕ) (o : Outcome) (max_size : ℕ)
+    → IsChanging service → perform m service path content ≡ Ok o → 8 ≤ max_size
+    → length (reply_to text (completion_status o.status) o.content) ≤ max_size
 
 -- what a get answers after a set that succeeded is what was set
 abbrev pub get_after_set_law : Type 0
 get_after_set_law =
-    (m : Contents) (room later : ℕ) (set get path value : List ℕ) → Reads set 0x10 path value → Reads get 0x0e path []
-    → general_status (exec m room set).answer ≡ 0 → 4 + length value ≤ later
-    → (run m ((room, set) ∷ (later, get) ∷ [])).answers ≡ (exec m room set).answer ∷ reply_to get Success value ∷ []
+    (m : Contents) (max_size later : ℕ) (set get path value : List ℕ) → IsRequestWith set 0x10 path value → IsRequestWith get 0x0e path []
+    → general_status (exec m max_size set).answer ≡ 0 → 4 + length value ≤ later
+    → (run m ((max_size, set) ∷ (later, get) ∷ [])).answers ≡ (exec m max_size set).answer ∷ reply_to get Success value ∷ []
 
 -- a set at one key leaves every other
 abbrev pub set_leaves_others_law : Type 0
 set_leaves_others_law =
-    (m : Contents) (room : ℕ) (set path value : List ℕ) (p : Path) → Reads set 0x10 path value → path_of path ≡ Ok p
+    (m : Contents) (max_size : ℕ) (set path value : List ℕ) (p : Path) → IsRequestWith set 0x10 path value → path_of path ≡ Ok p
     → (class instance attribute : ℕ)
     → ((class ≡ p.class) × (instance ≡ p.instance) × (Some attribute ≡ p.attribute) → ⊥)
-    → value_at (exec m room set).after class instance attribute ≡ value_at m class instance attribute
+    → value_at (exec m max_size set).after class instance attribute ≡ value_at m class instance attribute
 
 -- a reply that says neither success nor that an attribute of a list is missing has no data, and the map is as it was
 abbrev pub refused_law : Type 0
 refused_law =
-    (m : Contents) (room : ℕ) (text : List ℕ) → (general_status (exec m room text).answer ≡ 0x00 → ⊥)
-    → (general_status (exec m room text).answer ≡ 0x0a → ⊥)
-    → (length (exec m room text).answer ≡ 4) × ((exec m room text).after ≡ m)
+    (m : Contents) (max_size : ℕ) (text : List ℕ) → (general_status (exec m max_size text).answer ≡ 0x00 → ⊥)
+    → (general_status (exec m max_size text).answer ≡ 0x0a → ⊥)
+    → (length (exec m max_size text).answer ≡ 4) × ((exec m max_size text).after ≡ m)
 
 -- with room for 8 bytes or more, the map after a request is the same in every room
-abbrev pub any_room_law : Type 0
-any_room_law = (m : Contents) (room other : ℕ) (text : List ℕ) → 8 ≤ room → 8 ≤ other
-    → (exec m room text).after ≡ (exec m other text).after
+abbrev pub any_max_size_law : Type 0
+any_max_size_law = (m : Contents) (max_size other : ℕ) (text : List ℕ) → 8 ≤ max_size → 8 ≤ other
+    → (exec m max_size text).after ≡ (exec m other text).after
 
 -- what is neither settable nor the counter's value or additions stays as it is, over every run
 abbrev pub unsettable_law : Type 0

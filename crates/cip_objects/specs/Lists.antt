@@ -6,7 +6,7 @@ use Rattle.cip_bytes.specs.Numbers.{le, words_of}
 use Rattle.cip_message.specs.PathReading.{path_of}
 use Rattle.cip_objects.specs.Contents.{Contents}
 use Rattle.cip_objects.specs.Execution.{reply_to, exec}
-use Rattle.cip_objects.specs.Laws.{Reads}
+use Rattle.cip_objects.specs.Laws.{IsRequestWith}
 use Rattle.cip_objects.specs.ReadServices.{list_completion}
 use Rattle.cip_objects.specs.Router.{general_status}
 use Rattle.cip_objects.specs.Status.{completion_status}
@@ -15,7 +15,7 @@ use Rattle.cip_objects.specs.Status.{completion_status}
 pub record IsGet (p : Path) (attribute : ℕ) (text : List ℕ) : Type 0 where
   pub path : List ℕ
   pub member : Option ℕ
-  pub reads : Reads text 0x0e path []
+  pub reads : IsRequestWith text 0x0e path []
   pub names :
       path_of path ≡ Ok (record { class = p.class; instance = p.instance; attribute = Some attribute; member = member })
 
@@ -40,9 +40,9 @@ is_success reply = general_status reply == 0x00
 -- and its data. It is a success where each of these is.
 abbrev pub list_law : Type 0
 list_law =
-    (m : Contents) (room : ℕ) (list path content : List ℕ) (p : Path) (gets : List (List ℕ))
-    → Reads list 0x03 path content → path_of path ≡ Ok p → AreGets p (words_of (drop 2 content)) gets
-    → (general_status (exec m room list).answer ≡ 0x00) ⊎ (general_status (exec m room list).answer ≡ 0x0a)
-    → let replies = map (λ get. (exec m room get).answer) gets in
-    (exec m room list).answer ≡ reply_to list (completion_status (list_completion (list_all is_success replies)))
+    (m : Contents) (max_size : ℕ) (list path content : List ℕ) (p : Path) (gets : List (List ℕ))
+    → IsRequestWith list 0x03 path content → path_of path ≡ Ok p → AreGets p (words_of (drop 2 content)) gets
+    → (general_status (exec m max_size list).answer ≡ 0x00) ⊎ (general_status (exec m max_size list).answer ≡ 0x0a)
+    → let replies = map (λ get. (exec m max_size get).answer) gets in
+    (exec m max_size list).answer ≡ reply_to list (completion_status (list_completion (list_all is_success replies)))
     (le 2 (length gets) ++ entries_of_replies (words_of (drop 2 content)) replies)

@@ -5,7 +5,7 @@ use Rattle.cip_message.specs.PathReading.{path_of}
 use Rattle.cip_bytes.specs.declared.protocol.GeneralStatus.TheVariants.{Success}
 use Rattle.cip_objects.specs.Contents.{Contents, bytes_at}
 use Rattle.cip_objects.specs.Execution.{reply_to, exec, run}
-use Rattle.cip_objects.specs.Laws.{Reads}
+use Rattle.cip_objects.specs.Laws.{IsRequestWith}
 use Rattle.cip_objects.specs.Router.{general_status}
 use Rattle.cip_objects.specs.Tables.{Shape, shape_at}
 use Rattle.cip_bytes.specs.declared.protocol.TheConstants.{ASSEMBLY}
@@ -22,14 +22,14 @@ whole_law = (m : Contents) (requests : List (ℕ × List ℕ)) → AreWhole m �
 -- what Get_Member answers after a Set_Member of the same member that succeeded is what was set
 abbrev pub member_after_set_law : Type 0
 member_after_set_law =
-    (m : Contents) (room later : ℕ) (set get path value : List ℕ) → AreWhole m → Reads set 0x19 path value
-    → Reads get 0x18 path [] → general_status (exec m room set).answer ≡ 0 → 4 + length value ≤ later
-    → (run m ((room, set) ∷ (later, get) ∷ [])).answers ≡ (exec m room set).answer ∷ reply_to get Success value ∷ []
+    (m : Contents) (max_size later : ℕ) (set get path value : List ℕ) → AreWhole m → IsRequestWith set 0x19 path value
+    → IsRequestWith get 0x18 path [] → general_status (exec m max_size set).answer ≡ 0 → 4 + length value ≤ later
+    → (run m ((max_size, set) ∷ (later, get) ∷ [])).answers ≡ (exec m max_size set).answer ∷ reply_to get Success value ∷ []
 
 -- what Get_Member answers for another member, or for a member of another assembly, is the same before and after
 abbrev pub set_member_leaves_others_law : Type 0
 set_member_leaves_others_law =
-    (m : Contents) (room later : ℕ) (set path value get other : List ℕ) (p q : Path) → AreWhole m
-    → Reads set 0x19 path value → path_of path ≡ Ok p → Reads get 0x18 other [] → path_of other ≡ Ok q
+    (m : Contents) (max_size later : ℕ) (set path value get other : List ℕ) (p q : Path) → AreWhole m
+    → IsRequestWith set 0x19 path value → path_of path ≡ Ok p → IsRequestWith get 0x18 other [] → path_of other ≡ Ok q
     → ((q.instance ≡ p.instance) × (q.member ≡ p.member) → ⊥)
-    → (exec (exec m room set).after later get).answer ≡ (exec m later get).answer
+    → (exec (exec m max_size set).after later get).answer ≡ (exec m later get).answer

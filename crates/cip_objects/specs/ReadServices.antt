@@ -14,7 +14,7 @@ use Rattle.cip_objects.specs.declared.status.Refusal.{Refusal}
 use Rattle.cip_objects.specs.declared.status.Refusal.TheVariants.{PathDestinationUnknown, ServiceNotSupported}
 use Rattle.cip_objects.specs.declared.status.Refusal.TheVariants.{AttributeNotSupported, InvalidMemberId, NotEnoughData}
 use Rattle.cip_bytes.specs.Reading.{◌>>=◌, ◌>>◌}
-use Rattle.cip_objects.specs.Check.{demand, exactly}
+use Rattle.cip_objects.specs.Check.{demand, check_size}
 use Rattle.cip_objects.specs.Contents.{Contents, value_at, bytes_at}
 use Rattle.cip_objects.specs.Service.{service_in}
 use Rattle.cip_bytes.specs.Protocol.{general_status_number}
@@ -37,16 +37,16 @@ abbrev pub answer : Completion → List ℕ → Result Answer Refusal
 answer status content = Ok (record { status = status; content = content })
 
 -- what a call that reads answered, with the data that its answer stands for
-abbrev pub answer_left : {A : Type 0} → (A → List ℕ) → Result A Refusal → Result Answer Refusal
-answer_left bytes (Ok x) = answer Whole (bytes x)
-answer_left bytes (Err s) = Err s
+abbrev pub answer_result : {A : Type 0} → (A → List ℕ) → Result A Refusal → Result Answer Refusal
+answer_result bytes (Ok x) = answer Whole (bytes x)
+answer_result bytes (Err s) = Err s
 
 -- Get_Attribute_Single: the value of the attribute
 unfoldable pub get_attribute_single : Contents → Path → List ℕ → Result Answer Refusal
 get_attribute_single m path content = do
   attribute ← ok_or path.attribute AttributeNotSupported
   value ← ok_or (value_at m path.class path.instance attribute) AttributeNotSupported
-  exactly 0 content
+  check_size 0 content
   answer Whole value
 
 -- the attributes that Get_Attributes_All gives
@@ -56,7 +56,7 @@ ALL_ATTRIBUTES = 1 ∷ 2 ∷ 3 ∷ 4 ∷ 5 ∷ 6 ∷ 7 ∷ []
 -- Get_Attributes_All: the values of attributes 1 to 7, joined. This profile ends there
 unfoldable pub get_attributes_all : Contents → Path → List ℕ → Result Answer Refusal
 get_attributes_all m path content = do
-  exactly 0 content
+  check_size 0 content
   answer Whole (flat_map (bytes_at m path.class path.instance) ALL_ATTRIBUTES)
 
 -- one attribute of a list: its number, its status, and its value where it is there
@@ -67,13 +67,13 @@ list_entry_of attribute (Some value) = le 2 attribute ++ (le 2 (general_status_n
 unfoldable pub list_entry : Contents → Path → ℕ → List ℕ
 list_entry m path attribute = list_entry_of attribute (value_at m path.class path.instance attribute)
 
-abbrev pub is_there : Contents → Path → ℕ → Bool
-is_there m path attribute = is_some (value_at m path.class path.instance attribute)
+abbrev pub has_attribute : Contents → Path → ℕ → Bool
+has_attribute m path attribute = is_some (value_at m path.class path.instance attribute)
 
 -- whether all of these attributes are there
-abbrev pub all_there : Contents → Path → List ℕ → Bool
-all_there m path [] = true
-all_there m path (a ∷ attributes) = is_there m path a && all_there m path attributes
+abbrev pub has_all_attributes : Contents → Path → List ℕ → Bool
+has_all_attributes m path [] = true
+has_all_attributes m path (a ∷ attributes) = has_attribute m path a && has_all_attributes m path attributes
 
 -- all of the list, or not every attribute
 abbrev pub list_completion : Bool → Completion
@@ -83,8 +83,8 @@ list_completion complete = if complete then Whole else Partial
 unfoldable pub get_attribute_list : Contents → Path → List ℕ → Result Answer Refusal
 get_attribute_list m path content = do
   demand (nat_le 2 (length content)) NotEnoughData
-  exactly (2 + 2 * little_number 2 content) content
-  answer (list_completion (all_there m path (words_of (drop 2 content))))
+  check_size (2 + 2 * little_number 2 content) content
+  answer (list_completion (has_all_attributes m path (words_of (drop 2 content))))
       (le 2 (little_number 2 content) ++ flat_map (list_entry m path) (words_of (drop 2 content)))
 
 -- whether the attribute is the data of an assembly
@@ -103,5 +103,5 @@ named_member shapes path = do
 unfoldable pub get_member : Contents → Path → List ℕ → Result Answer Refusal
 get_member m path content = do
   span ← named_member m.shapes path
-  exactly 0 content
+  check_size 0 content
   answer Whole (take span.size (drop span.offset (bytes_at m ASSEMBLY path.instance 3)))

@@ -19,8 +19,8 @@ pub record IsReplyTo (request reply : List ℕ) : Type 0 where
 
 -- Replies in form: each has the head of a reply, whose service is the request's with bit 7 set, and is no longer than
 -- the room. It is what an originator asks of them, which accepts a reply by its service.
-pub record RepliesInForm {S : Type 0} (answer : S → ℕ → List ℕ → List ℕ) : Type 0 where
-  pub begins : (router : S) (room : ℕ) (request : List ℕ) → 8 ≤ room → 2 ≤ length request →
-      IsReplyTo request (answer router room request)
-  pub within : (router : S) (room : ℕ) (request : List ℕ) → 8 ≤ room → 2 ≤ length request →
-      length (answer router room request) ≤ room
+pub record RepliesWellFormed {S : Type 0} (answer : S → ℕ → List ℕ → List ℕ) : Type 0 where
+  pub begins : (router : S) (max_size : ℕ) (request : List ℕ) → 8 ≤ max_size → 2 ≤ length request →
+      IsReplyTo request (answer router max_size request)
+  pub within : (router : S) (max_size : ℕ) (request : List ℕ) → 8 ≤ max_size → 2 ≤ length request →
+      length (answer router max_size request) ≤ max_size

@@ -2,7 +2,7 @@
 use Rattle.std.specs.Prelude.{◌≡◌, [], ◌∷◌, Some, None, true, false, refl}
 use Rattle.cip_objects.specs.declared.service.Service.TheVariants.{SetMember}
 use Rattle.cip_objects.specs.ChangeServices.{with_bytes_at}
-use Rattle.cip_objects.specs.Configuration.{is_misnumbered}
+use Rattle.cip_objects.specs.Configuration.{are_invalid_instances}
 use Rattle.cip_objects.specs.Service.{service_in}
 use Rattle.cip_objects.specs.Tables.{span_of, assembly_services}
 
@@ -28,11 +28,11 @@ pub assembly_adds_nothing : service_in 0x32 assembly_services ≡ None
 assembly_adds_nothing = refl
 
 -- numbers that stand once, twice, and the class's own
-pub numbers_once : is_misnumbered (100 ∷ 101 ∷ []) ≡ false
+pub numbers_once : are_invalid_instances (100 ∷ 101 ∷ []) ≡ false
 numbers_once = refl
 
-pub number_twice : is_misnumbered (100 ∷ 101 ∷ 100 ∷ []) ≡ true
+pub number_twice : are_invalid_instances (100 ∷ 101 ∷ 100 ∷ []) ≡ true
 number_twice = refl
 
-pub number_zero : is_misnumbered (100 ∷ 0 ∷ []) ≡ true
+pub number_zero : are_invalid_instances (100 ∷ 0 ∷ []) ≡ true
 number_zero = refl

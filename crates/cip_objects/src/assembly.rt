@@ -2,13 +2,13 @@
 //! Text: docs/PROTOCOL.md, "Objects".
 ghost use Rattle.std.specs.Prelude.{◌≡◌, ◌≤◌, ◌+◌, ◌-◌, ◌*◌, ◌<◌, length, sum, take, drop, slice_index, option_map};
 ghost use Rattle.std.specs.Prelude.{option_copied, ◌++◌, IfOk, IfSome, replicate, MatchOption};
-ghost use Rattle.cip_objects.specs.Entries.{attribute_in, block_attributes, block_at, greatest_of};
+ghost use Rattle.cip_objects.specs.Entries.{attribute_in, assembly_attributes, assembly_at, greatest_of};
 ghost use Rattle.cip_objects.specs.Changes.{one_more};
-ghost use Rattle.cip_objects.specs.Places.{IsFirst};
+ghost use Rattle.cip_objects.specs.FirstOf.{IsFirst};
 ghost use Rattle.cip_objects.specs.Tables.{span_of};
-ghost use Rattle.cip_objects.specs.Value.{value_bytes, IsShort};
+ghost use Rattle.cip_objects.specs.AttributeValue.{value_bytes, IsShort};
 
-use crate::value::Value;
+use crate::value::AttributeValue;
 use std::alloc::{AllocError, Global};
 use std::boxed::BoxedSlice;
 use std::marker::Model;
@@ -45,9 +45,9 @@ pub(crate) struct Assembly {
 
 impl Model for Assembly {
     ghost use Rattle.std.specs.Box.{boxed_slice_items};
-    ghost use Rattle.cip_objects.specs.Entries.{Block};
+    ghost use Rattle.cip_objects.specs.Entries.{AssemblyValues};
 
-    ghost Value = { Block };
+    ghost Value = { AssemblyValues };
 
     ghost view = { λ a. record {
       instance = a.instance;
@@ -92,7 +92,7 @@ impl Assembly {
 
     /// Where the member of this number lies. Members are numbered from 1.
     pub(crate) fn span(&self, number: u16) -> Option<Span>
-        ensures place { result ≡ span_of self.now.members number }
+        ensures member { result ≡ span_of self.now.members number }
         ensures inside { IfSome result (λ s. s.offset + s.size ≤ length self.now.content) }
     {
         let number = usize::from(number);
@@ -108,14 +108,14 @@ impl Assembly {
     }
 
     /// The value of an attribute of the instance.
-    pub(crate) fn attribute(&self, attribute: u16) -> Option<Value<'_>>
-        ensures value { option_map value_bytes result ≡ attribute_in attribute (block_attributes self.now) }
+    pub(crate) fn attribute(&self, attribute: u16) -> Option<AttributeValue<'_>>
+        ensures value { option_map value_bytes result ≡ attribute_in attribute (assembly_attributes self.now) }
         ensures short { IfSome result IsShort }
     {
         match attribute {
-            1 => Some(Value::Uint(self.members.len() as u16)),
-            3 => Some(Value::Bytes(self.content.as_slice())),
-            4 => Some(Value::Uint(self.content.len() as u16)),
+            1 => Some(AttributeValue::Uint(self.members.len() as u16)),
+            3 => Some(AttributeValue::Bytes(self.content.as_slice())),
+            4 => Some(AttributeValue::Uint(self.content.len() as u16)),
             _ => None,
         }
     }
@@ -189,7 +189,7 @@ fn total(members: &[u16]) -> usize
 
 /// The place of the first assembly of this instance number.
 pub(crate) fn position(assemblies: &[Assembly], instance: u32) -> Option<usize>
-    ensures { MatchOption result (block_at instance assemblies.now ≡ None)
+    ensures { MatchOption result (assembly_at instance assemblies.now ≡ None)
         (IsFirst (λ a. a.instance) assemblies.now instance) }
 {
     for (i, assembly) in assemblies.iter().enumerate() {

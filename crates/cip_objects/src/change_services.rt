@@ -2,13 +2,13 @@
 //! Text: docs/PROTOCOL.md, "Objects".
 ghost use Rattle.std.specs.Prelude.{◌≡◌, length, [], OnErr};
 ghost use Rattle.cip_bytes.specs.Numbers.{le};
-ghost use Rattle.cip_objects.specs.ChangeServices.{change_left, set_attribute_single, set_member, add, clear};
+ghost use Rattle.cip_objects.specs.ChangeServices.{change_result, set_attribute_single, set_member, add, clear};
 ghost use Rattle.cip_objects.specs.ChangeServices.{limit_change};
-ghost use Rattle.cip_objects.specs.Destination.{IsThere, IsAssembly, HasSize, path_to};
-ghost use Rattle.cip_objects.specs.Destination.{destination_of, size_to_set, setting};
+ghost use Rattle.cip_objects.specs.ObjectRef.{Exists, IsAssembly, HasSize, path_to};
+ghost use Rattle.cip_objects.specs.ObjectRef.{object_of, size_to_set, after_set};
 
-use crate::check::exactly;
-use crate::destination::{Settable, Subject};
+use crate::check::check_size;
+use crate::object_ref::{ResolvedPath, Settable};
 use crate::objects::Objects;
 use crate::status::Refusal;
 use byteorder::{ByteOrder, LittleEndian};
@@ -19,39 +19,39 @@ impl Objects {
     #[tactic(auto, unfolding(crate::specs::ChangeServices::set_attribute_single))]
     pub(crate) fn set_attribute_single(
         &mut self,
-        subject: Subject,
+        resolved: ResolvedPath,
         data: &[u8],
     ) -> Result<(), Refusal>
-        requires { IsThere self.old.shapes subject.destination }
-        ensures change_left { change_left (λ _. []) self.new result
-            ≡ set_attribute_single self.old (path_to self.old.shapes subject) «data».now }
+        requires { Exists self.old.shapes resolved.object }
+        ensures change_result { change_result (λ _. []) self.new result
+            ≡ set_attribute_single self.old (path_to self.old.shapes resolved) «data».now }
         ensures err { OnErr result (self.new ≡ self.old) }
     {
         // no such attribute: 0x14 (objects)
-        let attribute = subject.attribute.ok_or(Refusal::AttributeNotSupported)?;
-        self.value(subject.destination, attribute)
+        let attribute = resolved.attribute.ok_or(Refusal::AttributeNotSupported)?;
+        self.value(resolved.object, attribute)
             .ok_or(Refusal::AttributeNotSupported)?;
         // an attribute that can't be set: 0x0e, before its data are measured (objects)
         let settable = self
-            .settable(subject.destination, attribute)
+            .settable(resolved.object, attribute)
             .ok_or(Refusal::AttributeNotSettable)?;
-        exactly(settable.size(), data)?;
+        check_size(settable.size(), data)?;
         self.set(settable, data)
     }
 
     /// Sets what can be set to data of its length.
     #[inline(always)]
     fn set(&mut self, settable: Settable, data: &[u8]) -> Result<(), Refusal>
-        requires there { IsThere self.old.shapes (destination_of settable) }
+        requires there { Exists self.old.shapes (object_of settable) }
         requires whole { HasSize self.old settable }
         requires exact { length «data».now ≡ size_to_set settable }
-        ensures change_left { change_left (λ _. []) self.new result ≡ setting self.old settable «data».now }
+        ensures change_result { change_result (λ _. []) self.new result ≡ after_set self.old settable «data».now }
         ensures err { OnErr result (self.new ≡ self.old) }
     {
         match settable {
-            Settable::Data { place, .. } => {
-                self.write_content(place, 0, data);
-                self.count_change(place);
+            Settable::Data { assembly_index, .. } => {
+                self.write_content(assembly_index, 0, data);
+                self.count_change(assembly_index);
                 Ok(())
             }
             Settable::Limit => self.change_limit(data),
@@ -61,7 +61,7 @@ impl Objects {
     /// Sets the counter's limit, where it isn't below the value.
     fn change_limit(&mut self, data: &[u8]) -> Result<(), Refusal>
         requires { length «data».now ≡ 4 }
-        ensures change_left { change_left (λ _. []) self.new result ≡ limit_change self.old «data».now }
+        ensures change_result { change_result (λ _. []) self.new result ≡ limit_change self.old «data».now }
         ensures err { OnErr result (self.new ≡ self.old) }
     {
         let counter = self.counter().with_limit(LittleEndian::read_u32(data))?;
@@ -71,20 +71,20 @@ impl Objects {
 
     /// Set_Member.
     #[tactic(auto, unfolding(crate::specs::ChangeServices::set_member))]
-    pub(crate) fn set_member(&mut self, subject: Subject, data: &[u8]) -> Result<(), Refusal>
-        requires there { IsThere self.old.shapes subject.destination }
-        requires assembly { IsAssembly subject.destination }
-        ensures change_left { change_left (λ _. []) self.new result
-            ≡ set_member self.old (path_to self.old.shapes subject) «data».now }
+    pub(crate) fn set_member(&mut self, resolved: ResolvedPath, data: &[u8]) -> Result<(), Refusal>
+        requires there { Exists self.old.shapes resolved.object }
+        requires assembly { IsAssembly resolved.object }
+        ensures change_result { change_result (λ _. []) self.new result
+            ≡ set_member self.old (path_to self.old.shapes resolved) «data».now }
         ensures err { OnErr result (self.new ≡ self.old) }
     {
-        let member = self.named_member(subject)?;
+        let member = self.named_member(resolved)?;
         // after the member, whether its assembly can be set: 0x0e (objects)
-        self.settable(subject.destination, 3)
+        self.settable(resolved.object, 3)
             .ok_or(Refusal::AttributeNotSettable)?;
-        exactly(member.span.size, data)?;
-        self.write_content(member.place, member.span.offset, data);
-        self.count_change(member.place);
+        check_size(member.span.size, data)?;
+        self.write_content(member.assembly_index, member.span.offset, data);
+        self.count_change(member.assembly_index);
         Ok(())
     }
 
@@ -92,10 +92,10 @@ impl Objects {
     #[inline(always)]
     #[tactic(auto, unfolding(crate::specs::ChangeServices::add))]
     pub(crate) fn add(&mut self, data: &[u8]) -> Result<u32, Refusal>
-        ensures change_left { change_left (le 4) self.new result ≡ add self.old «data».now }
+        ensures change_result { change_result (le 4) self.new result ≡ add self.old «data».now }
         ensures err { OnErr result (self.new ≡ self.old) }
     {
-        exactly(4, data)?;
+        check_size(4, data)?;
         let counter = self.counter().add(LittleEndian::read_u32(data))?;
         self.set_value(counter.value);
         self.set_additions(counter.additions);
@@ -105,11 +105,11 @@ impl Objects {
     /// Clear: answers the old value.
     #[tactic(auto, unfolding(crate::specs::ChangeServices::clear))]
     pub(crate) fn clear(&mut self, data: &[u8]) -> Result<u32, Refusal>
-        ensures change_left { change_left (le 4) self.new result ≡ clear self.old «data».now }
+        ensures change_result { change_result (le 4) self.new result ≡ clear self.old «data».now }
         ensures err { OnErr result (self.new ≡ self.old) }
     {
         // the old value is answered (counter, ours)
-        exactly(0, data)?;
+        check_size(0, data)?;
         let counter = self.counter();
         self.set_value(counter.clear().value);
         Ok(counter.value)

@@ -1,12 +1,12 @@
 //! Checks that several services share.
 ghost use Rattle.std.specs.Prelude.{◌≡◌};
-ghost use Rattle.cip_objects.specs.Check.{exactly};
+ghost use Rattle.cip_objects.specs.Check.{check_size};
 
 use crate::status::Refusal;
 
 /// Whether a service's data have exactly this many bytes.
-pub(crate) fn exactly(size: usize, content: &[u8]) -> Result<(), Refusal>
-    ensures { result ≡ exactly size content.now }
+pub(crate) fn check_size(size: usize, content: &[u8]) -> Result<(), Refusal>
+    ensures { result ≡ check_size size content.now }
 {
     // not enough data: 0x13; too much: 0x15 (objects)
     if content.len() < size {

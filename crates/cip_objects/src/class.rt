@@ -1,9 +1,9 @@
 //! The attributes that a class has as such, at instance 0.
 ghost use Rattle.std.specs.Prelude.{◌≡◌, option_map, IfSome};
 ghost use Rattle.cip_objects.specs.Entries.{attribute_in, class_attributes};
-ghost use Rattle.cip_objects.specs.Value.{value_bytes, IsShort};
+ghost use Rattle.cip_objects.specs.AttributeValue.{value_bytes, IsShort};
 
-use crate::value::Value;
+use crate::value::AttributeValue;
 
 /// A class that has attributes as such, at instance 0.
 #[derive(Clone, Copy)]
@@ -22,14 +22,14 @@ pub(crate) fn class_attribute(
     greatest: u16,
     number: u16,
     attribute: u16,
-) -> Option<Value<'static>>
+) -> Option<AttributeValue<'static>>
     ensures value { option_map value_bytes result ≡ attribute_in attribute (class_attributes revision greatest number) }
     ensures short { IfSome result IsShort }
 {
     match attribute {
-        1 => Some(Value::Uint(revision)),
-        2 => Some(Value::Uint(greatest)),
-        3 => Some(Value::Uint(number)),
+        1 => Some(AttributeValue::Uint(revision)),
+        2 => Some(AttributeValue::Uint(greatest)),
+        3 => Some(AttributeValue::Uint(number)),
         _ => None,
     }
 }

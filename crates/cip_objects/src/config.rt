@@ -3,7 +3,7 @@
 ghost use Rattle.std.specs.Prelude.{◌≡◌, ◌≤◌, ◌+◌, ◌<◌, ◌==◌, ◌||◌, not, nat_lt, length, sum, Some, None};
 ghost use Rattle.std.specs.List.{list_any};
 ghost use Rattle.cip_objects.specs.Limits.{LONGEST_DATA};
-ghost use Rattle.cip_objects.specs.Configuration.{is_misnamed, is_missized, is_wrongly_split, is_misnumbered};
+ghost use Rattle.cip_objects.specs.Configuration.{is_invalid_name, is_invalid_size, are_invalid_members, are_invalid_instances};
 ghost use Rattle.cip_objects.specs.Configuration.{instances};
 
 use crate::assembly::{DATA_LIMIT, MEMBER_LIMIT};
@@ -126,16 +126,16 @@ impl Config {
         ensures { result ≡ fault_of self.now }
     {
         // the first check that fails is told: 1 to 5 (configuration, ours)
-        if is_misnamed(self.name.as_bytes()) {
+        if is_invalid_name(self.name.as_bytes()) {
             return Some(ConfigFault::Name);
         }
-        if self.assemblies.len() > ASSEMBLY_LIMIT || has_missized(&self.assemblies) {
+        if self.assemblies.len() > ASSEMBLY_LIMIT || has_invalid_size(&self.assemblies) {
             return Some(ConfigFault::Size);
         }
-        if has_wrongly_split(&self.assemblies) {
+        if has_invalid_members(&self.assemblies) {
             return Some(ConfigFault::Members);
         }
-        if has_double(&self.assemblies) {
+        if has_invalid_instance(&self.assemblies) {
             return Some(ConfigFault::DoubleInstance);
         }
         if self.counter.limit < self.counter.value {
@@ -146,8 +146,8 @@ impl Config {
 }
 
 /// Whether a name is too long or can't be printed.
-fn is_misnamed(name: &[u8]) -> bool
-    ensures { result ≡ is_misnamed name.now }
+fn is_invalid_name(name: &[u8]) -> bool
+    ensures { result ≡ is_invalid_name name.now }
 {
     if name.len() > NAME_LIMIT {
         return true;
@@ -162,11 +162,11 @@ fn is_misnamed(name: &[u8]) -> bool
 }
 
 /// Whether an assembly has no byte or too many.
-fn has_missized(assemblies: &[AssemblyConfig]) -> bool
-    ensures { result ≡ list_any is_missized assemblies.now }
+fn has_invalid_size(assemblies: &[AssemblyConfig]) -> bool
+    ensures { result ≡ list_any is_invalid_size assemblies.now }
 {
     for assembly in assemblies {
-        if is_missized(&assembly.members) {
+        if is_invalid_size(&assembly.members) {
             return true;
         }
     }
@@ -174,7 +174,7 @@ fn has_missized(assemblies: &[AssemblyConfig]) -> bool
 }
 
 /// Whether members of these sizes have no byte together or too many.
-fn is_missized(members: &[u16]) -> bool
+fn is_invalid_size(members: &[u16]) -> bool
     ensures { result ≡ (sum members.now == 0) || nat_lt LONGEST_DATA (sum members.now) }
 {
     let mut all: usize = 0;
@@ -188,8 +188,8 @@ fn is_missized(members: &[u16]) -> bool
 }
 
 /// Whether an assembly has too many members, or one of no byte.
-fn has_wrongly_split(assemblies: &[AssemblyConfig]) -> bool
-    ensures { result ≡ list_any is_wrongly_split assemblies.now }
+fn has_invalid_members(assemblies: &[AssemblyConfig]) -> bool
+    ensures { result ≡ list_any are_invalid_members assemblies.now }
 {
     for assembly in assemblies {
         if assembly.members.len() > MEMBER_LIMIT || assembly.members.contains(&0) {
@@ -200,12 +200,12 @@ fn has_wrongly_split(assemblies: &[AssemblyConfig]) -> bool
 }
 
 /// Whether an instance number is 0 or stands twice.
-fn has_double(assemblies: &[AssemblyConfig]) -> bool
-    ensures { result ≡ is_misnumbered (instances assemblies.now) }
+fn has_invalid_instance(assemblies: &[AssemblyConfig]) -> bool
+    ensures { result ≡ are_invalid_instances (instances assemblies.now) }
 {
     for (i, assembly) in assemblies.iter().enumerate() {
         // instance 0 is the class itself (object model)
-        if assembly.instance == 0 || stands(assembly.instance, &assemblies[i + 1..]) {
+        if assembly.instance == 0 || has_instance(assembly.instance, &assemblies[i + 1..]) {
             return true;
         }
     }
@@ -213,7 +213,7 @@ fn has_double(assemblies: &[AssemblyConfig]) -> bool
 }
 
 /// Whether an assembly has this instance number.
-fn stands(instance: u16, assemblies: &[AssemblyConfig]) -> bool
+fn has_instance(instance: u16, assemblies: &[AssemblyConfig]) -> bool
     ensures { result ≡ list_any (λ n. n == instance) (instances assemblies.now) }
 {
     for assembly in assemblies {

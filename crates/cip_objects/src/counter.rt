@@ -2,11 +2,11 @@
 //! Text: docs/PROTOCOL.md, "Objects".
 ghost use Rattle.std.specs.Prelude.{◌≡◌, ◌≤◌, ◌<◌, ◌+◌, ◌%◌, ◌^◌, option_map, IfSome, IfOk, IfErr, OnOk, OnErr};
 ghost use Rattle.cip_objects.specs.Entries.{attribute_in, counter_attributes};
-ghost use Rattle.cip_objects.specs.Value.{value_bytes, IsShort};
+ghost use Rattle.cip_objects.specs.AttributeValue.{value_bytes, IsShort};
 ghost use Rattle.cip_objects.specs.declared.status.Refusal.TheVariants.{InvalidParameter, InvalidAttributeValue};
 
 use crate::status::Refusal;
-use crate::value::Value;
+use crate::value::AttributeValue;
 
 /// The one instance of the counter (ours).
 #[derive(Clone, Copy, Debug)]
@@ -92,15 +92,15 @@ impl Counter {
     }
 
     /// The value of an attribute of the instance.
-    pub(crate) fn attribute(self, attribute: u16) -> Option<Value<'static>>
+    pub(crate) fn attribute(self, attribute: u16) -> Option<AttributeValue<'static>>
         ensures value { option_map value_bytes result
             ≡ attribute_in attribute (counter_attributes (counter_values self)) }
         ensures short { IfSome result IsShort }
     {
         match attribute {
-            1 => Some(Value::Udint(self.value)),
-            2 => Some(Value::Udint(self.limit)),
-            3 => Some(Value::Udint(self.additions)),
+            1 => Some(AttributeValue::Udint(self.value)),
+            2 => Some(AttributeValue::Udint(self.limit)),
+            3 => Some(AttributeValue::Udint(self.additions)),
             _ => None,
         }
     }

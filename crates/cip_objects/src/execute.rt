@@ -2,17 +2,17 @@
 //! Text: docs/PROTOCOL.md, "Objects".
 ghost use Rattle.std.specs.Prelude.{◌≡◌, ◌≤◌, [], length, OnErr, slice_set};
 ghost use Rattle.cip_message.specs.Reply.{reply as spelled, reply_of_fields};
-ghost use Rattle.cip_objects.specs.Destination.{IsThere, Has, path_to};
-ghost use Rattle.cip_objects.specs.Execution.{outcome_left, outcome_in_room, perform, outcome, exec};
+ghost use Rattle.cip_objects.specs.ObjectRef.{Exists, HasService, path_to};
+ghost use Rattle.cip_objects.specs.Execution.{outcome_result, outcome_within, perform, outcome, exec};
 ghost use Rattle.cip_message.specs.Reply.{reply_service};
 ghost use Rattle.cip_bytes.specs.Protocol.{general_status_number};
 
-use crate::destination::Subject;
+use crate::object_ref::ResolvedPath;
 use crate::objects::Objects;
+use crate::reply::append;
 use crate::router::{ReplyBuf, Router};
 use crate::service::Service;
 use crate::status::{Completion, Refusal};
-use crate::text::append;
 use cip_bytes::protocol::{GeneralStatus, REPLY_LIMIT};
 use cip_message::{RequestView, read_path, reply_service};
 
@@ -22,50 +22,50 @@ impl Objects {
     fn perform(
         &mut self,
         service: Service,
-        subject: Subject,
+        resolved: ResolvedPath,
         data: &[u8],
-        room: usize,
+        max_size: usize,
         reply: &mut ReplyBuf,
     ) -> Result<Completion, Refusal>
-        requires there { IsThere self.old.shapes subject.destination }
-        requires offered { Has subject.destination service }
-        requires room_from { 8 ≤ room }
-        requires room_to { room ≤ REPLY_LIMIT }
+        requires there { Exists self.old.shapes resolved.object }
+        requires offered { HasService resolved.object service }
+        requires max_size_from { 8 ≤ max_size }
+        requires max_size_to { max_size ≤ REPLY_LIMIT }
         requires head { length reply.old.items ≡ 4 }
-        ensures outcome { outcome_left self.new result reply.new.items
-            ≡ outcome_in_room room reply.old.items
-            (perform self.old service (path_to self.old.shapes subject) «data».now) }
+        ensures outcome { outcome_result self.new result reply.new.items
+            ≡ outcome_within max_size reply.old.items
+            (perform self.old service (path_to self.old.shapes resolved) «data».now) }
         ensures err { OnErr result (self.new ≡ self.old) }
     {
         match service {
-            Service::GetAttributesAll => self.get_attributes_all(subject, data, room, reply),
-            Service::GetAttributeList => self.get_attribute_list(subject, data, room, reply),
+            Service::GetAttributesAll => self.get_attributes_all(resolved, data, max_size, reply),
+            Service::GetAttributeList => self.get_attribute_list(resolved, data, max_size, reply),
             Service::GetAttributeSingle => {
-                let value = self.get_attribute_single(subject, data)?;
-                value.append(room, reply)?;
+                let value = self.get_attribute_single(resolved, data)?;
+                value.append(max_size, reply)?;
                 Ok(Completion::Whole)
             }
             Service::SetAttributeSingle => {
-                self.set_attribute_single(subject, data)?;
+                self.set_attribute_single(resolved, data)?;
                 Ok(Completion::Whole)
             }
             Service::GetMember => {
-                let member = self.get_member(subject, data)?;
-                append(member, room, reply)?;
+                let member = self.get_member(resolved, data)?;
+                append(member, max_size, reply)?;
                 Ok(Completion::Whole)
             }
             Service::SetMember => {
-                self.set_member(subject, data)?;
+                self.set_member(resolved, data)?;
                 Ok(Completion::Whole)
             }
             Service::Add => {
                 let value = self.add(data)?;
-                append(&value.to_le_bytes(), room, reply)?;
+                append(&value.to_le_bytes(), max_size, reply)?;
                 Ok(Completion::Whole)
             }
             Service::Clear => {
                 let value = self.clear(data)?;
-                append(&value.to_le_bytes(), room, reply)?;
+                append(&value.to_le_bytes(), max_size, reply)?;
                 Ok(Completion::Whole)
             }
         }
@@ -76,14 +76,14 @@ impl Objects {
     fn perform_request(
         &mut self,
         request: &[u8],
-        room: usize,
+        max_size: usize,
         reply: &mut ReplyBuf,
     ) -> Result<Completion, Refusal>
-        requires room_from { 8 ≤ room }
-        requires room_to { room ≤ REPLY_LIMIT }
+        requires max_size_from { 8 ≤ max_size }
+        requires max_size_to { max_size ≤ REPLY_LIMIT }
         requires head { length reply.old.items ≡ 4 }
-        ensures outcome { outcome_left self.new result reply.new.items
-            ≡ outcome_in_room room reply.old.items (outcome self.old request.now) }
+        ensures outcome { outcome_result self.new result reply.new.items
+            ≡ outcome_within max_size reply.old.items (outcome self.old request.now) }
         ensures err { OnErr result (self.new ≡ self.old) }
     {
         // the path goes past the end of the request: 0x26 (objects)
@@ -95,19 +95,19 @@ impl Objects {
             return Err(Refusal::PathSegmentError);
         };
         // no such class or instance: 0x05 (objects)
-        let destination = self
-            .destination(path.class, path.instance)
+        let object = self
+            .object(path.class, path.instance)
             .ok_or(Refusal::PathDestinationUnknown)?;
         // the destination hasn't this service: 0x08 (objects)
-        let service = destination
+        let service = object
             .service(view.service)
             .ok_or(Refusal::ServiceNotSupported)?;
-        let subject = Subject {
-            destination,
+        let resolved = ResolvedPath {
+            object,
             attribute: path.attribute,
             member: path.member,
         };
-        self.perform(service, subject, view.data, room, reply)
+        self.perform(service, resolved, view.data, max_size, reply)
     }
 }
 
@@ -133,18 +133,18 @@ fn set_status(status: GeneralStatus, reply: &mut ReplyBuf)
 impl Router for Objects {
     ghost use Rattle.cip_objects.specs.ExecutionLaws.{exec_too_large};
 
-    ghost after = { λ m room text. (exec m room text).after };
+    ghost after = { λ m max_size text. (exec m max_size text).after };
 
-    ghost answer = { λ m room text. (exec m room text).answer };
+    ghost answer = { λ m max_size text. (exec m max_size text).answer };
 
     /// The map and the reply of the definition `exec`. Takes no memory.
-    fn execute(&mut self, request: &[u8], room: usize, reply: &mut ReplyBuf) {
+    fn execute(&mut self, request: &[u8], max_size: usize, reply: &mut ReplyBuf) {
         begin(request[0], GeneralStatus::Success, reply);
-        match self.perform_request(request, room, reply) {
+        match self.perform_request(request, max_size, reply) {
             Ok(completion) => set_status(completion.status(), reply),
             Err(refusal) => begin(request[0], refusal.status(), reply),
         }
     }
 
-    ghost too_large = { λ m room text h e. exec_too_large m room text e };
+    ghost too_large = { λ m max_size text h e. exec_too_large m max_size text e };
 }

@@ -1,9 +1,9 @@
 //! The Identity object (Volume 1, class 0x01).
 ghost use Rattle.std.specs.Prelude.{◌≡◌, ◌≤◌, ◌+◌, length, option_map, IfSome};
 ghost use Rattle.cip_objects.specs.Entries.{attribute_in, identity_attributes};
-ghost use Rattle.cip_objects.specs.Value.{value_bytes, IsShort};
+ghost use Rattle.cip_objects.specs.AttributeValue.{value_bytes, IsShort};
 
-use crate::value::Value;
+use crate::value::AttributeValue;
 use arrayvec::ArrayVec;
 use std::marker::Model;
 
@@ -58,21 +58,21 @@ impl Identity {
     }
 
     /// The value of an attribute of the instance.
-    pub(crate) fn attribute(&self, attribute: u16) -> Option<Value<'_>>
+    pub(crate) fn attribute(&self, attribute: u16) -> Option<AttributeValue<'_>>
         ensures value { option_map value_bytes result ≡ attribute_in attribute (identity_attributes self.now) }
         ensures short { IfSome result IsShort }
         ensures small { IfSome result (λ value. length (value_bytes value) ≤ NAME_LIMIT + 1) }
     {
         match attribute {
-            1 => Some(Value::Uint(self.vendor)),
-            2 => Some(Value::Uint(self.device_type)),
-            3 => Some(Value::Uint(self.product_code)),
+            1 => Some(AttributeValue::Uint(self.vendor)),
+            2 => Some(AttributeValue::Uint(self.device_type)),
+            3 => Some(AttributeValue::Uint(self.product_code)),
             // major, then minor revision (Identity)
-            4 => Some(Value::Pair(self.major, self.minor)),
-            5 => Some(Value::Uint(self.status)),
-            6 => Some(Value::Udint(self.serial)),
-            7 => Some(Value::Text(self.name.len() as u8, self.name.as_slice())),
-            8 => Some(Value::Usint(self.state)),
+            4 => Some(AttributeValue::Pair(self.major, self.minor)),
+            5 => Some(AttributeValue::Uint(self.status)),
+            6 => Some(AttributeValue::Udint(self.serial)),
+            7 => Some(AttributeValue::Text(self.name.len() as u8, self.name.as_slice())),
+            8 => Some(AttributeValue::Usint(self.state)),
             _ => None,
         }
     }

@@ -1,10 +1,10 @@
 //! What executions promise, as laws over the definitions: each function has the law as its clause, and no body.
 
-ghost use Rattle.cip_objects.specs.Laws.{too_large_law, refused_law, any_room_law, changes_fit_law};
+ghost use Rattle.cip_objects.specs.Laws.{too_large_law, refused_law, any_max_size_law, changes_fit_law};
 ghost use Rattle.cip_objects.specs.Laws.{get_after_set_law, set_leaves_others_law, unsettable_law};
 ghost use Rattle.cip_objects.specs.Lists.{list_law};
 ghost use Rattle.cip_objects.specs.Members.{member_after_set_law, set_member_leaves_others_law, whole_law};
-ghost use Rattle.cip_objects.specs.Router.{RepliesInForm};
+ghost use Rattle.cip_objects.specs.Router.{RepliesWellFormed};
 ghost use Rattle.cip_objects.specs.Contents.{Contents};
 ghost use Rattle.cip_objects.specs.Execution.{exec};
 ghost use Rattle.cip_objects.specs.Run.{counter_law};
@@ -22,13 +22,13 @@ pub fn refused_changes_nothing()
 {}
 
 /// Replies have the head of one, with the service that answers the request's, and are no longer than the room.
-pub fn replies_are_in_form()
-    ensures { RepliesInForm (λ (m : Contents) room text. (exec m room text).answer) }
+pub fn replies_are_well_formed()
+    ensures { RepliesWellFormed (λ (m : Contents) max_size text. (exec m max_size text).answer) }
 {}
 
 /// With room for 8 bytes or more, the map after a request doesn't depend on the room.
-pub fn any_room()
-    ensures { any_room_law }
+pub fn any_max_size()
+    ensures { any_max_size_law }
 {}
 
 /// With room for 8 bytes or more, each service that changes the map gives a reply that fits.

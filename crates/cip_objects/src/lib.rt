@@ -15,16 +15,16 @@ mod check;
 mod class;
 mod config;
 mod counter;
-mod destination;
 mod execute;
 mod identity;
 pub mod laws;
+mod object_ref;
 mod objects;
 mod read_services;
+mod reply;
 mod router;
 mod service;
 mod status;
-mod text;
 mod value;
 
 pub use cip_bytes::protocol::{GeneralStatus, REPLY_LIMIT};

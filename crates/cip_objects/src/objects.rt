@@ -4,29 +4,29 @@ ghost use Rattle.std.specs.Prelude.{◌≡◌, ◌≤◌, ◌+◌, length, optio
 ghost use Rattle.std.specs.Prelude.{IfOk, IfErr, MatchOption, unwrap_or, nat_le};
 ghost use Rattle.std.specs.Box.{boxed_slice_items};
 ghost use Rattle.std.specs.List.{All};
-ghost use Rattle.cip_objects.specs.Configuration.{fault_of, contents_of_config, block_of};
+ghost use Rattle.cip_objects.specs.Configuration.{fault_of, contents_of_config, assembly_of_config};
 ghost use Rattle.byteorder.specs.Endian.{little_bytes};
 ghost use Rattle.cip_objects.specs.Contents.{value_at, bytes_at, udint_at, with_value, counted};
 ghost use Rattle.cip_objects.specs.Changes.{changes_of};
 ghost use Rattle.cip_objects.specs.ChangeServices.{with_bytes_at};
-ghost use Rattle.cip_objects.specs.Destination.{LeadTo, HasNoValue, IsThere, IsPlace, CanBeSet};
-ghost use Rattle.cip_objects.specs.Destination.{services_at, class_at, instance_at, number_at, value_to, data_at};
-ghost use Rattle.cip_objects.specs.Destination.{size_to_set, StandsAt};
+ghost use Rattle.cip_objects.specs.ObjectRef.{Resolves, HasNoValue, Exists, IsAssemblyIndex, CanBeSet};
+ghost use Rattle.cip_objects.specs.ObjectRef.{services_at, class_at, instance_at, number_at, value_to, data_at};
+ghost use Rattle.cip_objects.specs.ObjectRef.{size_to_set, IsAssemblyAt};
 ghost use Rattle.cip_objects.specs.DeviceWrites.{device_write, with_device_status, with_device_state};
 ghost use Rattle.cip_objects.specs.Members.{AreWhole};
 ghost use Rattle.cip_objects.specs.Run.{IsCounter};
 ghost use Rattle.cip_objects.specs.Entries.{shape_of};
 ghost use Rattle.cip_objects.specs.Tables.{services_of, shape_at, settable_size};
-ghost use Rattle.cip_objects.specs.Value.{value_bytes, IsShort};
+ghost use Rattle.cip_objects.specs.AttributeValue.{value_bytes, IsShort};
 
 use crate::assembly::{Assembly, DATA_LIMIT, MEMBER_LIMIT, greatest, position};
 use crate::class::{Class, class_attribute};
 use crate::config::{AssemblyConfig, Config, ConfigFault};
 use crate::counter::Counter;
-use crate::destination::{Destination, Settable};
 use crate::identity::{Identity, NAME_LIMIT};
+use crate::object_ref::{ObjectRef, Settable};
 use crate::router::ReplyBuf;
-use crate::value::Value;
+use crate::value::AttributeValue;
 use arrayvec::ArrayVec;
 use cip_bytes::protocol::{ASSEMBLY, CONNECTION_MANAGER, COUNTER, IDENTITY, REPLY_LIMIT};
 use cip_message::Device;
@@ -97,22 +97,22 @@ impl Objects {
     }
 
     /// What a class and an instance lead to, if there is such a class and instance.
-    #[tactic(auto, unfolding(crate::specs::Tables::services_of), using(crate::proofs::Destinations::reaches))]
-    pub(crate) fn destination(&self, class: u16, instance: u32) -> Option<Destination>
+    #[tactic(auto, unfolding(crate::specs::Tables::services_of), using(crate::proofs::ObjectRefs::reaches))]
+    pub(crate) fn object(&self, class: u16, instance: u32) -> Option<ObjectRef>
         ensures services { option_map services_at result ≡ services_of self.now.shapes class instance }
-        ensures leads { MatchOption result (HasNoValue self.now class instance)
-            (LeadTo self.now.shapes class instance) }
-        ensures identity { class ≡ IDENTITY → instance ≡ 1 → result ≡ Some Destination.Identity }
+        ensures resolves { MatchOption result (HasNoValue self.now class instance)
+            (Resolves self.now.shapes class instance) }
+        ensures identity { class ≡ IDENTITY → instance ≡ 1 → result ≡ Some ObjectRef.Identity }
     {
         match (class, instance) {
             // instance 0 is the class itself (object model)
-            (IDENTITY, 0) => Some(Destination::Class(Class::Identity)),
-            (IDENTITY, 1) => Some(Destination::Identity),
-            (ASSEMBLY, 0) => Some(Destination::Class(Class::Assembly)),
-            (ASSEMBLY, _) => Some(Destination::Assembly(position(&self.assemblies, instance)?)),
-            (CONNECTION_MANAGER, 1) => Some(Destination::ConnectionManager),
-            (COUNTER, 0) => Some(Destination::Class(Class::Counter)),
-            (COUNTER, 1) => Some(Destination::Counter),
+            (IDENTITY, 0) => Some(ObjectRef::Class(Class::Identity)),
+            (IDENTITY, 1) => Some(ObjectRef::Identity),
+            (ASSEMBLY, 0) => Some(ObjectRef::Class(Class::Assembly)),
+            (ASSEMBLY, _) => Some(ObjectRef::Assembly(position(&self.assemblies, instance)?)),
+            (CONNECTION_MANAGER, 1) => Some(ObjectRef::ConnectionManager),
+            (COUNTER, 0) => Some(ObjectRef::Class(Class::Counter)),
+            (COUNTER, 1) => Some(ObjectRef::Counter),
             _ => None,
         }
     }
@@ -120,27 +120,29 @@ impl Objects {
     /// The value of an attribute of a destination, if it has one of this number.
     #[inline(always)]
     #[tactic(auto, using(crate::proofs::Lookup::reads))]
-    pub(crate) fn value(&self, destination: Destination, attribute: u16) -> Option<Value<'_>>
-        requires { IsThere self.now.shapes destination }
-        ensures value { option_map value_bytes result ≡ value_to self.now destination attribute }
+    pub(crate) fn value(&self, object: ObjectRef, attribute: u16) -> Option<AttributeValue<'_>>
+        requires { Exists self.now.shapes object }
+        ensures value { option_map value_bytes result ≡ value_to self.now object attribute }
         ensures short { IfSome result IsShort }
-        ensures identity { destination ≡ Destination.Identity
+        ensures identity { object ≡ ObjectRef.Identity
             → IfSome result (λ value. length (value_bytes value) ≤ NAME_LIMIT + 1) }
     {
         let counter = self.counter;
-        match destination {
-            Destination::Class(Class::Assembly) => class_attribute(
+        match object {
+            ObjectRef::Class(Class::Assembly) => class_attribute(
                 2,
                 greatest(&self.assemblies),
                 self.assemblies.len() as u16,
                 attribute,
             ),
-            Destination::Class(_) => class_attribute(1, 1, 1, attribute),
-            Destination::Identity => self.identity.attribute(attribute),
-            Destination::Assembly(place) => self.assemblies[place].attribute(attribute),
+            ObjectRef::Class(_) => class_attribute(1, 1, 1, attribute),
+            ObjectRef::Identity => self.identity.attribute(attribute),
+            ObjectRef::Assembly(assembly_index) => self.assemblies[assembly_index].attribute(
+                attribute,
+            ),
             // it has no attributes here (ours)
-            Destination::ConnectionManager => None,
-            Destination::Counter => counter.attribute(attribute),
+            ObjectRef::ConnectionManager => None,
+            ObjectRef::Counter => counter.attribute(attribute),
         }
     }
 
@@ -190,10 +192,10 @@ impl Objects {
         ensures identity { class ≡ IDENTITY → instance ≡ 1 → length reply.new.items ≤ NAME_LIMIT + 1 }
     {
         reply.clear();
-        let Some(destination) = self.destination(class, instance) else {
+        let Some(object) = self.object(class, instance) else {
             return false;
         };
-        match self.value(destination, attribute) {
+        match self.value(object, attribute) {
             Some(value) => value.append(REPLY_LIMIT, reply).is_ok(),
             None => false,
         }
@@ -205,15 +207,15 @@ impl Objects {
     /// is counted. Takes no memory.
     pub fn write_data(&mut self, instance: u32, offset: usize, bytes: &[u8]) -> bool
         ensures written { self.new ≡ unwrap_or (device_write self.old instance offset bytes.now) self.old }
-        ensures told { result ≡ is_some (device_write self.old instance offset bytes.now) }
+        ensures reported { result ≡ is_some (device_write self.old instance offset bytes.now) }
     {
-        let Some(place) = self.place(instance) else {
+        let Some(assembly_index) = self.assembly_index(instance) else {
             return false;
         };
-        if !ends_within(offset, bytes.len(), self.assembly(place).size()) {
+        if !ends_within(offset, bytes.len(), self.assembly(assembly_index).size()) {
             return false;
         }
-        self.write_content(place, offset, bytes);
+        self.write_content(assembly_index, offset, bytes);
         true
     }
 
@@ -242,49 +244,49 @@ impl Objects {
         ensures changes { result ≡ changes_of instance self.now.changes }
         ensures there { is_some result ≡ is_some (shape_at instance self.now.shapes) }
     {
-        let place = position(&self.assemblies, instance)?;
-        Some(self.assemblies[place].changes())
+        let assembly_index = position(&self.assemblies, instance)?;
+        Some(self.assemblies[assembly_index].changes())
     }
 
     /// The place of the assembly of this instance number, if there is one.
-    fn place(&self, instance: u32) -> Option<usize>
+    fn assembly_index(&self, instance: u32) -> Option<usize>
         ensures { MatchOption result (shape_at instance self.now.shapes ≡ None)
-            (StandsAt self.now.shapes instance) }
+            (IsAssemblyAt self.now.shapes instance) }
     {
         position(&self.assemblies, instance)
     }
 
     /// The assembly at this place.
     #[inline(always)]
-    pub(crate) fn assembly(&self, place: usize) -> &Assembly
-        requires { IsPlace self.now.shapes place }
-        ensures shape { shape_at (number_at self.now.shapes place) self.now.shapes ≡ Some (shape_of result.now) }
-        ensures content { result.now.content ≡ data_at self.now place }
+    pub(crate) fn assembly(&self, assembly_index: usize) -> &Assembly
+        requires { IsAssemblyIndex self.now.shapes assembly_index }
+        ensures shape { shape_at (number_at self.now.shapes assembly_index) self.now.shapes ≡ Some (shape_of result.now) }
+        ensures content { result.now.content ≡ data_at self.now assembly_index }
     {
-        &self.assemblies[place]
+        &self.assemblies[assembly_index]
     }
 
     /// What can be set as this attribute of a destination, `None` where that can't be set.
-    #[tactic(auto, unfolding(crate::specs::Tables::settable_size), using(crate::proofs::Destinations::not_settable))]
-    pub(crate) fn settable(&self, destination: Destination, attribute: u16) -> Option<Settable>
-        requires { IsThere self.now.shapes destination }
+    #[tactic(auto, unfolding(crate::specs::Tables::settable_size), using(crate::proofs::ObjectRefs::not_settable))]
+    pub(crate) fn settable(&self, object: ObjectRef, attribute: u16) -> Option<Settable>
+        requires { Exists self.now.shapes object }
         ensures size { option_map size_to_set result
-            ≡ settable_size self.now.shapes (class_at destination) (instance_at self.now.shapes destination) attribute }
-        ensures names { IfSome result (CanBeSet self.now destination attribute) }
+            ≡ settable_size self.now.shapes (class_at object) (instance_at self.now.shapes object) attribute }
+        ensures names { IfSome result (CanBeSet self.now object attribute) }
     {
         // the data of an assembly that the configuration lets be set, and the counter's limit (objects)
-        match (destination, attribute) {
-            (Destination::Assembly(place), 3) => {
-                let assembly = self.assembly(place);
+        match (object, attribute) {
+            (ObjectRef::Assembly(assembly_index), 3) => {
+                let assembly = self.assembly(assembly_index);
                 if !assembly.is_settable() {
                     return None;
                 }
                 Some(Settable::Data {
-                    place,
+                    assembly_index,
                     size: assembly.size(),
                 })
             }
-            (Destination::Counter, 2) => Some(Settable::Limit),
+            (ObjectRef::Counter, 2) => Some(Settable::Limit),
             _ => None,
         }
     }
@@ -300,22 +302,22 @@ impl Objects {
     }
 
     /// Writes bytes from `offset` on into the data of the assembly at this place.
-    pub(crate) fn write_content(&mut self, place: usize, offset: usize, bytes: &[u8])
-        requires there { IsPlace self.old.shapes place }
-        requires inside { offset + length bytes.now ≤ length (data_at self.old place) }
+    pub(crate) fn write_content(&mut self, assembly_index: usize, offset: usize, bytes: &[u8])
+        requires there { IsAssemblyIndex self.old.shapes assembly_index }
+        requires inside { offset + length bytes.now ≤ length (data_at self.old assembly_index) }
         ensures { self.new
-            ≡ with_value self.old ASSEMBLY (number_at self.old.shapes place) 3
-            (with_bytes_at (data_at self.old place) offset bytes.now) }
+            ≡ with_value self.old ASSEMBLY (number_at self.old.shapes assembly_index) 3
+            (with_bytes_at (data_at self.old assembly_index) offset bytes.now) }
     {
-        self.assemblies[place].write(offset, bytes);
+        self.assemblies[assembly_index].write(offset, bytes);
     }
 
     /// Counts that a peer wrote data of the assembly at this place.
-    pub(crate) fn count_change(&mut self, place: usize)
-        requires { IsPlace self.old.shapes place }
-        ensures { self.new ≡ counted self.old ASSEMBLY (number_at self.old.shapes place) }
+    pub(crate) fn count_change(&mut self, assembly_index: usize)
+        requires { IsAssemblyIndex self.old.shapes assembly_index }
+        ensures { self.new ≡ counted self.old ASSEMBLY (number_at self.old.shapes assembly_index) }
     {
-        self.assemblies[place].count_change();
+        self.assemblies[assembly_index].count_change();
     }
 
     /// Sets the counter's value.
@@ -364,7 +366,7 @@ fn assemblies_of(
 ) -> Result<BoxedSlice<Assembly>, AllocError>
     requires few { All (λ a. length a.members.items ≤ MEMBER_LIMIT) configs.now }
     requires small { All (λ a. sum a.members.items ≤ DATA_LIMIT) configs.now }
-    ensures { IfOk result (λ blocks. boxed_slice_items blocks ≡ map block_of configs.now) }
+    ensures { IfOk result (λ blocks. boxed_slice_items blocks ≡ map assembly_of_config configs.now) }
 {
     let mut assemblies = Vec::with_capacity(alloc, configs.len())?;
     for config in configs {

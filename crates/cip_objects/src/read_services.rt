@@ -4,22 +4,22 @@ ghost use Rattle.std.specs.Prelude.{◌≡◌, ◌≤◌, ◌+◌, [], ◌∷◌
 ghost use Rattle.std.specs.List.{flat_map};
 ghost use Rattle.cip_bytes.specs.Numbers.{le, words_of};
 ghost use Rattle.cip_bytes.specs.Protocol.{general_status_number};
-ghost use Rattle.cip_objects.specs.Destination.{IsThere, IsAssembly, bytes_to, path_to, span_left};
-ghost use Rattle.cip_objects.specs.Destination.{IsInside};
+ghost use Rattle.cip_objects.specs.ObjectRef.{Exists, IsAssembly, bytes_to, path_to, span_result};
+ghost use Rattle.cip_objects.specs.ObjectRef.{IsInside};
 ghost use Rattle.cip_objects.specs.ReadServices.{get_attribute_single, get_attributes_all, get_attribute_list};
-ghost use Rattle.cip_objects.specs.ReadServices.{get_member, named_member, list_entry, is_there, all_there};
-ghost use Rattle.cip_objects.specs.ReadServices.{answer_left, ALL_ATTRIBUTES};
-ghost use Rattle.cip_objects.specs.Execution.{outcome_of_read, outcome_left, outcome_in_room};
-ghost use Rattle.cip_objects.specs.Text.{Writes};
-ghost use Rattle.cip_objects.specs.Value.{value_bytes};
+ghost use Rattle.cip_objects.specs.ReadServices.{get_member, named_member, list_entry, has_attribute, has_all_attributes};
+ghost use Rattle.cip_objects.specs.ReadServices.{answer_result, ALL_ATTRIBUTES};
+ghost use Rattle.cip_objects.specs.Execution.{outcome_of_read, outcome_result, outcome_within};
+ghost use Rattle.cip_objects.specs.ReplyWriting.{Writes};
+ghost use Rattle.cip_objects.specs.AttributeValue.{value_bytes};
 
-use crate::check::exactly;
-use crate::destination::{Destination, Member, Subject};
+use crate::check::check_size;
+use crate::object_ref::{Member, ObjectRef, ResolvedPath};
 use crate::objects::Objects;
+use crate::reply::append;
 use crate::router::ReplyBuf;
 use crate::status::{Completion, Refusal};
-use crate::text::append;
-use crate::value::Value;
+use crate::value::AttributeValue;
 use byteorder::{ByteOrder, LittleEndian};
 use cip_bytes::protocol::{GeneralStatus, REPLY_LIMIT};
 
@@ -28,19 +28,19 @@ impl Objects {
     #[tactic(auto, unfolding(crate::specs::ReadServices::get_attribute_single))]
     pub(crate) fn get_attribute_single(
         &self,
-        subject: Subject,
+        resolved: ResolvedPath,
         data: &[u8],
-    ) -> Result<Value<'_>, Refusal>
-        requires { IsThere self.now.shapes subject.destination }
-        ensures { answer_left value_bytes result
-            ≡ get_attribute_single self.now (path_to self.now.shapes subject) «data».now }
+    ) -> Result<AttributeValue<'_>, Refusal>
+        requires { Exists self.now.shapes resolved.object }
+        ensures { answer_result value_bytes result
+            ≡ get_attribute_single self.now (path_to self.now.shapes resolved) «data».now }
     {
-        let attribute = subject.attribute.ok_or(Refusal::AttributeNotSupported)?;
+        let attribute = resolved.attribute.ok_or(Refusal::AttributeNotSupported)?;
         let value = self
-            .value(subject.destination, attribute)
+            .value(resolved.object, attribute)
             .ok_or(Refusal::AttributeNotSupported)?;
         // a read takes no data (common services)
-        exactly(0, data)?;
+        check_size(0, data)?;
         Ok(value)
     }
 
@@ -48,62 +48,62 @@ impl Objects {
     #[tactic(auto, unfolding(crate::specs::ReadServices::get_attributes_all))]
     pub(crate) fn get_attributes_all(
         &self,
-        subject: Subject,
+        resolved: ResolvedPath,
         data: &[u8],
-        room: usize,
+        max_size: usize,
         reply: &mut ReplyBuf,
     ) -> Result<Completion, Refusal>
-        requires there { IsThere self.now.shapes subject.destination }
-        requires room { room ≤ REPLY_LIMIT }
-        requires fits { length reply.old.items ≤ room }
-        ensures { outcome_left self.now result reply.new.items
-            ≡ outcome_in_room room reply.old.items (outcome_of_read self.now
-            (get_attributes_all self.now (path_to self.now.shapes subject) «data».now)) }
+        requires there { Exists self.now.shapes resolved.object }
+        requires max_size { max_size ≤ REPLY_LIMIT }
+        requires fits { length reply.old.items ≤ max_size }
+        ensures { outcome_result self.now result reply.new.items
+            ≡ outcome_within max_size reply.old.items (outcome_of_read self.now
+            (get_attributes_all self.now (path_to self.now.shapes resolved) «data».now)) }
     {
-        exactly(0, data)?;
-        self.append_all(subject.destination, room, reply)?;
+        check_size(0, data)?;
+        self.append_all(resolved.object, max_size, reply)?;
         Ok(Completion::Whole)
     }
 
     /// Appends the values of attributes 1 to 7.
     fn append_all(
         &self,
-        destination: Destination,
-        room: usize,
+        object: ObjectRef,
+        max_size: usize,
         reply: &mut ReplyBuf,
     ) -> Result<(), Refusal>
-        requires there { IsThere self.now.shapes destination }
-        requires room { room ≤ REPLY_LIMIT }
-        requires fits { length reply.old.items ≤ room }
-        ensures { Writes room (reply.old.items ++ flat_map (bytes_to self.now destination) ALL_ATTRIBUTES)
+        requires there { Exists self.now.shapes object }
+        requires max_size { max_size ≤ REPLY_LIMIT }
+        requires fits { length reply.old.items ≤ max_size }
+        ensures { Writes max_size (reply.old.items ++ flat_map (bytes_to self.now object) ALL_ATTRIBUTES)
             result reply.new.items }
     {
         // this profile ends there (ours)
-        self.append_value(destination, 1, room, reply)?;
-        self.append_value(destination, 2, room, reply)?;
-        self.append_value(destination, 3, room, reply)?;
-        self.append_value(destination, 4, room, reply)?;
-        self.append_value(destination, 5, room, reply)?;
-        self.append_value(destination, 6, room, reply)?;
-        self.append_value(destination, 7, room, reply)
+        self.append_value(object, 1, max_size, reply)?;
+        self.append_value(object, 2, max_size, reply)?;
+        self.append_value(object, 3, max_size, reply)?;
+        self.append_value(object, 4, max_size, reply)?;
+        self.append_value(object, 5, max_size, reply)?;
+        self.append_value(object, 6, max_size, reply)?;
+        self.append_value(object, 7, max_size, reply)
     }
 
     /// Appends the value of an attribute, nothing where there is no such attribute.
     #[inline(always)]
     fn append_value(
         &self,
-        destination: Destination,
+        object: ObjectRef,
         attribute: u16,
-        room: usize,
+        max_size: usize,
         reply: &mut ReplyBuf,
     ) -> Result<(), Refusal>
-        requires there { IsThere self.now.shapes destination }
-        requires room { room ≤ REPLY_LIMIT }
-        requires fits { length reply.old.items ≤ room }
-        ensures { Writes room (reply.old.items ++ bytes_to self.now destination attribute) result reply.new.items }
+        requires there { Exists self.now.shapes object }
+        requires max_size { max_size ≤ REPLY_LIMIT }
+        requires fits { length reply.old.items ≤ max_size }
+        ensures { Writes max_size (reply.old.items ++ bytes_to self.now object attribute) result reply.new.items }
     {
-        match self.value(destination, attribute) {
-            Some(value) => value.append(room, reply),
+        match self.value(object, attribute) {
+            Some(value) => value.append(max_size, reply),
             None => Ok(()),
         }
     }
@@ -112,26 +112,26 @@ impl Objects {
     #[tactic(auto, unfolding(crate::specs::ReadServices::get_attribute_list))]
     pub(crate) fn get_attribute_list(
         &self,
-        subject: Subject,
+        resolved: ResolvedPath,
         data: &[u8],
-        room: usize,
+        max_size: usize,
         reply: &mut ReplyBuf,
     ) -> Result<Completion, Refusal>
-        requires there { IsThere self.now.shapes subject.destination }
-        requires room { room ≤ REPLY_LIMIT }
-        ensures { outcome_left self.now result reply.new.items
-            ≡ outcome_in_room room reply.old.items (outcome_of_read self.now
-            (get_attribute_list self.now (path_to self.now.shapes subject) «data».now)) }
+        requires there { Exists self.now.shapes resolved.object }
+        requires max_size { max_size ≤ REPLY_LIMIT }
+        ensures { outcome_result self.now result reply.new.items
+            ≡ outcome_within max_size reply.old.items (outcome_of_read self.now
+            (get_attribute_list self.now (path_to self.now.shapes resolved) «data».now)) }
     {
         // the count and so many attribute numbers, two bytes each (common services)
         if data.len() < 2 {
             return Err(Refusal::NotEnoughData);
         }
         let count = LittleEndian::read_u16(data);
-        exactly(2 + 2 * usize::from(count), data)?;
-        append(&count.to_le_bytes(), room, reply)?;
+        check_size(2 + 2 * usize::from(count), data)?;
+        append(&count.to_le_bytes(), max_size, reply)?;
         // an unknown attribute is told in its place, and by the general status 0x0a (common services)
-        if self.append_list(subject, &data[2..], room, reply)? {
+        if self.append_list(resolved, &data[2..], max_size, reply)? {
             Ok(Completion::Whole)
         } else {
             Ok(Completion::Partial)
@@ -142,24 +142,24 @@ impl Objects {
     #[tactic(auto, using(crate::proofs::Words::words))]
     fn append_list(
         &self,
-        subject: Subject,
+        resolved: ResolvedPath,
         list: &[u8],
-        room: usize,
+        max_size: usize,
         reply: &mut ReplyBuf,
     ) -> Result<bool, Refusal>
-        requires there { IsThere self.now.shapes subject.destination }
-        requires room { room ≤ REPLY_LIMIT }
-        requires fits { length reply.old.items ≤ room }
-        ensures text { Writes room
-            (reply.old.items ++ flat_map (list_entry self.now (path_to self.now.shapes subject)) (words_of list.now))
+        requires there { Exists self.now.shapes resolved.object }
+        requires max_size { max_size ≤ REPLY_LIMIT }
+        requires fits { length reply.old.items ≤ max_size }
+        ensures text { Writes max_size
+            (reply.old.items ++ flat_map (list_entry self.now (path_to self.now.shapes resolved)) (words_of list.now))
             result reply.new.items }
         ensures there { IfOk result (λ all. all
-            ≡ all_there self.now (path_to self.now.shapes subject) (words_of list.now)) }
+            ≡ has_all_attributes self.now (path_to self.now.shapes resolved) (words_of list.now)) }
     {
         let mut all = true;
         for i in 0..list.len() / 2 {
             let attribute = LittleEndian::read_u16(&list[2 * i..]);
-            let there = self.append_listed(subject, attribute, room, reply)?;
+            let there = self.append_listed(resolved, attribute, max_size, reply)?;
             all = all && there;
         }
         Ok(all)
@@ -169,27 +169,32 @@ impl Objects {
     #[tactic(auto, unfolding(crate::specs::ReadServices::list_entry))]
     fn append_listed(
         &self,
-        subject: Subject,
+        resolved: ResolvedPath,
         attribute: u16,
-        room: usize,
+        max_size: usize,
         reply: &mut ReplyBuf,
     ) -> Result<bool, Refusal>
-        requires there { IsThere self.now.shapes subject.destination }
-        requires room { room ≤ REPLY_LIMIT }
-        ensures text { Writes room
-            (reply.old.items ++ list_entry self.now (path_to self.now.shapes subject) attribute)
+        requires there { Exists self.now.shapes resolved.object }
+        requires max_size { max_size ≤ REPLY_LIMIT }
+        ensures text { Writes max_size
+            (reply.old.items ++ list_entry self.now (path_to self.now.shapes resolved) attribute)
             result reply.new.items }
-        ensures there { IfOk result (λ there. there ≡ is_there self.now (path_to self.now.shapes subject) attribute) }
+        ensures there { IfOk result (λ there. there ≡ has_attribute self.now (path_to self.now.shapes resolved) attribute) }
     {
-        match self.value(subject.destination, attribute) {
+        match self.value(resolved.object, attribute) {
             Some(value) => {
-                append_head(attribute, GeneralStatus::Success, room, reply)?;
-                value.append(room, reply)?;
+                append_head(attribute, GeneralStatus::Success, max_size, reply)?;
+                value.append(max_size, reply)?;
                 Ok(true)
             }
             // an unknown one has a status of its own, attribute not supported (common services)
             None => {
-                append_head(attribute, GeneralStatus::AttributeNotSupported, room, reply)?;
+                append_head(
+                    attribute,
+                    GeneralStatus::AttributeNotSupported,
+                    max_size,
+                    reply,
+                )?;
                 Ok(false)
             }
         }
@@ -197,37 +202,43 @@ impl Objects {
 
     /// The member that the path names.
     #[tactic(auto, unfolding(crate::specs::ReadServices::named_member))]
-    pub(crate) fn named_member(&self, subject: Subject) -> Result<Member, Refusal>
-        requires there { IsThere self.now.shapes subject.destination }
-        requires assembly { IsAssembly subject.destination }
-        ensures span { span_left result ≡ named_member self.now.shapes (path_to self.now.shapes subject) }
-        ensures inside { IfOk result (IsInside self.now subject.destination) }
+    pub(crate) fn named_member(&self, resolved: ResolvedPath) -> Result<Member, Refusal>
+        requires there { Exists self.now.shapes resolved.object }
+        requires assembly { IsAssembly resolved.object }
+        ensures span { span_result result ≡ named_member self.now.shapes (path_to self.now.shapes resolved) }
+        ensures inside { IfOk result (IsInside self.now resolved.object) }
     {
         // only the data of an assembly, attribute 3, have members (Assembly)
-        let (Destination::Assembly(place), Some(3)) = (subject.destination, subject.attribute)
+        let (ObjectRef::Assembly(assembly_index), Some(3)) = (resolved.object, resolved.attribute)
         else {
             return Err(Refusal::AttributeNotSupported);
         };
         // no such member: 0x28 (objects)
-        let number = subject.member.ok_or(Refusal::InvalidMemberId)?;
+        let number = resolved.member.ok_or(Refusal::InvalidMemberId)?;
         let span = self
-            .assembly(place)
+            .assembly(assembly_index)
             .span(number)
             .ok_or(Refusal::InvalidMemberId)?;
-        Ok(Member { place, span })
+        Ok(Member {
+            assembly_index,
+            span,
+        })
     }
 
     /// Get_Member: the member's bytes.
     #[tactic(auto, unfolding(crate::specs::ReadServices::get_member))]
-    pub(crate) fn get_member(&self, subject: Subject, data: &[u8]) -> Result<&[u8], Refusal>
-        requires there { IsThere self.now.shapes subject.destination }
-        requires assembly { IsAssembly subject.destination }
-        ensures { answer_left (λ bytes. bytes.now) result
-            ≡ get_member self.now (path_to self.now.shapes subject) «data».now }
+    pub(crate) fn get_member(&self, resolved: ResolvedPath, data: &[u8]) -> Result<&[u8], Refusal>
+        requires there { Exists self.now.shapes resolved.object }
+        requires assembly { IsAssembly resolved.object }
+        ensures { answer_result (λ bytes. bytes.now) result
+            ≡ get_member self.now (path_to self.now.shapes resolved) «data».now }
     {
-        let Member { place, span } = self.named_member(subject)?;
-        exactly(0, data)?;
-        Ok(&self.assembly(place).content()[span.offset..span.offset + span.size])
+        let Member {
+            assembly_index,
+            span,
+        } = self.named_member(resolved)?;
+        check_size(0, data)?;
+        Ok(&self.assembly(assembly_index).content()[span.offset..span.offset + span.size])
     }
 }
 
@@ -236,13 +247,13 @@ impl Objects {
 fn append_head(
     attribute: u16,
     status: GeneralStatus,
-    room: usize,
+    max_size: usize,
     reply: &mut ReplyBuf,
 ) -> Result<(), Refusal>
-    requires { room ≤ REPLY_LIMIT }
-    ensures { Writes room
+    requires { max_size ≤ REPLY_LIMIT }
+    ensures { Writes max_size
         (reply.old.items ++ (le 2 attribute ++ general_status_number status ∷ 0 ∷ [])) result reply.new.items }
 {
     let [least, most] = attribute.to_le_bytes();
-    append(&[least, most, status.number(), 0], room, reply)
+    append(&[least, most, status.number(), 0], max_size, reply)
 }

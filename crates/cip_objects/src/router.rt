@@ -13,7 +13,7 @@ pub type ReplyBuf = ArrayVec<u8, REPLY_LIMIT>;
 /// A router names its whole meaning by two functions of its state, of the room and of the request: `after`,
 /// the state that it is left in, and `answer`, the reply. So a contract over a router says what was executed,
 /// and how often, without a word on what is behind it. It keeps one law; what an originator asks of replies beyond it,
-/// that they have the form of one (`RepliesInForm`), is a premise where it is needed.
+/// that they have the form of one (`RepliesWellFormed`), is a premise where it is needed.
 pub trait Router {
     ghost after: { Self → ℕ → List ℕ → Self };
 
@@ -21,16 +21,16 @@ pub trait Router {
 
     /// Executes a request of at least 2 bytes, and leaves its reply in `reply`, whose old content is dropped.
     ///
-    /// The reply has at most `room` bytes, 8 to `REPLY_LIMIT`.
-    fn execute(&mut self, request: &[u8], room: usize, reply: &mut ReplyBuf)
+    /// The reply has at most `max_size` bytes, 8 to `REPLY_LIMIT`.
+    fn execute(&mut self, request: &[u8], max_size: usize, reply: &mut ReplyBuf)
         requires request { 2 ≤ length request.now }
-        requires room_from { 8 ≤ room }
-        requires room_to { room ≤ REPLY_LIMIT }
-        ensures state { self.new ≡ after self.old room request.now }
-        ensures reply { reply.new.items ≡ answer self.old room request.now }
-        ensures fits { length reply.new.items ≤ room };
+        requires max_size_from { 8 ≤ max_size }
+        requires max_size_to { max_size ≤ REPLY_LIMIT }
+        ensures state { self.new ≡ after self.old max_size request.now }
+        ensures reply { reply.new.items ≡ answer self.old max_size request.now }
+        ensures fits { length reply.new.items ≤ max_size };
 
     // A reply that says "reply data too large" goes with an unchanged state.
-    ghost too_large: { (router : Self) (room : ℕ) (request : List ℕ) →
-        8 ≤ room → general_status (answer router room request) ≡ REPLY_TOO_LARGE → after router room request ≡ router };
+    ghost too_large: { (router : Self) (max_size : ℕ) (request : List ℕ) →
+        8 ≤ max_size → general_status (answer router max_size request) ≡ REPLY_TOO_LARGE → after router max_size request ≡ router };
 }

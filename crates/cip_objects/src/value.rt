@@ -1,15 +1,15 @@
 //! The value of one attribute, and how it goes into a reply.
 ghost use Rattle.std.specs.Prelude.{◌≡◌, ◌≤◌, ◌++◌};
-ghost use Rattle.cip_objects.specs.Text.{Writes};
+ghost use Rattle.cip_objects.specs.ReplyWriting.{Writes};
 
+use crate::reply::append;
 use crate::router::ReplyBuf;
 use crate::status::Refusal;
-use crate::text::append;
 use cip_bytes::protocol::REPLY_LIMIT;
 
 /// The value of one attribute, as its type has it (Volume 1, elementary data types).
 #[derive(Clone, Copy)]
-pub(crate) enum Value<'a> {
+pub(crate) enum AttributeValue<'a> {
     /// USINT.
     Usint(u8),
     /// Two USINT: a revision.
@@ -24,25 +24,25 @@ pub(crate) enum Value<'a> {
     Bytes(&'a [u8]),
 }
 
-impl Value<'_> {
-    ghost use Rattle.cip_objects.specs.Value.{value_bytes};
+impl AttributeValue<'_> {
+    ghost use Rattle.cip_objects.specs.AttributeValue.{value_bytes};
 
-    /// Appends the value's bytes to a reply, where it then has at most `room` bytes.
+    /// Appends the value's bytes to a reply, where it then has at most `max_size` bytes.
     #[inline(always)]
-    pub(crate) fn append(self, room: usize, reply: &mut ReplyBuf) -> Result<(), Refusal>
-        requires { room ≤ REPLY_LIMIT }
-        ensures { Writes room (reply.old.items ++ value_bytes self.entry) result reply.new.items }
+    pub(crate) fn append(self, max_size: usize, reply: &mut ReplyBuf) -> Result<(), Refusal>
+        requires { max_size ≤ REPLY_LIMIT }
+        ensures { Writes max_size (reply.old.items ++ value_bytes self.entry) result reply.new.items }
     {
         match self {
-            Value::Usint(value) => append(&[value], room, reply),
-            Value::Pair(first, second) => append(&[first, second], room, reply),
-            Value::Uint(value) => append(&value.to_le_bytes(), room, reply),
-            Value::Udint(value) => append(&value.to_le_bytes(), room, reply),
-            Value::Text(size, text) => {
-                append(&[size], room, reply)?;
-                append(text, room, reply)
+            AttributeValue::Usint(value) => append(&[value], max_size, reply),
+            AttributeValue::Pair(first, second) => append(&[first, second], max_size, reply),
+            AttributeValue::Uint(value) => append(&value.to_le_bytes(), max_size, reply),
+            AttributeValue::Udint(value) => append(&value.to_le_bytes(), max_size, reply),
+            AttributeValue::Text(size, text) => {
+                append(&[size], max_size, reply)?;
+                append(text, max_size, reply)
             }
-            Value::Bytes(bytes) => append(bytes, room, reply),
+            AttributeValue::Bytes(bytes) => append(bytes, max_size, reply),
         }
     }
 }

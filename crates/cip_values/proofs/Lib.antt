@@ -1,4 +1,4 @@
 pub mod Spelling
 pub mod OneSpelling
-pub mod WordLemmas
+pub mod ParsingLemmas
 pub mod Written

@@ -9,7 +9,7 @@ use Rattle.byteorder.specs.Numbers.{little_number-reads_back, length-bytes_low_f
 use Rattle.cip_bytes.specs.Numbers.{le}
 use Rattle.cip_bytes.proofs.Joined.{same_front}
 use Rattle.cip_values.specs.Types.{IsSized, size_of, form_of}
-use Rattle.cip_values.specs.Values.{Value, Truth, Signed, Unsigned, Bits, Real, Text, IsOf, spelled, joined, needed, IsFront, IsUnread, complement, IsSignedOf, StandBefore, AreBytesOf, IsCutOff, IsNoList, IsNotOne}
+use Rattle.cip_values.specs.Values.{Value, Truth, Signed, Unsigned, Bits, Real, Text, IsOf, spelled, joined, needed, BeginsWith, IsValueFault, complement, IsSignedOf, BeginsWithAll, AreBytesOf, IsCutOff, IsListFault, IsSingleFault}
 use Rattle.cip_values.specs.declared.element.ElementaryType.{ElementaryType}
 use Rattle.cip_values.specs.declared.element.ElementaryType.TheVariants as types
 use Rattle.cip_values.specs.declared.element.ValueType.{ValueType}
@@ -129,17 +129,17 @@ same_first form v w r s sized hv hw e =
 
 -- where a value stands at the front, nothing is refused
 pub front_is_read : (form : Form) (bytes : List ℕ) (v : Value) (rest : List ℕ) (fault : ValueFault) → IsSized form
-    → IsFront form bytes v rest → IsUnread form bytes fault → ⊥
+    → BeginsWith form bytes v rest → IsValueFault form bytes fault → ⊥
 front_is_read form bytes v rest faults.Short sized front h =
     let f = found form v rest sized front.of_type in
     let needs : needed form bytes ≡ length (spelled (size_of form) v) = ap (needed form) front.bytes_of ∙ f.needs in
     let count : length bytes ≡ length (spelled (size_of form) v) + length rest = ap length front.bytes_of ∙ length-append (spelled (size_of form) v) rest in
     omega (arith, needs, count, h)
-front_is_read form bytes v rest (faults.NoBool byte) sized front h =
+front_is_read form bytes v rest (faults.NotBool byte) sized front h =
     let f = found form v rest sized front.of_type in
     let below : slice_index bytes 0 < 2 = rw front.bytes_of (f.truth h.0) in
     omega (arith, below, h.1, h.2)
-front_is_read form bytes v rest (faults.Leftover n) sized front h = h
+front_is_read form bytes v rest (faults.Trailing n) sized front h = h
 front_is_read form bytes v rest (faults.Count e n) sized front h = h
 front_is_read form bytes v rest (faults.Form w e) sized front h = h
 front_is_read form bytes v rest (faults.Range w e) sized front h = h
@@ -149,7 +149,7 @@ front_is_read form bytes v rest faults.Memory sized front h = h
 -- Values whose bytes begin with those of others are the same, and nothing is left; or what is left begins with a value.
 pub same_values : (form : Form) (xs ys : List Value) (rest : List ℕ) → IsSized form
     → AllByRecursion (IsOf form) xs → AllByRecursion (IsOf form) ys → joined form xs ≡ joined form ys ++ rest
-    → ((xs ≡ ys) × (rest ≡ [])) ⊎ ((x : Value) × ((more : List ℕ) × IsFront form rest x more))
+    → ((xs ≡ ys) × (rest ≡ [])) ⊎ ((x : Value) × ((more : List ℕ) × BeginsWith form rest x more))
 same_values form [] [] rest sized hx hy e = inl (refl, sym e)
 same_values form [] (y ∷ ys) rest sized hx hy e =
     let f = found form y (joined form ys ++ rest) sized hy.0 in
@@ -168,7 +168,7 @@ same_values form (x ∷ xs) (y ∷ ys) rest sized hx hy e =
     ]
 
 -- no value stands at the front of nothing
-nothing_read : (form : Form) (v : Value) (rest : List ℕ) → IsSized form → IsFront form [] v rest → ⊥
+nothing_read : (form : Form) (v : Value) (rest : List ℕ) → IsSized form → BeginsWith form [] v rest → ⊥
 nothing_read form v rest sized front =
     let f = found form v rest sized front.of_type in
     let count = ap length front.bytes_of in
@@ -183,7 +183,7 @@ form_sized element = elim element as (λ e. IsSized (form_of e)) [
 ]
 
 pub one_way : (form : Form) (bytes : List ℕ) (xs ys : List Value) → IsSized form
-    → StandBefore form bytes xs [] → StandBefore form bytes ys [] → xs ≡ ys
+    → BeginsWithAll form bytes xs [] → BeginsWithAll form bytes ys [] → xs ≡ ys
 one_way form bytes xs ys sized hx hy =
     let e = sym (append-nil (joined form xs)) ∙ sym hx.bytes_of ∙ hy.bytes_of in
     elim (same_values form xs ys [] sized hx.of_type hy.of_type e) [
@@ -192,56 +192,56 @@ one_way form bytes xs ys sized hx hy =
     ]
 
 not_cut_off : (form : Form) (bytes : List ℕ) (values : List Value) (fault : ValueFault) → IsSized form
-    → StandBefore form bytes values [] → IsCutOff form bytes fault → ⊥
+    → BeginsWithAll form bytes values [] → IsCutOff form bytes fault → ⊥
 not_cut_off form bytes values fault sized h cut =
-    let e = sym (append-nil (joined form values)) ∙ sym h.bytes_of ∙ cut.stand.bytes_of in
-    elim (same_values form values cut.values cut.rest sized h.of_type cut.stand.of_type e) [
+    let e = sym (append-nil (joined form values)) ∙ sym h.bytes_of ∙ cut.begins.bytes_of in
+    elim (same_values form values cut.values cut.rest sized h.of_type cut.begins.of_type e) [
       | inl same ↦ let none = ap length same.1 in omega (arith, none, cut.more)
       | inr (x, (more, front)) ↦ front_is_read form cut.rest x more fault sized front cut.unread
     ]
 
 -- one value, and nothing behind it, is not refused
-one_front : (form : Form) (bytes : List ℕ) (values : List Value) → StandBefore form bytes values [] → length values ≡ 1
-    → (v : Value) × IsFront form bytes v []
+one_front : (form : Form) (bytes : List ℕ) (values : List Value) → BeginsWithAll form bytes values [] → length values ≡ 1
+    → (v : Value) × BeginsWith form bytes v []
 one_front form bytes [] h one = absurd (omega arith)
 one_front form bytes (v ∷ []) h one =
     (v, record { of_type = h.of_type.0; bytes_of = h.bytes_of ∙ append-nil (spelled (size_of form) v ++ []) })
 one_front form bytes (v ∷ w ∷ more) h one = absurd (omega arith)
 
-not_left_over : (form : Form) (bytes : List ℕ) (v w : Value) (rest : List ℕ) → IsSized form → IsFront form bytes v []
-    → IsFront form bytes w rest → 0 < length rest → ⊥
+not_left_over : (form : Form) (bytes : List ℕ) (v w : Value) (rest : List ℕ) → IsSized form → BeginsWith form bytes v []
+    → BeginsWith form bytes w rest → 0 < length rest → ⊥
 not_left_over form bytes v w rest sized hv hw some =
     let same = same_first form v w [] rest sized hv.of_type hw.of_type (sym hv.bytes_of ∙ hw.bytes_of) in
     let none = ap length same.1 in
     omega (arith, none, some)
 
 list_is_read : (form : Form) (bytes : List ℕ) (values : List Value) (fault : ValueFault) → IsSized form
-    → StandBefore form bytes values [] → IsNoList form bytes fault → fault ≡ faults.Memory
-list_is_read form bytes values fault sized h = elim fault as (λ f. IsNoList form bytes f → f ≡ faults.Memory) [
+    → BeginsWithAll form bytes values [] → IsListFault form bytes fault → fault ≡ faults.Memory
+list_is_read form bytes values fault sized h = elim fault as (λ f. IsListFault form bytes f → f ≡ faults.Memory) [
   | faults.Memory ↦ λ _. refl
   | _ ↦ λ cut. absurd (not_cut_off form bytes values _ sized h cut)
 ]
 
 one_is_read : (form : Form) (bytes : List ℕ) (v : Value) (fault : ValueFault) → IsSized form
-    → IsFront form bytes v [] → IsNotOne form bytes fault → fault ≡ faults.Memory
-one_is_read form bytes v fault sized h = elim fault as (λ f. IsNotOne form bytes f → f ≡ faults.Memory) [
+    → BeginsWith form bytes v [] → IsSingleFault form bytes fault → fault ≡ faults.Memory
+one_is_read form bytes v fault sized h = elim fault as (λ f. IsSingleFault form bytes f → f ≡ faults.Memory) [
   | faults.Memory ↦ λ _. refl
-  | faults.Leftover count ↦ λ left.
+  | faults.Trailing count ↦ λ left.
       let (some, (w, (rest, (front, e)))) = left in
       absurd (not_left_over form bytes v w rest sized h front (omega (arith, some, e)))
   | other ↦ λ unread. absurd (front_is_read form bytes v [] other sized h unread)
 ]
 
 pub is_read : (list : Bool) (form : Form) (bytes : List ℕ) (values : List Value) (fault : ValueFault) → IsSized form
-    → StandBefore form bytes values [] → (list ≡ false → length values ≡ 1)
-    → MatchBool list (IsNoList form bytes fault) (IsNotOne form bytes fault) → fault ≡ faults.Memory
+    → BeginsWithAll form bytes values [] → (list ≡ false → length values ≡ 1)
+    → MatchBool list (IsListFault form bytes fault) (IsSingleFault form bytes fault) → fault ≡ faults.Memory
 is_read true form bytes values fault sized h one refused = list_is_read form bytes values fault sized h refused
 is_read false form bytes values fault sized h one refused =
     let (v, front) = one_front form bytes values h (one refl) in
     one_is_read form bytes v fault sized front refused
 
 -- a value takes a byte at least
-pub front_shorter : (form : Form) (bytes : List ℕ) (v : Value) (rest : List ℕ) → IsSized form → IsFront form bytes v rest
+pub front_shorter : (form : Form) (bytes : List ℕ) (v : Value) (rest : List ℕ) → IsSized form → BeginsWith form bytes v rest
     → length rest < length bytes
 front_shorter form bytes v rest sized front =
     let f = found form v rest sized front.of_type in
@@ -250,13 +250,13 @@ front_shorter form bytes v rest sized front =
 
 -- values one after the other are a list's, and if there is one, they are a type's of one value
 pub list_values : {A E : Type 0} (f : A → List Value) (value_type : ValueType) (bytes : List ℕ) (r : Result A E)
-    → value_type.is_list ≡ true → IfOk r (λ a. StandBefore (form_of value_type.element) bytes (f a) [])
+    → value_type.is_list ≡ true → IfOk r (λ a. BeginsWithAll (form_of value_type.element) bytes (f a) [])
     → IfOk r (λ a. AreBytesOf value_type bytes (f a))
-list_values f value_type bytes (Ok a) list h = record { stand = h; one = λ single. absurd (cc) }
+list_values f value_type bytes (Ok a) list h = record { begins = h; one = λ single. absurd (cc) }
 list_values f value_type bytes (Err x) list h = tt
 
 pub one_value : {A E : Type 0} (f : A → List Value) (value_type : ValueType) (bytes : List ℕ) (r : Result A E)
-    → IfOk r (λ a. StandBefore (form_of value_type.element) bytes (f a) []) → IfOk r (λ a. length (f a) ≡ 1)
+    → IfOk r (λ a. BeginsWithAll (form_of value_type.element) bytes (f a) []) → IfOk r (λ a. length (f a) ≡ 1)
     → IfOk r (λ a. AreBytesOf value_type bytes (f a))
-one_value f value_type bytes (Ok a) h one = record { stand = h; one = λ _. one }
+one_value f value_type bytes (Ok a) h one = record { begins = h; one = λ _. one }
 one_value f value_type bytes (Err x) h one = tt

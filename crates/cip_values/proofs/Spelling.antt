@@ -12,7 +12,7 @@ use Rattle.byteorder.specs.Numbers.{little_from-lt, little_from-bytes, length-by
 use Rattle.cip_bytes.specs.Numbers.{le, AreBytes}
 use Rattle.cip_bytes.proofs.Bytes.{cells, drop-cells, AreBytes-take, AreBytes-tail}
 use Rattle.cip_values.specs.Types.{IsSized, size_of}
-use Rattle.cip_values.specs.Values.{Value, Truth, Signed, Unsigned, Bits, Real, Text, IsOf, spelled, IsFront, complement, IsSignedOf}
+use Rattle.cip_values.specs.Values.{Value, Truth, Signed, Unsigned, Bits, Real, Text, IsOf, spelled, BeginsWith, complement, IsSignedOf}
 use Rattle.cip_values.specs.declared.element.Form.{Form}
 use Rattle.cip_values.specs.declared.element.Form.TheVariants as forms
 
@@ -135,7 +135,7 @@ pub record Splits (form : Form) (bytes front rest : List ℕ) : Type 0 where
   pub rest_is : rest ≡ drop (size_of form) bytes
 
 pub signed_front : (n : ℕ) (bytes front rest : List ℕ) (z : ℤ) → Splits (forms.Signed n) bytes front rest → 1 ≤ n → n ≤ 8
-    → z ≡ twos_complement n (little_from 0 n front) → IsFront (forms.Signed n) bytes (Signed z) rest
+    → z ≡ twos_complement n (little_from 0 n front) → BeginsWith (forms.Signed n) bytes (Signed z) rest
 signed_front n bytes front rest z h low high e =
     let read = complement-twos_complement n (little_from 0 n (take n bytes)) low high (number-lt n bytes h.fits) in
     rw (e, h.front_is, h.rest_is) (record {
@@ -144,14 +144,14 @@ signed_front n bytes front rest z h low high e =
     })
 
 pub unsigned_front : (n : ℕ) (bytes front rest : List ℕ) (x : ℕ) → Splits (forms.Unsigned n) bytes front rest
-    → x ≡ little_from 0 n front → IsFront (forms.Unsigned n) bytes (Unsigned x) rest
+    → x ≡ little_from 0 n front → BeginsWith (forms.Unsigned n) bytes (Unsigned x) rest
 unsigned_front n bytes front rest x h e = rw (e, h.front_is, h.rest_is) (record {
   of_type = rw (sym (pow256 n)) (number-lt n bytes h.fits);
   bytes_of = at_front n bytes h.fits h.room;
 })
 
 pub bits_front : (n : ℕ) (bytes front rest : List ℕ) (x : ℕ) → Splits (forms.Bits n) bytes front rest
-    → x ≡ little_from 0 n front → IsFront (forms.Bits n) bytes (Bits x) rest
+    → x ≡ little_from 0 n front → BeginsWith (forms.Bits n) bytes (Bits x) rest
 bits_front n bytes front rest x h e = rw (e, h.front_is, h.rest_is) (record {
   of_type = rw (sym (pow256 n)) (number-lt n bytes h.fits);
   bytes_of = at_front n bytes h.fits h.room;
@@ -159,7 +159,7 @@ bits_front n bytes front rest x h e = rw (e, h.front_is, h.rest_is) (record {
 
 pub text_front : (bytes front rest text behind : List ℕ) → Splits forms.Text bytes front rest
     → get_or front 0 0 ≤ length rest → text ≡ take (get_or front 0 0) rest → behind ≡ drop (get_or front 0 0) rest
-    → IsFront forms.Text bytes (Text text) behind
+    → BeginsWith forms.Text bytes (Text text) behind
 text_front [] front rest text behind h room e f = absurd (omega (arith, h.room))
 text_front (size ∷ more) front rest text behind h room e f =
     let first : get_or front 0 0 ≡ size = rw h.front_is refl in

@@ -4,8 +4,8 @@ use Rattle.std.proofs.lemmas.Grind.{flat_map-append}
 use Rattle.std.proofs.lemmas.List.{append-nil, take_more, map-append}
 use Rattle.std.specs.List.{AllByRecursion}
 use Rattle.cip_values.specs.Types.{form_of, size_of}
-use Rattle.cip_values.specs.Values.{Value, Text, IsOf, spelled, joined, StandBefore}
-use Rattle.cip_values.specs.Words.{Appends, IsAppended, Tells, AllTell, IsMistold, AreMistold}
+use Rattle.cip_values.specs.Values.{Value, Text, IsOf, spelled, joined, BeginsWithAll}
+use Rattle.cip_values.specs.Parsing.{Appends, IsAppended, ParsesAs, AllParseAs, IsWordFault, IsWriteFault}
 use Rattle.cip_values.specs.declared.element.ElementaryType.{ElementaryType}
 use Rattle.cip_values.specs.declared.element.ValueType.{ValueType}
 use Rattle.cip_values.specs.declared.fault.ValueFault.{ValueFault}
@@ -15,18 +15,18 @@ use Rattle.cip_values.specs.declared.element.Form.TheVariants as forms
 -- the bytes of the values that these words tell
 pub record SoFar (element : ElementaryType) (words : List (List ℕ)) (bytes : List ℕ) : Type 0 where
   pub values : List Value
-  pub told : AllTell (form_of element) words values
-  pub stand : StandBefore (form_of element) bytes values []
+  pub parses : AllParseAs (form_of element) words values
+  pub begins : BeginsWithAll (form_of element) bytes values []
 
 pub so_far_none : (element : ElementaryType) → SoFar element [] []
-so_far_none element = record { values = []; told = tt; stand = record { of_type = tt; bytes_of = refl } }
+so_far_none element = record { values = []; parses = tt; begins = record { of_type = tt; bytes_of = refl } }
 
 all-append : (P : Value → Type 0) (xs : List Value) (x : Value) → AllByRecursion P xs → P x → AllByRecursion P (xs ++ x ∷ [])
 all-append P [] x h k = (k, tt)
 all-append P (y ∷ xs) x h k = (h.0, all-append P xs x h.1 k)
 
-tells-append : (form : Form) (words : List (List ℕ)) (values : List Value) (word : List ℕ) (value : Value) → AllTell form words values
-    → Tells form word value → AllTell form (words ++ word ∷ []) (values ++ value ∷ [])
+tells-append : (form : Form) (words : List (List ℕ)) (values : List Value) (word : List ℕ) (value : Value) → AllParseAs form words values
+    → ParsesAs form word value → AllParseAs form (words ++ word ∷ []) (values ++ value ∷ [])
 tells-append form [] [] word value h k = (k, tt)
 tells-append form [] (y ∷ values) word value h k = absurd h
 tells-append form (x ∷ words) [] word value h k = absurd h
@@ -36,22 +36,22 @@ pub so_far_more : (element : ElementaryType) (words : List (List ℕ)) (word old
     → Appends element word old new → SoFar element (words ++ word ∷ []) new
 so_far_more element words word old new h more =
     let form : Form = form_of element in
-    let before : old ≡ joined form h.values = h.stand.bytes_of ∙ append-nil (joined form h.values) in
+    let before : old ≡ joined form h.values = h.begins.bytes_of ∙ append-nil (joined form h.values) in
     let one : joined form (more.value ∷ []) ≡ spelled (size_of form) more.value = append-nil (spelled (size_of form) more.value) in
     let after : joined form (h.values ++ more.value ∷ []) ≡ joined form h.values ++ spelled (size_of form) more.value =
     flat_map-append (spelled (size_of form)) h.values (more.value ∷ []) ∙ ap (λ (r : List ℕ). joined form h.values ++ r) one in
     record {
       values = h.values ++ more.value ∷ [];
-      told = tells-append form words h.values word more.value h.told more.told;
-      stand = record {
-        of_type = all-append (IsOf form) h.values more.value h.stand.of_type more.of_type;
+      parses = tells-append form words h.values word more.value h.parses more.parses;
+      begins = record {
+        of_type = all-append (IsOf form) h.values more.value h.begins.of_type more.of_type;
         bytes_of = more.bytes_of ∙ ap (λ (r : List ℕ). r ++ spelled (size_of form) more.value) before ∙ sym after
             ∙ sym (append-nil (joined form (h.values ++ more.value ∷ [])));
       };
     }
 
 -- values of a type that any number of words tell, and of one that one word tells
-pub single : (form : Form) (words : List (List ℕ)) (values : List Value) → length words ≡ 1 → AllTell form words values → length values ≡ 1
+pub single : (form : Form) (words : List (List ℕ)) (values : List Value) → length words ≡ 1 → AllParseAs form words values → length values ≡ 1
 single form (w ∷ []) (v ∷ []) one h = refl
 single form (w ∷ []) (v ∷ x ∷ values) one h = absurd h.1
 single form [] values one h = absurd (omega (arith, one))
@@ -63,7 +63,7 @@ pub text_appends : (element : ElementaryType) (word bytes old new : List ℕ) �
     → Appends element word old new
 text_appends element word bytes old new is h = record {
   value = Text bytes;
-  told = subst (λ (form : Form). Tells form word (Text bytes)) (sym is) tt;
+  parses = subst (λ (form : Form). ParsesAs form word (Text bytes)) (sym is) tt;
   of_type = subst (λ (form : Form). IsOf form (Text bytes)) (sym is) h.of_type;
   bytes_of = h.bytes_of;
 }
@@ -77,10 +77,10 @@ so_far_word element words place d old new inside h more =
     ≡ map (λ (w : Bor (List ℕ)). w.now) (take place words) ++ (get_or words place d).now ∷ [] =
     ap (map (λ (w : Bor (List ℕ)). w.now)) (take_more words place d inside)
     ∙ map-append (λ (w : Bor (List ℕ)). w.now) (take place words) (get_or words place d ∷ []) in
-    subst (λ (told : List (List ℕ)). SoFar element told new) (sym texts)
+    subst (λ (parses : List (List ℕ)). SoFar element parses new) (sym texts)
     (so_far_more element (map (λ (w : Bor (List ℕ)). w.now) (take place words)) (get_or words place d).now old new h more)
 
 -- where a word is refused, the words are
-pub word_refused : (value_type : ValueType) (count : ℕ) (word : List ℕ) (fault : ValueFault) → IsMistold value_type.element word fault
-    → AreMistold value_type count fault
+pub word_refused : (value_type : ValueType) (count : ℕ) (word : List ℕ) (fault : ValueFault) → IsWordFault value_type.element word fault
+    → IsWriteFault value_type count fault
 word_refused value_type count word fault h = inr (word, h)

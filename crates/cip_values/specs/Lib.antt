@@ -1,4 +1,4 @@
 pub mod Types
 pub mod Values
-pub mod Words
+pub mod Parsing
 pub mod Texts

@@ -71,7 +71,7 @@ spelled n (Real bits) = le 4 bits
 spelled n (Text bytes) = length bytes ∷ bytes
 
 -- a value stands at the front of bytes, and the rest behind it
-pub record IsFront (form : Form) (bytes : List ℕ) (value : Value) (rest : List ℕ) : Type 0 where
+pub record BeginsWith (form : Form) (bytes : List ℕ) (value : Value) (rest : List ℕ) : Type 0 where
   pub of_type : IsOf form value
   pub bytes_of : bytes ≡ spelled (size_of form) value ++ rest
 
@@ -81,46 +81,46 @@ needed forms.Text (size ∷ rest) = 1 + size
 needed form bytes = size_of form
 
 -- why no value stands at the front of bytes
-abbrev pub IsUnread : Form → List ℕ → ValueFault → Type 0
-IsUnread form bytes faults.Short = length bytes < needed form bytes
-IsUnread form bytes (faults.NoBool byte) = (form ≡ forms.Bool) × (slice_index bytes 0 ≡ byte) × (2 ≤ byte)
-IsUnread form bytes fault = ⊥
+abbrev pub IsValueFault : Form → List ℕ → ValueFault → Type 0
+IsValueFault form bytes faults.Short = length bytes < needed form bytes
+IsValueFault form bytes (faults.NotBool byte) = (form ≡ forms.Bool) × (slice_index bytes 0 ≡ byte) × (2 ≤ byte)
+IsValueFault form bytes fault = ⊥
 
 -- the bytes of values, one after the other
 abbrev pub joined : Form → List Value → List ℕ
 joined form values = flat_map (spelled (size_of form)) values
 
 -- values stand at the front of bytes, one after the other, and the rest behind them
-pub record StandBefore (form : Form) (bytes : List ℕ) (values : List Value) (rest : List ℕ) : Type 0 where
+pub record BeginsWithAll (form : Form) (bytes : List ℕ) (values : List Value) (rest : List ℕ) : Type 0 where
   pub of_type : AllByRecursion (IsOf form) values
   pub bytes_of : bytes ≡ joined form values ++ rest
 
 -- bytes are these values of a type, any number for a list, else one
 pub record AreBytesOf (value_type : ValueType) (bytes : List ℕ) (values : List Value) : Type 0 where
-  pub stand : StandBefore (form_of value_type.element) bytes values []
+  pub begins : BeginsWithAll (form_of value_type.element) bytes values []
   pub one : value_type.is_list ≡ false → length values ≡ 1
 
 -- why bytes are not one value
-abbrev pub IsNotOne : Form → List ℕ → ValueFault → Type 0
-IsNotOne form bytes (faults.Leftover count) =
-    (0 < count) × ((value : Value) × ((rest : List ℕ) × (IsFront form bytes value rest × (length rest ≡ count))))
-IsNotOne form bytes faults.Memory = ⊤
-IsNotOne form bytes fault = IsUnread form bytes fault
+abbrev pub IsSingleFault : Form → List ℕ → ValueFault → Type 0
+IsSingleFault form bytes (faults.Trailing count) =
+    (0 < count) × ((value : Value) × ((rest : List ℕ) × (BeginsWith form bytes value rest × (length rest ≡ count))))
+IsSingleFault form bytes faults.Memory = ⊤
+IsSingleFault form bytes fault = IsValueFault form bytes fault
 
 -- behind the values that stand at the front of bytes there are more, and no further value stands at theirs
 pub record IsCutOff (form : Form) (bytes : List ℕ) (fault : ValueFault) : Type 0 where
   pub values : List Value
   pub rest : List ℕ
-  pub stand : StandBefore form bytes values rest
+  pub begins : BeginsWithAll form bytes values rest
   pub more : 0 < length rest
-  pub unread : IsUnread form rest fault
+  pub unread : IsValueFault form rest fault
 
 -- why bytes are not values one after the other
-abbrev pub IsNoList : Form → List ℕ → ValueFault → Type 0
-IsNoList form bytes faults.Memory = ⊤
-IsNoList form bytes fault = IsCutOff form bytes fault
+abbrev pub IsListFault : Form → List ℕ → ValueFault → Type 0
+IsListFault form bytes faults.Memory = ⊤
+IsListFault form bytes fault = IsCutOff form bytes fault
 
 -- why bytes are not values of a type
-abbrev pub IsUnreadable : ValueType → List ℕ → ValueFault → Type 0
-IsUnreadable value_type bytes fault =
-    MatchBool value_type.is_list (IsNoList (form_of value_type.element) bytes fault) (IsNotOne (form_of value_type.element) bytes fault)
+abbrev pub IsReadFault : ValueType → List ℕ → ValueFault → Type 0
+IsReadFault value_type bytes fault =
+    MatchBool value_type.is_list (IsListFault (form_of value_type.element) bytes fault) (IsSingleFault (form_of value_type.element) bytes fault)

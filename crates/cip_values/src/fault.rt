@@ -14,10 +14,10 @@ pub enum ValueFault<'a> {
     Short,
     /// So many bytes stand behind the one value.
     #[error("{0} {are} left over", are = bytes_are(.0))]
-    Leftover(usize),
+    Trailing(usize),
     /// A byte that should be a BOOL is neither 0 nor 1.
     #[error("{0} is no BOOL, which is 0 or 1")]
-    NoBool(u8),
+    NotBool(u8),
     /// So many words are there for a type of one value.
     #[error("{0} takes one value, and not {1}")]
     Count(ElementaryType, usize),

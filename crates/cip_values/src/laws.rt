@@ -3,7 +3,7 @@
 //! The functions do nothing: each one's clauses are the law.
 
 ghost use Rattle.std.specs.Prelude.{◌≡◌, ℕ, List};
-ghost use Rattle.cip_values.specs.Values.{Value, AreBytesOf, IsUnreadable};
+ghost use Rattle.cip_values.specs.Values.{Value, AreBytesOf, IsReadFault};
 ghost use Rattle.cip_values.specs.declared.element.ValueType.{ValueType};
 ghost use Rattle.cip_values.specs.declared.fault.ValueFault.{ValueFault};
 
@@ -14,5 +14,5 @@ pub fn one_reading()
     ensures same { (value_type : ValueType) (bytes : List ℕ) (values others : List Value) →
         AreBytesOf value_type bytes values → AreBytesOf value_type bytes others → values ≡ others }
     ensures read { (value_type : ValueType) (bytes : List ℕ) (values : List Value) (fault : ValueFault) →
-        AreBytesOf value_type bytes values → IsUnreadable value_type bytes fault → fault ≡ ValueFault.Memory }
+        AreBytesOf value_type bytes values → IsReadFault value_type bytes fault → fault ≡ ValueFault.Memory }
 {}

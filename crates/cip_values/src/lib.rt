@@ -8,10 +8,10 @@
 mod element;
 mod fault;
 pub mod laws;
+mod parsing;
 mod text;
 mod value;
 mod values;
-mod word;
 
 pub use element::{ElementaryType, ValueType};
 pub use fault::ValueFault;

@@ -3,7 +3,7 @@
 ghost use Rattle.std.specs.Prelude.{◌≡◌, ◌++◌, ◌≤◌, length, IfOk, IfErr, OnOk};
 ghost use Rattle.cip_bytes.specs.Numbers.{le};
 ghost use Rattle.cip_values.specs.Types.{IsSized, size_of};
-ghost use Rattle.cip_values.specs.Values.{value_in, IsOf, spelled, IsFront, IsUnread};
+ghost use Rattle.cip_values.specs.Values.{value_in, IsOf, spelled, BeginsWith, IsValueFault};
 
 use crate::element::Form;
 use crate::fault::ValueFault;
@@ -32,14 +32,14 @@ impl<'a> Value<'a> {
     ///
     /// # Errors
     ///
-    /// `Short` where the bytes end before the value does, `NoBool` where a BOOL is neither 0 nor 1.
+    /// `Short` where the bytes end before the value does, `NotBool` where a BOOL is neither 0 nor 1.
     pub(crate) fn read(
         form: Form,
         bytes: &'a [u8],
     ) -> Result<(Value<'a>, &'a [u8]), ValueFault<'static>>
         requires { IsSized form }
-        ensures read { IfOk result (λ read. IsFront form bytes.now (value_in read.0) read.1.now) }
-        ensures refused { IfErr result (IsUnread form bytes.now) }
+        ensures read { IfOk result (λ read. BeginsWith form bytes.now (value_in read.0) read.1.now) }
+        ensures refused { IfErr result (IsValueFault form bytes.now) }
     {
         if bytes.len() < form.size() {
             return Err(ValueFault::Short);
@@ -49,7 +49,7 @@ impl<'a> Value<'a> {
             Form::Bool => match front[0] {
                 0 => Ok((Value::Bool(false), rest)),
                 1 => Ok((Value::Bool(true), rest)),
-                other => Err(ValueFault::NoBool(other)),
+                other => Err(ValueFault::NotBool(other)),
             },
             Form::Signed(size) => Ok((Value::Signed(LittleEndian::read_int(front, size)), rest)),
             Form::Unsigned(size) => Ok((

@@ -2,24 +2,24 @@
 
 ghost use Rattle.std.specs.Prelude.{◌≡◌, ◌≢◌, ◌≤◌, [], ◌++◌, List, map, length, IfOk, IfErr, OnOk, ⊤};
 ghost use Rattle.cip_values.specs.Types.{IsSized, form_of};
-ghost use Rattle.cip_values.specs.Values.{value_in, StandBefore, AreBytesOf, IsNotOne, IsNoList, IsUnreadable};
-ghost use Rattle.cip_values.specs.Words.{Appends, IsAppended, AreWritten, AreMistold, IsMistold};
+ghost use Rattle.cip_values.specs.Values.{value_in, BeginsWithAll, AreBytesOf, IsSingleFault, IsListFault, IsReadFault};
+ghost use Rattle.cip_values.specs.Parsing.{Appends, IsAppended, AreWritten, IsWriteFault, IsWordFault};
 
 use crate::element::{Form, ValueType};
 use crate::fault::ValueFault;
+use crate::parsing::parse_value;
 use crate::text::{unescaped, unquoted};
 use crate::value::Value;
-use crate::word::value_of;
 use std::alloc::{AllocError, Global};
 
 /// How many bytes a SHORT_STRING has at most.
-const LONGEST: usize = 255;
+const LONGEST_STRING: usize = 255;
 
 /// Reads bytes as values of a type: all of them, any number for a list, else one.
 ///
 /// # Errors
 ///
-/// `Short` where the bytes end within a value, `Leftover` where bytes stand behind the one value, `NoBool` where a
+/// `Short` where the bytes end within a value, `Trailing` where bytes stand behind the one value, `NotBool` where a
 /// BOOL is neither 0 nor 1, `Memory` where memory is refused.
 pub fn read_values<'a>(
     alloc: Global,
@@ -27,7 +27,7 @@ pub fn read_values<'a>(
     bytes: &'a [u8],
 ) -> Result<Vec<Value<'a>>, ValueFault<'static>>
     ensures read { IfOk result (λ values. AreBytesOf value_type bytes.now (map value_in values.items)) }
-    ensures refused { IfErr result (IsUnreadable value_type bytes.now) }
+    ensures refused { IfErr result (IsReadFault value_type bytes.now) }
 {
     let form = value_type.element.form();
     if value_type.is_list {
@@ -44,13 +44,13 @@ fn read_one<'a>(
     bytes: &'a [u8],
 ) -> Result<Vec<Value<'a>>, ValueFault<'static>>
     requires { IsSized form }
-    ensures read { IfOk result (λ values. StandBefore form bytes.now (map value_in values.items) []) }
+    ensures read { IfOk result (λ values. BeginsWithAll form bytes.now (map value_in values.items) []) }
     ensures one { IfOk result (λ values. length (map value_in values.items) ≡ 1) }
-    ensures refused { IfErr result (IsNotOne form bytes.now) }
+    ensures refused { IfErr result (IsSingleFault form bytes.now) }
 {
     let (value, rest) = Value::read(form, bytes)?;
     if !rest.is_empty() {
-        return Err(ValueFault::Leftover(rest.len()));
+        return Err(ValueFault::Trailing(rest.len()));
     }
     let mut values = Vec::new(alloc);
     values.push(value)?;
@@ -64,8 +64,8 @@ fn read_list<'a>(
     bytes: &'a [u8],
 ) -> Result<Vec<Value<'a>>, ValueFault<'static>>
     requires { IsSized form }
-    ensures read { IfOk result (λ values. StandBefore form bytes.now (map value_in values.items) []) }
-    ensures refused { IfErr result (IsNoList form bytes.now) }
+    ensures read { IfOk result (λ values. BeginsWithAll form bytes.now (map value_in values.items) []) }
+    ensures refused { IfErr result (IsListFault form bytes.now) }
 {
     let mut values = Vec::new(alloc);
     let mut rest = bytes;
@@ -90,7 +90,7 @@ pub fn write_values<'a>(
     words: &[&'a str],
 ) -> Result<Vec<u8>, ValueFault<'a>>
     ensures written { IfOk result (λ bytes. AreWritten value_type (map (λ word. word.now) words.now) bytes.items) }
-    ensures refused { IfErr result (AreMistold value_type (length words.now)) }
+    ensures refused { IfErr result (IsWriteFault value_type (length words.now)) }
 {
     if !value_type.is_list && words.len() != 1 {
         return Err(ValueFault::Count(value_type.element, words.len()));
@@ -113,13 +113,13 @@ fn append_word<'a>(
     out: &mut Vec<u8>,
 ) -> Result<(), ValueFault<'a>>
     ensures written { OnOk result (Appends value_type.element word.now out.old.items out.new.items) }
-    ensures refused { IfErr result (IsMistold value_type.element word.now) }
+    ensures refused { IfErr result (IsWordFault value_type.element word.now) }
 {
     let element = value_type.element;
     match element.form() {
         Form::Text => append_text(alloc, value_type, word, out),
         form => {
-            value_of(element, word)?.append(form, out)?;
+            parse_value(element, word)?.append(form, out)?;
             Ok(())
         }
     }
@@ -134,7 +134,7 @@ fn append_text<'a>(
 ) -> Result<(), ValueFault<'a>>
     requires { form_of value_type.element ≡ Form.Text }
     ensures written { OnOk result (Appends value_type.element word.now out.old.items out.new.items) }
-    ensures refused { IfErr result (IsMistold value_type.element word.now) }
+    ensures refused { IfErr result (IsWordFault value_type.element word.now) }
 {
     let inner = if value_type.is_list {
         unquoted(word)
@@ -144,7 +144,7 @@ fn append_text<'a>(
     let Some(text) = unescaped(alloc, inner)? else {
         return Err(ValueFault::Form(word, value_type.element));
     };
-    if text.len() > LONGEST {
+    if text.len() > LONGEST_STRING {
         return Err(ValueFault::TooLong(text.len()));
     }
     append_string(text.as_slice(), out)?;

@@ -3,22 +3,22 @@ use Rattle.std.proofs.Common.{◌≡◌, ℕ, ◌+◌, ltb, not, List, [], ◌�
 use Rattle.std.specs.Prelude.{is_some}
 use Rattle.std.proofs.lemmas.List.Elements.{All-head, All-tail}
 use Rattle.enip_adapter.specs.declared.adapter.Full.TheVariants.{Places, Handles}
-use Rattle.enip_adapter.specs.declared.peer.Place.{Place}
+use Rattle.enip_adapter.specs.declared.peer.PeerSlot.{PeerSlot}
 use Rattle.enip_adapter.specs.declared.peer.Session.{Session}
 use Rattle.enip_adapter.specs.declared.shared.Shared.{Shared}
 use Rattle.enip_adapter.specs.Adapter.{adapter_in, state_in, session_in, held_in}
 use Rattle.enip_adapter.specs.Calls.{AdapterState, Held, after_call, held_at_beginning}
 use Rattle.enip_adapter.specs.Calls.Call.{Begins_peer, Ends_peer}
 use Rattle.enip_adapter.specs.Lookup.{first_with, without_first}
-use Rattle.enip_adapter.specs.Turn.{State, Turned, turned, with_peer, new_session, session_of, end_found, without_connections}
-use Rattle.enip_adapter.specs.Turn.Said.{Begins, Refuses}
-use Rattle.enip_adapter.specs.Places.{PlacesState, handle_of}
+use Rattle.enip_adapter.specs.Turn.{State, TurnResult, turned, with_peer, new_session, session_of, end_found, without_connections}
+use Rattle.enip_adapter.specs.Turn.Output.{Begins, Refuses}
+use Rattle.enip_adapter.specs.PeerSlots.{PeerSlotsState, handle_of}
 use Rattle.enip_adapter.proofs.FeedLemmas.{finds, session_found}
 use Rattle.enip_adapter.proofs.ListLemmas.{without_first-none}
 use Rattle.enip_adapter.proofs.MapLemmas.{map-without_first, map-append_one}
 
 -- A peer that gives its place back.
-ended_found : (limit next_handle : ℕ) (shared : Shared) (places : List Place) (handle : ℕ) (p : Place) → first_with handle_of handle places ≡ Some p
+ended_found : (limit next_handle : ℕ) (shared : Shared) (places : List PeerSlot) (handle : ℕ) (p : PeerSlot) → first_with handle_of handle places ≡ Some p
     → adapter_in limit next_handle (without_connections shared handle) (without_first handle_of handle places)
     ≡ after_call (adapter_in limit next_handle shared places) (Ends_peer handle)
 ended_found limit next_handle shared places handle p e =
@@ -33,7 +33,7 @@ ended_found limit next_handle shared places handle p e =
     ∙ ap (λ x. let r : AdapterState = record { state = end_found (state_in limit next_handle shared places) handle x; held = without_first (λ (h : Held). h.peer) handle (map held_in places) } in r) (sym o)
 
 -- One that holds none.
-ended_none : (limit next_handle : ℕ) (shared : Shared) (places : List Place) (handle : ℕ) → first_with handle_of handle places ≡ None
+ended_none : (limit next_handle : ℕ) (shared : Shared) (places : List PeerSlot) (handle : ℕ) → first_with handle_of handle places ≡ None
     → adapter_in limit next_handle shared (without_first handle_of handle places)
     ≡ after_call (adapter_in limit next_handle shared places) (Ends_peer handle)
 ended_none limit next_handle shared places handle e =
@@ -46,14 +46,14 @@ ended_none limit next_handle shared places handle e =
     ∙ ap (λ h. let r : AdapterState = record { state = state_in limit next_handle shared places; held = h } in r) held
     ∙ ap (λ x. let r : AdapterState = record { state = end_found (state_in limit next_handle shared places) handle x; held = without_first (λ (h : Held). h.peer) handle (map held_in places) } in r) (sym o)
 
-ended_either : (limit next_handle : ℕ) (shared : Shared) (places : List Place) (handle : ℕ) (o : Option Place) → first_with handle_of handle places ≡ o
+ended_either : (limit next_handle : ℕ) (shared : Shared) (places : List PeerSlot) (handle : ℕ) (o : Option PeerSlot) → first_with handle_of handle places ≡ o
     → adapter_in limit next_handle (if is_some o then without_connections shared handle else shared) (without_first handle_of handle places)
     ≡ after_call (adapter_in limit next_handle shared places) (Ends_peer handle)
 ended_either limit next_handle shared places handle (Some p) e = ended_found limit next_handle shared places handle p e
 ended_either limit next_handle shared places handle None e = ended_none limit next_handle shared places handle e
 
 -- the adapter after a place was given back, or none was held
-pub ended : (old new : PlacesState) (next_handle handle peer : ℕ) (shared left : Shared) (held : Bool) (a : AdapterState)
+pub ended : (old new : PeerSlotsState) (next_handle handle peer : ℕ) (shared left : Shared) (held : Bool) (a : AdapterState)
     → adapter_in old.limit next_handle shared old.taken ≡ a → handle ≡ peer → held ≡ is_some (first_with handle_of handle old.taken)
     → new.limit ≡ old.limit → new.taken ≡ without_first handle_of handle old.taken
     → left ≡ (if held then without_connections shared handle else shared)
@@ -66,15 +66,15 @@ ended old new next_handle handle peer shared left held a is who found limit take
     ∙ ap (λ x. after_call x (Ends_peer handle)) is ∙ ap (λ n. after_call a (Ends_peer n)) who
 
 -- What begins, by the two tests.
-abbrev begun_by : State → Bool → Bool → Turned
+abbrev begun_by : State → Bool → Bool → TurnResult
 begun_by s full used =
     cond full (turned s (Refuses Places) false)
     (cond used (turned s (Refuses Handles) false) (turned (with_peer s) (Begins s.next_handle) false))
 
-abbrev after_begun : List Held → Turned → AdapterState
-after_begun held t = record { state = t.state; held = held_at_beginning held t.answer.said }
+abbrev after_begun : List Held → TurnResult → AdapterState
+after_begun held t = record { state = t.state; held = held_at_beginning held t.answer.output }
 
-pub begun_one : (limit next_handle : ℕ) (shared : Shared) (places : List Place) (new : Place)
+pub begun_one : (limit next_handle : ℕ) (shared : Shared) (places : List PeerSlot) (new : PeerSlot)
     → ltb (length (map session_in places)) limit ≡ true → ltb 0xffffffff next_handle ≡ false
     → new ≡ record { session = new_session next_handle; reader = [] }
     → adapter_in limit (next_handle + 1) shared (places ++ new ∷ [])
@@ -90,7 +90,7 @@ begun_one limit next_handle shared places new room unused is =
     ∙ ap (λ b. after_begun (map held_in places) (begun_by (state_in limit next_handle shared places) (not b) false)) (sym room)
     ∙ ap (λ b. after_begun (map held_in places) (begun_by (state_in limit next_handle shared places) (not (ltb (length (map session_in places)) limit)) b)) (sym unused)
 
-pub finds_same : (h k : ℕ) (xs ys : List Place) → h ≡ k → xs ≡ ys → finds h xs ≡ finds k ys
+pub finds_same : (h k : ℕ) (xs ys : List PeerSlot) → h ≡ k → xs ≡ ys → finds h xs ≡ finds k ys
 finds_same h k xs ys e f = ap (λ n. finds n xs) e ∙ ap (finds k) f
 
 -- The last of a list, of which something holds throughout.

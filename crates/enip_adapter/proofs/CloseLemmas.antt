@@ -7,59 +7,59 @@ use Rattle.std.proofs.Math.Seq.{take-append-add}
 use Rattle.std.proofs.lemmas.Bool.{eqb-true, false≢true}
 use Rattle.cip_bytes.specs.Numbers.{number_at}
 use Rattle.enip_wire.specs.Frames.{Frame, end_after}
-use Rattle.enip_wire.specs.Stream.{Cut, Sight, taken_of, joined_of, sight_of}
-use Rattle.enip_wire.specs.Stream.Sight.{Nothing_yet, A_frame, A_long_header}
+use Rattle.enip_wire.specs.Stream.{Cut, Parsed, bytes_taken, held_and_taken, parsed}
+use Rattle.enip_wire.specs.Stream.Parsed.{Incomplete, WholeFrame, TooLongHeader}
 use Rattle.enip_wire.proofs.FrameLemmas.{number_at-append, number_at-take}
 use Rattle.enip_wire.proofs.StreamLemmas.{one_cut_lem}
 use Rattle.enip_adapter.specs.declared.peer.Session.{Session}
 use Rattle.enip_adapter.specs.declared.shared.Shared.{Shared}
-use Rattle.enip_adapter.specs.declared.silence.Silence.TheVariants.{NotServed}
+use Rattle.enip_adapter.specs.declared.no_reply_reason.NoReplyReason.TheVariants.{NotServed}
 use Rattle.enip_adapter.specs.Adapter.{new_adapter}
 use Rattle.enip_adapter.specs.Commands.{command_served, long_refused}
 use Rattle.enip_adapter.specs.Replies.{Served, leaving}
 use Rattle.enip_adapter.specs.Turn.{State, turned, serve_found, session_of, new_session, after}
-use Rattle.enip_adapter.specs.Turn.Said.{Silent, Begins}
+use Rattle.enip_adapter.specs.Turn.Output.{NoReply, Begins}
 use Rattle.enip_adapter.specs.Calls.{AdapterState, Call, Meaning, call_meaning, after_call, call_answer}
 use Rattle.enip_adapter.specs.Calls.{answer_of, bytes_found, bytes_held, piece_to, piece_meaning, dropped_piece}
-use Rattle.enip_adapter.specs.Calls.{at_a_moment, events_of_sight}
+use Rattle.enip_adapter.specs.Calls.{at_a_moment, events_of_parsed}
 use Rattle.enip_adapter.specs.Calls.Call.{Begins_peer, Feeds, Ends_peer, Ticks}
 use Rattle.enip_adapter.specs.Runs.{after_calls, frames_of_peer, taken_by_call, taken_by_calls}
 use Rattle.enip_adapter.specs.Runs.{GoesOn, Run, at_beginning, at_end, taken_in, frames_in}
 use Rattle.enip_adapter.specs.Serving.{is_open, is_peer_served}
-use Rattle.enip_wire.proofs.SightLemmas.{then-cut, none-running}
+use Rattle.enip_wire.proofs.ParsedLemmas.{then-cut, none-running}
 use Rattle.enip_adapter.proofs.CutLemmas.{feed-open}
 use Rattle.enip_adapter.proofs.ListLemmas.{next-none, numbers-none}
 use Rattle.enip_adapter.proofs.OwnLemmas.{steps, steps-append, closing, Says, served_turn, served-open, says-call}
 use Rattle.enip_adapter.proofs.OwnLemmas.{says-beginning, says-run, same-session}
 use Rattle.enip_adapter.proofs.PeerLemmas.{at_state}
-use Rattle.enip_wire.proofs.RunningLemmas.{IsRunning, taken_of-long, taken_of-within, sight_of-running}
+use Rattle.enip_wire.proofs.RunningLemmas.{IsRunning, bytes_taken-long, bytes_taken-within, parsed-running}
 use Rattle.enip_adapter.proofs.SoundLemmas.{IsSound, sound-call, sound-calls, sound-new, no-entry}
 use Rattle.enip_adapter.proofs.StreamLemmas.{IsAt, Advances, advances-call, at-beginning}
 use Rattle.enip_adapter.proofs.StreamLemmas.{cut-of-run}
 
 -- Of what is taken of a piece, no shorter front completes anything.
 running-front : (held piece front : List ℕ) (b : ℕ) (bs : List ℕ) → IsRunning held
-    → take (taken_of held piece) piece ≡ front ++ b ∷ bs → IsRunning (held ++ front)
+    → take (bytes_taken held piece) piece ≡ front ++ b ∷ bs → IsRunning (held ++ front)
 running-front held piece front b bs running e =
-    let within : taken_of held piece ≤ length piece = taken_of-within held piece in
-    let count : taken_of held piece ≡ length front + length (b ∷ bs)
-    = sym (length-take (taken_of held piece) piece ∙ omega (arith, within))
+    let within : bytes_taken held piece ≤ length piece = bytes_taken-within held piece in
+    let count : bytes_taken held piece ≡ length front + length (b ∷ bs)
+    = sym (length-take (bytes_taken held piece) piece ∙ omega (arith, within))
     ∙ (ap length e ∙ length-append front (b ∷ bs)) in
     let size : length (held ++ front) ≡ length held + length front = length-append held front in
-    let whole : held ++ take (taken_of held piece) piece ≡ (held ++ front) ++ b ∷ bs
+    let whole : held ++ take (bytes_taken held piece) piece ≡ (held ++ front) ++ b ∷ bs
     = ap (λ s. held ++ s) e ∙ sym (append_assoc held front (b ∷ bs)) in
     record {
       before = λ long.
           let says : number_at 2 2 (held ++ front) ≡ number_at 2 2 (held ++ piece)
           = sym (number_at-append (held ++ front) (b ∷ bs) (omega (arith, long)))
           ∙ (ap (λ s. number_at 2 2 s) (sym whole)
-          ∙ (ap (λ s. number_at 2 2 s) (sym (take-append-add held piece (taken_of held piece)))
-          ∙ number_at-take (length held + taken_of held piece) (held ++ piece) (omega (arith, long, size, count)))) in
+          ∙ (ap (λ s. number_at 2 2 s) (sym (take-append-add held piece (bytes_taken held piece)))
+          ∙ number_at-take (length held + bytes_taken held piece) (held ++ piece) (omega (arith, long, size, count)))) in
           let ends : end_after (number_at 2 2 (held ++ front)) ≡ end_after (number_at 2 2 (held ++ piece))
           = ap end_after says in
-          let taken : taken_of held piece
+          let taken : bytes_taken held piece
           ≡ min (end_after (number_at 2 2 (held ++ piece)) - length held) (length piece)
-          = taken_of-long held piece (omega (arith, long, size, count, within)) in
+          = bytes_taken-long held piece (omega (arith, long, size, count, within)) in
           omega (arith, taken, count, size, ends);
     }
 
@@ -68,7 +68,7 @@ record IsLive (base : Shared) (session : Session) (stream : List ℕ) : Type 0 w
   frames : List Frame
   rest : List ℕ
   cut : Cut stream frames rest
-  alive : (closing (steps base session frames) (sight_of rest)).closed ≡ false
+  alive : (closing (steps base session frames) (parsed rest)).closed ≡ false
 
 no-byte : (front : List ℕ) (b : ℕ) (bs : List ℕ) → [] ≡ front ++ b ∷ bs → ⊥
 no-byte [] b bs e = cc
@@ -81,10 +81,10 @@ live-own : (base : Shared) (a : AdapterState) (now peer : ℕ) (piece : List ℕ
     → take (call_meaning a (Feeds now peer piece)).taken piece ≡ front ++ b ∷ bs
     → IsLive base session (bytes_held a.held peer ++ front)
 live-own base a now peer piece session sound says front b bs e =
-    by_close (closing session (sight_of (bytes_held a.held peer))) says refl _ refl
+    by_close (closing session (parsed (bytes_held a.held peer))) says refl _ refl
   where
     by_close : (found : Session) → session_of a.state peer ≡ Some found
-        → closing session (sight_of (bytes_held a.held peer)) ≡ found
+        → closing session (parsed (bytes_held a.held peer)) ≡ found
         → (c : Bool) → found.closed ≡ c
         → IsLive base session (bytes_held a.held peer ++ front)
     by_close found at is true shut =
@@ -95,9 +95,9 @@ live-own base a now peer piece session sound says front b bs e =
         absurd (no-byte front b bs (sym (ap (λ (m : Meaning). take m.taken piece) dropped) ∙ e))
     by_close found at is false alive =
         let ready : IsRunning (bytes_held a.held peer) = sound.ready peer found at alive in
-        let none : sight_of (bytes_held a.held peer) ≡ Nothing_yet = sight_of-running (bytes_held a.held peer) ready in
+        let none : parsed (bytes_held a.held peer) ≡ Incomplete = parsed-running (bytes_held a.held peer) ready in
         let same : session ≡ found = ap (closing session) (sym none) ∙ is in
-        let taken : (call_meaning a (Feeds now peer piece)).taken ≡ taken_of (bytes_held a.held peer) piece
+        let taken : (call_meaning a (Feeds now peer piece)).taken ≡ bytes_taken (bytes_held a.held peer) piece
         = ap (λ (m : Meaning). m.taken)
         (feed-open a now peer piece (record { session = found; found = at; alive = alive })) in
         let running : IsRunning (bytes_held a.held peer ++ front)
@@ -110,7 +110,7 @@ live-own base a now peer piece session sound says front b bs e =
             each = tt;
             no_more = none-running (bytes_held a.held peer ++ front) running;
           };
-          alive = ap (λ x. (closing session x).closed) (sight_of-running (bytes_held a.held peer ++ front) running)
+          alive = ap (λ x. (closing session x).closed) (parsed-running (bytes_held a.held peer ++ front) running)
               ∙ (ap (λ (p : Session). p.closed) same ∙ alive);
         }
 
@@ -183,7 +183,7 @@ live-calls base peer session bytes a (c ∷ cs) sound at goes says front b bs e 
               (λ s. Cut (bytes ++ s) (frames_of_peer peer (call_meaning a c).events ++ live.frames) live.rest) (sym f)
               (then-cut bytes (taken_by_call peer a c) rest step.left live.rest
               (frames_of_peer peer (call_meaning a c).events) live.frames step.parts step.each live.cut);
-          alive = ap (λ s. (closing s (sight_of live.rest)).closed)
+          alive = ap (λ s. (closing s (parsed live.rest)).closed)
               (steps-append base session (frames_of_peer peer (call_meaning a c).events) live.frames) ∙ live.alive;
         }
 
@@ -194,16 +194,16 @@ live-run base peer run front b bs e =
     (sound-calls (new_adapter run.objects run.listen run.limits) run.earlier
     (sound-new run.objects run.listen run.limits)) run.begins e
   where
-    from : (a : AdapterState) → IsSound a → (call_answer a Begins_peer).said ≡ Begins peer
+    from : (a : AdapterState) → IsSound a → (call_answer a Begins_peer).output ≡ Begins peer
         → taken_by_calls peer (after_call a Begins_peer) run.calls ≡ front ++ b ∷ bs
         → IsLive base (new_session peer) front
-    from a sound said taken =
+    from a sound output taken =
         live-calls base peer (new_session peer) [] (after_call a Begins_peer) run.calls (sound-call a Begins_peer sound)
         (at-beginning a.state a.held peer
         (no-entry a a.state.next_handle sound.same
         (numbers-none (λ (p : Session). p.handle) a.state.next_handle a.state.peers
-        (next-none a.state.next_handle _ sound.drawn))) said)
-        run.goes_on (says-beginning base a peer sound said) front b bs taken
+        (next-none a.state.next_handle _ sound.drawn))) output)
+        run.goes_on (says-beginning base a peer sound output) front b bs taken
 
 -- Where a run has closed the peer, no run takes a byte more.
 pub closed-last : (peer : ℕ) (r s : Run peer) (more : List ℕ) → is_peer_served (at_end peer r) peer ≡ false
@@ -224,9 +224,9 @@ closed-last peer r s (b ∷ bs) shut e =
     = ap is_open (says-run (at_beginning peer r).state.shared peer r)
     ∙ (ap (λ fs. not
     (closing (steps (at_beginning peer r).state.shared (new_session peer) fs)
-    (sight_of (bytes_held (at_end peer r).held peer))).closed) one.0
+    (parsed (bytes_held (at_end peer r).held peer))).closed) one.0
     ∙ (ap (λ h. not
-    (closing (steps (at_beginning peer r).state.shared (new_session peer) live.frames) (sight_of h)).closed) one.1
+    (closing (steps (at_beginning peer r).state.shared (new_session peer) live.frames) (parsed h)).closed) one.1
     ∙ ap not live.alive)) in
     absurd (false≢true (sym shut ∙ open_then))
 
@@ -270,19 +270,19 @@ told-served : (s : State) (peer : ℕ) (serve : Session → Served) (session : S
     ≡ not (is_open (session_of (serve_found s peer serve (session_of s peer)).state peer))
 told-served s peer serve session e alive =
     ap (λ o. (serve_found s peer serve o).answer.close) e
-    ∙ (ap (λ b. (cond b (turned s (Silent NotServed) true) (served_turn s peer serve session)).answer.close) alive
+    ∙ (ap (λ b. (cond b (turned s (NoReply NotServed) true) (served_turn s peer serve session)).answer.close) alive
     ∙ (twice-not (serve session).reaction.close
     ∙ ap (λ o. not (is_open o)) (sym (served-open s peer serve session e alive))))
 
-told-sight : (s : State) (peer : ℕ) (session : Session) (x : Sight) (m : Meaning) → session_of s peer ≡ Some session
+told-parsed_frame : (s : State) (peer : ℕ) (session : Session) (x : Parsed) (m : Meaning) → session_of s peer ≡ Some session
     → session.closed ≡ false → (now : ℕ)
-    → (answer_of s (at_a_moment now (record m { events = events_of_sight peer x; dropped = false }))).close
-    ≡ not (is_open (session_of (after (at_state s now) (events_of_sight peer x)) peer))
-told-sight s peer session Nothing_yet m e alive now = sym
+    → (answer_of s (at_a_moment now (record m { events = events_of_parsed peer x; dropped = false }))).close
+    ≡ not (is_open (session_of (after (at_state s now) (events_of_parsed peer x)) peer))
+told-parsed_frame s peer session Incomplete m e alive now = sym
     (ap (λ o. not (is_open o)) e ∙ ap (λ b. not (not b)) alive)
-told-sight s peer session (A_frame f) m e alive now =
+told-parsed_frame s peer session (WholeFrame f) m e alive now =
     told-served (at_state s now) peer (λ p. command_served (at_state s now).shared p f) session e alive
-told-sight s peer session (A_long_header h) m e alive now =
+told-parsed_frame s peer session (TooLongHeader h) m e alive now =
     told-served (at_state s now) peer (λ p. leaving (at_state s now).shared (long_refused p h)) session e alive
 
 pub closed-told : (a : AdapterState) (now peer : ℕ) (piece : List ℕ)
@@ -297,7 +297,7 @@ closed-told a now peer piece = go (session_of a.state peer) refl
         (cond b (dropped_piece a.held) (piece_meaning a.held peer (bytes_held a.held peer) piece))).events) peer))
     by_close session e true shut = sym (ap (λ o. not (is_open o)) e ∙ ap (λ b. not (not b)) shut)
     by_close session e false alive =
-        told-sight a.state peer session (sight_of (joined_of (bytes_held a.held peer) piece))
+        told-parsed_frame a.state peer session (parsed (held_and_taken (bytes_held a.held peer) piece))
         (piece_meaning a.held peer (bytes_held a.held peer) piece) e alive now
 
     go : (o : Option Session) → session_of a.state peer ≡ o

@@ -14,8 +14,8 @@ use Rattle.enip_adapter.specs.declared.peer.Session.{Session}
 use Rattle.enip_adapter.specs.declared.shared.Shared.{Shared}
 use Rattle.enip_adapter.specs.Commands.{by_command, command_served}
 use Rattle.enip_adapter.specs.Replies.{Served, is_registered_as}
-use Rattle.enip_adapter.specs.SendRRData.{Destination, destination_of, managed, routed_to, reply_to_body}
-use Rattle.enip_adapter.specs.SendRRData.Destination.{Opens, Closes, Executes}
+use Rattle.enip_adapter.specs.SendRRData.{Route, route_of, managed, routed_to, reply_to_body}
+use Rattle.enip_adapter.specs.SendRRData.Route.{Opens, Closes, Executes}
 use Rattle.enip_adapter.specs.SendUnitData.{turn_of_item, item_of_body}
 use Rattle.enip_adapter.proofs.ListLemmas.{both}
 
@@ -32,7 +32,7 @@ pub record Changes (P : Shared → Type 0) (shared : Shared) (session : Session)
   })
 
 module _ (P : Shared → Type 0) (shared : Shared) (session : Session) (changes : Changes P shared session) where
-  after_routed : (request : List ℕ) (to : Destination) → P (routed_to shared session request to).shared
+  after_routed : (request : List ℕ) (to : Route) → P (routed_to shared session request to).shared
   after_routed request (Opens layout bytes) = changes.opens layout bytes
   after_routed request (Closes bytes) = changes.closes bytes
   after_routed request Executes = changes.executes _
@@ -41,7 +41,7 @@ module _ (P : Shared → Type 0) (shared : Shared) (session : Session) (changes 
   after_body f (Err fault) = changes.same
   after_body f (Ok request) =
       both (λ (s : Served). P s.shared) (ltb (length request) 2) _ _ changes.same
-      (after_routed request (destination_of request))
+      (after_routed request (route_of request))
 
   after_item : (f : Frame) (body : Result (ℕ × List ℕ) CpfFault) → P (item_of_body shared session f body).shared
   after_item f (Err fault) = changes.same

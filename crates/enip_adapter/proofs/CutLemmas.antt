@@ -12,8 +12,8 @@ use Rattle.cip_manager.specs.Connection.{is_open_at}
 use Rattle.cip_manager.proofs.ListLemmas.{filter-implied}
 use Rattle.cip_objects.specs.Contents.{Contents}
 use Rattle.enip_wire.specs.Frames.{end_after}
-use Rattle.enip_wire.specs.Stream.{Sight, taken_of, joined_of, sight_of, cleared}
-use Rattle.enip_wire.specs.Stream.Sight.{Nothing_yet, A_frame, A_long_header}
+use Rattle.enip_wire.specs.Stream.{Parsed, bytes_taken, held_and_taken, parsed, cleared}
+use Rattle.enip_wire.specs.Stream.Parsed.{Incomplete, WholeFrame, TooLongHeader}
 use Rattle.enip_wire.proofs.FrameLemmas.{number_at-append, number_at-take, end_after-least}
 use Rattle.enip_adapter.specs.declared.adapter.Limits.{Limits}
 use Rattle.enip_adapter.specs.declared.peer.Session.{Session}
@@ -22,20 +22,20 @@ use Rattle.enip_adapter.specs.Adapter.{new_adapter}
 use Rattle.enip_adapter.specs.Lookup.{first_with, with_first}
 use Rattle.enip_adapter.specs.Turn.{State, Event, Answer, answers, after, session_of}
 use Rattle.enip_adapter.specs.Turn.Event.{At}
-use Rattle.enip_adapter.specs.Turn.Said.{Silent}
-use Rattle.enip_adapter.specs.declared.silence.Silence.TheVariants.{NoFrame}
+use Rattle.enip_adapter.specs.Turn.Output.{NoReply}
+use Rattle.enip_adapter.specs.declared.no_reply_reason.NoReplyReason.TheVariants.{NoFrame}
 use Rattle.enip_adapter.specs.Calls.{AdapterState, Held, Call, Meaning, call_meaning, after_call, after_meaning}
 use Rattle.enip_adapter.specs.Calls.{call_answer, answer_of, bytes_found, bytes_held, piece_to, piece_meaning}
-use Rattle.enip_adapter.specs.Calls.{dropped_piece, at_a_moment, events_of_sight, last_from}
+use Rattle.enip_adapter.specs.Calls.{dropped_piece, at_a_moment, events_of_parsed, last_from}
 use Rattle.enip_adapter.specs.Calls.Call.{Feeds}
-use Rattle.enip_adapter.specs.Runs.{after_calls, Pours, audible_answers, is_silent}
-use Rattle.enip_adapter.specs.Runs.Pours.{Ended, Taken, Went_on, Closed}
+use Rattle.enip_adapter.specs.Runs.{after_calls, FeedsPieces, visible_answers, is_no_reply}
+use Rattle.enip_adapter.specs.Runs.FeedsPieces.{Ended, Taken, Continued, Closed}
 use Rattle.enip_adapter.proofs.ListLemmas.{first_with-set, with_first-twice}
 use Rattle.enip_adapter.proofs.PeerLemmas.{at_state}
-use Rattle.enip_wire.proofs.RunningLemmas.{IsRunning, running-taken, taken_of-short, taken_of-long}
-use Rattle.enip_wire.proofs.RunningLemmas.{taken_of-within, end-past}
+use Rattle.enip_wire.proofs.RunningLemmas.{IsRunning, running-taken, bytes_taken-short, bytes_taken-long}
+use Rattle.enip_wire.proofs.RunningLemmas.{bytes_taken-within, end-past}
 use Rattle.enip_adapter.proofs.SoundLemmas.{IsSound, sound-call, sound-calls, sound-new, entry-of, taken-piece}
-use Rattle.enip_wire.proofs.SightLemmas.{sight-size}
+use Rattle.enip_wire.proofs.ParsedLemmas.{parsed_frame-size}
 
 -- A piece of bytes is fed again and again, until all of it is taken or the peer is closed.
 data Flows (now peer : ℕ) : AdapterState → List ℕ → List Answer → AdapterState → Type 0 where
@@ -66,78 +66,78 @@ one-flow (Shut d) (Flowed e f) = absurd (false≢true (sym e ∙ d))
 one-flow (Shut e) (Shut d) = record { answers = refl; adapter = refl }
 
 -- What a piece takes where it completes something, and where it completes nothing.
-taken-past : (held piece more : List ℕ) → IsRunning held → (sight_of (joined_of held piece) ≡ Nothing_yet → ⊥)
-    → taken_of held (piece ++ more) ≡ taken_of held piece
+taken-past : (held piece more : List ℕ) → IsRunning held → (parsed (held_and_taken held piece) ≡ Incomplete → ⊥)
+    → bytes_taken held (piece ++ more) ≡ bytes_taken held piece
 taken-past held piece more running some =
-    let n : ℕ = taken_of held piece in
-    let within : taken_of held piece ≤ length piece = taken_of-within held piece in
-    let size : length (joined_of held piece) ≡ length held + taken_of held piece
-    = length-append held (take (taken_of held piece) piece)
-    ∙ ap (λ k. length held + k) (length-take (taken_of held piece) piece ∙ omega (arith, within)) in
-    let seen : 24 ≤ length (joined_of held piece)
-    × (length (joined_of held piece) ≤ end_after (number_at 2 2 (joined_of held piece))
-    → length (joined_of held piece) ≡ end_after (number_at 2 2 (joined_of held piece)))
-    = sight-size (joined_of held piece) some in
+    let n : ℕ = bytes_taken held piece in
+    let within : bytes_taken held piece ≤ length piece = bytes_taken-within held piece in
+    let size : length (held_and_taken held piece) ≡ length held + bytes_taken held piece
+    = length-append held (take (bytes_taken held piece) piece)
+    ∙ ap (λ k. length held + k) (length-take (bytes_taken held piece) piece ∙ omega (arith, within)) in
+    let seen : 24 ≤ length (held_and_taken held piece)
+    × (length (held_and_taken held piece) ≤ end_after (number_at 2 2 (held_and_taken held piece))
+    → length (held_and_taken held piece) ≡ end_after (number_at 2 2 (held_and_taken held piece)))
+    = parsed_frame-size (held_and_taken held piece) some in
     let long : 24 ≤ length held + length piece = omega (arith, seen.0, size, within) in
     let total : length (piece ++ more) ≡ length piece + length more = length-append piece more in
-    let front : number_at 2 2 (joined_of held piece) ≡ number_at 2 2 (held ++ piece)
-    = ap (λ s. number_at 2 2 s) (sym (take-append-add held piece (taken_of held piece)))
-    ∙ number_at-take (length held + taken_of held piece) (held ++ piece) (omega (arith, seen.0, size)) in
+    let front : number_at 2 2 (held_and_taken held piece) ≡ number_at 2 2 (held ++ piece)
+    = ap (λ s. number_at 2 2 s) (sym (take-append-add held piece (bytes_taken held piece)))
+    ∙ number_at-take (length held + bytes_taken held piece) (held ++ piece) (omega (arith, seen.0, size)) in
     let back : number_at 2 2 (held ++ (piece ++ more)) ≡ number_at 2 2 (held ++ piece)
     = ap (λ s. number_at 2 2 s) (sym (append_assoc held piece more))
     ∙ number_at-append (held ++ piece) more (omega (arith, long, length-append held piece)) in
-    let first : taken_of held piece
+    let first : bytes_taken held piece
     ≡ min (end_after (number_at 2 2 (held ++ piece)) - length held)
-    (length piece) = taken_of-long held piece long in
-    let second : taken_of held (piece ++ more)
+    (length piece) = bytes_taken-long held piece long in
+    let second : bytes_taken held (piece ++ more)
     ≡ min (end_after (number_at 2 2 (held ++ (piece ++ more))) - length held) (length (piece ++ more))
-    = taken_of-long held (piece ++ more) (omega (arith, long, total)) in
-    let ends : end_after (number_at 2 2 (joined_of held piece))
+    = bytes_taken-long held (piece ++ more) (omega (arith, long, total)) in
+    let ends : end_after (number_at 2 2 (held_and_taken held piece))
     ≡ end_after (number_at 2 2 (held ++ piece)) = ap end_after front in
     let later : end_after (number_at 2 2 (held ++ (piece ++ more)))
     ≡ end_after (number_at 2 2 (held ++ piece)) = ap end_after back in
     let past : length held < end_after (number_at 2 2 (held ++ piece)) = end-past held piece running in
-    let most : length (joined_of held piece) ≤ end_after (number_at 2 2 (joined_of held piece)) = omega
+    let most : length (held_and_taken held piece) ≤ end_after (number_at 2 2 (held_and_taken held piece)) = omega
     (arith, size, first, ends, past) in
-    let is : length (joined_of held piece) ≡ end_after (number_at 2 2 (joined_of held piece)) = seen.1 most in
+    let is : length (held_and_taken held piece) ≡ end_after (number_at 2 2 (held_and_taken held piece)) = seen.1 most in
     omega (arith, first, second, is, size, ends, later, past, total)
 
-taken-whole : (held piece : List ℕ) → IsRunning held → sight_of (joined_of held piece) ≡ Nothing_yet
-    → taken_of held piece ≡ length piece
+taken-whole : (held piece : List ℕ) → IsRunning held → parsed (held_and_taken held piece) ≡ Incomplete
+    → bytes_taken held piece ≡ length piece
 taken-whole held piece running none =
     elim (cases_lt (length held + length piece) 24) [
-      | inl short ↦ taken_of-short held piece short
+      | inl short ↦ bytes_taken-short held piece short
       | inr long ↦
-          let within : taken_of held piece ≤ length piece = taken_of-within held piece in
-          let size : length (joined_of held piece) ≡ length held + taken_of held piece
-          = length-append held (take (taken_of held piece) piece)
-          ∙ ap (λ k. length held + k) (length-take (taken_of held piece) piece ∙ omega (arith, within)) in
-          let first : taken_of held piece
+          let within : bytes_taken held piece ≤ length piece = bytes_taken-within held piece in
+          let size : length (held_and_taken held piece) ≡ length held + bytes_taken held piece
+          = length-append held (take (bytes_taken held piece) piece)
+          ∙ ap (λ k. length held + k) (length-take (bytes_taken held piece) piece ∙ omega (arith, within)) in
+          let first : bytes_taken held piece
           ≡ min (end_after (number_at 2 2 (held ++ piece)) - length held)
-          (length piece) = taken_of-long held piece long in
+          (length piece) = bytes_taken-long held piece long in
           let past : length held < end_after (number_at 2 2 (held ++ piece)) = end-past held piece running in
           let least : 24 ≤ end_after (number_at 2 2 (held ++ piece)) = end_after-least
           (number_at 2 2 (held ++ piece)) in
-          let on : IsRunning (joined_of held piece) = running-taken held piece running none in
+          let on : IsRunning (held_and_taken held piece) = running-taken held piece running none in
           elim (cases_lt (length piece) (end_after (number_at 2 2 (held ++ piece)) - length held)) [
             | inl more ↦ omega (arith, first, more)
             | inr full ↦
-                let at_end : length (joined_of held piece)
+                let at_end : length (held_and_taken held piece)
                 ≡ end_after (number_at 2 2 (held ++ piece)) = omega (arith, size, first, full, past) in
-                let front : number_at 2 2 (joined_of held piece) ≡ number_at 2 2 (held ++ piece)
-                = ap (λ s. number_at 2 2 s) (sym (take-append-add held piece (taken_of held piece)))
-                ∙ number_at-take (length held + taken_of held piece) (held ++ piece)
+                let front : number_at 2 2 (held_and_taken held piece) ≡ number_at 2 2 (held ++ piece)
+                = ap (λ s. number_at 2 2 s) (sym (take-append-add held piece (bytes_taken held piece)))
+                ∙ number_at-take (length held + bytes_taken held piece) (held ++ piece)
                 (omega (arith, at_end, size, least)) in
-                let before : length (joined_of held piece) < end_after
-                (number_at 2 2 (joined_of held piece)) = on.before (omega (arith, at_end, least)) in
-                let ends : end_after (number_at 2 2 (joined_of held piece))
+                let before : length (held_and_taken held piece) < end_after
+                (number_at 2 2 (held_and_taken held piece)) = on.before (omega (arith, at_end, least)) in
+                let ends : end_after (number_at 2 2 (held_and_taken held piece))
                 ≡ end_after (number_at 2 2 (held ++ piece)) = ap end_after front in
                 omega (arith, before, at_end, ends)
           ]
     ]
 
-taken-on : (held piece more : List ℕ) → IsRunning (held ++ piece) → taken_of held (piece ++ more)
-    ≡ length piece + taken_of (held ++ piece) more
+taken-on : (held piece more : List ℕ) → IsRunning (held ++ piece) → bytes_taken held (piece ++ more)
+    ≡ length piece + bytes_taken (held ++ piece) more
 taken-on held piece more running =
     let whole : (held ++ piece) ++ more ≡ held ++ (piece ++ more) = append_assoc held piece more in
     let size : length (held ++ piece) ≡ length held + length piece = length-append held piece in
@@ -146,21 +146,21 @@ taken-on held piece more running =
       | inl short ↦
           omega (
             arith,
-            taken_of-short held (piece ++ more) short,
-            taken_of-short (held ++ piece) more
+            bytes_taken-short held (piece ++ more) short,
+            bytes_taken-short (held ++ piece) more
                 (omega (arith, short, size, total)),
             total,
           )
       | inr long ↦
-          let next : taken_of (held ++ piece) more
+          let next : bytes_taken (held ++ piece) more
           ≡ min (end_after (number_at 2 2 ((held ++ piece) ++ more)) - length (held ++ piece)) (length more)
-          = taken_of-long (held ++ piece) more (omega (arith, long, size, total)) in
+          = bytes_taken-long (held ++ piece) more (omega (arith, long, size, total)) in
           let ends : end_after (number_at 2 2 ((held ++ piece) ++ more))
           ≡ end_after (number_at 2 2 (held ++ (piece ++ more)))
           = ap (λ s. end_after (number_at 2 2 s)) whole in
           let past : length (held ++ piece) < end_after (number_at 2 2 ((held ++ piece) ++ more)) = end-past
           (held ++ piece) more running in
-          omega (arith, taken_of-long held (piece ++ more) long, next, ends, past, size, total)
+          omega (arith, bytes_taken-long held (piece ++ more) long, next, ends, past, size, total)
     ]
 
 take-front : (n : ℕ) (xs ys : List ℕ) → n ≤ length xs → take n (xs ++ ys) ≡ take n xs
@@ -211,9 +211,9 @@ at-twice s now =
 -- What a piece means to an going peer, by all that has come of the frame.
 abbrev pub shown : List Held → ℕ → ℕ → List ℕ → ℕ → Meaning
 shown held peer now bytes n = at_a_moment now (record {
-  events = events_of_sight peer (sight_of bytes);
+  events = events_of_parsed peer (parsed bytes);
   taken = n;
-  held = with_first (λ (h : Held). h.peer) peer (record { peer = peer; bytes = cleared (sight_of bytes) bytes }) held;
+  held = with_first (λ (h : Held). h.peer) peer (record { peer = peer; bytes = cleared (parsed bytes) bytes }) held;
   dropped = false;
 })
 
@@ -224,7 +224,7 @@ pub record IsOpen (a : AdapterState) (peer : ℕ) : Type 0 where
 
 pub feed-open : (a : AdapterState) (now peer : ℕ) (piece : List ℕ) → IsOpen a peer
     → call_meaning a (Feeds now peer piece)
-    ≡ shown a.held peer now (joined_of (bytes_held a.held peer) piece) (taken_of (bytes_held a.held peer) piece)
+    ≡ shown a.held peer now (held_and_taken (bytes_held a.held peer) piece) (bytes_taken (bytes_held a.held peer) piece)
 feed-open a now peer piece live =
     ap (λ o. at_a_moment now (piece_to a.held peer piece o)) live.found
     ∙ ap (λ b. at_a_moment now
@@ -234,35 +234,35 @@ feed-open a now peer piece live =
 data Front (a : AdapterState) (now peer : ℕ) (piece more : List ℕ) : Type 0 where
   Same : call_meaning a (Feeds now peer (piece ++ more)) ≡ call_meaning a (Feeds now peer piece)
       → (call_meaning a (Feeds now peer piece)).taken ≤ length piece → Front a now peer piece more
-  Waits : IsOpen a peer → sight_of (joined_of (bytes_held a.held peer) piece) ≡ Nothing_yet
+  Waits : IsOpen a peer → parsed (held_and_taken (bytes_held a.held peer) piece) ≡ Incomplete
       → Front a now peer piece more
 
-front-open : (a : AdapterState) (now peer : ℕ) (piece more : List ℕ) → IsSound a → IsOpen a peer → (x : Sight)
-    → sight_of (joined_of (bytes_held a.held peer) piece) ≡ x → (x ≡ Nothing_yet → ⊥) → Front a now peer piece more
+front-open : (a : AdapterState) (now peer : ℕ) (piece more : List ℕ) → IsSound a → IsOpen a peer → (x : Parsed)
+    → parsed (held_and_taken (bytes_held a.held peer) piece) ≡ x → (x ≡ Incomplete → ⊥) → Front a now peer piece more
 front-open a now peer piece more sound live x seen some =
     let running : IsRunning (bytes_held a.held peer) = sound.ready peer live.session live.found live.alive in
-    let within : taken_of (bytes_held a.held peer) piece ≤ length piece = taken_of-within
+    let within : bytes_taken (bytes_held a.held peer) piece ≤ length piece = bytes_taken-within
     (bytes_held a.held peer) piece in
-    let n : taken_of (bytes_held a.held peer) (piece ++ more) ≡ taken_of (bytes_held a.held peer) piece
+    let n : bytes_taken (bytes_held a.held peer) (piece ++ more) ≡ bytes_taken (bytes_held a.held peer) piece
     = taken-past (bytes_held a.held peer) piece more running (λ e. some (sym seen ∙ e)) in
-    let j : joined_of (bytes_held a.held peer) (piece ++ more) ≡ joined_of (bytes_held a.held peer) piece
+    let j : held_and_taken (bytes_held a.held peer) (piece ++ more) ≡ held_and_taken (bytes_held a.held peer) piece
     = ap (λ k. bytes_held a.held peer ++ take k (piece ++ more)) n
-    ∙ ap (λ s. bytes_held a.held peer ++ s) (take-front (taken_of (bytes_held a.held peer) piece) piece more within) in
+    ∙ ap (λ s. bytes_held a.held peer ++ s) (take-front (bytes_taken (bytes_held a.held peer) piece) piece more within) in
     Same
     (feed-open a now peer (piece ++ more) live
-    ∙ (ap (λ b. shown a.held peer now b (taken_of (bytes_held a.held peer) (piece ++ more))) j
-    ∙ (ap (λ k. shown a.held peer now (joined_of (bytes_held a.held peer) piece) k) n
+    ∙ (ap (λ b. shown a.held peer now b (bytes_taken (bytes_held a.held peer) (piece ++ more))) j
+    ∙ (ap (λ k. shown a.held peer now (held_and_taken (bytes_held a.held peer) piece) k) n
     ∙ sym (feed-open a now peer piece live))))
     (subst (λ (m : Meaning). m.taken ≤ length piece) (sym (feed-open a now peer piece live)) within)
 
 front : (a : AdapterState) (now peer : ℕ) (piece more : List ℕ) → IsSound a → Front a now peer piece more
 front a now peer piece more sound = go (session_of a.state peer) refl
   where
-    live : IsOpen a peer → (x : Sight) → sight_of (joined_of (bytes_held a.held peer) piece) ≡ x
+    live : IsOpen a peer → (x : Parsed) → parsed (held_and_taken (bytes_held a.held peer) piece) ≡ x
         → Front a now peer piece more
-    live o Nothing_yet e = Waits o e
-    live o (A_frame f) e = front-open a now peer piece more sound o (A_frame f) e (λ bad. cc)
-    live o (A_long_header h) e = front-open a now peer piece more sound o (A_long_header h) e (λ bad. cc)
+    live o Incomplete e = Waits o e
+    live o (WholeFrame f) e = front-open a now peer piece more sound o (WholeFrame f) e (λ bad. cc)
+    live o (TooLongHeader h) e = front-open a now peer piece more sound o (TooLongHeader h) e (λ bad. cc)
 
     gone : call_meaning a (Feeds now peer (piece ++ more)) ≡ at_a_moment now (dropped_piece a.held)
         → call_meaning a (Feeds now peer piece) ≡ at_a_moment now (dropped_piece a.held) → Front a now peer piece more
@@ -280,7 +280,7 @@ front a now peer piece more sound = go (session_of a.state peer) refl
         (cond b (dropped_piece a.held) (piece_meaning a.held peer (bytes_held a.held peer) piece))) shut)
     by_close session e false alive =
         live (record { session = session; found = e; alive = alive })
-        (sight_of (joined_of (bytes_held a.held peer) piece)) refl
+        (parsed (held_and_taken (bytes_held a.held peer) piece)) refl
 
     go : (o : Option Session) → session_of a.state peer ≡ o → Front a now peer piece more
     go None e =
@@ -290,7 +290,7 @@ front a now peer piece more sound = go (session_of a.state peer) refl
 
 -- A piece that completes nothing, and the next one.
 abbrev quiet : Answer
-quiet = record { said = Silent NoFrame; close = false }
+quiet = record { output = NoReply NoFrame; close = false }
 
 abbrev waiting : AdapterState → ℕ → ℕ → List ℕ → AdapterState
 waiting a now peer bytes = record {
@@ -304,14 +304,14 @@ record HasWaited (a : AdapterState) (now peer : ℕ) (piece : List ℕ) : Type 0
   taken : (call_meaning a (Feeds now peer piece)).taken ≡ length piece
 
 has-waited : (a : AdapterState) (now peer : ℕ) (piece : List ℕ) → IsSound a → IsOpen a peer
-    → sight_of (joined_of (bytes_held a.held peer) piece) ≡ Nothing_yet → HasWaited a now peer piece
+    → parsed (held_and_taken (bytes_held a.held peer) piece) ≡ Incomplete → HasWaited a now peer piece
 has-waited a now peer piece sound live none =
     let held : List ℕ = bytes_held a.held peer in
     let running : IsRunning (bytes_held a.held peer) = sound.ready peer live.session live.found live.alive in
-    let n : taken_of (bytes_held a.held peer) piece
+    let n : bytes_taken (bytes_held a.held peer) piece
     ≡ length piece = taken-whole (bytes_held a.held peer) piece running none in
-    let j : joined_of (bytes_held a.held peer) piece ≡ bytes_held a.held peer ++ piece
-    = ap (λ s. bytes_held a.held peer ++ s) (take_all (taken_of (bytes_held a.held peer) piece) piece (omega arith)) in
+    let j : held_and_taken (bytes_held a.held peer) piece ≡ bytes_held a.held peer ++ piece
+    = ap (λ s. bytes_held a.held peer ++ s) (take_all (bytes_taken (bytes_held a.held peer) piece) piece (omega arith)) in
     let m : call_meaning a (Feeds now peer piece) ≡ record {
       events = At now ∷ [];
       taken = length piece;
@@ -321,17 +321,17 @@ has-waited a now peer piece sound live none =
     }
     = feed-open a now peer piece live
     ∙ (ap (λ x. let t : Meaning = record {
-      events = At now ∷ events_of_sight peer x;
-      taken = taken_of (bytes_held a.held peer) piece;
+      events = At now ∷ events_of_parsed peer x;
+      taken = bytes_taken (bytes_held a.held peer) piece;
       held = with_first (λ (h : Held). h.peer) peer
-          (record { peer = peer; bytes = cleared x (joined_of (bytes_held a.held peer) piece) }) a.held;
+          (record { peer = peer; bytes = cleared x (held_and_taken (bytes_held a.held peer) piece) }) a.held;
       dropped = false;
     } in t) none
     ∙ (ap (λ k. let t : Meaning = record {
       events = At now ∷ [];
       taken = k;
       held = with_first (λ (h : Held). h.peer) peer
-          (record { peer = peer; bytes = joined_of (bytes_held a.held peer) piece }) a.held;
+          (record { peer = peer; bytes = held_and_taken (bytes_held a.held peer) piece }) a.held;
       dropped = false;
     } in t) n
     ∙ ap (λ b. let t : Meaning = record {
@@ -354,24 +354,24 @@ record IsJoined (a : AdapterState) (now peer : ℕ) (piece more : List ℕ) (b :
       ≡ drop (call_meaning a (Feeds now peer (piece ++ more))).taken (piece ++ more)
 
 is-joined : (a : AdapterState) (now peer : ℕ) (piece more : List ℕ) → IsSound a → IsOpen a peer
-    → sight_of (joined_of (bytes_held a.held peer) piece) ≡ Nothing_yet
+    → parsed (held_and_taken (bytes_held a.held peer) piece) ≡ Incomplete
     → IsJoined a now peer piece more (waiting a now peer (bytes_held a.held peer ++ piece))
 is-joined a now peer piece more sound live none =
     let first : List ℕ = bytes_held a.held peer in
     let running : IsRunning (bytes_held a.held peer) = sound.ready peer live.session live.found live.alive in
-    let n : taken_of (bytes_held a.held peer) piece
+    let n : bytes_taken (bytes_held a.held peer) piece
     ≡ length piece = taken-whole (bytes_held a.held peer) piece running none in
-    let j : joined_of (bytes_held a.held peer) piece ≡ bytes_held a.held peer ++ piece
-    = ap (λ s. bytes_held a.held peer ++ s) (take_all (taken_of (bytes_held a.held peer) piece) piece (omega arith)) in
+    let j : held_and_taken (bytes_held a.held peer) piece ≡ bytes_held a.held peer ++ piece
+    = ap (λ s. bytes_held a.held peer ++ s) (take_all (bytes_taken (bytes_held a.held peer) piece) piece (omega arith)) in
     let on : IsRunning (bytes_held a.held peer ++ piece) = subst IsRunning j
     (running-taken (bytes_held a.held peer) piece running none) in
-    let all : taken_of (bytes_held a.held peer) (piece ++ more)
-    ≡ length piece + taken_of (bytes_held a.held peer ++ piece) more
+    let all : bytes_taken (bytes_held a.held peer) (piece ++ more)
+    ≡ length piece + bytes_taken (bytes_held a.held peer ++ piece) more
     = taken-on (bytes_held a.held peer) piece more on in
-    let bytes : joined_of (bytes_held a.held peer ++ piece) more ≡ joined_of (bytes_held a.held peer) (piece ++ more)
-    = append_assoc (bytes_held a.held peer) piece (take (taken_of (bytes_held a.held peer ++ piece) more) more)
+    let bytes : held_and_taken (bytes_held a.held peer ++ piece) more ≡ held_and_taken (bytes_held a.held peer) (piece ++ more)
+    = append_assoc (bytes_held a.held peer) piece (take (bytes_taken (bytes_held a.held peer ++ piece) more) more)
     ∙ (ap (λ s. bytes_held a.held peer ++ s)
-    (sym (take-past (taken_of (bytes_held a.held peer ++ piece) more) piece more))
+    (sym (take-past (bytes_taken (bytes_held a.held peer ++ piece) more) piece more))
     ∙ ap (λ k. bytes_held a.held peer ++ take k (piece ++ more)) (sym all)) in
     let e : (old : Held) ×
     (first_with (λ (h : Held). h.peer) peer a.held ≡ Some old) = entry-of a peer live.session sound live.found in
@@ -379,41 +379,41 @@ is-joined a now peer piece more sound live none =
     ≡ bytes_held a.held peer ++ piece
     = ap bytes_found (first_with-set (λ (h : Held). h.peer) peer e.0 _ a.held e.1 refl) in
     let one : call_meaning a (Feeds now peer (piece ++ more))
-    ≡ shown a.held peer now (joined_of (bytes_held a.held peer) (piece ++ more))
-    (taken_of (bytes_held a.held peer) (piece ++ more))
+    ≡ shown a.held peer now (held_and_taken (bytes_held a.held peer) (piece ++ more))
+    (bytes_taken (bytes_held a.held peer) (piece ++ more))
     = feed-open a now peer (piece ++ more) live in
     let two : call_meaning (waiting a now peer (bytes_held a.held peer ++ piece)) (Feeds now peer more)
     ≡ shown (waiting a now peer (bytes_held a.held peer ++ piece)).held peer now
-    (joined_of (bytes_held a.held peer) (piece ++ more))
-    (taken_of (bytes_held a.held peer ++ piece) more)
+    (held_and_taken (bytes_held a.held peer) (piece ++ more))
+    (bytes_taken (bytes_held a.held peer ++ piece) more)
     = feed-open (waiting a now peer (bytes_held a.held peer ++ piece)) now peer more
     (record { session = live.session; found = live.found; alive = live.alive })
-    ∙ (ap (λ h. shown (waiting a now peer (bytes_held a.held peer ++ piece)).held peer now (joined_of h more)
-    (taken_of h more)) kept
+    ∙ (ap (λ h. shown (waiting a now peer (bytes_held a.held peer ++ piece)).held peer now (held_and_taken h more)
+    (bytes_taken h more)) kept
     ∙ ap (λ b. shown (waiting a now peer (bytes_held a.held peer ++ piece)).held peer now b
-    (taken_of (bytes_held a.held peer ++ piece) more)) bytes) in
-    let whole : List ℕ = joined_of (bytes_held a.held peer) (piece ++ more) in
-    let es : List Event = events_of_sight peer (sight_of (joined_of (bytes_held a.held peer) (piece ++ more))) in
+    (bytes_taken (bytes_held a.held peer ++ piece) more)) bytes) in
+    let whole : List ℕ = held_and_taken (bytes_held a.held peer) (piece ++ more) in
+    let es : List Event = events_of_parsed peer (parsed (held_and_taken (bytes_held a.held peer) (piece ++ more))) in
     record {
       adapter = ap (after_meaning (at_state a.state now)) two
           ∙ (ap (λ s. let t : AdapterState = record {
-            state = after s (events_of_sight peer (sight_of (joined_of (bytes_held a.held peer) (piece ++ more))));
+            state = after s (events_of_parsed peer (parsed (held_and_taken (bytes_held a.held peer) (piece ++ more))));
             held = (shown (waiting a now peer (bytes_held a.held peer ++ piece)).held peer now
-                (joined_of (bytes_held a.held peer) (piece ++ more)) 0).held;
+                (held_and_taken (bytes_held a.held peer) (piece ++ more)) 0).held;
           } in t) (at-twice a.state now)
           ∙ (ap (λ hs. let t : AdapterState = record {
             state = after (at_state a.state now)
-                (events_of_sight peer (sight_of (joined_of (bytes_held a.held peer) (piece ++ more))));
+                (events_of_parsed peer (parsed (held_and_taken (bytes_held a.held peer) (piece ++ more))));
             held = hs;
           } in t) (with_first-twice (λ (h : Held). h.peer) peer _ _ a.held refl)
           ∙ sym (ap (after_meaning a.state) one)));
       answer = ap (answer_of (at_state a.state now)) two
           ∙ (ap (λ s. last_from quiet
-          (answers s (events_of_sight peer (sight_of (joined_of (bytes_held a.held peer) (piece ++ more))))))
+          (answers s (events_of_parsed peer (parsed (held_and_taken (bytes_held a.held peer) (piece ++ more))))))
           (at-twice a.state now)
           ∙ sym (ap (answer_of a.state) one));
       rest = ap (λ (m : Meaning). drop m.taken more) two
-          ∙ (sym (drop-past (taken_of (bytes_held a.held peer ++ piece) more) piece more)
+          ∙ (sym (drop-past (bytes_taken (bytes_held a.held peer ++ piece) more) piece more)
           ∙ (ap (λ k. drop k (piece ++ more)) (sym all)
           ∙ sym (ap (λ (m : Meaning). drop m.taken (piece ++ more)) one)));
     }
@@ -442,21 +442,21 @@ flow-shut now peer a b bs y last e f shut =
 record IsFlow (now peer : ℕ) (a : AdapterState) (bytes : List ℕ) (xs : List Answer) (last : AdapterState) : Type 0 where
   ys : List Answer
   flow : Flows now peer a bytes ys last
-  same : audible_answers xs ≡ audible_answers ys
+  same : visible_answers xs ≡ visible_answers ys
 
-told-cons : (x : Answer) (xs ys : List Answer) → audible_answers xs ≡ audible_answers ys
-    → audible_answers (x ∷ xs) ≡ audible_answers (x ∷ ys)
-told-cons x xs ys e = ap (λ zs. cond (not (is_silent x.said) || x.close) (x ∷ zs) zs) e
+told-cons : (x : Answer) (xs ys : List Answer) → visible_answers xs ≡ visible_answers ys
+    → visible_answers (x ∷ xs) ≡ visible_answers (x ∷ ys)
+told-cons x xs ys e = ap (λ zs. cond (not (is_no_reply x.output) || x.close) (x ∷ zs) zs) e
 
-told-quiet : (x : Answer) (xs : List Answer) → x ≡ quiet → audible_answers (x ∷ xs) ≡ audible_answers xs
-told-quiet x xs e = ap (λ y. audible_answers (y ∷ xs)) e
+told-quiet : (x : Answer) (xs : List Answer) → x ≡ quiet → visible_answers (x ∷ xs) ≡ visible_answers xs
+told-quiet x xs e = ap (λ y. visible_answers (y ∷ xs)) e
 
 -- What flows after a piece that completed nothing flows with it.
 flow-before : {now peer : ℕ} {next last : AdapterState} {more : List ℕ} {ys : List Answer}
     → Flows now peer next more ys last
     → (a : AdapterState) (b : ℕ) (bs : List ℕ) (xs : List Answer) → HasWaited a now peer (b ∷ bs)
     → IsJoined a now peer (b ∷ bs) more next
-    → after_call a (Feeds now peer (b ∷ bs)) ≡ next → audible_answers xs ≡ audible_answers ys
+    → after_call a (Feeds now peer (b ∷ bs)) ≡ next → visible_answers xs ≡ visible_answers ys
     → IsFlow now peer a ((b ∷ bs) ++ more) (quiet ∷ xs) last
 flow-before {now} {peer} (Stopped {a = next}) a b bs xs waited joined is e = record {
   ys = quiet ∷ [];
@@ -527,11 +527,11 @@ closed-flow now peer a b bs more sound shut (Waits live none) =
     absurd (false≢true (sym (ap (λ (y : Answer). y.close) waited.answer) ∙ shut))
 
 flow-pours : {now peer : ℕ} {a last : AdapterState} {pieces : List (List ℕ)} {xs : List Answer}
-    → Pours now peer a pieces xs last
+    → FeedsPieces now peer a pieces xs last
     → IsSound a → IsFlow now peer a (concat pieces) xs last
 flow-pours Ended sound = record { ys = []; flow = Stopped; same = refl }
 flow-pours (Taken pours) sound = flow-pours pours sound
-flow-pours {now} {peer} (Went_on {a} {last} {b} {bs} {pieces} {answers = xs} going pours) sound =
+flow-pours {now} {peer} (Continued {a} {last} {b} {bs} {pieces} {answers = xs} going pours) sound =
     went-on now peer a last b bs (concat pieces) xs sound going
     (flow-pours pours (sound-call a (Feeds now peer (b ∷ bs)) sound))
     (front a now peer (b ∷ bs) (concat pieces) sound)
@@ -539,17 +539,17 @@ flow-pours {now} {peer} (Closed {a} {b} {bs} {pieces} shut) sound =
     closed-flow now peer a b bs (concat pieces) sound shut (front a now peer (b ∷ bs) (concat pieces) sound)
 
 record AreAlike (xs ys : List Answer) (a b : AdapterState) : Type 0 where
-  answers : audible_answers xs ≡ audible_answers ys
+  answers : visible_answers xs ≡ visible_answers ys
   adapter : a ≡ b
 
 alike : (now peer : ℕ) (a l m : AdapterState) (pieces others : List (List ℕ)) (xs ys : List Answer) → IsSound a
     → concat pieces ≡ concat others
-    → Pours now peer a pieces xs l → Pours now peer a others ys m → AreAlike xs ys l m
+    → FeedsPieces now peer a pieces xs l → FeedsPieces now peer a others ys m → AreAlike xs ys l m
 alike now peer a l m pieces others xs ys sound e p q =
     let f : IsFlow now peer a (concat pieces) xs l = flow-pours p sound in
     let g : IsFlow now peer a (concat others) ys m = flow-pours q sound in
     let one : AreSame f.ys g.ys l m = one-flow f.flow (subst (λ s. Flows now peer a s g.ys m) (sym e) g.flow) in
-    record { answers = f.same ∙ (ap audible_answers one.answers ∙ sym g.same); adapter = one.adapter }
+    record { answers = f.same ∙ (ap visible_answers one.answers ∙ sym g.same); adapter = one.adapter }
 
 module _ (objects : Contents) (listen : Listen) (limits : Limits) (calls : List Call) where
   reached : IsSound (after_calls (new_adapter objects listen limits) calls)
@@ -557,17 +557,17 @@ module _ (objects : Contents) (listen : Listen) (limits : Limits) (calls : List 
 
   pub cuts-answers : (now peer : ℕ) (pieces others : List (List ℕ)) (xs ys : List Answer) (l m : AdapterState)
       → concat pieces ≡ concat others
-      → Pours now peer (after_calls (new_adapter objects listen limits) calls) pieces xs l
-      → Pours now peer (after_calls (new_adapter objects listen limits) calls) others ys m
-      → audible_answers xs ≡ audible_answers ys
+      → FeedsPieces now peer (after_calls (new_adapter objects listen limits) calls) pieces xs l
+      → FeedsPieces now peer (after_calls (new_adapter objects listen limits) calls) others ys m
+      → visible_answers xs ≡ visible_answers ys
   cuts-answers now peer pieces others xs ys l m e p q =
       (alike now peer (after_calls
       (new_adapter objects listen limits) calls) l m pieces others xs ys reached e p q).answers
 
   pub cuts-adapter : (now peer : ℕ) (pieces others : List (List ℕ)) (xs ys : List Answer) (l m : AdapterState)
       → concat pieces ≡ concat others
-      → Pours now peer (after_calls (new_adapter objects listen limits) calls) pieces xs l
-      → Pours now peer (after_calls (new_adapter objects listen limits) calls) others ys m → l ≡ m
+      → FeedsPieces now peer (after_calls (new_adapter objects listen limits) calls) pieces xs l
+      → FeedsPieces now peer (after_calls (new_adapter objects listen limits) calls) others ys m → l ≡ m
   cuts-adapter now peer pieces others xs ys l m e p q =
       (alike now peer (after_calls
       (new_adapter objects listen limits) calls) l m pieces others xs ys reached e p q).adapter
@@ -576,7 +576,7 @@ module _ (objects : Contents) (listen : Listen) (limits : Limits) (calls : List 
 record HasPour (now peer : ℕ) (a : AdapterState) (pieces : List (List ℕ)) : Type 0 where
   answers : List Answer
   last : AdapterState
-  pours : Pours now peer a pieces answers last
+  pours : FeedsPieces now peer a pieces answers last
 
 pour-piece : (most : ℕ) (now peer : ℕ) (piece : List ℕ) (pieces : List (List ℕ)) (a : AdapterState)
     → length piece ≤ most → IsSound a
@@ -606,7 +606,7 @@ pour-piece (suc most) now peer (b ∷ bs) pieces a le sound later =
         let rest : HasPour now peer (after_call a (Feeds now peer (b ∷ bs)))
         (drop (call_meaning a (Feeds now peer (b ∷ bs))).taken (b ∷ bs) ∷ pieces)
         = next (omega (arith, some, size, le)) in
-        record { answers = _; last = rest.last; pours = Went_on going rest.pours }
+        record { answers = _; last = rest.last; pours = Continued going rest.pours }
 
 pour-pieces : (now peer : ℕ) (pieces : List (List ℕ)) (a : AdapterState) → IsSound a → HasPour now peer a pieces
 pour-pieces now peer [] a sound = record { answers = []; last = a; pours = Ended }
@@ -616,7 +616,7 @@ pour-pieces now peer (piece ∷ pieces) a sound =
 pub some-pour : (objects : Contents) (listen : Listen) (limits : Limits) (calls : List Call) (now peer : ℕ)
     (pieces : List (List ℕ))
     → (xs : List Answer) ×
-    ((l : AdapterState) × Pours now peer (after_calls (new_adapter objects listen limits) calls) pieces xs l)
+    ((l : AdapterState) × FeedsPieces now peer (after_calls (new_adapter objects listen limits) calls) pieces xs l)
 some-pour objects listen limits calls now peer pieces =
     let p : HasPour now peer (after_calls (new_adapter objects listen limits) calls) pieces
     = pour-pieces now peer pieces (after_calls (new_adapter objects listen limits) calls)

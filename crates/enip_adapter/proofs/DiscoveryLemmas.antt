@@ -8,21 +8,21 @@ use Rattle.cip_bytes.specs.declared.protocol.Command.{Command}
 use Rattle.cip_bytes.specs.declared.protocol.Command.TheVariants.{ListServices, ListIdentity, ListInterfaces}
 use Rattle.enip_wire.specs.Frames.{Frame, end_after}
 use Rattle.enip_wire.specs.Headers.{header_at}
-use Rattle.enip_wire.specs.Stream.{Sight, sight_of, taken_of, joined_of, cleared}
-use Rattle.enip_wire.specs.Stream.Sight.{Nothing_yet, A_frame, A_long_header}
+use Rattle.enip_wire.specs.Stream.{Parsed, parsed, bytes_taken, held_and_taken, cleared}
+use Rattle.enip_wire.specs.Stream.Parsed.{Incomplete, WholeFrame, TooLongHeader}
 use Rattle.enip_adapter.specs.declared.peer.Session.{Session}
 use Rattle.enip_adapter.specs.declared.shared.Shared.{Shared}
-use Rattle.enip_adapter.specs.declared.silence.Silence.TheVariants as silence
-use Rattle.enip_adapter.specs.Calls.{AdapterState, Held, Meaning, piece_to, piece_meaning, dropped_piece, at_a_moment, answer_of, after_meaning, events_of_sight, bytes_found, bytes_held, call_answer, after_call}
+use Rattle.enip_adapter.specs.declared.no_reply_reason.NoReplyReason.TheVariants as no_reply_reason
+use Rattle.enip_adapter.specs.Calls.{AdapterState, Held, Meaning, piece_to, piece_meaning, dropped_piece, at_a_moment, answer_of, after_meaning, events_of_parsed, bytes_found, bytes_held, call_answer, after_call}
 use Rattle.enip_adapter.specs.Calls.Call.{Feeds, Ticks}
 use Rattle.enip_adapter.specs.Commands.{by_command, command_served}
-use Rattle.enip_adapter.specs.Discovery.{is_discovery, bytes_of, frame_discovered, sight_discovered, discovered}
+use Rattle.enip_adapter.specs.Discovery.{is_discovery, bytes_of, frame_discovered, parsed_discovered, discovered}
 use Rattle.enip_adapter.specs.Lookup.{first_with, with_first}
-use Rattle.enip_adapter.specs.Replies.{Served, leaving, silent, answered}
+use Rattle.enip_adapter.specs.Replies.{Served, leaving, no_reply, answered}
 use Rattle.enip_adapter.specs.Serving.{is_open, is_peer_served}
-use Rattle.enip_adapter.specs.Turn.{State, Answer, Turned, turn, turned, new_session, session_of, session_after, sent, at_moment, shared_after}
+use Rattle.enip_adapter.specs.Turn.{State, Answer, TurnResult, turn, turned, new_session, session_of, session_after, sent, at_moment, shared_after}
 use Rattle.enip_adapter.specs.Turn.Event.{At, Framed}
-use Rattle.enip_adapter.specs.Turn.Said.{Sends}
+use Rattle.enip_adapter.specs.Turn.Output.{Sends}
 use Rattle.enip_adapter.proofs.FeedLemmas.{served_turn}
 use Rattle.enip_adapter.proofs.ListLemmas.{with_first-none, with_first-same, first_with-number}
 
@@ -36,15 +36,15 @@ no_answer false bytes e = cc
 -- What a frame that a datagram brings leaves at a moment, over TCP.
 module _ (shared : Shared) (now : ℕ) (session : Session) (f : Frame) (bytes : List ℕ) where
   -- what a frame leaves, by whether it has options, whether it has a status, and its command
-  abbrev left_of : Shared → Session → Bool → Bool → Option Command → Served
-  left_of before asking options status command =
-      cond options (leaving before (silent asking silence.Options))
-      (cond status (leaving before (silent asking silence.Status)) (by_command before asking f command))
+  abbrev held_after_next : Shared → Session → Bool → Bool → Option Command → Served
+  held_after_next before asking options status command =
+      cond options (leaving before (no_reply asking no_reply_reason.Options))
+      (cond status (leaving before (no_reply asking no_reply_reason.Status)) (by_command before asking f command))
 
   abbrev told : Bool → Bool → Bool → Option Command → Option (List ℕ)
   told options status without_data command =
       cond (is_discovery command && without_data)
-      (bytes_of (left_of shared (new_session 0) options status command).reaction.answer) None
+      (bytes_of (held_after_next shared (new_session 0) options status command).reaction.answer) None
 
   answering : (text : List ℕ) → ◌≡◌ {A = Option (List ℕ)} (Some text) (Some bytes)
       → leaving (at_moment shared now) (answered session text) ≡ leaving (at_moment shared now) (answered session bytes)
@@ -52,7 +52,7 @@ module _ (shared : Shared) (now : ℕ) (session : Session) (f : Frame) (bytes : 
 
   served_as_told : (options status without_data : Bool) (command : Option Command)
       → told options status without_data command ≡ Some bytes
-      → left_of (at_moment shared now) session options status command ≡ leaving (at_moment shared now) (answered session bytes)
+      → held_after_next (at_moment shared now) session options status command ≡ leaving (at_moment shared now) (answered session bytes)
   served_as_told true status without_data command e = absurd (no_answer (is_discovery command && without_data) bytes e)
   served_as_told false true without_data command e = absurd (no_answer (is_discovery command && without_data) bytes e)
   served_as_told false false true (Some ListServices) e = answering _ e
@@ -71,30 +71,30 @@ module _ (shared : Shared) (now : ℕ) (session : Session) (f : Frame) (bytes : 
       (command_of f.header.command)
 
 -- Only a frame is answered.
-record Brings (shared : Shared) (bytes : List ℕ) (seen : Sight) : Type 0 where
+record Brings (shared : Shared) (bytes : List ℕ) (seen : Parsed) : Type 0 where
   brought : Frame
-  is : seen ≡ A_frame brought
+  is : seen ≡ WholeFrame brought
   told : frame_discovered shared brought ≡ Some bytes
 
-brings : (shared : Shared) (bytes : List ℕ) (seen : Sight) → sight_discovered shared seen ≡ Some bytes → Brings shared bytes seen
-brings shared bytes Nothing_yet e = absurd (no_answer false bytes e)
-brings shared bytes (A_long_header h) e = absurd (no_answer false bytes e)
-brings shared bytes (A_frame f) e = record { brought = f; is = refl; told = e }
+brings : (shared : Shared) (bytes : List ℕ) (seen : Parsed) → parsed_discovered shared seen ≡ Some bytes → Brings shared bytes seen
+brings shared bytes Incomplete e = absurd (no_answer false bytes e)
+brings shared bytes (TooLongHeader h) e = absurd (no_answer false bytes e)
+brings shared bytes (WholeFrame f) e = record { brought = f; is = refl; told = e }
 
 -- A frame that is whole is taken whole.
-no_frame : (f : Frame) → Nothing_yet ≡ A_frame f → ⊥
+no_frame : (f : Frame) → Incomplete ≡ WholeFrame f → ⊥
 no_frame f e = cc
 
 none_before : (n : ℕ) → 0 + n ≡ n
 none_before n = omega arith
 
-taken_whole : (bytes : List ℕ) (f : Frame) → sight_of bytes ≡ A_frame f → taken_of [] bytes ≡ length bytes
+taken_whole : (bytes : List ℕ) (f : Frame) → parsed bytes ≡ WholeFrame f → bytes_taken [] bytes ≡ length bytes
 taken_whole bytes f e =
     ap (λ n. cond (ltb n 24) (length bytes) (min (end_after (number_at 2 2 bytes) - 0) (length bytes))) (none_before (length bytes))
     ∙ go (ltb (length bytes) 24) (ltb 65511 (number_at 2 2 bytes)) (eqb (length bytes) (24 + number_at 2 2 bytes)) refl e
   where
     go : (short long whole : Bool) → eqb (length bytes) (24 + number_at 2 2 bytes) ≡ whole
-        → cond short Nothing_yet (cond long (A_long_header (header_at bytes)) (cond whole (A_frame (record { header = header_at bytes; body = drop 24 bytes })) Nothing_yet)) ≡ A_frame f
+        → cond short Incomplete (cond long (TooLongHeader (header_at bytes)) (cond whole (WholeFrame (record { header = header_at bytes; body = drop 24 bytes })) Incomplete)) ≡ WholeFrame f
         → cond short (length bytes) (min (cond long 24 (24 + number_at 2 2 bytes) - 0) (length bytes)) ≡ length bytes
     go true long whole t e = refl
     go false true whole t e = cc
@@ -103,7 +103,7 @@ taken_whole bytes f e =
         omega (arith, counted)
     go false false false t e = absurd (no_frame f e)
 
-joined_whole : (bytes : List ℕ) (f : Frame) → sight_of bytes ≡ A_frame f → joined_of [] bytes ≡ bytes
+joined_whole : (bytes : List ℕ) (f : Frame) → parsed bytes ≡ WholeFrame f → held_and_taken [] bytes ≡ bytes
 joined_whole bytes f e = ap (λ n. take n bytes) (taken_whole bytes f e) ∙ take_all (length bytes) bytes (omega arith)
 
 -- A peer's bytes that are held already are held when none are left of a frame.
@@ -135,28 +135,28 @@ module _ (a : AdapterState) (now peer : ℕ) (datagram bytes : List ℕ) where
   abbrev framed : Frame → Meaning
   framed f = record {
     events = At now ∷ Framed peer f ∷ [];
-    taken = taken_of [] datagram;
+    taken = bytes_taken [] datagram;
     held = with_first (λ (h : Held). h.peer) peer (none_left peer) a.held;
     dropped = false;
   }
 
-  abbrev seen_meaning : List ℕ → Sight → Meaning
+  abbrev seen_meaning : List ℕ → Parsed → Meaning
   seen_meaning joined x = record {
-    events = At now ∷ events_of_sight peer x;
-    taken = taken_of [] datagram;
+    events = At now ∷ events_of_parsed peer x;
+    taken = bytes_taken [] datagram;
     held = with_first (λ (h : Held). h.peer) peer (record { peer = peer; bytes = cleared x joined }) a.held;
     dropped = false;
   }
 
-  fed_framed : (session : Session) (f : Frame) → session.closed ≡ false → bytes_held a.held peer ≡ [] → sight_of datagram ≡ A_frame f
+  fed_framed : (session : Session) (f : Frame) → session.closed ≡ false → bytes_held a.held peer ≡ [] → parsed datagram ≡ WholeFrame f
       → fed (Some session) ≡ framed f
   fed_framed session f alive empty is =
       ap (λ b. at_a_moment now (cond b (dropped_piece a.held) (piece_meaning a.held peer (bytes_held a.held peer) datagram))) alive
       ∙ ap (λ h. at_a_moment now (piece_meaning a.held peer h datagram)) empty
-      ∙ ap (seen_meaning (joined_of [] datagram)) (ap sight_of (joined_whole datagram f is) ∙ is)
+      ∙ ap (seen_meaning (held_and_taken [] datagram)) (ap parsed (joined_whole datagram f is) ∙ is)
 
   -- the turn of that frame
-  abbrev replied : Session → Turned
+  abbrev replied : Session → TurnResult
   replied session = turned (record at_now { peers = with_first (λ (p : Session). p.handle) peer (record session { closed = false }) a.state.peers }) (Sends bytes) false
 
   framed_turn : (session : Session) (f : Frame) → session_of a.state peer ≡ Some session → session.closed ≡ false → frame_discovered a.state.shared f ≡ Some bytes
@@ -194,10 +194,10 @@ module _ (a : AdapterState) (now peer : ℕ) (datagram bytes : List ℕ) where
           opened false e = refl
 
   pub answered_to_call : is_peer_served a peer ≡ true → bytes_held a.held peer ≡ [] → discovered a.state.shared datagram ≡ Some bytes
-      → ◌≡◌ {A = Answer} (call_answer a (Feeds now peer datagram)) (record { said = Sends bytes; close = false })
+      → ◌≡◌ {A = Answer} (call_answer a (Feeds now peer datagram)) (record { output = Sends bytes; close = false })
   answered_to_call served empty told =
       let here = there served in
-      let one = brings a.state.shared bytes (sight_of datagram) told in
+      let one = brings a.state.shared bytes (parsed datagram) told in
       ap (λ o. answer_of a.state (fed o)) here.found
       ∙ ap (answer_of a.state) (fed_framed here.session one.brought here.alive empty one.is)
       ∙ ap (λ t. t.answer) (framed_turn here.session one.brought here.found here.alive one.told)
@@ -206,10 +206,10 @@ module _ (a : AdapterState) (now peer : ℕ) (datagram bytes : List ℕ) where
       → after_call a (Feeds now peer datagram) ≡ after_call a (Ticks now)
   left_by_call served empty told =
       let here = there served in
-      let one = brings a.state.shared bytes (sight_of datagram) told in
+      let one = brings a.state.shared bytes (parsed datagram) told in
       ap (λ o. after_meaning a.state (fed o)) here.found
       ∙ ap (after_meaning a.state) (fed_framed here.session one.brought here.alive empty one.is)
-      ∙ ap (λ (t : Turned). let left : AdapterState = record { state = t.state; held = (framed one.brought).held } in left)
+      ∙ ap (λ (t : TurnResult). let left : AdapterState = record { state = t.state; held = (framed one.brought).held } in left)
       (framed_turn here.session one.brought here.found here.alive one.told)
       ∙ ap (λ ps. let left : AdapterState = record { state = record at_now { peers = ps }; held = (framed one.brought).held } in left)
       (still here.session here.found here.alive)

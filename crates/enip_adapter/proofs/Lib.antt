@@ -15,6 +15,6 @@ pub mod CallLemmas
 pub mod IdentityLemmas
 pub mod WaitLemmas
 pub mod ServeLemmas
-pub mod DeedLemmas
+pub mod ActionLemmas
 pub mod DiscoveryLemmas
 pub mod EndingLemmas

@@ -14,8 +14,8 @@ use Rattle.cip_manager.proofs.CallLemmas.{after_open, after_close, after_item_tu
 use Rattle.cip_manager.proofs.ListLemmas.{All-with_first, filter-swap}
 use Rattle.cip_objects.specs.Contents.{Contents}
 use Rattle.cip_objects.specs.Execution.{exec}
-use Rattle.enip_wire.specs.Stream.{Sight}
-use Rattle.enip_wire.specs.Stream.Sight.{Nothing_yet, A_frame, A_long_header}
+use Rattle.enip_wire.specs.Stream.{Parsed}
+use Rattle.enip_wire.specs.Stream.Parsed.{Incomplete, WholeFrame, TooLongHeader}
 use Rattle.enip_wire.specs.Frames.{Frame}
 use Rattle.enip_adapter.specs.declared.adapter.Limits.{Limits}
 use Rattle.enip_adapter.specs.declared.peer.Session.{Session}
@@ -23,14 +23,14 @@ use Rattle.enip_adapter.specs.declared.shared.Listen.{Listen}
 use Rattle.enip_adapter.specs.declared.shared.Shared.{Shared}
 use Rattle.enip_adapter.specs.Adapter.{new_adapter}
 use Rattle.enip_adapter.specs.Commands.{command_served, long_refused}
-use Rattle.enip_adapter.specs.declared.silence.Silence.TheVariants.{NoFrame}
+use Rattle.enip_adapter.specs.declared.no_reply_reason.NoReplyReason.TheVariants.{NoFrame}
 use Rattle.enip_adapter.specs.Replies.{Reply, Reply as replies, Served, leaving}
-use Rattle.enip_adapter.specs.Turn.{State, Event, Said, Turned, turn, begun, after, session_of, serve_found}
+use Rattle.enip_adapter.specs.Turn.{State, Event, Output, TurnResult, turn, begun, after, session_of, serve_found}
 use Rattle.enip_adapter.specs.Turn.{end_found, sent}
 use Rattle.enip_adapter.specs.Turn.Event.{Begin, End, At, Framed, Long}
-use Rattle.enip_adapter.specs.Turn.Said.{Silent}
+use Rattle.enip_adapter.specs.Turn.Output.{NoReply}
 use Rattle.enip_adapter.specs.Calls.{AdapterState, Held, Call, Meaning, call_meaning, after_call, answer_of}
-use Rattle.enip_adapter.specs.Calls.{at_a_moment, piece_to, events_of_sight}
+use Rattle.enip_adapter.specs.Calls.{at_a_moment, piece_to, events_of_parsed}
 use Rattle.enip_adapter.specs.Calls.Call.{Begins_peer, Feeds, Ends_peer, Ticks}
 use Rattle.enip_adapter.specs.Runs.{call_answers, handle_before, handles_in, RisesFrom, is_new, new_connections}
 use Rattle.enip_adapter.specs.Runs.{ids_of_events}
@@ -44,54 +44,54 @@ next-served : (s : State) (peer : ℕ) (serve : Session → Served) (o : Option 
     → (serve_found s peer serve o).state.next_handle ≡ s.next_handle
 next-served s peer serve None = refl
 next-served s peer serve (Some session) =
-    both (λ (t : Turned). t.state.next_handle ≡ s.next_handle) session.closed _ _ refl refl
+    both (λ (t : TurnResult). t.state.next_handle ≡ s.next_handle) session.closed _ _ refl refl
 
-pub next-sight : (s : State) (peer : ℕ) (x : Sight) → (after s (events_of_sight peer x)).next_handle
+pub next-parsed_frame : (s : State) (peer : ℕ) (x : Parsed) → (after s (events_of_parsed peer x)).next_handle
     ≡ s.next_handle
-next-sight s peer Nothing_yet = refl
-next-sight s peer (A_frame f) =
+next-parsed_frame s peer Incomplete = refl
+next-parsed_frame s peer (WholeFrame f) =
     next-served s peer (λ session. command_served s.shared session f) (session_of s peer)
-next-sight s peer (A_long_header h) =
+next-parsed_frame s peer (TooLongHeader h) =
     next-served s peer (λ session. leaving s.shared (long_refused session h)) (session_of s peer)
 
 -- A frame gives no handle out.
-abbrev IsQuiet : Said → Type 0
-IsQuiet said = (more : List ℕ) → handle_before said more ≡ more
+abbrev IsQuiet : Output → Type 0
+IsQuiet output = (more : List ℕ) → handle_before output more ≡ more
 
 quiet-sent : (reply : Reply) → IsQuiet (sent reply)
-quiet-sent (replies.Silent why) more = refl
+quiet-sent (replies.NoReply why) more = refl
 quiet-sent (replies.Sends bytes) more = refl
 
 quiet-served : (s : State) (peer : ℕ) (serve : Session → Served) (o : Option Session)
-    → IsQuiet (serve_found s peer serve o).answer.said
+    → IsQuiet (serve_found s peer serve o).answer.output
 quiet-served s peer serve None = λ more. refl
 quiet-served s peer serve (Some session) =
-    both (λ (t : Turned). IsQuiet t.answer.said) session.closed _ _ (λ more. refl)
+    both (λ (t : TurnResult). IsQuiet t.answer.output) session.closed _ _ (λ more. refl)
     (quiet-sent (serve session).reaction.answer)
 
 -- A call that gives no handle out and leaves the next.
 record IsPlain (s : State) (m : Meaning) : Type 0 where
-  said : IsQuiet (answer_of s m).said
+  output : IsQuiet (answer_of s m).output
   next_handle : (after s m.events).next_handle ≡ s.next_handle
 
 plain-feed : (s : State) (now peer : ℕ) (piece : List ℕ) (held : List Held) (o : Option Session)
     → IsPlain s (at_a_moment now (piece_to held peer piece o))
 plain-feed s now peer piece held o =
-    of_piece (IsPlain s) now peer piece held o (record { said = λ more. refl; next_handle = refl }) sights
+    of_piece (IsPlain s) now peer piece held o (record { output = λ more. refl; next_handle = refl }) sights
   where
-    sights : (x : Sight) (n : ℕ) (left : List Held)
+    sights : (x : Parsed) (n : ℕ) (left : List Held)
         → IsPlain s (at_a_moment now
-        (record { events = events_of_sight peer x; taken = n; held = left; dropped = false }))
-    sights Nothing_yet n left = record { said = λ more. refl; next_handle = refl }
-    sights (A_frame f) n left = record {
-      said = quiet-served (at_state s now) peer (λ session. command_served (at_state s now).shared session f)
+        (record { events = events_of_parsed peer x; taken = n; held = left; dropped = false }))
+    sights Incomplete n left = record { output = λ more. refl; next_handle = refl }
+    sights (WholeFrame f) n left = record {
+      output = quiet-served (at_state s now) peer (λ session. command_served (at_state s now).shared session f)
           (session_of (at_state s now) peer);
-      next_handle = next-sight (at_state s now) peer (A_frame f);
+      next_handle = next-parsed_frame (at_state s now) peer (WholeFrame f);
     }
-    sights (A_long_header h) n left = record {
-      said = quiet-served (at_state s now) peer (λ session. leaving (at_state s now).shared (long_refused session h))
+    sights (TooLongHeader h) n left = record {
+      output = quiet-served (at_state s now) peer (λ session. leaving (at_state s now).shared (long_refused session h))
           (session_of (at_state s now) peer);
-      next_handle = next-sight (at_state s now) peer (A_long_header h);
+      next_handle = next-parsed_frame (at_state s now) peer (TooLongHeader h);
     }
 
 pub next-ended : (s : State) (peer : ℕ) (o : Option Session) → (end_found s peer o).next_handle
@@ -99,16 +99,16 @@ pub next-ended : (s : State) (peer : ℕ) (o : Option Session) → (end_found s 
 next-ended s peer None = refl
 next-ended s peer (Some session) = refl
 
-rises-plain : (n m : ℕ) (said : Said) (more : List ℕ) → IsQuiet said → m ≡ n → RisesFrom m more
-    → RisesFrom n (handle_before said more)
-rises-plain n m said more quiet same rises = subst (RisesFrom n) (sym (quiet more))
+rises-plain : (n m : ℕ) (output : Output) (more : List ℕ) → IsQuiet output → m ≡ n → RisesFrom m more
+    → RisesFrom n (handle_before output more)
+rises-plain n m output more quiet same rises = subst (RisesFrom n) (sym (quiet more))
     (subst (λ k. RisesFrom k more) same rises)
 
 rises-begun : (s : State) (more : List ℕ) → RisesFrom (begun s).state.next_handle more
-    → RisesFrom s.next_handle (handle_before (begun s).answer.said more)
+    → RisesFrom s.next_handle (handle_before (begun s).answer.output more)
 rises-begun s more =
-    let P : Turned → Type 0 = λ t. RisesFrom t.state.next_handle more
-    → RisesFrom s.next_handle (handle_before t.answer.said more) in
+    let P : TurnResult → Type 0 = λ t. RisesFrom t.state.next_handle more
+    → RisesFrom s.next_handle (handle_before t.answer.output more) in
     both P (not (ltb (length s.peers) s.places)) _ _ (λ r. r)
     (both P (ltb 0xffffffff s.next_handle) _ _ (λ r. r) (λ r. (omega arith, r)))
 
@@ -121,10 +121,10 @@ handles-rise a (Begins_peer ∷ cs) =
 handles-rise a (Feeds now peer piece ∷ cs) =
     let p : IsPlain a.state (call_meaning a (Feeds now peer piece)) = plain-feed a.state now peer piece a.held
     (session_of a.state peer) in
-    rises-plain a.state.next_handle _ _ _ p.said p.next_handle
+    rises-plain a.state.next_handle _ _ _ p.output p.next_handle
     (handles-rise (after_call a (Feeds now peer piece)) cs)
 handles-rise a (Ends_peer peer ∷ cs) =
-    rises-plain a.state.next_handle _ (Silent NoFrame) _ (λ more. refl) (next-ended a.state peer (session_of a.state peer))
+    rises-plain a.state.next_handle _ (NoReply NoFrame) _ (λ more. refl) (next-ended a.state peer (session_of a.state peer))
     (handles-rise (after_call a (Ends_peer peer)) cs)
 handles-rise a (Ticks now ∷ cs) = handles-rise (after_call a (Ticks now)) cs
 
@@ -263,7 +263,7 @@ rises-served : (s : State) (peer : ℕ) (serve : Session → Served) (o : Option
     → Rises s.shared.manager (serve_found s peer serve o).state.shared.manager
 rises-served s peer serve None drawn rises = rises-same s.shared.manager drawn
 rises-served s peer serve (Some session) drawn rises =
-    both (λ (t : Turned). Rises s.shared.manager t.state.shared.manager) session.closed _ _
+    both (λ (t : TurnResult). Rises s.shared.manager t.state.shared.manager) session.closed _ _
     (rises-same s.shared.manager drawn)
     (both (λ (t : Shared). Rises s.shared.manager t.manager) (serve session).reaction.close _ _
     (rises-then (λ c. not (is_of_session session.handle c)) s.shared.manager (serve session).shared.manager
@@ -277,9 +277,9 @@ rises-ended s peer (Some session) drawn = rises-filter (λ c. not (is_of_session
 rises-event : (s : State) (e : Event) → AreDrawn s.shared.manager
     → Rises s.shared.manager (turn s e).state.shared.manager
 rises-event s Begin drawn =
-    both (λ (t : Turned). Rises s.shared.manager t.state.shared.manager) (not (ltb (length s.peers) s.places)) _ _
+    both (λ (t : TurnResult). Rises s.shared.manager t.state.shared.manager) (not (ltb (length s.peers) s.places)) _ _
     (rises-same s.shared.manager drawn)
-    (both (λ (t : Turned). Rises s.shared.manager t.state.shared.manager) (ltb 0xffffffff s.next_handle) _ _
+    (both (λ (t : TurnResult). Rises s.shared.manager t.state.shared.manager) (ltb 0xffffffff s.next_handle) _ _
     (rises-same s.shared.manager drawn) (rises-same s.shared.manager drawn))
 rises-event s (End peer) drawn = rises-ended s peer (session_of s peer) drawn
 rises-event s (At now) drawn = rises-filter (is_open_at (max s.shared.moment now)) s.shared.manager drawn

@@ -8,25 +8,25 @@ use Rattle.cip_bytes.specs.declared.protocol.Command.{Command}
 use Rattle.cip_bytes.specs.declared.protocol.Command.TheVariants.{SendRRData, SendUnitData}
 use Rattle.enip_wire.specs.Bodies.{rr_body_of, unit_body_of}
 use Rattle.enip_wire.specs.Frames.{Frame}
-use Rattle.enip_wire.specs.Stream.{Sight, joined_of, sight_of, cleared}
-use Rattle.enip_wire.specs.Stream.Sight.{Nothing_yet, A_frame, A_long_header}
+use Rattle.enip_wire.specs.Stream.{Parsed, held_and_taken, parsed, cleared}
+use Rattle.enip_wire.specs.Stream.Parsed.{Incomplete, WholeFrame, TooLongHeader}
 use Rattle.enip_wire.specs.declared.item_list.CpfFault.{CpfFault}
 use Rattle.enip_adapter.specs.declared.peer.Session.{Session}
 use Rattle.enip_adapter.specs.declared.shared.Shared.{Shared}
-use Rattle.enip_adapter.specs.declared.silence.Silence.TheVariants.{NotServed}
+use Rattle.enip_adapter.specs.declared.no_reply_reason.NoReplyReason.TheVariants.{NotServed}
 use Rattle.enip_adapter.specs.Adapter.{new_adapter}
 use Rattle.enip_adapter.specs.Commands.{by_command, command_served, long_refused}
 use Rattle.enip_adapter.specs.Lookup.{first_with, with_first}
 use Rattle.enip_adapter.specs.Replies.{Served, leaving, is_registered_as}
 use Rattle.enip_adapter.specs.SendRRData.{reply_to_body}
 use Rattle.enip_adapter.specs.SendUnitData.{item_of_body}
-use Rattle.enip_adapter.specs.Turn.{State, Turned, turned, begun, new_session, after, session_of}
+use Rattle.enip_adapter.specs.Turn.{State, TurnResult, turned, begun, new_session, after, session_of}
 use Rattle.enip_adapter.specs.Turn.{serve_found, session_after, shared_after, sent}
 use Rattle.enip_adapter.specs.Turn.Event.{At}
-use Rattle.enip_adapter.specs.Turn.Said.{Silent, Begins}
+use Rattle.enip_adapter.specs.Turn.Output.{NoReply, Begins}
 use Rattle.enip_adapter.specs.Calls.{AdapterState, Held, Call, Meaning, call_meaning, after_call, after_meaning}
 use Rattle.enip_adapter.specs.Calls.{bytes_found, bytes_held, piece_to, piece_meaning, dropped_piece, at_a_moment}
-use Rattle.enip_adapter.specs.Calls.{events_of_sight}
+use Rattle.enip_adapter.specs.Calls.{events_of_parsed}
 use Rattle.enip_adapter.specs.Calls.Call.{Begins_peer, Feeds, Ends_peer, Ticks}
 use Rattle.enip_adapter.specs.Runs.{after_calls, events_of_calls, frames_of_peer, IsForOther, GoesOn, Run}
 use Rattle.enip_adapter.specs.Runs.{at_beginning, at_end, taken_in, frames_in}
@@ -34,7 +34,7 @@ use Rattle.enip_adapter.proofs.CutLemmas.{feed-open}
 use Rattle.enip_adapter.proofs.ListLemmas.{both, first_with-number, first_with-set, first_with-behind, next-none}
 use Rattle.enip_adapter.proofs.ListLemmas.{numbers-none}
 use Rattle.enip_adapter.proofs.PeerLemmas.{at_state, held-call, session-call}
-use Rattle.enip_wire.proofs.RunningLemmas.{sight_of-running}
+use Rattle.enip_wire.proofs.RunningLemmas.{parsed-running}
 use Rattle.enip_adapter.proofs.SoundLemmas.{IsSound, sound-call, sound-calls, sound-new, entry-of, no-entry}
 use Rattle.enip_adapter.proofs.StreamLemmas.{frames-append, no-frames, same-runs}
 
@@ -102,13 +102,13 @@ steps-same s t session (f ∷ fs) = ap (λ x. steps s x fs) (step-same s t sessi
     ∙ steps-same s t (step t session f) fs
 
 -- And with a long header held it is closed.
-abbrev pub closing : Session → Sight → Session
-closing session Nothing_yet = session
-closing session (A_frame f) = session
-closing session (A_long_header h) = record session { closed = true }
+abbrev pub closing : Session → Parsed → Session
+closing session Incomplete = session
+closing session (WholeFrame f) = session
+closing session (TooLongHeader h) = record session { closed = true }
 
 -- The session after a piece of its own, while it is open.
-abbrev pub served_turn : State → ℕ → (Session → Served) → Session → Turned
+abbrev pub served_turn : State → ℕ → (Session → Served) → Session → TurnResult
 served_turn s peer serve session =
     turned (record s {
       shared = shared_after session (serve session);
@@ -130,35 +130,35 @@ served-open s peer serve session e alive =
         (first_with-number (λ (p : Session). p.handle) peer session s.peers e)
 
     go : (b : Bool) → b ≡ false
-        → session_of (cond b (turned s (Silent NotServed) true) (served_turn s peer serve session)).state peer
+        → session_of (cond b (turned s (NoReply NotServed) true) (served_turn s peer serve session)).state peer
         ≡ Some (session_after session (serve session))
     go true bad = cc
     go false same = set
 
 own-open : (base : Shared) (a : AdapterState) (now peer n : ℕ) (bytes : List ℕ) (session : Session) (old : Held)
-    (x : Sight)
+    (x : Parsed)
     → session_of a.state peer ≡ Some session → session.closed ≡ false → first_with (λ (h : Held). h.peer) peer a.held
-    ≡ Some old → sight_of bytes ≡ x
-    → session_of (after (at_state a.state now) (events_of_sight peer x)) peer
-    ≡ Some (closing (steps base session (frames_of_peer peer (At now ∷ events_of_sight peer x)))
-    (sight_of (bytes_held
+    ≡ Some old → parsed bytes ≡ x
+    → session_of (after (at_state a.state now) (events_of_parsed peer x)) peer
+    ≡ Some (closing (steps base session (frames_of_peer peer (At now ∷ events_of_parsed peer x)))
+    (parsed (bytes_held
     (with_first (λ (h : Held). h.peer) peer (record { peer = peer; bytes = cleared x bytes }) a.held) peer)))
 own-open base a now peer n bytes session old x e alive entry seen =
     go x seen ∙ ap (λ s. Some
-    (closing (steps base session (frames_of_peer peer (At now ∷ events_of_sight peer x)))
-    (sight_of (bytes_found s))))
+    (closing (steps base session (frames_of_peer peer (At now ∷ events_of_parsed peer x)))
+    (parsed (bytes_found s))))
     (sym (first_with-set (λ (h : Held). h.peer) peer old _ a.held entry refl))
   where
-    go : (y : Sight) → sight_of bytes ≡ y
-        → session_of (after (at_state a.state now) (events_of_sight peer y)) peer
-        ≡ Some (closing (steps base session (frames_of_peer peer (At now ∷ events_of_sight peer y)))
-        (sight_of (cleared y bytes)))
-    go Nothing_yet k = e ∙ ap (λ z. Some (closing session z)) (sym k)
-    go (A_frame f) k =
+    go : (y : Parsed) → parsed bytes ≡ y
+        → session_of (after (at_state a.state now) (events_of_parsed peer y)) peer
+        ≡ Some (closing (steps base session (frames_of_peer peer (At now ∷ events_of_parsed peer y)))
+        (parsed (cleared y bytes)))
+    go Incomplete k = e ∙ ap (λ z. Some (closing session z)) (sym k)
+    go (WholeFrame f) k =
         served-open (at_state a.state now) peer (λ p. command_served (at_state a.state now).shared p f) session e alive
         ∙ (ap (λ p. Some p) (step-same (at_state a.state now).shared base session f)
         ∙ ap (λ b. Some (steps base session (cond b (f ∷ []) []))) (sym (eq-eqb peer peer refl)))
-    go (A_long_header h) k =
+    go (TooLongHeader h) k =
         served-open (at_state a.state now) peer
         (λ p. leaving (at_state a.state now).shared (long_refused p h)) session e alive
         ∙ ap (λ z. Some (closing session z)) (sym k)
@@ -166,13 +166,13 @@ own-open base a now peer n bytes session old x e alive entry seen =
 -- What calls leave of a session that its frames and what is held say.
 abbrev pub Says : Shared → ℕ → Session → List Frame → AdapterState → Type 0
 Says base peer session frames a = session_of a.state peer
-    ≡ Some (closing (steps base session frames) (sight_of (bytes_held a.held peer)))
+    ≡ Some (closing (steps base session frames) (parsed (bytes_held a.held peer)))
 
 says-own : (base : Shared) (a : AdapterState) (now peer : ℕ) (piece : List ℕ) (session : Session) → IsSound a
     → Says base peer session [] a
     → Says base peer session (frames_of_peer peer (call_meaning a (Feeds now peer piece)).events)
     (after_call a (Feeds now peer piece))
-says-own base a now peer piece session sound says = go (closing session (sight_of (bytes_held a.held peer))) says refl
+says-own base a now peer piece session sound says = go (closing session (parsed (bytes_held a.held peer))) says refl
   where
     dropped : (found : Session) → session_of a.state peer ≡ Some found → found.closed ≡ true
         → call_meaning a (Feeds now peer piece) ≡ at_a_moment now (dropped_piece a.held)
@@ -182,7 +182,7 @@ says-own base a now peer piece session sound says = go (closing session (sight_o
         (cond b (dropped_piece a.held) (piece_meaning a.held peer (bytes_held a.held peer) piece))) shut
 
     by_close : (found : Session) → session_of a.state peer ≡ Some found
-        → closing session (sight_of (bytes_held a.held peer)) ≡ found
+        → closing session (parsed (bytes_held a.held peer)) ≡ found
         → (b : Bool) → found.closed ≡ b
         → Says base peer session (frames_of_peer peer (call_meaning a (Feeds now peer piece)).events)
         (after_call a (Feeds now peer piece))
@@ -190,19 +190,19 @@ says-own base a now peer piece session sound says = go (closing session (sight_o
         subst (λ (m : Meaning). Says base peer session (frames_of_peer peer m.events) (after_meaning a.state m))
         (sym (dropped found e shut)) says
     by_close found e is false alive =
-        let none : sight_of (bytes_held a.held peer)
-        ≡ Nothing_yet = sight_of-running (bytes_held a.held peer) (sound.ready peer found e alive) in
+        let none : parsed (bytes_held a.held peer)
+        ≡ Incomplete = parsed-running (bytes_held a.held peer) (sound.ready peer found e alive) in
         let same : session ≡ found = ap (closing session) (sym none) ∙ is in
         let entry : (old : Held)
         × (first_with (λ (h : Held). h.peer) peer a.held ≡ Some old) = entry-of a peer found sound e in
         subst (λ (m : Meaning). Says base peer session (frames_of_peer peer m.events) (after_meaning a.state m))
         (sym (feed-open a now peer piece (record { session = found; found = e; alive = alive })))
-        (own-open base a now peer 0 (joined_of (bytes_held a.held peer) piece) session entry.0
-        (sight_of (joined_of (bytes_held a.held peer) piece))
+        (own-open base a now peer 0 (held_and_taken (bytes_held a.held peer) piece) session entry.0
+        (parsed (held_and_taken (bytes_held a.held peer) piece))
         (e ∙ ap (λ p. Some p) (sym same)) (ap (λ (p : Session). p.closed) same ∙ alive) entry.1 refl)
 
     go : (found : Session) → session_of a.state peer ≡ Some found
-        → closing session (sight_of (bytes_held a.held peer)) ≡ found
+        → closing session (parsed (bytes_held a.held peer)) ≡ found
         → Says base peer session (frames_of_peer peer (call_meaning a (Feeds now peer piece)).events)
         (after_call a (Feeds now peer piece))
     go found e is = by_close found e is found.closed refl
@@ -212,15 +212,15 @@ says-other : (base : Shared) (peer : ℕ) (session : Session) (a : AdapterState)
     → Says base peer session (frames_of_peer peer (call_meaning a c).events) (after_call a c)
 says-other base peer session a c other says none =
     session-call peer _ a c other says
-    ∙ (ap (λ b. Some (closing session (sight_of b))) (sym (held-call peer a c other))
-    ∙ ap (λ fs. Some (closing (steps base session fs) (sight_of (bytes_held (after_call a c).held peer)))) (sym none))
+    ∙ (ap (λ b. Some (closing session (parsed b))) (sym (held-call peer a c other))
+    ∙ ap (λ fs. Some (closing (steps base session fs) (parsed (bytes_held (after_call a c).held peer)))) (sym none))
 
 none-other : (peer other now : ℕ) (piece : List ℕ) (held : List Held) (o : Option Session) → eqb other peer ≡ false
     → frames_of_peer peer (at_a_moment now (piece_to held other piece o)).events ≡ []
 none-other peer other now piece held None differ = refl
 none-other peer other now piece held (Some session) differ =
     both (λ (m : Meaning). frames_of_peer peer (at_a_moment now m).events ≡ []) session.closed _ _ refl
-    (no-frames peer other now (sight_of (joined_of (bytes_held held other) piece)) differ)
+    (no-frames peer other now (parsed (held_and_taken (bytes_held held other) piece)) differ)
 
 pub says-call : (base : Shared) (peer : ℕ) (session : Session) (a : AdapterState) (c : Call) → IsSound a → GoesOn peer c
     → Says base peer session [] a
@@ -252,24 +252,24 @@ says-calls base peer session a (c ∷ cs) sound goes says =
     says-calls base peer (steps base session (frames_of_peer peer (call_meaning a c).events)) (after_call a c) cs
     (sound-call a c sound) goes.1
     (says-call base peer session a c sound goes.0 says)
-    ∙ ap (λ s. Some (closing s (sight_of (bytes_held (after_calls (after_call a c) cs).held peer))))
+    ∙ ap (λ s. Some (closing s (parsed (bytes_held (after_calls (after_call a c) cs).held peer))))
     (sym (steps-append base session (frames_of_peer peer (call_meaning a c).events)
     (frames_of_peer peer (events_of_calls (after_call a c) cs)))
     ∙ ap (steps base session)
     (sym (frames-append peer (call_meaning a c).events (events_of_calls (after_call a c) cs))))
 
 -- A peer that begins.
-begins-next : (s : State) (peer : ℕ) → (begun s).answer.said ≡ Begins peer → s.next_handle ≡ peer
+begins-next : (s : State) (peer : ℕ) → (begun s).answer.output ≡ Begins peer → s.next_handle ≡ peer
 begins-next s peer =
-    let P : Turned → Type 0 = λ t. t.answer.said ≡ Begins peer → s.next_handle ≡ peer in
+    let P : TurnResult → Type 0 = λ t. t.answer.output ≡ Begins peer → s.next_handle ≡ peer in
     both P (not (ltb (length s.peers) s.places)) _ _ (λ e. cc)
     (both P (ltb 0xffffffff s.next_handle) _ _ (λ e. cc)
     (λ e. let f : Begins s.next_handle ≡ Begins peer = e in cc))
 
-begun-session : (s : State) (peer : ℕ) → session_of s peer ≡ None → (begun s).answer.said ≡ Begins peer
+begun-session : (s : State) (peer : ℕ) → session_of s peer ≡ None → (begun s).answer.output ≡ Begins peer
     → session_of (begun s).state peer ≡ Some (new_session peer)
 begun-session s peer none =
-    let P : Turned → Type 0 = λ t. t.answer.said ≡ Begins peer → session_of t.state peer ≡ Some (new_session peer) in
+    let P : TurnResult → Type 0 = λ t. t.answer.output ≡ Begins peer → session_of t.state peer ≡ Some (new_session peer) in
     both P (not (ltb (length s.peers) s.places)) _ _ (λ e. cc)
     (both P (ltb 0xffffffff s.next_handle) _ _ (λ e. cc)
     (λ e.
@@ -278,7 +278,7 @@ begun-session s peer none =
     ∙ (ap (λ b. cond b (Some (new_session s.next_handle)) None) (eq-eqb s.next_handle peer same)
     ∙ ap (λ n. Some (new_session n)) same)))
 
-pub says-beginning : (base : Shared) (a : AdapterState) (peer : ℕ) → IsSound a → (begun a.state).answer.said ≡ Begins peer
+pub says-beginning : (base : Shared) (a : AdapterState) (peer : ℕ) → IsSound a → (begun a.state).answer.output ≡ Begins peer
     → Says base peer (new_session peer) [] (after_call a Begins_peer)
 says-beginning base a peer sound e =
     let none : session_of a.state peer ≡ None
@@ -287,7 +287,7 @@ says-beginning base a peer sound e =
     (next-none a.state.next_handle _ sound.drawn)) in
     let held : bytes_held (after_call a Begins_peer).held peer ≡ []
     = held-call peer a Begins_peer tt ∙ ap bytes_found (no-entry a peer sound.same none) in
-    begun-session a.state peer none e ∙ ap (λ b. Some (closing (new_session peer) (sight_of b))) (sym held)
+    begun-session a.state peer none e ∙ ap (λ b. Some (closing (new_session peer) (parsed b))) (sym held)
 
 pub says-run : (base : Shared) (peer : ℕ) (run : Run peer)
     → Says base peer (new_session peer) (frames_in peer run) (at_end peer run)
@@ -310,7 +310,7 @@ same-session peer r s same =
     let base : Shared = (at_beginning peer r).state.shared in
     says-run (at_beginning peer r).state.shared peer r
     ∙ (ap (λ fs. Some (closing (steps (at_beginning peer r).state.shared (new_session peer) fs)
-    (sight_of (bytes_held (at_end peer r).held peer)))) both_same.0
+    (parsed (bytes_held (at_end peer r).held peer)))) both_same.0
     ∙ (ap (λ b. Some (closing (steps (at_beginning peer r).state.shared (new_session peer) (frames_in peer s))
-    (sight_of b))) both_same.1
+    (parsed b))) both_same.1
     ∙ sym (says-run (at_beginning peer r).state.shared peer s)))

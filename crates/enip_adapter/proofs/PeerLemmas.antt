@@ -5,24 +5,24 @@ use Rattle.std.specs.Prelude.{filter, max}
 use Rattle.std.specs.List.{AllByRecursion}
 use Rattle.cip_manager.specs.declared.connection.Connection.{Connection}
 use Rattle.cip_manager.specs.Connection.{is_of_session, is_open_at}
-use Rattle.cip_manager.specs.Runs.{ManagerCall, Opens, Closes, Receives, Ends, IsOfOther, of_session}
+use Rattle.cip_manager.specs.Runs.{ManagerCall, Opens, Closes, Receives, ServeState, IsOfOther, of_session}
 use Rattle.cip_manager.specs.Runs.{state_after, is_open_after_all}
 use Rattle.cip_manager.proofs.SessionLemmas.{calls-of_other}
 use Rattle.cip_manager.proofs.ListLemmas.{filter-true, filter-filter, filter-swap}
 use Rattle.cip_objects.specs.Contents.{Contents}
 use Rattle.cip_objects.specs.Execution.{exec}
 use Rattle.enip_wire.specs.Frames.{Frame}
-use Rattle.enip_wire.specs.Stream.{Sight, joined_of, sight_of}
-use Rattle.enip_wire.specs.Stream.Sight.{Nothing_yet, A_frame, A_long_header}
+use Rattle.enip_wire.specs.Stream.{Parsed, held_and_taken, parsed}
+use Rattle.enip_wire.specs.Stream.Parsed.{Incomplete, WholeFrame, TooLongHeader}
 use Rattle.enip_adapter.specs.declared.peer.Session.{Session}
 use Rattle.enip_adapter.specs.declared.shared.Shared.{Shared}
 use Rattle.enip_adapter.specs.Commands.{command_served, long_refused}
 use Rattle.enip_adapter.specs.Lookup.{first_with}
 use Rattle.enip_adapter.specs.Replies.{Served, leaving}
-use Rattle.enip_adapter.specs.Turn.{State, Turned, begun, after, session_of, serve_found, end_found, session_after}
+use Rattle.enip_adapter.specs.Turn.{State, TurnResult, begun, after, session_of, serve_found, end_found, session_after}
 use Rattle.enip_adapter.specs.Turn.{shared_after, without_connections, at_moment}
 use Rattle.enip_adapter.specs.Calls.{AdapterState, Held, Call, Meaning, after_call, bytes_found, bytes_held}
-use Rattle.enip_adapter.specs.Calls.{held_at_beginning, piece_to, events_of_sight}
+use Rattle.enip_adapter.specs.Calls.{held_at_beginning, piece_to, events_of_parsed}
 use Rattle.enip_adapter.specs.Calls.Call.{Begins_peer, Feeds, Ends_peer, Ticks}
 use Rattle.enip_adapter.specs.Runs.{after_calls, IsForOther, moments_of_calls, is_open_at_all}
 use Rattle.enip_adapter.proofs.CommandLemmas.{after_command}
@@ -82,7 +82,7 @@ leaves-command peer shared session f differ =
 leaves-ended : (peer : ℕ) (shared : Shared) (session : ℕ) → session ≢ peer
     → Leaves peer shared (without_connections shared session)
 leaves-ended peer shared session differ = record {
-  connections = leaves-manager peer shared (Ends session) differ ∙ filter-true (connections_of peer shared);
+  connections = leaves-manager peer shared (ServeState session) differ ∙ filter-true (connections_of peer shared);
   moment = refl;
 }
 
@@ -114,7 +114,7 @@ spares-served s peer other serve (Some session) differ found serves =
     let differs : session.handle ≢ peer = λ e. differ (sym number ∙ e) in
     let left : Leaves peer s.shared (shared_after session (serve session))
     = leaves-after peer s.shared session (serve session) differs (serves session differs) in
-    both (λ (t : Turned). Spares peer s t.state) session.closed _ _ (spares-same peer s)
+    both (λ (t : TurnResult). Spares peer s t.state) session.closed _ _ (spares-same peer s)
     (record {
       connections = left.connections;
       moment = left.moment;
@@ -132,17 +132,17 @@ spares-ended s peer other (Some session) differ = record {
 
 spares-begun : (s : State) (peer : ℕ) → Spares peer s (begun s).state
 spares-begun s peer =
-    both (λ (t : Turned). Spares peer s t.state) (not (ltb (length s.peers) s.places)) _ _ (spares-same peer s)
-    (both (λ (t : Turned). Spares peer s t.state) (ltb 0xffffffff s.next_handle) _ _ (spares-same peer s)
+    both (λ (t : TurnResult). Spares peer s t.state) (not (ltb (length s.peers) s.places)) _ _ (spares-same peer s)
+    (both (λ (t : TurnResult). Spares peer s t.state) (ltb 0xffffffff s.next_handle) _ _ (spares-same peer s)
     (record { connections = refl; moment = refl; session = λ mine e. first_with-append (λ p. p.handle) peer mine s.peers _ e }))
 
-spares-sight : (s : State) (peer other : ℕ) (x : Sight) → other ≢ peer
-    → Spares peer s (after s (events_of_sight other x))
-spares-sight s peer other Nothing_yet differ = spares-same peer s
-spares-sight s peer other (A_frame f) differ =
+spares-parsed_frame : (s : State) (peer other : ℕ) (x : Parsed) → other ≢ peer
+    → Spares peer s (after s (events_of_parsed other x))
+spares-parsed_frame s peer other Incomplete differ = spares-same peer s
+spares-parsed_frame s peer other (WholeFrame f) differ =
     spares-served s peer other (λ session. command_served s.shared session f) (session_of s other) differ refl
     (λ session d. leaves-command peer s.shared session f d)
-spares-sight s peer other (A_long_header h) differ =
+spares-parsed_frame s peer other (TooLongHeader h) differ =
     spares-served s peer other (λ session. leaving s.shared (long_refused session h)) (session_of s other) differ refl
     (λ session d. leaves-same peer s.shared)
 
@@ -151,7 +151,7 @@ spares-piece : (s : State) (peer other : ℕ) (piece : List ℕ) (held : List He
 spares-piece s peer other piece held None differ = spares-same peer s
 spares-piece s peer other piece held (Some session) differ =
     both (λ (m : Meaning). Spares peer s (after s m.events)) session.closed _ _ (spares-same peer s)
-    (spares-sight s peer other (sight_of (joined_of (bytes_held held other) piece)) differ)
+    (spares-parsed_frame s peer other (parsed (held_and_taken (bytes_held held other) piece)) differ)
 
 -- The bytes that are held of a peer, after a piece for another and after a beginning.
 held-piece : (peer other : ℕ) (piece : List ℕ) (held : List Held) (o : Option Session) → other ≢ peer
@@ -177,11 +177,11 @@ held-behind peer handle held = go (first_with (λ h. h.peer) peer held) refl
     go (Some h) e = ap bytes_found (first_with-append (λ h. h.peer) peer h held _ e) ∙ sym (ap bytes_found e)
 
 pub held-begun : (s : State) (peer : ℕ) (held : List Held)
-    → bytes_held (held_at_beginning held (begun s).answer.said) peer ≡ bytes_held held peer
+    → bytes_held (held_at_beginning held (begun s).answer.output) peer ≡ bytes_held held peer
 held-begun s peer held =
-    both (λ (t : Turned). bytes_held (held_at_beginning held t.answer.said) peer ≡ bytes_held held peer)
+    both (λ (t : TurnResult). bytes_held (held_at_beginning held t.answer.output) peer ≡ bytes_held held peer)
     (not (ltb (length s.peers) s.places)) _ _ refl
-    (both (λ (t : Turned). bytes_held (held_at_beginning held t.answer.said) peer ≡ bytes_held held peer)
+    (both (λ (t : TurnResult). bytes_held (held_at_beginning held t.answer.output) peer ≡ bytes_held held peer)
     (ltb 0xffffffff s.next_handle) _ _ refl
     (held-behind peer s.next_handle held))
 

@@ -5,7 +5,7 @@ use Rattle.std.proofs.KnownBytes.{Appends-nil, Appends-trans}
 use Rattle.std.specs.Io.KnownBytes.{Appends, Consumes, Keeps}
 use Rattle.enip_adapter.specs.Calls.{AdapterState, call_meaning, call_answer, after_call}
 use Rattle.enip_adapter.specs.Calls.Call.{Feeds}
-use Rattle.enip_adapter.specs.Serving.{Feeding, feeds, fed_more, bytes_said, GoesOn, AllGoOn, FedWhole}
+use Rattle.enip_adapter.specs.Serving.{FeedState, feeds, fed_more, output_bytes, GoesOn, AllGoOn, FedWhole}
 
 -- So many bytes of a piece were fed, each feed went on, and what they answered was written.
 pub record HasFed (now peer : ℕ) (a : AdapterState) (piece : List ℕ) (fed : ℕ) (new : AdapterState) (before after : Option (List ℕ)) : Type 0 where
@@ -36,12 +36,12 @@ at_feeding : (now peer : ℕ) (a : AdapterState) (piece rest : List ℕ) (k : �
     → (feeds now peer a piece k).rest ≡ rest → seen ≡ (feeds now peer a piece k).adapter
     → feeds now peer a piece k ≡ record { adapter = seen; rest = rest; sent = (feeds now peer a piece k).sent }
 at_feeding now peer a piece rest k seen is at =
-    ap (λ r. let f : Feeding = record { adapter = (feeds now peer a piece k).adapter; rest = r; sent = (feeds now peer a piece k).sent } in f) is
-    ∙ ap (λ s. let f : Feeding = record { adapter = s; rest = rest; sent = (feeds now peer a piece k).sent } in f) (sym at)
+    ap (λ r. let f : FeedState = record { adapter = (feeds now peer a piece k).adapter; rest = r; sent = (feeds now peer a piece k).sent } in f) is
+    ∙ ap (λ s. let f : FeedState = record { adapter = s; rest = rest; sent = (feeds now peer a piece k).sent } in f) (sym at)
 
 -- The bytes that one more feed answers, told by the rest and the adapter that it is made with.
 abbrev pub more_answer : ℕ → ℕ → AdapterState → List ℕ → List ℕ
-more_answer now peer seen rest = bytes_said (call_answer seen (Feeds now peer rest)).said
+more_answer now peer seen rest = output_bytes (call_answer seen (Feeds now peer rest)).output
 
 -- it goes on where that call does not close
 goes_on : (now peer : ℕ) (a seen : AdapterState) (piece rest : List ℕ) (k : ℕ)

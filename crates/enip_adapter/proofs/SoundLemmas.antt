@@ -4,29 +4,29 @@ use Rattle.std.proofs.Common.{Option, Some, None, refl, sym, ap, subst, ◌∙�
 use Rattle.std.proofs.lemmas.Bool.{eqb-true, eqb-false}
 use Rattle.std.proofs.lemmas.List.{map-append}
 use Rattle.cip_objects.specs.Contents.{Contents}
-use Rattle.enip_wire.specs.Stream.{Sight, joined_of, sight_of, cleared}
-use Rattle.enip_wire.specs.Stream.Sight.{Nothing_yet, A_frame, A_long_header}
+use Rattle.enip_wire.specs.Stream.{Parsed, held_and_taken, parsed, cleared}
+use Rattle.enip_wire.specs.Stream.Parsed.{Incomplete, WholeFrame, TooLongHeader}
 use Rattle.enip_adapter.specs.declared.adapter.Limits.{Limits}
 use Rattle.enip_adapter.specs.declared.peer.Session.{Session}
 use Rattle.enip_adapter.specs.declared.shared.Listen.{Listen}
-use Rattle.enip_adapter.specs.declared.silence.Silence.TheVariants.{NotServed}
+use Rattle.enip_adapter.specs.declared.no_reply_reason.NoReplyReason.TheVariants.{NotServed}
 use Rattle.enip_adapter.specs.Adapter.{new_adapter}
 use Rattle.enip_adapter.specs.Commands.{command_served, long_refused}
 use Rattle.enip_adapter.specs.Lookup.{first_with, with_first, without_first}
 use Rattle.enip_adapter.specs.Replies.{Served, leaving}
-use Rattle.enip_adapter.specs.Turn.{State, Turned, begun, after, session_of, serve_found, end_found, session_after}
-use Rattle.enip_adapter.specs.Turn.Said.{Silent}
+use Rattle.enip_adapter.specs.Turn.{State, TurnResult, begun, after, session_of, serve_found, end_found, session_after}
+use Rattle.enip_adapter.specs.Turn.Output.{NoReply}
 use Rattle.enip_adapter.specs.Calls.{AdapterState, Held, Call, Meaning, call_meaning, after_call, bytes_found}
 use Rattle.enip_adapter.specs.Calls.{bytes_held, held_at_beginning, piece_to, piece_meaning, dropped_piece}
-use Rattle.enip_adapter.specs.Calls.{at_a_moment, events_of_sight, answer_of, call_answer}
+use Rattle.enip_adapter.specs.Calls.{at_a_moment, events_of_parsed, answer_of, call_answer}
 use Rattle.enip_adapter.specs.Calls.Call.{Begins_peer, Feeds, Ends_peer, Ticks}
 use Rattle.enip_adapter.specs.Runs.{after_calls, IsForOther}
 use Rattle.enip_adapter.proofs.ListLemmas.{both, first_with-number, first_with-set, without_first-none, numbers}
 use Rattle.enip_adapter.proofs.ListLemmas.{numbers-with_first, numbers-without_first, none-numbers, numbers-none}
 use Rattle.enip_adapter.proofs.ListLemmas.{AreDrawn, drawn-more, drawn-without, gone}
-use Rattle.enip_adapter.proofs.NumberLemmas.{next-sight, next-ended}
+use Rattle.enip_adapter.proofs.NumberLemmas.{next-parsed_frame, next-ended}
 use Rattle.enip_adapter.proofs.PeerLemmas.{at_state, held-call, session-call}
-use Rattle.enip_wire.proofs.RunningLemmas.{IsRunning, running-empty, running-taken, taken_of-some}
+use Rattle.enip_wire.proofs.RunningLemmas.{IsRunning, running-empty, running-taken, bytes_taken-some}
 
 -- The handles of the peers, and the numbers of what is held.
 abbrev pub handles : State → List ℕ
@@ -46,15 +46,15 @@ handles-served : (s : State) (peer : ℕ) (serve : Session → Served) (o : Opti
     → handles (serve_found s peer serve o).state ≡ handles s
 handles-served s peer serve None e = refl
 handles-served s peer serve (Some session) e =
-    both (λ (t : Turned). handles t.state ≡ handles s) session.closed _ _ refl
+    both (λ (t : TurnResult). handles t.state ≡ handles s) session.closed _ _ refl
     (numbers-with_first (λ (p : Session). p.handle) peer (session_after session (serve session)) s.peers
     (first_with-number (λ (p : Session). p.handle) peer session s.peers e))
 
-handles-sight : (s : State) (peer : ℕ) (x : Sight) → handles (after s (events_of_sight peer x)) ≡ handles s
-handles-sight s peer Nothing_yet = refl
-handles-sight s peer (A_frame f) = handles-served s peer (λ session. command_served s.shared session f)
+handles-parsed_frame : (s : State) (peer : ℕ) (x : Parsed) → handles (after s (events_of_parsed peer x)) ≡ handles s
+handles-parsed_frame s peer Incomplete = refl
+handles-parsed_frame s peer (WholeFrame f) = handles-served s peer (λ session. command_served s.shared session f)
     (session_of s peer) refl
-handles-sight s peer (A_long_header h) = handles-served s peer (λ session. leaving s.shared (long_refused session h))
+handles-parsed_frame s peer (TooLongHeader h) = handles-served s peer (λ session. leaving s.shared (long_refused session h))
     (session_of s peer) refl
 
 -- What a piece leaves of the numbers.
@@ -70,8 +70,8 @@ fed-piece s peer piece held (Some session) =
     both (λ (m : Meaning). IsFed s held m) session.closed _ _
     (record { handles_same = refl; next_same = refl; entries_same = refl })
     (record {
-      handles_same = handles-sight s peer (sight_of (joined_of (bytes_held held peer) piece));
-      next_same = next-sight s peer (sight_of (joined_of (bytes_held held peer) piece));
+      handles_same = handles-parsed_frame s peer (parsed (held_and_taken (bytes_held held peer) piece));
+      next_same = next-parsed_frame s peer (parsed (held_and_taken (bytes_held held peer) piece));
       entries_same = numbers-with_first (λ (h : Held). h.peer) peer _ held refl;
     })
 
@@ -87,9 +87,9 @@ record AreSound (a : AdapterState) : Type 0 where
   drawn : AreDrawn a.state.next_handle (handles a.state)
 
 numbers-begun : (s : State) (held : List Held) → entries held ≡ handles s → AreDrawn s.next_handle (handles s)
-    → AreSound (record { state = (begun s).state; held = held_at_beginning held (begun s).answer.said })
+    → AreSound (record { state = (begun s).state; held = held_at_beginning held (begun s).answer.output })
 numbers-begun s held same drawn =
-    let P : Turned → Type 0 = λ t. AreSound (record { state = t.state; held = held_at_beginning held t.answer.said }) in
+    let P : TurnResult → Type 0 = λ t. AreSound (record { state = t.state; held = held_at_beginning held t.answer.output }) in
     both P (not (ltb (length s.peers) s.places)) _ _ (record { same = same; drawn = drawn })
     (both P (ltb 0xffffffff s.next_handle) _ _ (record { same = same; drawn = drawn })
     (record {
@@ -163,22 +163,22 @@ ready-other a c peer sound other session e alive = go (session_of a.state peer) 
         subst IsRunning (sym (held-call peer a c other)) (sound.ready peer before f (ap (λ s. s.closed) same ∙ alive))
 
 -- After a piece of its own.
-ready-sight : (s : State) (peer : ℕ) (piece bytes : List ℕ) (held : List Held) (old : Held) (before : Session)
-    (x : Sight)
-    → sight_of (joined_of bytes piece) ≡ x → first_with (λ (h : Held). h.peer) peer held ≡ Some old
+ready-parsed_frame : (s : State) (peer : ℕ) (piece bytes : List ℕ) (held : List Held) (old : Held) (before : Session)
+    (x : Parsed)
+    → parsed (held_and_taken bytes piece) ≡ x → first_with (λ (h : Held). h.peer) peer held ≡ Some old
     → session_of s peer ≡ Some before → before.closed ≡ false
     → IsRunning bytes
     → IsReady peer (record {
-      state = after s (events_of_sight peer x);
+      state = after s (events_of_parsed peer x);
       held = with_first (λ (h : Held). h.peer) peer
-          (record { peer = peer; bytes = cleared x (joined_of bytes piece) }) held;
+          (record { peer = peer; bytes = cleared x (held_and_taken bytes piece) }) held;
     })
-ready-sight s peer piece bytes held old before x seen entry found alive running session e alive_after =
+ready-parsed_frame s peer piece bytes held old before x seen entry found alive running session e alive_after =
     subst IsRunning (sym (ap bytes_found (first_with-set (λ (h : Held). h.peer) peer old _ held entry refl)))
     (go x seen e)
   where
-    closes : (h : _) → session_of (after s (events_of_sight peer (A_long_header h))) peer ≡ Some session
-        → IsRunning (joined_of bytes piece)
+    closes : (h : _) → session_of (after s (events_of_parsed peer (TooLongHeader h))) peer ≡ Some session
+        → IsRunning (held_and_taken bytes piece)
     closes h f =
         let served : serve_found s peer (λ p. leaving s.shared (long_refused p h)) (session_of s peer)
         ≡ serve_found s peer (λ p. leaving s.shared (long_refused p h)) (Some before)
@@ -187,24 +187,24 @@ ready-sight s peer piece bytes held old before x seen entry found alive running 
         (serve_found s peer (λ p. leaving s.shared (long_refused p h)) (Some before)).state peer)
         ≡ Some (session_after before (leaving s.shared (long_refused before h)))
         = ap (λ b. session_of
-        (cond b (let t : Turned = record { state = s; answer = record { said = Silent NotServed; close = true } } in t)
+        (cond b (let t : TurnResult = record { state = s; answer = record { output = NoReply NotServed; close = true } } in t)
         (serve_found s peer (λ p. leaving s.shared (long_refused p h))
         (Some (record before { closed = false })))).state peer) alive
         ∙ first_with-set (λ (p : Session). p.handle) peer before
         (session_after before (leaving s.shared (long_refused before h))) s.peers found
         (first_with-number (λ (p : Session). p.handle) peer before s.peers found) in
         let same : Some session ≡ Some (session_after before (leaving s.shared (long_refused before h)))
-        = sym f ∙ (ap (λ (t : Turned). session_of t.state peer) served ∙ shut) in
+        = sym f ∙ (ap (λ (t : TurnResult). session_of t.state peer) served ∙ shut) in
         let it : session ≡ session_after before (leaving s.shared (long_refused before h)) = cc in
         let closed : session.closed ≡ true = ap (λ (p : Session). p.closed) it in
         cc
 
-    go : (y : Sight) → sight_of (joined_of bytes piece) ≡ y → session_of (after s (events_of_sight peer y)) peer
+    go : (y : Parsed) → parsed (held_and_taken bytes piece) ≡ y → session_of (after s (events_of_parsed peer y)) peer
         ≡ Some session
-        → IsRunning (cleared y (joined_of bytes piece))
-    go Nothing_yet k f = running-taken bytes piece running k
-    go (A_frame g) k f = running-empty
-    go (A_long_header h) k f = closes h f
+        → IsRunning (cleared y (held_and_taken bytes piece))
+    go Incomplete k f = running-taken bytes piece running k
+    go (WholeFrame g) k f = running-empty
+    go (TooLongHeader h) k f = closes h f
 
 ready-own : (a : AdapterState) (now peer : ℕ) (piece : List ℕ) → IsSound a
     → IsReady peer (after_call a (Feeds now peer piece))
@@ -219,8 +219,8 @@ ready-own a now peer piece sound = go (session_of a.state peer) refl
     with_entry before f alive None g =
         let bad : None ≡ Some before = sym (no-session a peer sound.same g) ∙ f in cc
     with_entry before f alive (Some old) g =
-        ready-sight (at_state a.state now) peer piece (bytes_held a.held peer) a.held old before
-        (sight_of (joined_of (bytes_held a.held peer) piece)) refl
+        ready-parsed_frame (at_state a.state now) peer piece (bytes_held a.held peer) a.held old before
+        (parsed (held_and_taken (bytes_held a.held peer) piece)) refl
         g f alive (sound.ready peer before f alive)
 
     by_close : (before : Session) → session_of a.state peer ≡ Some before → (b : Bool) → before.closed ≡ b
@@ -298,7 +298,7 @@ taken-piece a now peer b bs sound (Some session) e alive = go session.closed ref
         ≡ false
         → 1 ≤ (cond c (dropped_piece a.held) (piece_meaning a.held peer (bytes_held a.held peer) (b ∷ bs))).taken
     go true shut k = cc
-    go false lives k = taken_of-some (bytes_held a.held peer) b bs (sound.ready peer session e lives)
+    go false lives k = bytes_taken-some (bytes_held a.held peer) b bs (sound.ready peer session e lives)
 
 pub some-taken : (objects : Contents) (listen : Listen) (limits : Limits) (calls : List Call) (now peer b : ℕ)
     (bs : List ℕ)

@@ -8,21 +8,21 @@ use Rattle.cip_bytes.specs.Numbers.{AreBytes}
 use Rattle.cip_bytes.proofs.Bytes.{AreBytes-take, AreBytes-append}
 use Rattle.cip_objects.specs.Contents.{Contents}
 use Rattle.enip_wire.specs.Frames.{frame, IsFrame}
-use Rattle.enip_wire.specs.Stream.{Cut, Sight, taken_of, joined_of, sight_of, cleared}
-use Rattle.enip_wire.specs.Stream.Sight.{Nothing_yet, A_frame, A_long_header}
+use Rattle.enip_wire.specs.Stream.{Cut, Parsed, bytes_taken, held_and_taken, parsed, cleared}
+use Rattle.enip_wire.specs.Stream.Parsed.{Incomplete, WholeFrame, TooLongHeader}
 use Rattle.enip_wire.proofs.StreamLemmas.{one_cut_lem}
-use Rattle.enip_wire.proofs.SightLemmas.{HasNone, then-cut, none-running, none-long, seen-frame, seen-long}
+use Rattle.enip_wire.proofs.ParsedLemmas.{HasNone, then-cut, none-running, none-long, seen-frame, seen-long}
 use Rattle.enip_adapter.specs.declared.adapter.Limits.{Limits}
 use Rattle.enip_adapter.specs.declared.peer.Session.{Session}
 use Rattle.enip_adapter.specs.declared.shared.Listen.{Listen}
 use Rattle.enip_adapter.specs.Adapter.{new_adapter}
 use Rattle.enip_adapter.specs.Lookup.{first_with, with_first}
-use Rattle.enip_adapter.specs.Turn.{State, Event, Turned, begun, session_of}
+use Rattle.enip_adapter.specs.Turn.{State, Event, TurnResult, begun, session_of}
 use Rattle.enip_adapter.specs.Turn.Event.{Begin, End, At, Framed, Long}
-use Rattle.enip_adapter.specs.Turn.Said.{Begins}
+use Rattle.enip_adapter.specs.Turn.Output.{Begins}
 use Rattle.enip_adapter.specs.Calls.{AdapterState, Held, Call, Meaning, call_meaning, after_call, call_answer}
 use Rattle.enip_adapter.specs.Calls.{bytes_found, bytes_held, held_at_beginning, piece_to, piece_meaning}
-use Rattle.enip_adapter.specs.Calls.{dropped_piece, at_a_moment, events_of_sight}
+use Rattle.enip_adapter.specs.Calls.{dropped_piece, at_a_moment, events_of_parsed}
 use Rattle.enip_adapter.specs.Calls.Call.{Begins_peer, Feeds, Ends_peer, Ticks}
 use Rattle.enip_adapter.specs.Runs.{after_calls, events_of_calls, taken_by_call, taken_by_calls, frames_of_peer}
 use Rattle.enip_adapter.specs.Runs.{GoesOn, Run, at_end, taken_in, frames_in}
@@ -57,32 +57,32 @@ stays peer bytes m at none = record {
 }
 
 -- A piece of its own, while it is open.
-advances-sight : (peer now : ℕ) (bytes piece : List ℕ) (held : List Held) (x : Sight)
-    → sight_of (joined_of bytes piece) ≡ x
+advances-parsed_frame : (peer now : ℕ) (bytes piece : List ℕ) (held : List Held) (x : Parsed)
+    → parsed (held_and_taken bytes piece) ≡ x
     → IsAt peer bytes held → AreBytes piece → IsRunning bytes
-    → Advances peer bytes (take (taken_of bytes piece) piece) (at_a_moment now (record {
-      events = events_of_sight peer x;
-      taken = taken_of bytes piece;
+    → Advances peer bytes (take (bytes_taken bytes piece) piece) (at_a_moment now (record {
+      events = events_of_parsed peer x;
+      taken = bytes_taken bytes piece;
       held = with_first (λ (h : Held). h.peer) peer
-          (record { peer = peer; bytes = cleared x (joined_of bytes piece) }) held;
+          (record { peer = peer; bytes = cleared x (held_and_taken bytes piece) }) held;
       dropped = false;
     }))
-advances-sight peer now bytes piece held Nothing_yet seen at fits running = record {
-  left = joined_of bytes piece;
+advances-parsed_frame peer now bytes piece held Incomplete seen at fits running = record {
+  left = held_and_taken bytes piece;
   at = record {
     found = first_with-set (λ (h : Held). h.peer) peer _ _ held at.found refl;
-    fits = AreBytes-append bytes (take (taken_of bytes piece) piece) at.fits
-        (AreBytes-take (taken_of bytes piece) piece fits);
-    none = none-running (joined_of bytes piece) (running-taken bytes piece running seen);
+    fits = AreBytes-append bytes (take (bytes_taken bytes piece) piece) at.fits
+        (AreBytes-take (bytes_taken bytes piece) piece fits);
+    none = none-running (held_and_taken bytes piece) (running-taken bytes piece running seen);
   };
   parts = refl;
   each = tt;
 }
-advances-sight peer now bytes piece held (A_frame f) seen at fits running =
-    let whole : AreBytes (joined_of bytes piece)
-    = AreBytes-append bytes (take (taken_of bytes piece) piece) at.fits
-    (AreBytes-take (taken_of bytes piece) piece fits) in
-    let is : IsFrame f × (joined_of bytes piece ≡ frame f) = seen-frame (joined_of bytes piece) f whole seen in
+advances-parsed_frame peer now bytes piece held (WholeFrame f) seen at fits running =
+    let whole : AreBytes (held_and_taken bytes piece)
+    = AreBytes-append bytes (take (bytes_taken bytes piece) piece) at.fits
+    (AreBytes-take (bytes_taken bytes piece) piece fits) in
+    let is : IsFrame f × (held_and_taken bytes piece ≡ frame f) = seen-frame (held_and_taken bytes piece) f whole seen in
     let own : cond (eqb peer peer) (f ∷ []) [] ≡ f ∷ [] = ap (λ b. cond b (f ∷ []) []) (eq-eqb peer peer refl) in
     record {
       left = [];
@@ -95,13 +95,13 @@ advances-sight peer now bytes piece held (A_frame f) seen at fits running =
           ∙ (sym (append-nil (frame f ++ [])) ∙ ap (λ fs. flat_map frame fs ++ []) (sym own)));
       each = subst (AllByRecursion IsFrame) (sym own) (is.0, tt);
     }
-advances-sight peer now bytes piece held (A_long_header h) seen at fits running = record {
-  left = joined_of bytes piece;
+advances-parsed_frame peer now bytes piece held (TooLongHeader h) seen at fits running = record {
+  left = held_and_taken bytes piece;
   at = record {
     found = first_with-set (λ (h : Held). h.peer) peer _ _ held at.found refl;
-    fits = AreBytes-append bytes (take (taken_of bytes piece) piece) at.fits
-        (AreBytes-take (taken_of bytes piece) piece fits);
-    none = none-long (joined_of bytes piece) (seen-long (joined_of bytes piece) h seen);
+    fits = AreBytes-append bytes (take (bytes_taken bytes piece) piece) at.fits
+        (AreBytes-take (bytes_taken bytes piece) piece fits);
+    none = none-long (held_and_taken bytes piece) (seen-long (held_and_taken bytes piece) h seen);
   };
   parts = refl;
   each = tt;
@@ -122,17 +122,17 @@ advances-own peer now bytes piece held (Some session) at fits ready = go session
     go true shut = stays peer bytes (at_a_moment now (dropped_piece held)) at refl
     go false alive =
         let same : bytes_held held peer ≡ bytes = ap bytes_found at.found in
-        subst (λ h. Advances peer bytes (take (taken_of h piece) piece)
+        subst (λ h. Advances peer bytes (take (bytes_taken h piece) piece)
         (at_a_moment now (piece_meaning held peer h piece))) (sym same)
-        (advances-sight peer now bytes piece held (sight_of (joined_of bytes piece)) refl at fits
+        (advances-parsed_frame peer now bytes piece held (parsed (held_and_taken bytes piece)) refl at fits
         (subst IsRunning same (ready session refl alive)))
 
 -- A piece for another peer.
-pub no-frames : (peer other now : ℕ) (x : Sight) → eqb other peer ≡ false
-    → frames_of_peer peer (At now ∷ events_of_sight other x) ≡ []
-no-frames peer other now Nothing_yet e = refl
-no-frames peer other now (A_frame f) e = ap (λ b. cond b (f ∷ []) []) e
-no-frames peer other now (A_long_header h) e = refl
+pub no-frames : (peer other now : ℕ) (x : Parsed) → eqb other peer ≡ false
+    → frames_of_peer peer (At now ∷ events_of_parsed other x) ≡ []
+no-frames peer other now Incomplete e = refl
+no-frames peer other now (WholeFrame f) e = ap (λ b. cond b (f ∷ []) []) e
+no-frames peer other now (TooLongHeader h) e = refl
 
 advances-other : (peer other now : ℕ) (bytes piece : List ℕ) (held : List Held) (o : Option Session)
     → IsAt peer bytes held → eqb other peer ≡ false
@@ -148,12 +148,12 @@ advances-other peer other now bytes piece held (Some session) at differ =
       fits = at.fits;
       none = at.none;
     })
-    (no-frames peer other now (sight_of (joined_of (bytes_held held other) piece)) differ))
+    (no-frames peer other now (parsed (held_and_taken (bytes_held held other) piece)) differ))
 
 at-begun : (s : State) (peer : ℕ) (bytes : List ℕ) (held : List Held) → IsAt peer bytes held
-    → IsAt peer bytes (held_at_beginning held (begun s).answer.said)
+    → IsAt peer bytes (held_at_beginning held (begun s).answer.output)
 at-begun s peer bytes held at =
-    let P : Turned → Type 0 = λ t. IsAt peer bytes (held_at_beginning held t.answer.said) in
+    let P : TurnResult → Type 0 = λ t. IsAt peer bytes (held_at_beginning held t.answer.output) in
     both P (not (ltb (length s.peers) s.places)) _ _ at
     (both P (ltb 0xffffffff s.next_handle) _ _ at
     (record { found = first_with-append (λ (h : Held). h.peer) peer _ held _ at.found; fits = at.fits; none = at.none }))
@@ -216,9 +216,9 @@ cut-calls peer bytes a (c ∷ cs) sound at goes =
 -- A peer that begins holds nothing.
 pub at-beginning : (s : State) (held : List Held) (peer : ℕ)
     → first_with (λ (h : Held). h.peer) s.next_handle held ≡ None
-    → (begun s).answer.said ≡ Begins peer → IsAt peer [] (held_at_beginning held (begun s).answer.said)
+    → (begun s).answer.output ≡ Begins peer → IsAt peer [] (held_at_beginning held (begun s).answer.output)
 at-beginning s held peer none =
-    let P : Turned → Type 0 = λ t. t.answer.said ≡ Begins peer → IsAt peer [] (held_at_beginning held t.answer.said) in
+    let P : TurnResult → Type 0 = λ t. t.answer.output ≡ Begins peer → IsAt peer [] (held_at_beginning held t.answer.output) in
     both P (not (ltb (length s.peers) s.places)) _ _ (λ e. cc)
     (both P (ltb 0xffffffff s.next_handle) _ _ (λ e. cc)
     (λ e.
@@ -234,7 +234,7 @@ at-beginning s held peer none =
     }))
 
 pub cut-from-beginning : (objects : Contents) (listen : Listen) (limits : Limits) (earlier calls : List Call) (peer : ℕ)
-    → (call_answer (after_calls (new_adapter objects listen limits) earlier) Begins_peer).said ≡ Begins peer
+    → (call_answer (after_calls (new_adapter objects listen limits) earlier) Begins_peer).output ≡ Begins peer
     → AllByRecursion (GoesOn peer) calls
     → Cut (taken_by_calls peer (after_call (after_calls (new_adapter objects listen limits) earlier) Begins_peer) calls)
     (frames_of_peer peer (events_of_calls
@@ -245,7 +245,7 @@ cut-from-beginning objects listen limits earlier calls peer begins goes =
     from (after_calls (new_adapter objects listen limits) earlier)
     (sound-calls (new_adapter objects listen limits) earlier (sound-new objects listen limits)) begins
   where
-    from : (a : AdapterState) → IsSound a → (begun a.state).answer.said ≡ Begins peer
+    from : (a : AdapterState) → IsSound a → (begun a.state).answer.output ≡ Begins peer
         → Cut (taken_by_calls peer (after_call a Begins_peer) calls)
         (frames_of_peer peer (events_of_calls (after_call a Begins_peer) calls))
         (bytes_held (after_calls (after_call a Begins_peer) calls).held peer)

@@ -2,15 +2,15 @@
 use Rattle.std.proofs.Common.{ℕ, zero, suc, ◌<◌, List, [], ◌∷◌, ◌++◌, length, take, drop, All, inl, inr, append-nil, subst, arith}
 use Rattle.std.specs.Prelude.{remove}
 use Rattle.std.proofs.lemmas.List.Elements.{All-nil, All-cons, All-append, All-take, All-drop}
-use Rattle.enip_wire.specs.Frames.{Stops}
+use Rattle.enip_wire.specs.Frames.{IsComplete}
 use Rattle.enip_wire.specs.Stream.{Takes}
 
 -- of a byte or more some are taken
-pub some_taken : (held piece : List ℕ) (n : ℕ) → (Stops held → ⊥) → Takes held piece n → 0 < length piece → 0 < n
+pub some_taken : (held piece : List ℕ) (n : ℕ) → (IsComplete held → ⊥) → Takes held piece n → 0 < length piece → 0 < n
 some_taken held piece (suc n) running takes some = omega arith
 some_taken held piece zero running takes some =
     elim takes.ends [
-      | inl stops ↦ absurd (running (subst Stops (append-nil held) stops))
+      | inl stops ↦ absurd (running (subst IsComplete (append-nil held) stops))
       | inr whole ↦ omega (arith, whole, some)
     ]
 

@@ -4,19 +4,19 @@ use Rattle.std.specs.Prelude.{Err, unwrap_or}
 use Rattle.std.specs.Borrow.{Bor}
 use Rattle.cip_manager.specs.Manager.{no_connection}
 use Rattle.cip_objects.specs.Contents.{Contents}
-use Rattle.enip_wire.specs.Frames.{Stops}
+use Rattle.enip_wire.specs.Frames.{IsComplete}
 use Rattle.enip_adapter.specs.declared.adapter.Full.{Full}
 use Rattle.enip_adapter.specs.declared.adapter.Full.TheVariants.{Places, Handles}
 use Rattle.enip_adapter.specs.declared.adapter.Limits.{Limits}
-use Rattle.enip_adapter.specs.declared.peer.Place.{Place}
+use Rattle.enip_adapter.specs.declared.peer.PeerSlot.{PeerSlot}
 use Rattle.enip_adapter.specs.declared.peer.Session.{Session}
 use Rattle.enip_adapter.specs.declared.shared.Listen.{Listen}
 use Rattle.enip_adapter.specs.declared.shared.Shared.{Shared}
-use Rattle.enip_adapter.specs.declared.silence.Silence.{Silence}
-use Rattle.enip_adapter.specs.declared.silence.Silence.TheVariants.{NoFrame}
+use Rattle.enip_adapter.specs.declared.no_reply_reason.NoReplyReason.{NoReplyReason}
+use Rattle.enip_adapter.specs.declared.no_reply_reason.NoReplyReason.TheVariants.{NoFrame}
 use Rattle.enip_adapter.specs.Calls.{AdapterState, Held}
-use Rattle.enip_adapter.specs.Turn.{State, Said}
-use Rattle.enip_adapter.specs.Turn.Said.{Silent, Sends, Begins, Refuses}
+use Rattle.enip_adapter.specs.Turn.{State, Output}
+use Rattle.enip_adapter.specs.Turn.Output.{NoReply, Sends, Begins, Refuses}
 
 -- The number of why no peer can begin.
 abbrev pub full_number : Full → ℕ
@@ -24,18 +24,18 @@ full_number Places = 1
 full_number Handles = 2
 
 -- A peer's session, and the bytes that its reader holds.
-abbrev pub session_in : Place → Session
+abbrev pub session_in : PeerSlot → Session
 session_in place = place.session
 
-abbrev pub held_in : Place → Held
+abbrev pub held_in : PeerSlot → Held
 held_in place = record { peer = place.session.handle; bytes = place.reader }
 
 -- What the adapter is, by its fields.
-abbrev pub state_in : ℕ → ℕ → Shared → List Place → State
+abbrev pub state_in : ℕ → ℕ → Shared → List PeerSlot → State
 state_in places next_handle shared peers =
     record { places = places; next_handle = next_handle; shared = shared; peers = map session_in peers }
 
-abbrev pub adapter_in : ℕ → ℕ → Shared → List Place → AdapterState
+abbrev pub adapter_in : ℕ → ℕ → Shared → List PeerSlot → AdapterState
 adapter_in places next_handle shared peers =
     record { state = state_in places next_handle shared peers; held = map held_in peers }
 
@@ -52,14 +52,14 @@ abbrev pub new_adapter : Contents → Listen → Limits → AdapterState
 new_adapter objects listen limits = adapter_in limits.peers limits.first_handle (new_shared objects listen limits) []
 
 -- Of a peer that is not closed, neither a whole frame nor a header that is too long is held between calls.
-abbrev pub IsWaiting : Place → Type 0
-IsWaiting place = place.session.closed ≡ false → Stops place.reader → ⊥
+abbrev pub IsWaiting : PeerSlot → Type 0
+IsWaiting place = place.session.closed ≡ false → IsComplete place.reader → ⊥
 
 -- What a call of begin says, and one of feed, which has a frame to send or a reason for none.
-abbrev pub begin_said : Result ℕ Full → Said
-begin_said (Ok handle) = Begins handle
-begin_said (Err full) = Refuses full
+abbrev pub begin_output : Result ℕ Full → Output
+begin_output (Ok handle) = Begins handle
+begin_output (Err full) = Refuses full
 
-abbrev pub feed_said : Option (Bor (List ℕ)) → Option Silence → Said
-feed_said None silent = Silent (unwrap_or silent NoFrame)
-feed_said (Some bytes) silent = Sends bytes.now
+abbrev pub feed_output : Option (Bor (List ℕ)) → Option NoReplyReason → Output
+feed_output None no_reply_reason = NoReply (unwrap_or no_reply_reason NoFrame)
+feed_output (Some bytes) no_reply_reason = Sends bytes.now

@@ -1,13 +1,13 @@
 -- The adapter's calls: which events each stands for, and which bytes it takes and leaves.
 use Rattle.std.specs.Prelude.{ℕ, List, [], ◌∷◌, ◌++◌, if◌then◌else◌, Bool, true, false, Option, Some, None}
-use Rattle.enip_wire.specs.Stream.{Sight, taken_of, joined_of, sight_of, cleared}
-use Rattle.enip_wire.specs.Stream.Sight.{Nothing_yet, A_frame, A_long_header}
+use Rattle.enip_wire.specs.Stream.{Parsed, bytes_taken, held_and_taken, parsed, cleared}
+use Rattle.enip_wire.specs.Stream.Parsed.{Incomplete, WholeFrame, TooLongHeader}
 use Rattle.enip_adapter.specs.declared.peer.Session.{Session}
-use Rattle.enip_adapter.specs.declared.silence.Silence.TheVariants.{NoFrame, NotServed}
+use Rattle.enip_adapter.specs.declared.no_reply_reason.NoReplyReason.TheVariants.{NoFrame, NotServed}
 use Rattle.enip_adapter.specs.Lookup.{first_with, with_first, without_first}
-use Rattle.enip_adapter.specs.Turn.{State, Event, Said, Answer, turn, answers, after, session_of}
+use Rattle.enip_adapter.specs.Turn.{State, Event, Output, Answer, turn, answers, after, session_of}
 use Rattle.enip_adapter.specs.Turn.Event.{Begin, End, At, Framed, Long}
-use Rattle.enip_adapter.specs.Turn.Said.{Silent, Begins}
+use Rattle.enip_adapter.specs.Turn.Output.{NoReply, Begins}
 
 -- The bytes that have come of a peer's next frame.
 pub record Held : Type 0 where
@@ -34,10 +34,10 @@ abbrev pub bytes_held : List Held → ℕ → List ℕ
 bytes_held held peer = bytes_found (first_with (λ h. h.peer) peer held)
 
 -- What a sight of a peer's bytes is to the turn.
-abbrev pub events_of_sight : ℕ → Sight → List Event
-events_of_sight peer Nothing_yet = []
-events_of_sight peer (A_frame f) = Framed peer f ∷ []
-events_of_sight peer (A_long_header h) = Long peer h ∷ []
+abbrev pub events_of_parsed : ℕ → Parsed → List Event
+events_of_parsed peer Incomplete = []
+events_of_parsed peer (WholeFrame f) = Framed peer f ∷ []
+events_of_parsed peer (TooLongHeader h) = Long peer h ∷ []
 
 -- What a call is: the events that it stands for, how many bytes it takes, and the bytes that are held afterwards. A
 -- piece for a peer that is closed or not held is dropped.
@@ -51,17 +51,17 @@ abbrev pub meaning : List Event → List Held → Meaning
 meaning events held = record { events = events; taken = 0; held = held; dropped = false }
 
 -- A peer that begins holds no byte.
-abbrev pub held_at_beginning : List Held → Said → List Held
+abbrev pub held_at_beginning : List Held → Output → List Held
 held_at_beginning held (Begins handle) = held ++ record { peer = handle; bytes = [] } ∷ []
 held_at_beginning held other = held
 
 -- A peer takes bytes of a piece up to the end of one frame.
 abbrev pub piece_meaning : List Held → ℕ → List ℕ → List ℕ → Meaning
 piece_meaning held peer bytes piece = record {
-  events = events_of_sight peer (sight_of (joined_of bytes piece));
-  taken = taken_of bytes piece;
+  events = events_of_parsed peer (parsed (held_and_taken bytes piece));
+  taken = bytes_taken bytes piece;
   held = with_first (λ h. h.peer) peer
-      (record { peer = peer; bytes = cleared (sight_of (joined_of bytes piece)) (joined_of bytes piece) }) held;
+      (record { peer = peer; bytes = cleared (parsed (held_and_taken bytes piece)) (held_and_taken bytes piece) }) held;
   dropped = false;
 }
 
@@ -78,7 +78,7 @@ abbrev pub at_a_moment : ℕ → Meaning → Meaning
 at_a_moment now m = record m { events = At now ∷ m.events }
 
 abbrev pub call_meaning : AdapterState → Call → Meaning
-call_meaning a Begins_peer = meaning (Begin ∷ []) (held_at_beginning a.held (turn a.state Begin).answer.said)
+call_meaning a Begins_peer = meaning (Begin ∷ []) (held_at_beginning a.held (turn a.state Begin).answer.output)
 call_meaning a (Feeds now peer piece) = at_a_moment now (piece_to a.held peer piece (session_of a.state peer))
 call_meaning a (Ends_peer peer) = meaning (End peer ∷ []) (without_first (λ h. h.peer) peer a.held)
 call_meaning a (Ticks now) = at_a_moment now (meaning [] a.held)
@@ -97,8 +97,8 @@ last_from a (b ∷ more) = last_from b more
 
 abbrev pub answer_of : State → Meaning → Answer
 answer_of s m =
-    if m.dropped then record { said = Silent NotServed; close = true }
-    else last_from (record { said = Silent NoFrame; close = false }) (answers s m.events)
+    if m.dropped then record { output = NoReply NotServed; close = true }
+    else last_from (record { output = NoReply NoFrame; close = false }) (answers s m.events)
 
 abbrev pub call_answer : AdapterState → Call → Answer
 call_answer a call = answer_of a.state (call_meaning a call)

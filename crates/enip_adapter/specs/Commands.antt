@@ -7,13 +7,13 @@ use Rattle.cip_bytes.specs.declared.protocol.Command.TheVariants.{RegisterSessio
 use Rattle.cip_bytes.specs.declared.protocol.Command.TheVariants.{SendUnitData}
 use Rattle.cip_bytes.specs.declared.protocol.EncapsulationStatus.TheVariants.{UnsupportedCommand, InvalidLength}
 use Rattle.enip_wire.specs.Frames.{Frame}
-use Rattle.enip_wire.specs.Stream.{Sight}
-use Rattle.enip_wire.specs.Stream.Sight.{Nothing_yet, A_frame, A_long_header}
+use Rattle.enip_wire.specs.Stream.{Parsed}
+use Rattle.enip_wire.specs.Stream.Parsed.{Incomplete, WholeFrame, TooLongHeader}
 use Rattle.enip_wire.specs.declared.header.Header.{Header}
 use Rattle.enip_adapter.specs.declared.peer.Session.{Session}
 use Rattle.enip_adapter.specs.declared.shared.Shared.{Shared}
-use Rattle.enip_adapter.specs.declared.silence.Silence.TheVariants as silence
-use Rattle.enip_adapter.specs.Replies.{Reaction, Served, leaving, silent, refused}
+use Rattle.enip_adapter.specs.declared.no_reply_reason.NoReplyReason.TheVariants as no_reply_reason
+use Rattle.enip_adapter.specs.Replies.{Reaction, Served, leaving, no_reply, refused}
 use Rattle.enip_adapter.specs.ListServices.{list_services}
 use Rattle.enip_adapter.specs.ListIdentity.{list_identity}
 use Rattle.enip_adapter.specs.ListInterfaces.{list_interfaces}
@@ -24,7 +24,7 @@ use Rattle.enip_adapter.specs.SendUnitData.{send_unit_data}
 
 -- By its command: NOP has no answer; what is no command is unsupported (ours).
 abbrev pub by_command : Shared → Session → Frame → Option Command → Served
-by_command shared session f (Some Nop) = leaving shared (silent session silence.Nop)
+by_command shared session f (Some Nop) = leaving shared (no_reply session no_reply_reason.Nop)
 by_command shared session f (Some ListServices) = leaving shared (list_services session f)
 by_command shared session f (Some ListIdentity) = leaving shared (list_identity shared session f)
 by_command shared session f (Some ListInterfaces) = leaving shared (list_interfaces session f)
@@ -37,8 +37,8 @@ by_command shared session f None = leaving shared (refused session f.header Unsu
 -- What a frame leaves: one with options or with a status (ours) is discarded.
 unfoldable pub command_served : Shared → Session → Frame → Served
 command_served shared session f =
-    if not (f.header.options == 0) then leaving shared (silent session silence.Options)
-    else if not (f.header.status == 0) then leaving shared (silent session silence.Status)
+    if not (f.header.options == 0) then leaving shared (no_reply session no_reply_reason.Options)
+    else if not (f.header.status == 0) then leaving shared (no_reply session no_reply_reason.Status)
     else by_command shared session f (command_of f.header.command)
 
 -- A header whose length is too long: invalid length, and the connection is closed.
@@ -46,7 +46,7 @@ abbrev pub long_refused : Session → Header → Reaction
 long_refused session asked = record (refused session asked InvalidLength) { close = true }
 
 -- What a sight of a peer's bytes leaves.
-abbrev pub sight_served : Shared → Session → Sight → Served
-sight_served shared session Nothing_yet = leaving shared (silent session silence.NoFrame)
-sight_served shared session (A_frame f) = command_served shared session f
-sight_served shared session (A_long_header h) = leaving shared (long_refused session h)
+abbrev pub parsed_served : Shared → Session → Parsed → Served
+parsed_served shared session Incomplete = leaving shared (no_reply session no_reply_reason.NoFrame)
+parsed_served shared session (WholeFrame f) = command_served shared session f
+parsed_served shared session (TooLongHeader h) = leaving shared (long_refused session h)

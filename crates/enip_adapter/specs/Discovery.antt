@@ -4,12 +4,12 @@ use Rattle.cip_bytes.specs.Protocol.{command_of}
 use Rattle.cip_bytes.specs.declared.protocol.Command.{Command}
 use Rattle.cip_bytes.specs.declared.protocol.Command.TheVariants.{ListServices, ListIdentity, ListInterfaces}
 use Rattle.enip_wire.specs.Frames.{Frame}
-use Rattle.enip_wire.specs.Stream.{Sight, sight_of}
-use Rattle.enip_wire.specs.Stream.Sight.{A_frame}
+use Rattle.enip_wire.specs.Stream.{Parsed, parsed}
+use Rattle.enip_wire.specs.Stream.Parsed.{WholeFrame}
 use Rattle.enip_adapter.specs.declared.shared.Shared.{Shared}
 use Rattle.enip_adapter.specs.Commands.{command_served}
 use Rattle.enip_adapter.specs.Replies.{Reply}
-use Rattle.enip_adapter.specs.Replies.Reply.{Silent, Sends}
+use Rattle.enip_adapter.specs.Replies.Reply.{NoReply, Sends}
 use Rattle.enip_adapter.specs.Turn.{new_session}
 
 -- The commands that a datagram may bring (ours): those that ask what the adapter is.
@@ -21,7 +21,7 @@ is_discovery other = false
 
 -- The bytes that are sent back, if any.
 abbrev pub bytes_of : Reply → Option (List ℕ)
-bytes_of (Silent why) = None
+bytes_of (NoReply why) = None
 bytes_of (Sends bytes) = Some bytes
 
 -- A frame with such a command is answered as it is over TCP to a peer that just began, whatever its handle. One that has
@@ -33,10 +33,10 @@ frame_discovered shared f =
     else None
 
 -- What is not one whole frame has no answer.
-abbrev pub sight_discovered : Shared → Sight → Option (List ℕ)
-sight_discovered shared (A_frame f) = frame_discovered shared f
-sight_discovered shared other = None
+abbrev pub parsed_discovered : Shared → Parsed → Option (List ℕ)
+parsed_discovered shared (WholeFrame f) = frame_discovered shared f
+parsed_discovered shared other = None
 
 -- What answers a datagram: it is one frame from its first byte to its last.
 abbrev pub discovered : Shared → List ℕ → Option (List ℕ)
-discovered shared datagram = sight_discovered shared (sight_of datagram)
+discovered shared datagram = parsed_discovered shared (parsed datagram)

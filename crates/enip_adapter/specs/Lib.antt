@@ -14,10 +14,10 @@ pub mod Calls
 pub mod Adapter
 pub mod Runs
 pub mod Stored
-pub mod Places
-pub mod Destinations
+pub mod PeerSlots
+pub mod Routes
 pub mod Buffers
 pub mod Serving
-pub mod Deeds
+pub mod AdapterActions
 pub mod Device
 pub mod Endings

@@ -9,7 +9,7 @@ use Rattle.enip_adapter.specs.declared.peer.Session.{Session}
 use Rattle.enip_adapter.specs.declared.reply.Reply.{Reply as WrittenReply}
 use Rattle.enip_adapter.specs.declared.reply.Reply.TheVariants as code
 use Rattle.enip_adapter.specs.declared.shared.Shared.{Shared}
-use Rattle.enip_adapter.specs.declared.silence.Silence.{Silence}
+use Rattle.enip_adapter.specs.declared.no_reply_reason.NoReplyReason.{NoReplyReason}
 
 -- The header of a reply with so many bytes of data: command and context of what asked, no options.
 abbrev pub reply_header : Header → ℕ → EncapsulationStatus → ℕ → Header
@@ -29,7 +29,7 @@ reply asked session status bytes =
 
 -- What is sent back: nothing, for a reason, or these bytes.
 pub data Reply : Type 0 where
-  Silent : (why : Silence) → Reply
+  NoReply : (why : NoReplyReason) → Reply
   Sends : (bytes : List ℕ) → Reply
 
 -- What a frame is to its peer: whether it is registered then, what is sent back, and whether the connection is closed.
@@ -42,8 +42,8 @@ pub record Reaction : Type 0 where
 abbrev pub replying : Session → Reply → Reaction
 replying session reply = record { registered = session.registered; answer = reply; close = false }
 
-abbrev pub silent : Session → Silence → Reaction
-silent session why = replying session (Silent why)
+abbrev pub no_reply : Session → NoReplyReason → Reaction
+no_reply session why = replying session (NoReply why)
 
 abbrev pub answered : Session → List ℕ → Reaction
 answered session bytes = replying session (Sends bytes)
@@ -70,5 +70,5 @@ is_registered_as session handle = session.registered && (handle == session.handl
 
 -- What the code's word of a reply says, with the buffer that is written to.
 abbrev pub written : WrittenReply → List ℕ → Reply
-written (code.Silent why) bytes = Silent why
+written (code.NoReply why) bytes = NoReply why
 written code.Written bytes = Sends bytes

@@ -12,9 +12,9 @@ use Rattle.enip_adapter.specs.declared.shared.Listen.{Listen}
 use Rattle.enip_adapter.specs.Adapter.{new_adapter}
 use Rattle.enip_adapter.specs.Calls.{AdapterState, Call, Meaning, call_meaning, after_call, call_answer}
 use Rattle.enip_adapter.specs.Calls.Call.{Begins_peer, Feeds, Ends_peer, Ticks}
-use Rattle.enip_adapter.specs.Turn.{State, Event, Said, Answer, turn, answers}
+use Rattle.enip_adapter.specs.Turn.{State, Event, Output, Answer, turn, answers}
 use Rattle.enip_adapter.specs.Turn.Event.{Begin, End, At, Framed, Long}
-use Rattle.enip_adapter.specs.Turn.Said.{Silent, Sends, Begins, Refuses}
+use Rattle.enip_adapter.specs.Turn.Output.{NoReply, Sends, Begins, Refuses}
 
 -- The adapter after calls, one after the other.
 abbrev pub after_calls : AdapterState → List Call → AdapterState
@@ -42,16 +42,16 @@ answers_by_call a (call ∷ calls) =
     answers a.state (call_meaning a call).events ∷ answers_by_call (after_call a call) calls
 
 -- What is said before more: a silence is left out.
-abbrev pub said_before : Said → List Said → List Said
-said_before (Silent why) more = more
-said_before (Sends bytes) more = Sends bytes ∷ more
-said_before (Begins handle) more = Begins handle ∷ more
-said_before (Refuses full) more = Refuses full ∷ more
+abbrev pub outputs_before : Output → List Output → List Output
+outputs_before (NoReply why) more = more
+outputs_before (Sends bytes) more = Sends bytes ∷ more
+outputs_before (Begins handle) more = Begins handle ∷ more
+outputs_before (Refuses full) more = Refuses full ∷ more
 
 -- What answers say.
-abbrev pub said_in : List Answer → List Said
-said_in [] = []
-said_in (answer ∷ answers) = said_before answer.said (said_in answers)
+abbrev pub outputs_in : List Answer → List Output
+outputs_in [] = []
+outputs_in (answer ∷ answers) = outputs_before answer.output (outputs_in answers)
 
 -- The call is for another peer than this, or for none.
 abbrev pub IsForOther : ℕ → Call → Type 0
@@ -73,8 +73,8 @@ abbrev pub is_open_at_all : List ℕ → Connection → Bool
 is_open_at_all moments connection = list_all (λ moment. is_open_at moment connection) moments
 
 -- The handle that an answer gives out, if it does, before more.
-abbrev pub handle_before : Said → List ℕ → List ℕ
-handle_before (Silent why) more = more
+abbrev pub handle_before : Output → List ℕ → List ℕ
+handle_before (NoReply why) more = more
 handle_before (Sends bytes) more = more
 handle_before (Begins handle) more = handle ∷ more
 handle_before (Refuses full) more = more
@@ -82,7 +82,7 @@ handle_before (Refuses full) more = more
 -- The handles that answers give out.
 abbrev pub handles_in : List Answer → List ℕ
 handles_in [] = []
-handles_in (answer ∷ answers) = handle_before answer.said (handles_in answers)
+handles_in (answer ∷ answers) = handle_before answer.output (handles_in answers)
 
 -- Each is greater than those before it, and the first is n or more.
 abbrev pub RisesFrom : ℕ → List ℕ → Type 0
@@ -137,30 +137,30 @@ GoesOn peer (Ticks now) = ⊤
 
 -- The pieces of one peer's stream are fed at a moment, each again and again until all of it is taken; where the peer is
 -- closed, what is left is dropped. These are the answers, and the adapter at the end.
-pub data Pours (now peer : ℕ) : AdapterState → List (List ℕ) → List Answer → AdapterState → Type 0 where
-  Ended : {a : AdapterState} → Pours now peer a [] [] a
+pub data FeedsPieces (now peer : ℕ) : AdapterState → List (List ℕ) → List Answer → AdapterState → Type 0 where
+  Ended : {a : AdapterState} → FeedsPieces now peer a [] [] a
   Taken : {a last : AdapterState} {pieces : List (List ℕ)} {answers : List Answer}
-      → Pours now peer a pieces answers last → Pours now peer a ([] ∷ pieces) answers last
-  Went_on : {a last : AdapterState} {b : ℕ} {bs : List ℕ} {pieces : List (List ℕ)} {answers : List Answer}
+      → FeedsPieces now peer a pieces answers last → FeedsPieces now peer a ([] ∷ pieces) answers last
+  Continued : {a last : AdapterState} {b : ℕ} {bs : List ℕ} {pieces : List (List ℕ)} {answers : List Answer}
       → (call_answer a (Feeds now peer (b ∷ bs))).close ≡ false
-      → Pours now peer (after_call a (Feeds now peer (b ∷ bs)))
+      → FeedsPieces now peer (after_call a (Feeds now peer (b ∷ bs)))
       (drop (call_meaning a (Feeds now peer (b ∷ bs))).taken (b ∷ bs) ∷ pieces) answers last
-      → Pours now peer a ((b ∷ bs) ∷ pieces) (call_answer a (Feeds now peer (b ∷ bs)) ∷ answers) last
+      → FeedsPieces now peer a ((b ∷ bs) ∷ pieces) (call_answer a (Feeds now peer (b ∷ bs)) ∷ answers) last
   Closed : {a : AdapterState} {b : ℕ} {bs : List ℕ} {pieces : List (List ℕ)}
       → (call_answer a (Feeds now peer (b ∷ bs))).close ≡ true
-      → Pours now peer a ((b ∷ bs) ∷ pieces) (call_answer a (Feeds now peer (b ∷ bs)) ∷ [])
+      → FeedsPieces now peer a ((b ∷ bs) ∷ pieces) (call_answer a (Feeds now peer (b ∷ bs)) ∷ [])
       (after_call a (Feeds now peer (b ∷ bs)))
 
 -- Nothing is said.
-abbrev pub is_silent : Said → Bool
-is_silent (Silent why) = true
-is_silent (Sends bytes) = false
-is_silent (Begins handle) = false
-is_silent (Refuses full) = false
+abbrev pub is_no_reply : Output → Bool
+is_no_reply (NoReply why) = true
+is_no_reply (Sends bytes) = false
+is_no_reply (Begins handle) = false
+is_no_reply (Refuses full) = false
 
 -- The answers that say something, or close.
-abbrev pub audible_answers : List Answer → List Answer
-audible_answers answers = filter (λ answer. not (is_silent answer.said) || answer.close) answers
+abbrev pub visible_answers : List Answer → List Answer
+visible_answers answers = filter (λ answer. not (is_no_reply answer.output) || answer.close) answers
 
 -- A peer's run: it begins at an adapter that earlier calls led to from a new one, and then calls come that go on.
 pub record Run (peer : ℕ) : Type 0 where
@@ -169,7 +169,7 @@ pub record Run (peer : ℕ) : Type 0 where
   pub limits : Limits
   pub earlier : List Call
   pub calls : List Call
-  pub begins : (call_answer (after_calls (new_adapter objects listen limits) earlier) Begins_peer).said ≡ Begins peer
+  pub begins : (call_answer (after_calls (new_adapter objects listen limits) earlier) Begins_peer).output ≡ Begins peer
   pub goes_on : AllByRecursion (GoesOn peer) calls
 
 -- The adapter at the beginning of the peer, and after the run.

@@ -4,7 +4,7 @@ use Rattle.std.specs.Prelude.{Option, Some, None}
 use Rattle.cip_bytes.specs.Protocol.{manager_service_of}
 use Rattle.cip_bytes.specs.declared.protocol.ManagerService.{ManagerService}
 use Rattle.cip_bytes.specs.declared.protocol.ManagerService.TheVariants.{ForwardOpen, LargeForwardOpen, ForwardClose}
-use Rattle.cip_bytes.specs.declared.protocol.TheConstants.{CONNECTION_MANAGER, UNCONNECTED_ROOM}
+use Rattle.cip_bytes.specs.declared.protocol.TheConstants.{CONNECTION_MANAGER, UNCONNECTED_LIMIT}
 use Rattle.cip_bytes.specs.declared.protocol.EncapsulationStatus.TheVariants.{PoorlyFormedData, InvalidSession}
 use Rattle.cip_message.specs.declared.path.Path.{Path}
 use Rattle.cip_message.specs.declared.path.PathFault.{PathFault}
@@ -16,7 +16,7 @@ use Rattle.cip_manager.specs.Manager.{Turn}
 use Rattle.cip_manager.specs.Opening.{open_turn_in}
 use Rattle.cip_manager.specs.Closing.{close_turn}
 use Rattle.cip_objects.specs.Execution.{exec}
-use Rattle.enip_wire.specs.Bodies.{rr_text, rr_body_of}
+use Rattle.enip_wire.specs.Bodies.{rr_body_bytes, rr_body_of}
 use Rattle.enip_wire.specs.Frames.{Frame}
 use Rattle.enip_wire.specs.declared.item_list.CpfFault.{CpfFault}
 use Rattle.enip_adapter.specs.declared.peer.Session.{Session}
@@ -25,35 +25,35 @@ use Rattle.enip_adapter.specs.Replies.{Served, leaving, replied, refused, is_reg
 
 -- Where a request goes: to the Connection Manager as a Forward_Open or a Large_Forward_Open, by its layout, or as a
 -- Forward_Close, with its data, or to the objects.
-pub data Destination : Type 0 where
-  Opens : (layout : Layout) (bytes : List ℕ) → Destination
-  Closes : (bytes : List ℕ) → Destination
-  Executes : Destination
+pub data Route : Type 0 where
+  Opens : (layout : Layout) (bytes : List ℕ) → Route
+  Closes : (bytes : List ℕ) → Route
+  Executes : Route
 
 abbrev pub is_manager : Path → Bool
 is_manager path = (path.class == CONNECTION_MANAGER) && (path.instance == 1)
 
 -- The three services of the Connection Manager, class 0x06, instance 1.
-abbrev pub by_service : List ℕ → Option ManagerService → Destination
+abbrev pub by_service : List ℕ → Option ManagerService → Route
 by_service bytes (Some ForwardOpen) = Opens small bytes
 by_service bytes (Some LargeForwardOpen) = Opens large bytes
 by_service bytes (Some ForwardClose) = Closes bytes
 by_service bytes None = Executes
 
-abbrev pub manager_service : ℕ → List ℕ → Destination
+abbrev pub manager_service : ℕ → List ℕ → Route
 manager_service service bytes = by_service bytes (manager_service_of service)
 
-abbrev pub destination_by_path : Request → Result Path PathFault → Destination
-destination_by_path request (Err fault) = Executes
-destination_by_path request (Ok path) =
+abbrev pub route_by_path : Request → Result Path PathFault → Route
+route_by_path request (Err fault) = Executes
+route_by_path request (Ok path) =
     if is_manager path then manager_service request.service request.«data» else Executes
 
-abbrev pub destination_by_request : Result Request RequestFault → Destination
-destination_by_request (Err fault) = Executes
-destination_by_request (Ok request) = destination_by_path request (path_of request.path)
+abbrev pub route_by_request : Result Request RequestFault → Route
+route_by_request (Err fault) = Executes
+route_by_request (Ok request) = route_by_path request (path_of request.path)
 
-abbrev pub destination_of : List ℕ → Destination
-destination_of request = destination_by_request (request_of request)
+abbrev pub route_of : List ℕ → Route
+route_of request = route_by_request (request_of request)
 
 -- What a request leaves, and the reply to it.
 pub record Routed : Type 0 where
@@ -64,18 +64,18 @@ pub record Routed : Type 0 where
 abbrev pub managed : Shared → Turn → Routed
 managed shared turn = record { shared = record shared { manager = turn.manager }; reply = turn.reply }
 
-abbrev pub routed_to : Shared → Session → List ℕ → Destination → Routed
+abbrev pub routed_to : Shared → Session → List ℕ → Route → Routed
 routed_to shared session request (Opens layout bytes) =
     managed shared (open_turn_in layout shared.manager shared.moment session.handle bytes)
 routed_to shared session request (Closes bytes) = managed shared (close_turn shared.manager session.handle bytes)
 routed_to shared session request Executes = record {
-  shared = record shared { objects = (exec shared.objects UNCONNECTED_ROOM request).after };
-  reply = (exec shared.objects UNCONNECTED_ROOM request).answer;
+  shared = record shared { objects = (exec shared.objects UNCONNECTED_LIMIT request).after };
+  reply = (exec shared.objects UNCONNECTED_LIMIT request).answer;
 }
 
 -- A request of a session, and its reply as the data of a SendRRData.
 abbrev pub routed : Shared → Session → List ℕ → Routed
-routed shared session request = routed_to shared session request (destination_of request)
+routed shared session request = routed_to shared session request (route_of request)
 
 -- The router's reply, or poorly formed data, also where they are too short for a request.
 abbrev pub reply_to_body : Shared → Session → Frame → Result (List ℕ) CpfFault → Served
@@ -83,7 +83,7 @@ reply_to_body shared session f (Err fault) = leaving shared (refused session f.h
 reply_to_body shared session f (Ok request) =
     if nat_lt (length request) 2 then leaving shared (refused session f.header PoorlyFormedData)
     else leaving (routed shared session request).shared
-    (replied session f.header (rr_text (routed shared session request).reply))
+    (replied session f.header (rr_body_bytes (routed shared session request).reply))
 
 -- Another session than this peer's registered one is invalid.
 abbrev pub send_rr_data : Shared → Session → Frame → Served

@@ -4,14 +4,14 @@ use Rattle.cip_bytes.specs.declared.protocol.EncapsulationStatus.TheVariants.{Su
 use Rattle.cip_manager.specs.Items.{Reply as HeldReply, ItemTurn, item_turn}
 use Rattle.cip_objects.specs.Contents.{Contents}
 use Rattle.cip_objects.specs.Execution.{exec}
-use Rattle.enip_wire.specs.Bodies.{unit_text, unit_body_of}
+use Rattle.enip_wire.specs.Bodies.{unit_body_bytes, unit_body_of}
 use Rattle.enip_wire.specs.Frames.{Frame}
 use Rattle.enip_wire.specs.declared.header.Header.{Header}
 use Rattle.enip_wire.specs.declared.item_list.CpfFault.{CpfFault}
 use Rattle.enip_adapter.specs.declared.peer.Session.{Session}
 use Rattle.enip_adapter.specs.declared.shared.Shared.{Shared}
-use Rattle.enip_adapter.specs.declared.silence.Silence.TheVariants.{AnotherSession, NotAPacket, NotTaken}
-use Rattle.enip_adapter.specs.Replies.{Reply, Silent, Sends, Served, leaving, replying, silent, reply, is_registered_as}
+use Rattle.enip_adapter.specs.declared.no_reply_reason.NoReplyReason.TheVariants.{AnotherSession, NotAPacket, NotTaken}
+use Rattle.enip_adapter.specs.Replies.{Reply, NoReply, Sends, Served, leaving, replying, no_reply, reply, is_registered_as}
 
 -- What an item leaves, the objects being the router behind the connections.
 abbrev pub turn_of_item : Shared → Session → ℕ → List ℕ → ItemTurn Contents
@@ -22,11 +22,11 @@ turn_of_item shared session id item =
 
 -- A SendUnitData with the T->O ID, and the count and reply that are held.
 abbrev pub unit_reply : Header → HeldReply → List ℕ
-unit_reply asked answer = reply asked asked.session Success (unit_text answer.id answer.bytes)
+unit_reply asked answer = reply asked asked.session Success (unit_body_bytes answer.id answer.bytes)
 
 -- No answer where no connection of the session has the ID, or the item is dropped (ours).
 abbrev pub item_reply : Header → Option HeldReply → Reply
-item_reply asked None = Silent NotTaken
+item_reply asked None = NoReply NotTaken
 item_reply asked (Some answer) = Sends (unit_reply asked answer)
 
 -- What a connection's item leaves of what all peers share.
@@ -39,11 +39,11 @@ served_item shared session f turn =
     leaving (left_by_item shared turn) (replying session (item_reply f.header turn.reply))
 
 abbrev pub item_of_body : Shared → Session → Frame → Result (ℕ × List ℕ) CpfFault → Served
-item_of_body shared session f (Err fault) = leaving shared (silent session (NotAPacket fault))
+item_of_body shared session f (Err fault) = leaving shared (no_reply session (NotAPacket fault))
 item_of_body shared session f (Ok (id, item)) = served_item shared session f (turn_of_item shared session id item)
 
 -- Another session than this peer's registered one, and a packet that is none, are not answered (ours).
 abbrev pub send_unit_data : Shared → Session → Frame → Served
 send_unit_data shared session f =
-    if not (is_registered_as session f.header.session) then leaving shared (silent session AnotherSession)
+    if not (is_registered_as session f.header.session) then leaving shared (no_reply session AnotherSession)
     else item_of_body shared session f (unit_body_of f.body)

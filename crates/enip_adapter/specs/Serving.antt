@@ -9,8 +9,8 @@ use Rattle.enip_adapter.specs.declared.serving.ServeFault.{ServeFault}
 use Rattle.enip_adapter.specs.declared.serving.ServeFault.TheVariants.{Read, Write}
 use Rattle.enip_adapter.specs.Calls.{AdapterState, call_meaning, call_answer, after_call}
 use Rattle.enip_adapter.specs.Calls.Call.{Feeds}
-use Rattle.enip_adapter.specs.Turn.{Said, Answer, session_of}
-use Rattle.enip_adapter.specs.Turn.Said.{Sends}
+use Rattle.enip_adapter.specs.Turn.{Output, Answer, session_of}
+use Rattle.enip_adapter.specs.Turn.Output.{Sends}
 
 -- The number of why serving failed.
 abbrev pub serve_fault_number : ServeFault → ℕ
@@ -26,39 +26,39 @@ abbrev pub is_peer_served : AdapterState → ℕ → Bool
 is_peer_served a peer = is_open (session_of a.state peer)
 
 -- The bytes that an answer sends.
-abbrev pub bytes_said : Said → List ℕ
-bytes_said (Sends bytes) = bytes
-bytes_said other = []
+abbrev pub output_bytes : Output → List ℕ
+output_bytes (Sends bytes) = bytes
+output_bytes other = []
 
 -- A front of these bytes was written, and not all of them.
 abbrev pub AppendsFront : Option (List ℕ) → Option (List ℕ) → List ℕ → Type 0
 AppendsFront before after bytes = (front : ℕ) × (front < length bytes) × Appends before after (take front bytes)
 
 -- What feeding a piece came to: the adapter, the bytes of the piece that are left, and the answers, joined.
-pub record Feeding : Type 0 where
+pub record FeedState : Type 0 where
   pub adapter : AdapterState
   pub rest : List ℕ
   pub sent : List ℕ
 
 -- What the next feed of what is left answers.
-abbrev pub next_answer : ℕ → ℕ → Feeding → Answer
+abbrev pub next_answer : ℕ → ℕ → FeedState → Answer
 next_answer now peer f = call_answer f.adapter (Feeds now peer f.rest)
 
 -- What is left is fed once more.
-abbrev pub fed_more : ℕ → ℕ → Feeding → Feeding
+abbrev pub fed_more : ℕ → ℕ → FeedState → FeedState
 fed_more now peer f = record {
   adapter = after_call f.adapter (Feeds now peer f.rest);
   rest = drop (call_meaning f.adapter (Feeds now peer f.rest)).taken f.rest;
-  sent = f.sent ++ bytes_said (next_answer now peer f).said;
+  sent = f.sent ++ output_bytes (next_answer now peer f).output;
 }
 
 -- A piece is fed to a peer at a moment, again and again, so many times.
-abbrev pub feeds : ℕ → ℕ → AdapterState → List ℕ → ℕ → Feeding
+abbrev pub feeds : ℕ → ℕ → AdapterState → List ℕ → ℕ → FeedState
 feeds now peer a piece zero = record { adapter = a; rest = piece; sent = [] }
 feeds now peer a piece (suc k) = fed_more now peer (feeds now peer a piece k)
 
 -- A byte or more is left, and feeding it does not close.
-pub record GoesOn (now peer : ℕ) (f : Feeding) : Type 0 where
+pub record GoesOn (now peer : ℕ) (f : FeedState) : Type 0 where
   pub some : 0 < length f.rest
   pub open_then : (next_answer now peer f).close ≡ false
 
@@ -94,9 +94,9 @@ pub record FedToFault (now peer : ℕ) (a : AdapterState) (piece : List ℕ) (ne
   pub some : 0 < length (feeds now peer a piece times).rest
   pub adapter : new ≡ (feeds now peer a piece (suc times)).adapter
   pub front : ℕ
-  pub not_all : front < length (bytes_said (next_answer now peer (feeds now peer a piece times)).said)
+  pub not_all : front < length (output_bytes (next_answer now peer (feeds now peer a piece times)).output)
   pub written : Appends before after ((feeds now peer a piece times).sent
-      ++ take front (bytes_said (next_answer now peer (feeds now peer a piece times)).said))
+      ++ take front (output_bytes (next_answer now peer (feeds now peer a piece times)).output))
 
 -- A piece was fed to its end, or closed, or met a fault of the writer.
 abbrev pub IsFedAll : {E : Type 0} → ℕ → ℕ → AdapterState → List ℕ → AdapterState
@@ -112,13 +112,13 @@ pub record IsRead (before after : Option (List ℕ)) (bytes : List ℕ) : Type 0
   pub consumed : Consumes before after bytes
 
 -- The adapter, the bytes that are left to the reader, and those that the writer has.
-pub record Ends : Type 0 where
+pub record ServeState : Type 0 where
   pub adapter : AdapterState
   pub left : Option (List ℕ)
   pub written : Option (List ℕ)
 
 -- What serving does to a peer that is served, by what it answers; the moment is the reader's after the read.
-abbrev pub IsServed : ℕ → ℕ → Ends → Ends → Result Served ServeFault → Type 0
+abbrev pub IsServed : ℕ → ℕ → ServeState → ServeState → Result Served ServeFault → Type 0
 IsServed now peer old new (Ok More) =
     (bytes : List ℕ) × IsRead old.left new.left bytes
     × FedWhole now peer old.adapter bytes new.adapter old.written new.written

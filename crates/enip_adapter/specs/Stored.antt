@@ -3,7 +3,7 @@ use Rattle.std.specs.Prelude.{ℕ, List, Bool, Option, refl}
 use Rattle.std.specs.Coded.{Coded, code_by, coded×, coded_ℕ, coded_bool, coded_list, coded_option}
 use Rattle.cip_message.specs.declared.key.Device.{Device}
 use Rattle.cip_objects.specs.Contents.{Contents, contents_code, device_code}
-use Rattle.cip_class3.specs.TargetRule.{Kept, TargetState}
+use Rattle.cip_class3.specs.TargetRule.{KeptReply, TargetState}
 use Rattle.cip_manager.specs.declared.connection.Connection.{Connection}
 use Rattle.cip_manager.specs.declared.connection.Triad.{Triad}
 use Rattle.cip_manager.specs.Manager.{ManagerState}
@@ -22,18 +22,18 @@ session_code =
     (λ s. (s.handle, (s.registered, s.closed)))
     session_from (λ _. refl)
 
-abbrev pub kept_code : Coded Kept
+abbrev pub kept_code : Coded KeptReply
 kept_code =
     code_by (ℕ × List ℕ) (coded× coded_ℕ (coded_list coded_ℕ)) (λ k. (k.sequence_count, k.reply))
     (λ p. record { sequence_count = p.0; reply = p.1 }) (λ _. refl)
 
-abbrev pub target_from : ℕ × (ℕ × Option Kept) → TargetState
+abbrev pub target_from : ℕ × (ℕ × Option KeptReply) → TargetState
 target_from (o_to_t_size, (t_to_o_size, held)) =
     record { o_to_t_size = o_to_t_size; t_to_o_size = t_to_o_size; held = held }
 
 abbrev pub target_code : Coded TargetState
 target_code =
-    code_by (ℕ × (ℕ × Option Kept)) (coded× coded_ℕ (coded× coded_ℕ (coded_option kept_code)))
+    code_by (ℕ × (ℕ × Option KeptReply)) (coded× coded_ℕ (coded× coded_ℕ (coded_option kept_code)))
     (λ t. (t.o_to_t_size, (t.t_to_o_size, t.held)))
     target_from (λ _. refl)
 

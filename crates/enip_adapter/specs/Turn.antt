@@ -8,8 +8,8 @@ use Rattle.enip_adapter.specs.declared.adapter.Full.{Full}
 use Rattle.enip_adapter.specs.declared.adapter.Full.TheVariants.{Places, Handles}
 use Rattle.enip_adapter.specs.declared.peer.Session.{Session}
 use Rattle.enip_adapter.specs.declared.shared.Shared.{Shared}
-use Rattle.enip_adapter.specs.declared.silence.Silence.{Silence}
-use Rattle.enip_adapter.specs.declared.silence.Silence.TheVariants.{NoFrame, NotServed}
+use Rattle.enip_adapter.specs.declared.no_reply_reason.NoReplyReason.{NoReplyReason}
+use Rattle.enip_adapter.specs.declared.no_reply_reason.NoReplyReason.TheVariants.{NoFrame, NotServed}
 use Rattle.enip_adapter.specs.Commands.{command_served, long_refused}
 use Rattle.enip_adapter.specs.Lookup.{first_with, with_first, without_first}
 use Rattle.enip_adapter.specs.Replies.{Reply, Reply as replies, Served, leaving}
@@ -32,26 +32,26 @@ pub data Event : Type 0 where
   Long : (peer : ℕ) → (header : Header) → Event
 
 -- What an event says: nothing, for a reason, a frame to the peer, or the handle or the refusal of one that begins.
-pub data Said : Type 0 where
-  Silent : (why : Silence) → Said
-  Sends : (bytes : List ℕ) → Said
-  Begins : (handle : ℕ) → Said
-  Refuses : (full : Full) → Said
+pub data Output : Type 0 where
+  NoReply : (why : NoReplyReason) → Output
+  Sends : (bytes : List ℕ) → Output
+  Begins : (handle : ℕ) → Output
+  Refuses : (full : Full) → Output
 
 -- What an event answers: what is said, and whether the peer's connection is closed.
 pub record Answer : Type 0 where
-  pub said : Said
+  pub output : Output
   pub close : Bool
 
-pub record Turned : Type 0 where
+pub record TurnResult : Type 0 where
   pub state : State
   pub answer : Answer
 
-abbrev pub turned : State → Said → Bool → Turned
-turned state said close = record { state = state; answer = record { said = said; close = close } }
+abbrev pub turned : State → Output → Bool → TurnResult
+turned state output close = record { state = state; answer = record { output = output; close = close } }
 
-abbrev pub sent : Reply → Said
-sent (replies.Silent why) = Silent why
+abbrev pub sent : Reply → Output
+sent (replies.NoReply why) = NoReply why
 sent (replies.Sends bytes) = Sends bytes
 
 -- A peer that just began.
@@ -66,7 +66,7 @@ with_peer s = record s {
 }
 
 -- A connection of TCP begins. Places are looked at before handles (ours). A handle is not used again.
-abbrev pub begun : State → Turned
+abbrev pub begun : State → TurnResult
 begun s =
     if not (nat_lt (length s.peers) s.places) then turned s (Refuses Places) false
     else if nat_lt 0xffffffff s.next_handle then turned s (Refuses Handles) false
@@ -86,10 +86,10 @@ shared_after session served =
     if served.reaction.close then without_connections served.shared session.handle else served.shared
 
 -- To a peer that is held and not closed, what it sent is served; to any other nothing is done.
-abbrev pub serve_found : State → ℕ → (Session → Served) → Option Session → Turned
-serve_found s peer serve None = turned s (Silent NotServed) true
+abbrev pub serve_found : State → ℕ → (Session → Served) → Option Session → TurnResult
+serve_found s peer serve None = turned s (NoReply NotServed) true
 serve_found s peer serve (Some session) =
-    if session.closed then turned s (Silent NotServed) true
+    if session.closed then turned s (NoReply NotServed) true
     else turned (record s {
       shared = shared_after session (serve session);
       peers = with_first (λ p. p.handle) peer (session_after session (serve session)) s.peers;
@@ -113,10 +113,10 @@ at_moment shared now = record shared {
   manager = without_overdue shared.manager (max shared.moment now);
 }
 
-abbrev pub turn : State → Event → Turned
+abbrev pub turn : State → Event → TurnResult
 turn s Begin = begun s
-turn s (End peer) = turned (end_found s peer (session_of s peer)) (Silent NoFrame) false
-turn s (At now) = turned (record s { shared = at_moment s.shared now }) (Silent NoFrame) false
+turn s (End peer) = turned (end_found s peer (session_of s peer)) (NoReply NoFrame) false
+turn s (At now) = turned (record s { shared = at_moment s.shared now }) (NoReply NoFrame) false
 turn s (Framed peer f) = serve_found s peer (λ session. command_served s.shared session f) (session_of s peer)
 turn s (Long peer h) = serve_found s peer (λ session. leaving s.shared (long_refused session h)) (session_of s peer)
 

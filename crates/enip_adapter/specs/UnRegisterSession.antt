@@ -2,13 +2,13 @@
 use Rattle.std.specs.Prelude.{if◌then◌else◌}
 use Rattle.enip_wire.specs.Frames.{Frame}
 use Rattle.enip_adapter.specs.declared.peer.Session.{Session}
-use Rattle.enip_adapter.specs.declared.silence.Silence.TheVariants.{Unregistered, AnotherSession}
-use Rattle.enip_adapter.specs.Replies.{Reaction, silent, is_registered_as}
+use Rattle.enip_adapter.specs.declared.no_reply_reason.NoReplyReason.TheVariants.{Unregistered, AnotherSession}
+use Rattle.enip_adapter.specs.Replies.{Reaction, no_reply, is_registered_as}
 
 -- No answer: the connection is closed where the session is this peer's registered one, else the frame is dropped
 -- (ours). The data say nothing.
 abbrev pub unregister_session : Session → Frame → Reaction
 unregister_session session f =
-    record (silent session (if is_registered_as session f.header.session then Unregistered else AnotherSession)) {
+    record (no_reply session (if is_registered_as session f.header.session then Unregistered else AnotherSession)) {
       close = is_registered_as session f.header.session;
     }

@@ -9,7 +9,7 @@ ghost use Rattle.std.specs.Option.{option_map};
 ghost use Rattle.std.specs.List.{list_any};
 ghost use Rattle.cip_manager.specs.declared.connection.Connection.{Connection};
 ghost use Rattle.cip_manager.specs.Connection.{earliest_deadline, has_id};
-ghost use Rattle.cip_manager.specs.Watching.{watched};
+ghost use Rattle.cip_manager.specs.ConnectionInfo.{connection_info};
 ghost use Rattle.enip_adapter.specs.Turn.{session_of};
 ghost use Rattle.cip_objects.specs.Changes.{changes_of};
 ghost use Rattle.cip_objects.specs.DeviceWrites.{device_write, with_device_status, with_device_state};
@@ -17,13 +17,13 @@ ghost use Rattle.enip_adapter.specs.Adapter.{full_number};
 ghost use Rattle.enip_adapter.specs.Device.{with_objects};
 ghost use Rattle.enip_adapter.specs.Discovery.{discovered};
 
-use crate::commands::DiscoveryRoom;
+use crate::commands::DiscoveryBuffer;
+use crate::no_reply_reason::NoReplyReason;
 use crate::peer::{Peer, Session};
-use crate::places::Places;
+use crate::peer_slots::PeerSlots;
 use crate::reply::{AnswerFrame, LONGEST_ANSWER, Reaction, Reply};
 use crate::shared::{Listen, Shared};
-use crate::silence::Silence;
-use cip_manager::{Manager, Steps, Watched};
+use cip_manager::{ConnectionInfo, Manager, Steps};
 use cip_objects::{Objects, ReplyBuf};
 use std::alloc::{AllocError, Global};
 use std::marker::Model;
@@ -70,7 +70,7 @@ pub struct Fed<'a> {
     /// The frame to send, if any.
     pub answer: Option<&'a [u8]>,
     /// Why there is no frame to send, where there is none.
-    pub silent: Option<Silence>,
+    pub no_reply_reason: Option<NoReplyReason>,
     /// Whether the peer is closed, or not held.
     pub close: bool,
 }
@@ -81,7 +81,7 @@ pub struct Adapter {
     // Past the greatest handle once that was drawn.
     next_handle: u64,
     shared: Shared,
-    places: Places,
+    places: PeerSlots,
     // Where a router writes; what it held before counts for nothing.
     reply: ReplyBuf,
     answer: AnswerFrame,
@@ -104,7 +104,7 @@ impl Model for Adapter {
 }
 
 impl Adapter {
-    ghost use Rattle.enip_adapter.specs.Adapter.{new_adapter, begin_said, feed_said};
+    ghost use Rattle.enip_adapter.specs.Adapter.{new_adapter, begin_output, feed_output};
     ghost use Rattle.enip_adapter.specs.Calls.{Call, call_meaning, call_answer, after_call};
     ghost use Rattle.enip_adapter.specs.Serving.{is_peer_served};
     ghost use Rattle.enip_adapter.specs.contracts.adapter.Adapter.{the_row};
@@ -128,7 +128,7 @@ impl Adapter {
         requires id { 1 ≤ limits.first_id }
         ensures { IfOk result (λ a. a ≡ new_adapter objects listen limits) }
     {
-        let places = Places::new(alloc, limits.peers)?;
+        let places = PeerSlots::new(alloc, limits.peers)?;
         let manager = Manager::new(alloc, limits.connections, limits.first_id, objects.device())?;
         Ok(Adapter {
             next_handle: u64::from(limits.first_handle),
@@ -151,7 +151,7 @@ impl Adapter {
     /// `Full::Places` where all places are taken, else `Full::Handles` where the last handle was given out.
     pub fn begin(&mut self) -> Result<Peer, Full>
         ensures state { self.new ≡ after_call self.old Call.Begins_peer }
-        ensures said { begin_said result ≡ (call_answer self.old Call.Begins_peer).said }
+        ensures output { begin_output result ≡ (call_answer self.old Call.Begins_peer).output }
     {
         // places before handles (ours)
         if self.places.free() == 0 {
@@ -175,9 +175,9 @@ impl Adapter {
         ensures* state { sem 𝓛 (Rests the_row self.entry (λ last. last
             ≡ after_call self.old (Call.Feeds now peer.now piece.now))) }
         ensures taken { result.taken ≡ (call_meaning self.old (Call.Feeds now peer.now piece.now)).taken }
-        ensures answer { feed_said result.answer result.silent
-            ≡ (call_answer self.old (Call.Feeds now peer.now piece.now)).said }
-        ensures silent { is_some result.silent ≡ is_none result.answer }
+        ensures answer { feed_output result.answer result.no_reply_reason
+            ≡ (call_answer self.old (Call.Feeds now peer.now piece.now)).output }
+        ensures no_reply_reason { is_some result.no_reply_reason ≡ is_none result.answer }
         ensures close { result.close ≡ (call_answer self.old (Call.Feeds now peer.now piece.now)).close }
         ensures within { result.taken ≤ length piece.now }
         ensures progress { 0 < length piece.now → result.close ≡ false → 0 < result.taken }
@@ -195,13 +195,13 @@ impl Adapter {
             Reply::Written => Fed {
                 taken,
                 answer: Some(self.answer.as_slice()),
-                silent: None,
+                no_reply_reason: None,
                 close: reaction.close,
             },
-            Reply::Silent(why) => Fed {
+            Reply::NoReply(why) => Fed {
                 taken,
                 answer: None,
-                silent: Some(why),
+                no_reply_reason: Some(why),
                 close: reaction.close,
             },
         }
@@ -211,7 +211,7 @@ impl Adapter {
     pub fn end(&mut self, peer: Peer)
         ensures { self.new ≡ after_call self.old (Call.Ends_peer peer) }
     {
-        if self.places.give_back(peer.handle) {
+        if self.places.release(peer.handle) {
             self.shared.end_session(peer.handle);
         }
     }
@@ -236,7 +236,7 @@ impl Adapter {
     /// ListInterfaces, and no byte behind it, the same bytes as over TCP. `None` for any other datagram.
     ///
     /// It begins no peer and no session, and changes nothing of the adapter.
-    pub fn discover<'a>(&self, datagram: &[u8], room: &'a mut DiscoveryRoom) -> Option<&'a [u8]>
+    pub fn discover<'a>(&self, datagram: &[u8], room: &'a mut DiscoveryBuffer) -> Option<&'a [u8]>
         ensures answer { option_map (λ bytes. bytes.now) result ≡ discovered self.now.state.shared datagram.now }
         ensures fits { IfSome result (λ bytes. length bytes.now ≤ LONGEST_ANSWER) }
     {
@@ -294,12 +294,12 @@ impl Adapter {
     }
 
     /// What a look at the connection at a place tells. Places count from 0, in the order of opening.
-    pub fn watched(&self, place: usize) -> Watched
-        requires { place < length self.now.state.shared.manager.connections }
+    pub fn connection_info(&self, index: usize) -> ConnectionInfo
+        requires { index < length self.now.state.shared.manager.connections }
         ensures { (d : Connection) →
-            result ≡ watched (slice_index_or self.now.state.shared.manager.connections place d) }
+            result ≡ connection_info (slice_index_or self.now.state.shared.manager.connections index d) }
     {
-        self.shared.manager.watched(place)
+        self.shared.manager.connection_info(index)
     }
 
     /// Whether a connection with an O->T ID is open.

@@ -13,13 +13,13 @@ ghost use Rattle.enip_wire.specs.Stream.{frame_of};
 ghost use Rattle.enip_adapter.specs.Commands.{command_served};
 ghost use Rattle.enip_adapter.specs.Replies.{reply, written};
 
+use crate::no_reply_reason::NoReplyReason;
 use crate::peer::Session;
 use crate::reply::{AnswerFrame, Reaction, Reply, refuse};
 use crate::shared::Shared;
-use crate::silence::Silence;
 use cip_bytes::protocol::{Command, EncapsulationStatus};
 use cip_objects::ReplyBuf;
-pub use discovery::DiscoveryRoom;
+pub use discovery::DiscoveryBuffer;
 use enip_wire::{FrameView, Header};
 use items::send_unit_data;
 use lists::{list_identity, list_interfaces, list_services};
@@ -46,14 +46,14 @@ pub(crate) fn serve(
     let asked = frame.header;
     // options that are not 0: discarded (a frame)
     if asked.options != 0 {
-        return Reaction::silent(Silence::Options);
+        return Reaction::no_reply(NoReplyReason::Options);
     }
     // a status that is not 0: discarded (ours)
     if asked.status != 0 {
-        return Reaction::silent(Silence::Status);
+        return Reaction::no_reply(NoReplyReason::Status);
     }
     match Command::of(asked.command) {
-        Some(Command::Nop) => return Reaction::silent(Silence::Nop),
+        Some(Command::Nop) => return Reaction::no_reply(NoReplyReason::Nop),
         Some(Command::ListServices) => list_services(asked, answer),
         Some(Command::ListIdentity) => list_identity(shared, asked, reply, answer),
         Some(Command::ListInterfaces) => list_interfaces(asked, answer),

@@ -2,11 +2,11 @@
 
 ghost use Rattle.std.specs.Prelude.{◌≡◌, ◌≤◌, ◌<◌, ◌+◌, ◌++◌, [], ◌∷◌, length};
 ghost use Rattle.arrayvec.specs.ArrayVec.{array_vec_len};
-ghost use Rattle.enip_adapter.specs.Endings.{nothing_seen, looked, open_in, endings_of, why_ended};
+ghost use Rattle.enip_adapter.specs.Endings.{no_endings, updated, open_in, endings_of, end_reason};
 
 use crate::adapter::Adapter;
 use arrayvec::ArrayVec;
-use cip_manager::Watched;
+use cip_manager::ConnectionInfo;
 use std::marker::Model;
 
 /// The most connections that an adapter has open.
@@ -14,7 +14,7 @@ const MOST_CONNECTIONS: usize = 64;
 
 /// Why a connection ended.
 #[derive(Clone, Copy, Debug, Default, PartialEq, Eq)]
-pub enum Why {
+pub enum EndReason {
     /// No item came in time: its deadline was reached.
     #[default]
     TimedOut,
@@ -28,13 +28,13 @@ pub enum Why {
 
 /// A connection that ended.
 #[derive(Clone, Copy, Debug, Default)]
-pub struct Ended {
+pub struct EndedConnection {
     /// The O->T connection ID, 32 bits. It never comes again.
     pub id: u32,
     /// The handle of the session that opened it, 32 bits.
     pub session: u32,
     /// Why it ended.
-    pub why: Why,
+    pub reason: EndReason,
 }
 
 /// Which connections of an adapter ended since the last look.
@@ -47,8 +47,8 @@ pub struct Ended {
 /// It has room for all connections that an adapter can have, from `new` on, and takes no memory.
 #[derive(Drop)]
 pub struct Endings {
-    remembered: ArrayVec<Watched, MOST_CONNECTIONS>,
-    ended: ArrayVec<Ended, MOST_CONNECTIONS>,
+    remembered: ArrayVec<ConnectionInfo, MOST_CONNECTIONS>,
+    ended: ArrayVec<EndedConnection, MOST_CONNECTIONS>,
 }
 
 impl Model for Endings {
@@ -62,7 +62,7 @@ impl Model for Endings {
 impl Endings {
     /// Nothing was looked at: no connection is remembered.
     pub fn new() -> Endings
-        ensures { result ≡ nothing_seen }
+        ensures { result ≡ no_endings }
     {
         Endings {
             remembered: ArrayVec::new(),
@@ -73,14 +73,14 @@ impl Endings {
     /// Looks at an adapter, the same at each look: those that were open at the look before and are open no more have
     /// ended, and those that are open now are remembered.
     pub fn update(&mut self, adapter: &Adapter)
-        ensures { self.new ≡ looked self.old adapter.now }
+        ensures { self.new ≡ updated self.old adapter.now }
     {
-        tell_ended(adapter, self.remembered.as_slice(), &mut self.ended);
+        collect_ended(adapter, self.remembered.as_slice(), &mut self.ended);
         remember(adapter, &mut self.remembered);
     }
 
     /// The connections that had ended at the last look since the look before, in the order in which they were opened.
-    pub fn ended(&self) -> &[Ended]
+    pub fn ended(&self) -> &[EndedConnection]
         ensures { result.now ≡ self.now.ended }
     {
         self.ended.as_slice()
@@ -88,55 +88,59 @@ impl Endings {
 }
 
 /// Leaves those of the connections that were open which are open no more.
-fn tell_ended(
+fn collect_ended(
     adapter: &Adapter,
-    remembered: &[Watched],
-    ended: &mut ArrayVec<Ended, MOST_CONNECTIONS>,
+    remembered: &[ConnectionInfo],
+    ended: &mut ArrayVec<EndedConnection, MOST_CONNECTIONS>,
 )
     requires { length remembered.now ≤ MOST_CONNECTIONS }
     ensures { ended.new.items ≡ endings_of adapter.now remembered.now }
 {
     ended.clear();
     for connection in remembered {
-        tell(adapter, *connection, ended);
+        collect(adapter, *connection, ended);
     }
 }
 
 /// Appends a connection that was open, if it is open no more.
-fn tell(adapter: &Adapter, connection: Watched, ended: &mut ArrayVec<Ended, MOST_CONNECTIONS>)
+fn collect(
+    adapter: &Adapter,
+    connection: ConnectionInfo,
+    ended: &mut ArrayVec<EndedConnection, MOST_CONNECTIONS>,
+)
     requires { array_vec_len ended.old < MOST_CONNECTIONS }
     ensures text { ended.new.items ≡ ended.old.items ++ endings_of adapter.now (connection ∷ []) }
     ensures size { array_vec_len ended.new ≤ array_vec_len ended.old + 1 }
 {
     if !adapter.has_connection(connection.id) {
-        ended.push(Ended {
+        ended.push(EndedConnection {
             id: connection.id,
             session: connection.session,
-            why: why_ended(adapter, connection),
+            reason: end_reason(adapter, connection),
         });
     }
 }
 
 /// Why a connection ended that is open no more.
-fn why_ended(adapter: &Adapter, connection: Watched) -> Why
-    ensures { result ≡ why_ended adapter.now connection }
+fn end_reason(adapter: &Adapter, connection: ConnectionInfo) -> EndReason
+    ensures { result ≡ end_reason adapter.now connection }
 {
     if connection.deadline <= adapter.moment() {
-        return Why::TimedOut;
+        return EndReason::TimedOut;
     }
     match adapter.session(connection.session) {
-        None => Why::PeerEnded,
-        Some(session) if session.closed => Why::SessionEnded,
-        Some(_) => Why::Closed,
+        None => EndReason::PeerEnded,
+        Some(session) if session.closed => EndReason::SessionEnded,
+        Some(_) => EndReason::Closed,
     }
 }
 
 /// Leaves what is to be remembered of the connections that are open.
-fn remember(adapter: &Adapter, remembered: &mut ArrayVec<Watched, MOST_CONNECTIONS>)
+fn remember(adapter: &Adapter, remembered: &mut ArrayVec<ConnectionInfo, MOST_CONNECTIONS>)
     ensures { remembered.new.items ≡ open_in adapter.now }
 {
     remembered.clear();
-    for place in 0..adapter.connections() {
-        remembered.push(adapter.watched(place));
+    for index in 0..adapter.connections() {
+        remembered.push(adapter.connection_info(index));
     }
 }

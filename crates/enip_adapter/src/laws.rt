@@ -12,15 +12,15 @@ ghost use Rattle.enip_adapter.specs.declared.shared.Listen.{Listen};
 ghost use Rattle.enip_adapter.specs.Adapter.{new_adapter};
 ghost use Rattle.enip_adapter.specs.Discovery.{discovered};
 ghost use Rattle.enip_adapter.specs.Turn.{Event, Answer, answers, after, session_of};
-ghost use Rattle.enip_adapter.specs.Turn.Said.{Sends};
+ghost use Rattle.enip_adapter.specs.Turn.Output.{Sends};
 ghost use Rattle.enip_adapter.specs.Calls.Call.{Feeds, Ticks};
 ghost use Rattle.enip_adapter.specs.Calls.{AdapterState, Call, call_meaning, after_call, call_answer, bytes_held};
-ghost use Rattle.enip_adapter.specs.Runs.{after_calls, call_answers, events_of_calls, answers_by_call, said_in};
+ghost use Rattle.enip_adapter.specs.Runs.{after_calls, call_answers, events_of_calls, answers_by_call, outputs_in};
 ghost use Rattle.enip_adapter.specs.Runs.{IsForOther, moments_of_calls, is_open_at_all};
 ghost use Rattle.enip_adapter.specs.Runs.{RisesFrom, handles_in, ids_of_events};
-ghost use Rattle.enip_adapter.specs.Runs.{Run, at_end, taken_in, frames_in, Pours, audible_answers};
+ghost use Rattle.enip_adapter.specs.Runs.{Run, at_end, taken_in, frames_in, FeedsPieces, visible_answers};
 ghost use Rattle.enip_adapter.specs.Serving.{is_peer_served};
-ghost use Rattle.enip_adapter.specs.Deeds.{Deed, Lead, StandFor, IsDoneForOther};
+ghost use Rattle.enip_adapter.specs.AdapterActions.{AdapterAction, LeadTo, AmountTo, IsActionForOther};
 
 /// Whatever calls come, for any number of peers, the adapter is where the events lead that they stand for, and the
 /// answers of these events are each call's own, call by call. What calls say is what the events say; a call closes
@@ -30,8 +30,8 @@ pub fn answers_of_events()
         (after_calls a calls).state ≡ after a.state (events_of_calls a calls) }
     ensures answers { (a : AdapterState) (calls : List Call) →
         answers a.state (events_of_calls a calls) ≡ flat_map (λ own. own) (answers_by_call a calls) }
-    ensures said { (a : AdapterState) (calls : List Call) →
-        said_in (call_answers a calls) ≡ said_in (answers a.state (events_of_calls a calls)) }
+    ensures output { (a : AdapterState) (calls : List Call) →
+        outputs_in (call_answers a calls) ≡ outputs_in (answers a.state (events_of_calls a calls)) }
     ensures close { (a : AdapterState) (call : Call) → (call_answer a call).close
         ≡ ((call_meaning a call).dropped || list_any (λ x. x.close) (answers a.state (call_meaning a call).events)) }
 {}
@@ -41,10 +41,10 @@ pub fn answers_of_events()
 /// for other peers than one, so are these calls. So `peers_apart`, `handles_rise` and all that holds of every list of
 /// calls holds with servings among them.
 pub fn servings_are_calls()
-    ensures calls { (a last : AdapterState) (deeds : List Deed) → Lead a deeds last →
-        (calls : List Call) × (StandFor deeds calls × (last ≡ after_calls a calls)) }
-    ensures others { (peer : ℕ) (deeds : List Deed) (calls : List Call) → StandFor deeds calls →
-        AllByRecursion (IsDoneForOther peer) deeds → AllByRecursion (IsForOther peer) calls }
+    ensures calls { (a last : AdapterState) (actions : List AdapterAction) → LeadTo a actions last →
+        (calls : List Call) × (AmountTo actions calls × (last ≡ after_calls a calls)) }
+    ensures others { (peer : ℕ) (actions : List AdapterAction) (calls : List Call) → AmountTo actions calls →
+        AllByRecursion (IsActionForOther peer) actions → AllByRecursion (IsForOther peer) calls }
 {}
 
 /// Calls for other peers, of those that begin, and ticks leave what a peer's session is and which bytes of its next
@@ -124,18 +124,18 @@ pub fn cuts_change_nothing()
     ensures answers { (objects : Contents) (listen : Listen) (limits : Limits) (calls : List Call) (now peer : ℕ)
         (pieces others : List (List ℕ)) (answers replies : List Answer) (last end : AdapterState) →
         concat pieces ≡ concat others →
-        Pours now peer (after_calls (new_adapter objects listen limits) calls) pieces answers last →
-        Pours now peer (after_calls (new_adapter objects listen limits) calls) others replies end →
-        audible_answers answers ≡ audible_answers replies }
+        FeedsPieces now peer (after_calls (new_adapter objects listen limits) calls) pieces answers last →
+        FeedsPieces now peer (after_calls (new_adapter objects listen limits) calls) others replies end →
+        visible_answers answers ≡ visible_answers replies }
     ensures adapter { (objects : Contents) (listen : Listen) (limits : Limits) (calls : List Call) (now peer : ℕ)
         (pieces others : List (List ℕ)) (answers replies : List Answer) (last end : AdapterState) →
         concat pieces ≡ concat others →
-        Pours now peer (after_calls (new_adapter objects listen limits) calls) pieces answers last →
-        Pours now peer (after_calls (new_adapter objects listen limits) calls) others replies end →
+        FeedsPieces now peer (after_calls (new_adapter objects listen limits) calls) pieces answers last →
+        FeedsPieces now peer (after_calls (new_adapter objects listen limits) calls) others replies end →
         last ≡ end }
     ensures some { (objects : Contents) (listen : Listen) (limits : Limits) (calls : List Call) (now peer : ℕ)
         (pieces : List (List ℕ)) → (answers : List Answer) × ((last : AdapterState) ×
-        Pours now peer (after_calls (new_adapter objects listen limits) calls) pieces answers last) }
+        FeedsPieces now peer (after_calls (new_adapter objects listen limits) calls) pieces answers last) }
 {}
 
 /// Discovery is as over TCP. What answers a datagram is what any peer gets that sends the same bytes, registered or not,
@@ -144,7 +144,7 @@ pub fn cuts_change_nothing()
 pub fn discovery_is_as_over_tcp()
     ensures answer { (a : AdapterState) (now peer : ℕ) (datagram bytes : List ℕ) → is_peer_served a peer ≡ true →
         bytes_held a.held peer ≡ [] → discovered a.state.shared datagram ≡ Some bytes →
-        call_answer a (Feeds now peer datagram) ≡ record { said = Sends bytes; close = false } }
+        call_answer a (Feeds now peer datagram) ≡ record { output = Sends bytes; close = false } }
     ensures adapter { (a : AdapterState) (now peer : ℕ) (datagram bytes : List ℕ) → is_peer_served a peer ≡ true →
         bytes_held a.held peer ≡ [] → discovered a.state.shared datagram ≡ Some bytes →
         after_call a (Feeds now peer datagram) ≡ after_call a (Ticks now) }

@@ -2,17 +2,17 @@
 //! Text: docs/PROTOCOL.md, "A peer".
 
 ghost use Rattle.std.specs.Prelude.{◌≡◌, ◌<◌, ◌≤◌, length};
-ghost use Rattle.enip_wire.specs.Frames.{Stops};
-ghost use Rattle.enip_wire.specs.Stream.{taken_of, joined_of, sight_of, cleared};
+ghost use Rattle.enip_wire.specs.Frames.{IsComplete};
+ghost use Rattle.enip_wire.specs.Stream.{bytes_taken, held_and_taken, parsed, cleared};
 ghost use Rattle.enip_adapter.specs.Adapter.{IsWaiting};
 ghost use Rattle.enip_adapter.specs.Turn.{shared_after, session_after};
-ghost use Rattle.enip_adapter.specs.Commands.{sight_served};
+ghost use Rattle.enip_adapter.specs.Commands.{parsed_served};
 ghost use Rattle.enip_adapter.specs.Replies.{written};
 
 use crate::commands::{refuse_long, serve};
+use crate::no_reply_reason::NoReplyReason;
 use crate::reply::{AnswerFrame, Reaction};
 use crate::shared::Shared;
-use crate::silence::Silence;
 use cip_objects::ReplyBuf;
 use enip_wire::{FrameReader, Held};
 use std::marker::Model;
@@ -63,12 +63,12 @@ pub(crate) struct Session {
 
 /// A place that a peer holds.
 #[derive(Drop)]
-pub(crate) struct Place {
+pub(crate) struct PeerSlot {
     pub(crate) session: Session,
     pub(crate) reader: FrameReader,
 }
 
-impl Place {
+impl PeerSlot {
     /// Takes bytes of a piece up to the end of one frame, and serves the frame. A router writes into `reply`. Answers how
     /// many bytes were taken, and what came of them.
     pub(crate) fn feed(
@@ -78,25 +78,25 @@ impl Place {
         reply: &mut ReplyBuf,
         answer: &mut AnswerFrame,
     ) -> (usize, Reaction)
-        requires { Stops self.old.reader → ⊥ }
+        requires { IsComplete self.old.reader → ⊥ }
         ensures session { self.new.session ≡ session_after self.old.session
-            (sight_served shared.old self.old.session (sight_of (joined_of self.old.reader piece.now))) }
+            (parsed_served shared.old self.old.session (parsed (held_and_taken self.old.reader piece.now))) }
         ensures reader { self.new.reader
-            ≡ cleared (sight_of (joined_of self.old.reader piece.now)) (joined_of self.old.reader piece.now) }
+            ≡ cleared (parsed (held_and_taken self.old.reader piece.now)) (held_and_taken self.old.reader piece.now) }
         ensures shared { shared.new ≡ shared_after self.old.session
-            (sight_served shared.old self.old.session (sight_of (joined_of self.old.reader piece.now))) }
-        ensures taken { result.0 ≡ taken_of self.old.reader piece.now }
-        ensures answer { written result.1.reply answer.new.items ≡ (sight_served shared.old self.old.session
-            (sight_of (joined_of self.old.reader piece.now))).reaction.answer }
-        ensures close { result.1.close ≡ (sight_served shared.old self.old.session
-            (sight_of (joined_of self.old.reader piece.now))).reaction.close }
+            (parsed_served shared.old self.old.session (parsed (held_and_taken self.old.reader piece.now))) }
+        ensures taken { result.0 ≡ bytes_taken self.old.reader piece.now }
+        ensures answer { written result.1.reply answer.new.items ≡ (parsed_served shared.old self.old.session
+            (parsed (held_and_taken self.old.reader piece.now))).reaction.answer }
+        ensures close { result.1.close ≡ (parsed_served shared.old self.old.session
+            (parsed (held_and_taken self.old.reader piece.now))).reaction.close }
         ensures within { result.0 ≤ length piece.now }
         ensures progress { 0 < length piece.now → 0 < result.0 }
         ensures waiting { IsWaiting self.new }
     {
         let (taken, held) = self.reader.next(piece);
         let reaction = match held {
-            Held::More => Reaction::silent(Silence::NoFrame),
+            Held::More => Reaction::no_reply(NoReplyReason::NoFrame),
             Held::Frame(frame) => {
                 let reaction = serve(shared, &mut self.session, frame, reply, answer);
                 self.reader.clear();

@@ -5,8 +5,8 @@ ghost use Rattle.std.specs.Prelude.{◌≡◌, ◌≤◌, ◌+◌, ◌++◌, len
 ghost use Rattle.enip_wire.specs.Headers.{header_spelling};
 ghost use Rattle.enip_adapter.specs.Replies.{reply, reply_header};
 
-use crate::silence::Silence;
-use cip_bytes::protocol::{EncapsulationStatus, LARGEST_SIZE};
+use crate::no_reply_reason::NoReplyReason;
+use cip_bytes::protocol::{EncapsulationStatus, LARGEST_CONNECTION_SIZE};
 use enip_wire::Header;
 use std::marker::Model;
 
@@ -15,7 +15,7 @@ use std::marker::Model;
 pub(crate) const PACKET_HEAD: usize = 20;
 
 /// The most data of an answer, in bytes.
-pub(crate) const LONGEST_DATA: usize = PACKET_HEAD + LARGEST_SIZE;
+pub(crate) const LONGEST_DATA: usize = PACKET_HEAD + LARGEST_CONNECTION_SIZE;
 
 /// The longest answer, in bytes.
 pub const LONGEST_ANSWER: usize = Header::SIZE + LONGEST_DATA;
@@ -88,7 +88,7 @@ fn append_text(block: &mut [u8], size: usize, text: &[u8]) -> usize
 #[derive(Clone, Copy)]
 pub(crate) enum Reply {
     /// Nothing, for this reason.
-    Silent(Silence),
+    NoReply(NoReplyReason),
     /// The frame that was written last.
     Written,
 }
@@ -111,17 +111,17 @@ impl Reaction {
 
     /// Of a peer that is closed or not held.
     pub(crate) const NOT_SERVED: Reaction = Reaction {
-        reply: Reply::Silent(Silence::NotServed),
+        reply: Reply::NoReply(NoReplyReason::NotServed),
         close: true,
     };
 
     /// Nothing is sent, for this reason.
     #[inline(always)]
-    pub(crate) fn silent(why: Silence) -> Reaction
-        ensures { result ≡ record { reply = Reply.Silent why; close = false } }
+    pub(crate) fn no_reply(why: NoReplyReason) -> Reaction
+        ensures { result ≡ record { reply = Reply.NoReply why; close = false } }
     {
         Reaction {
-            reply: Reply::Silent(why),
+            reply: Reply::NoReply(why),
             close: false,
         }
     }

@@ -4,10 +4,10 @@ ghost use Rattle.std.specs.Prelude.{◌≡◌, ◌+◌, ◌<◌, ◌≤◌, leng
 ghost use Rattle.std.specs.Prelude.{IfOk, MatchResult};
 ghost use Rattle.std.specs.Io.KnownBytes.{Appends};
 ghost use Rattle.enip_wire.specs.Devices.{failures_in};
-ghost use Rattle.enip_adapter.specs.Deeds.{AreFeeds};
+ghost use Rattle.enip_adapter.specs.AdapterActions.{AreFeeds};
 ghost use Rattle.enip_adapter.specs.Calls.{Call, call_meaning, call_answer, after_call};
 ghost use Rattle.enip_adapter.specs.Serving.{serve_fault_number, is_peer_served, read_faults, write_faults};
-ghost use Rattle.enip_adapter.specs.Serving.{bytes_said, AppendsFront, IsFedAll, IsServed, IfNothingFed};
+ghost use Rattle.enip_adapter.specs.Serving.{output_bytes, AppendsFront, IsFedAll, IsServed, IfNothingFed};
 
 use crate::adapter::Adapter;
 use crate::peer::Peer;
@@ -58,7 +58,7 @@ impl ServeFault {
 /// # Errors
 ///
 /// `ServeFault::Read` where the read failed, `ServeFault::Write` where a write failed.
-#[tactic(auto, using(crate::proofs::DeedLemmas::no_feeds))]
+#[tactic(auto, using(crate::proofs::ActionLemmas::no_feeds))]
 pub fn serve<R: Source, W: Sink>(
     adapter: &mut Adapter,
     peer: &Peer,
@@ -150,9 +150,9 @@ fn feed_once<W: Sink>(
     ensures progress { IfOk result (λ step. 0 < length piece.now → step.1 ≡ false → 0 < step.0) }
     ensures bytes { MatchResult result
         (λ _. Appends (W.written writer.old) (W.written writer.new)
-        (bytes_said (call_answer adapter.old (Call.Feeds now peer.now piece.now)).said))
+        (output_bytes (call_answer adapter.old (Call.Feeds now peer.now piece.now)).output))
         (λ _. AppendsFront (W.written writer.old) (W.written writer.new)
-        (bytes_said (call_answer adapter.old (Call.Feeds now peer.now piece.now)).said)) }
+        (output_bytes (call_answer adapter.old (Call.Feeds now peer.now piece.now)).output)) }
     ensures failures { W.failures writer.new ≡ W.failures writer.old + failures_in result }
 {
     let fed = adapter.feed(now, peer, piece);

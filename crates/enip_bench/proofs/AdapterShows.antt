@@ -2,7 +2,7 @@
 use Rattle.std.proofs.Common.{◌≡◌, ◌≢◌, ℕ, ◌<◌, ◌≤◌, ◌^◌, max, Bool, true, false, not, ◌&&◌, cond, eqb, ltb, Option, Some, None, option_map, List, [], ◌∷◌, length, refl, ap, sym, ◌∙◌, subst, arith}
 use Rattle.std.specs.Prelude.{filter}
 use Rattle.std.proofs.lemmas.Bool.{eq-eqb, lt-ltb, le-ltb}
-use Rattle.cip_bytes.specs.declared.protocol.TheConstants.{LARGEST_SIZE}
+use Rattle.cip_bytes.specs.declared.protocol.TheConstants.{LARGEST_CONNECTION_SIZE}
 use Rattle.cip_class3.specs.Deliveries.{answer_to}
 use Rattle.cip_class3.specs.TargetRule.{TargetState, TargetStep, target_step, kept_bytes}
 use Rattle.cip_class3.specs.declared.target.Received.{Received}
@@ -13,16 +13,16 @@ use Rattle.cip_manager.specs.Items.{ItemTurn, turn_of_found, reply_of}
 use Rattle.cip_manager.specs.Runs.{of_session}
 use Rattle.cip_manager.proofs.ListLemmas.{filter-swap}
 use Rattle.cip_objects.specs.Contents.{Contents}
-use Rattle.enip_wire.specs.Bodies.{rr_text, unit_text, unit_body_of}
+use Rattle.enip_wire.specs.Bodies.{rr_body_bytes, unit_body_bytes, unit_body_of}
 use Rattle.enip_wire.specs.Frames.{Frame, frame, IsFrame}
 use Rattle.enip_wire.proofs.WriteLemmas.{rr_again, unit_again}
 use Rattle.enip_adapter.specs.declared.peer.Session.{Session}
 use Rattle.enip_adapter.specs.declared.shared.Shared.{Shared}
-use Rattle.enip_adapter.specs.declared.silence.Silence.TheVariants.{AnotherSession}
+use Rattle.enip_adapter.specs.declared.no_reply_reason.NoReplyReason.TheVariants.{AnotherSession}
 use Rattle.enip_adapter.specs.Calls.{AdapterState, after_call, call_answer}
 use Rattle.enip_adapter.specs.Calls.Call.{Feeds, Ticks}
 use Rattle.enip_adapter.specs.Commands.{command_served}
-use Rattle.enip_adapter.specs.Replies.{Served, leaving, silent, replied}
+use Rattle.enip_adapter.specs.Replies.{Served, leaving, no_reply, replied}
 use Rattle.enip_adapter.specs.Runs.{is_open_at_all}
 use Rattle.enip_adapter.specs.SendRRData.{routed, reply_to_body}
 use Rattle.enip_adapter.specs.SendUnitData.{turn_of_item, served_item, item_of_body, item_reply}
@@ -30,8 +30,8 @@ use Rattle.enip_adapter.specs.Turn.{session_after, without_connections, sent, at
 use Rattle.enip_adapter.proofs.PeerLemmas.{session-call, held-call, connections-calls}
 use Rattle.enip_client.specs.declared.wants.Wants.{Wants}
 use Rattle.enip_client.specs.Frames.{item_frame, request_frame}
-use Rattle.enip_bench.specs.CountingWorld.{bytes_said, LAST_MOMENT}
-use Rattle.cip_bytes.specs.declared.protocol.TheConstants.{UNCONNECTED_ROOM}
+use Rattle.enip_bench.specs.CountingWorld.{output_bytes, LAST_MOMENT}
+use Rattle.cip_bytes.specs.declared.protocol.TheConstants.{UNCONNECTED_LIMIT}
 use Rattle.enip_bench.specs.ObjectsRun.{after_exec, exec_answer}
 use Rattle.enip_bench.proofs.FeedLemmas.{IsReady, IsServed, served_at, adapter-fed, ready-again, is_unit, is_rr}
 use Rattle.enip_bench.proofs.NamedLemmas.{named-none, IsNamedAlone, named-alone}
@@ -89,7 +89,7 @@ pub record AdapterShows (wire : Wire) (a : AdapterState) (target : TargetState) 
 pub record IsOwnFed (a : AdapterState) (peer : ℕ) (session : Session) (f : Frame) (served : Served) : Type 0 where
   pub shared : (after_call a (Feeds 0 peer (frame f))).state.shared ≡ served.shared
   pub ready : IsReady (after_call a (Feeds 0 peer (frame f))) peer (session_after session served)
-  pub said : (call_answer a (Feeds 0 peer (frame f))).said ≡ sent served.reaction.answer
+  pub output : (call_answer a (Feeds 0 peer (frame f))).output ≡ sent served.reaction.answer
 
 pub own-fed : (a : AdapterState) (peer : ℕ) (session : Session) (f : Frame) (served : Served) →
     IsReady a peer session → IsFrame f → served_at a session f ≡ served → served.reaction.close ≡ false →
@@ -100,7 +100,7 @@ own-fed a peer session f served ready ok same stays =
       shared = ap (λ (x : AdapterState). x.state.shared) is.adapter
           ∙ ap (λ b. cond b (without_connections served.shared session.handle) served.shared) stays;
       ready = ready-again a peer session f served ready is stays;
-      said = is.said;
+      output = is.output;
     }
 
 -- the other peer is as it was
@@ -137,14 +137,14 @@ at-zero wire shared target false none =
     ∙ ap (filter (is_open_at (max shared.moment 0))) none
 
 -- an item's frame is served as an item
-item-served : (shared : Shared) (peer id : ℕ) (item : List ℕ) → id < 2 ^ 32 → length item ≤ LARGEST_SIZE →
+item-served : (shared : Shared) (peer id : ℕ) (item : List ℕ) → id < 2 ^ 32 → length item ≤ LARGEST_CONNECTION_SIZE →
     command_served shared (registered_as peer) (item_frame peer id item)
     ≡ served_item shared (registered_as peer) (item_frame peer id item)
     (turn_of_item shared (registered_as peer) id item)
 unfolding command_served
 item-served shared peer id item below small =
-    ap (λ b. cond (not b) (leaving shared (silent (registered_as peer) AnotherSession))
-    (item_of_body shared (registered_as peer) (item_frame peer id item) (unit_body_of (unit_text id item))))
+    ap (λ b. cond (not b) (leaving shared (no_reply (registered_as peer) AnotherSession))
+    (item_of_body shared (registered_as peer) (item_frame peer id item) (unit_body_of (unit_body_bytes id item))))
     (eq-eqb peer peer refl)
     ∙ ap (item_of_body shared (registered_as peer) (item_frame peer id item))
     (unit_again id item below (omega (arith, small)))
@@ -161,11 +161,11 @@ served_by shared peer id item found =
 pub record IsReached (wire : Wire) (a : AdapterState) (item : List ℕ) (target : TargetState) (router : Contents)
     (is_open : Bool) (back : Option (List ℕ)) : Type 0 where
   pub shows : AdapterShows wire (after_call a (Feeds 0 wire.peer (frame_out wire item))) target router is_open
-  pub said : bytes_said (call_answer a (Feeds 0 wire.peer (frame_out wire item))).said ≡ option_map (frame_back wire) back
+  pub output : output_bytes (call_answer a (Feeds 0 wire.peer (frame_out wire item))).output ≡ option_map (frame_back wire) back
 
 answer-same : (wire : Wire) (item : List ℕ) (c new : Connection) (step : TargetStep Contents) →
     new.t_to_o_id ≡ wire.wants.t_to_o_id → new.target ≡ step.target →
-    bytes_said (sent (item_reply (item_frame wire.peer wire.id item).header
+    output_bytes (sent (item_reply (item_frame wire.peer wire.id item).header
     (cond (is_answered step.received) (Some (reply_of new)) None)))
     ≡ option_map (frame_back wire) (answer_to step)
 answer-same wire item c new step id same = go step.received
@@ -176,7 +176,7 @@ answer-same wire item c new step id same = go step.received
         ∙ ap (λ t. Some (frame_back wire (kept_bytes t.held))) same
 
     go : (r : Received) →
-        bytes_said (sent (item_reply (item_frame wire.peer wire.id item).header
+        output_bytes (sent (item_reply (item_frame wire.peer wire.id item).header
         (cond (is_answered r) (Some (reply_of new)) None)))
         ≡ option_map (frame_back wire) (answer_to (record step { received = r }))
     go Dropped = refl
@@ -218,7 +218,7 @@ serves-item wire shared target item serves =
 
 -- an item's frame at the open connection
 reached-connection : (wire : Wire) (a : AdapterState) (target : TargetState) (router : Contents) (item : List ℕ) →
-    IsWire wire → AdapterShows wire a target router true → length item ≤ LARGEST_SIZE →
+    IsWire wire → AdapterShows wire a target router true → length item ≤ LARGEST_CONNECTION_SIZE →
     (serves : Serves wire (at_moment a.state.shared 0) target) →
     (let step : TargetStep Contents = target_step after_exec exec_answer serves.connection.target a.state.shared.objects item in
     IsReached wire a item step.target step.router true (answer_to step))
@@ -241,12 +241,12 @@ reached-connection wire a target router item is shows small serves =
         objects = ap (λ (s : Shared). s.objects) fed.shared;
         connected = subst (λ s. Serves wire s step.target) (sym fed.shared) (serves-item wire shared target item serves);
       };
-      said = ap bytes_said fed.said
+      output = ap output_bytes fed.output
           ∙ answer-same wire item c (after_item shared.moment step.received step.target c) step serves.t_to_o_id refl;
     }
 
 pub reached-open : (wire : Wire) (a : AdapterState) (target : TargetState) (router : Contents) (item : List ℕ) →
-    IsWire wire → AdapterShows wire a target router true → length item ≤ LARGEST_SIZE →
+    IsWire wire → AdapterShows wire a target router true → length item ≤ LARGEST_CONNECTION_SIZE →
     (let step : TargetStep Contents = target_step after_exec exec_answer target router item in
     IsReached wire a item step.target step.router true (answer_to step))
 reached-open wire a target router item is shows small =
@@ -260,7 +260,7 @@ reached-open wire a target router item is shows small =
 
 -- once it is over, nothing answers it
 pub reached-shut : (wire : Wire) (a : AdapterState) (target : TargetState) (router : Contents) (item : List ℕ) →
-    IsWire wire → AdapterShows wire a target router false → length item ≤ LARGEST_SIZE →
+    IsWire wire → AdapterShows wire a target router false → length item ≤ LARGEST_CONNECTION_SIZE →
     IsReached wire a item target router false None
 reached-shut wire a target router item is shows small =
     let shared : Shared = at_moment a.state.shared 0 in
@@ -280,7 +280,7 @@ reached-shut wire a target router item is shows small =
         objects = ap (λ (s : Shared). s.objects) fed.shared ∙ shows.objects;
         connected = ap (λ (s : Shared). of_session wire.peer s.manager.connections) fed.shared ∙ none;
       };
-      said = ap bytes_said fed.said;
+      output = ap output_bytes fed.output;
     }
 
 otherwise : {A : Type 0} (b : Bool) (x y : A) → b ≡ false → cond b x y ≡ y
@@ -289,11 +289,11 @@ otherwise false x y e = refl
 
 -- a request of another session
 pub request-served : (shared : Shared) (peer number : ℕ) (request : List ℕ) → 2 ≤ length request →
-    length request ≤ LARGEST_SIZE →
+    length request ≤ LARGEST_CONNECTION_SIZE →
     command_served shared (registered_as peer) (request_frame peer number request)
     ≡ leaving (routed shared (registered_as peer) request).shared
     (replied (registered_as peer) (request_frame peer number request).header
-    (rr_text (routed shared (registered_as peer) request).reply))
+    (rr_body_bytes (routed shared (registered_as peer) request).reply))
 unfolding command_served
 request-served shared peer number request least small =
     let session : Session = registered_as peer in
@@ -335,14 +335,14 @@ pub asked-other : (wire : Wire) (a : AdapterState) (target : TargetState) (route
     (request : List ℕ) →
     IsWire wire → AdapterShows wire a target router is_open → 2 ≤ length request → length request ≤ 504 →
     AdapterShows wire (after_call a (Feeds 0 wire.second (frame (request_frame wire.second 0 request)))) target
-    (after_exec router UNCONNECTED_ROOM request) is_open
+    (after_exec router UNCONNECTED_LIMIT request) is_open
 asked-other wire a target router is_open request is shows least most =
     let shared : Shared = at_moment a.state.shared 0 in
     let session : Session = registered_as wire.second in
     let f : Frame = request_frame wire.second 0 request in
     let done : IsRouted shared request (routed shared session request) = routed-objects shared session request in
     let served : Served = leaving (routed shared session request).shared
-    (replied session f.header (rr_text (routed shared session request).reply)) in
+    (replied session f.header (rr_body_bytes (routed shared session request).reply)) in
     let same : served_at a session f ≡ served = request-served shared wire.second 0 request least (omega (arith, most)) in
     let fed : IsOwnFed a wire.second session f served
     = own-fed a wire.second session f served shows.second (is_rr wire.second 0 request is.second (omega (arith, most))) same refl in
@@ -350,7 +350,7 @@ asked-other wire a target router is_open request is shows least most =
       peer = other-ready a wire.peer wire.second (registered_as wire.peer) (frame f) is.apart shows.peer;
       second = fed.ready;
       objects = ap (λ (s : Shared). s.objects) fed.shared
-          ∙ (done.objects ∙ ap (λ m. after_exec m UNCONNECTED_ROOM request) shows.objects);
+          ∙ (done.objects ∙ ap (λ m. after_exec m UNCONNECTED_LIMIT request) shows.objects);
       connected = spared wire a (frame f) target is_open (after_call a (Feeds 0 wire.second (frame f))).state.shared
           is.apart shows.connected refl (ap (λ (s : Shared). s.moment) fed.shared ∙ done.moment);
     }

@@ -30,7 +30,7 @@ module _ {M : Type 0} (after : M → ℕ → List ℕ → M) (answer : M → ℕ
           t_to_o_size = t_to_o_size;
           next = next;
           phase = Idle;
-          tries = 0;
+          unaccepted = 0;
         };
       }) (sym (count_of-first first below))
 

@@ -17,16 +17,16 @@ use Rattle.cip_class3.specs.OriginatorRule.{submit_refusal}
 use Rattle.cip_class3.specs.declared.originator.Refused.{Refused}
 use Rattle.enip_client.specs.Client.{ClientState, fed, with_state}
 use Rattle.enip_client.specs.Frames.{register_frame, request_frame}
-use Rattle.enip_bench.specs.CountingOpening.{Setup, Ends, begins, exchange, is_registered_news, is_opened_news, ends_at_beginning, counting_at_opening, opening_between, opening}
+use Rattle.enip_bench.specs.CountingOpening.{Setup, Ends, begins, exchange, is_registered_event, is_opened_event, ends_at_beginning, counting_at_opening, opening_between, opening}
 use Rattle.enip_bench.specs.CountingWorld.{CountingWorld, reply_heard, acceptance, after_submit, after_back, after_other, counting_step, counting_run}
 use Rattle.enip_bench.specs.Events.{Event, Submit, Back, Other, delivery, is_unconnected_request, with_any}
 use Rattle.enip_bench.specs.Reached.{IsNewAdapter, IsNewClient, IsReached}
 use Rattle.enip_bench.specs.Seen.{Seen}
-use Rattle.enip_bench.specs.Stored.{world_in, acceptances_in, event_in, events_in, last_reply, world_opened, IsTold, IsStepped, IsOfOpening}
-use Rattle.enip_bench.specs.Telling.{Sends, Accepts, Done, Impossible, submit_telling, reply_telling, back_telling}
+use Rattle.enip_bench.specs.Stored.{world_in, acceptances_in, event_in, events_in, last_reply, world_opened, IsStepDone, IsStepped, IsOfOpening}
+use Rattle.enip_bench.specs.EventResults.{Sends, Accepts, Done, Impossible, submit_result, reply_result, back_result}
 use Rattle.enip_bench.specs.declared.event.Event.{Event as EventInCode}
-use Rattle.enip_bench.specs.declared.event.Told.{Told}
-use Rattle.enip_bench.specs.declared.event.Told.TheVariants as tolds
+use Rattle.enip_bench.specs.declared.event.StepKind.{StepKind}
+use Rattle.enip_bench.specs.declared.event.StepKind.TheVariants as step_kinds
 use Rattle.enip_bench.specs.declared.world.Accepted.{Accepted as Accepted_reply}
 use Rattle.enip_bench.specs.declared.world.World.{World}
 use Rattle.enip_bench.proofs.PositionLemmas.{map-push}
@@ -39,12 +39,12 @@ same_Ok a b e = cc
 pub other_told : (world : CountingWorld) (request bytes : List ℕ) (adapter : AdapterState) →
     is_unconnected_request request ≡ true → bytes ≡ frame (request_frame world.second 0 request) →
     adapter ≡ after_call world.adapter (Feeds 0 world.second bytes) →
-    IsTold world (Other request) (record world { adapter = adapter }) tolds.Done
+    IsStepDone world (Other request) (record world { adapter = adapter }) step_kinds.Done
 other_told world request bytes adapter is framed went = record {
   world = ap (λ a. (let x : CountingWorld = record world { adapter = a } in x))
       (went ∙ ap (λ b. after_call world.adapter (Feeds 0 world.second b)) framed)
       ∙ sym (ap (λ b. cond b (after_other world request) world) is);
-  telling_is = sym (ap (λ b. cond b Done Impossible) is);
+  result_is = sym (ap (λ b. cond b Done Impossible) is);
 }
 
 -- what is put at the end is the last
@@ -76,19 +76,19 @@ same_seen a b router back accepted stage =
 -- a reply was accepted
 pub accepted_told : (world : CountingWorld) (position : ℕ) (bytes reply : List ℕ) (client : ClientState)
     (accepted : List (ℕ × List ℕ)) → delivery world.last_back world.back position ≡ Some bytes →
-    client ≡ (fed world.client bytes).client → reply_heard (fed world.client bytes).news ≡ Some reply →
+    client ≡ (fed world.client bytes).client → reply_heard (fed world.client bytes).heard_event ≡ Some reply →
     accepted ≡ world.accepted ++ (world.submits - 1, reply) ∷ [] →
-    IsTold world (Back position)
-    (record world { client = client; last_back = Some position; accepted = accepted }) tolds.Accepted
-accepted_told world position bytes reply client accepted found heard news put =
+    IsStepDone world (Back position)
+    (record world { client = client; last_back = Some position; accepted = accepted }) step_kinds.Accepted
+accepted_told world position bytes reply client accepted found heard heard_event put =
     let with_accepted : Option (ℕ × List ℕ) → List (ℕ × List ℕ) = λ o. with_any o world.accepted in
-    let same : accepted ≡ with_accepted (acceptance world.submits (fed world.client bytes).news)
-    = put ∙ sym (ap (λ o. with_accepted (option_map (λ r. (world.submits - 1, r)) o)) news) in
+    let same : accepted ≡ with_accepted (acceptance world.submits (fed world.client bytes).heard_event)
+    = put ∙ sym (ap (λ o. with_accepted (option_map (λ r. (world.submits - 1, r)) o)) heard_event) in
     record {
       world = ap₂ (λ c a. (let x : CountingWorld = record world { client = c; last_back = Some position; accepted = a } in x))
           heard same ∙ sym (ap (λ o. after_back o world position) found);
-      telling_is = ap (λ r. Accepts r) (ap last_reply put ∙ last-push world.accepted (world.submits - 1, reply))
-          ∙ (sym (ap reply_telling news) ∙ sym (ap (back_telling world) found));
+      result_is = ap (λ r. Accepts r) (ap last_reply put ∙ last-push world.accepted (world.submits - 1, reply))
+          ∙ (sym (ap reply_result heard_event) ∙ sym (ap (back_result world) found));
     }
 
 refused_by : (s : State) (request : List ℕ) (o : Option Refused) (why : Refused) →
@@ -110,7 +110,7 @@ pub refused_told : (world : CountingWorld) (request : List ℕ) (why : Refused) 
     (sent : List (List ℕ)) → IsReached world →
     bytes_lent (submits world.client.state request) ≡ Err (submit_faults.Refused why) →
     client ≡ went_on world request (submits world.client.state request) → sent ≡ world.sent →
-    IsTold world (Submit request) (record world { client = client; sent = sent }) (tolds.Refused why)
+    IsStepDone world (Submit request) (record world { client = client; sent = sent }) (step_kinds.Refused why)
 refused_told world request why client sent reached lent went kept =
     let o : Option Refused = submit_refusal world.client.state.originator request in
     let is : o ≡ Some why = refused_by world.client.state request o why
@@ -121,7 +121,7 @@ refused_told world request why client sent reached lent went kept =
       world = ap₂ (λ c s. (let x : CountingWorld = record world { client = c; sent = s } in x))
           (went ∙ ap (went_on world request) ruled) kept
           ∙ sym (ap (λ r. after_submit r world) ruled);
-      telling_is = sym (ap (submit_telling world) is);
+      result_is = sym (ap (submit_result world) is);
     }
 
 -- a request was taken, and its frame is sent
@@ -129,8 +129,8 @@ pub sent_told : (world : CountingWorld) (request bytes : List ℕ) (client : Cli
     (position : ℕ) → IsReached world → bytes_lent (submits world.client.state request) ≡ Ok bytes →
     client ≡ went_on world request (submits world.client.state request) → sent ≡ world.sent ++ bytes ∷ [] →
     position ≡ length world.sent →
-    IsTold world (Submit request) (record world { client = client; sent = sent; submits = world.submits + 1 })
-    (tolds.Sent world.submits position)
+    IsStepDone world (Submit request) (record world { client = client; sent = sent; submits = world.submits + 1 })
+    (step_kinds.Sent world.submits position)
 sent_told world request bytes client sent position reached lent went put at =
     let o : Option Refused = submit_refusal world.client.state.originator request in
     let s : State = world.client.state in
@@ -144,17 +144,17 @@ sent_told world request bytes client sent position reached lent went put at =
       world = ap₂ (λ c f. (let x : CountingWorld = record world { client = c; sent = f; submits = world.submits + 1 } in x))
           (went ∙ ap (went_on world request) ruled) (put ∙ ap (λ b. world.sent ++ b ∷ []) same)
           ∙ sym (ap (λ r. after_submit r world) ruled);
-      telling_is = ap (λ p. Sends world.submits p) at ∙ sym (ap (submit_telling world) is);
+      result_is = ap (λ p. Sends world.submits p) at ∙ sym (ap (submit_result world) is);
     }
 
 -- it came of an opening still
-pub told_reached : (old new : CountingWorld) (event : Event) (told : Told) → IsReached old → IsTold old event new told →
+pub told_reached : (old new : CountingWorld) (event : Event) (step_kind : StepKind) → IsReached old → IsStepDone old event new step_kind →
     IsReached new
-told_reached old new event told reached is = subst IsReached (sym is.world) (reached_again old event reached)
+told_reached old new event step_kind reached is = subst IsReached (sym is.world) (reached_again old event reached)
 
-pub stepped_reached : {E : Type 0} (old new : CountingWorld) (event : Event) (r : Result Told E) → IsReached old →
+pub stepped_reached : {E : Type 0} (old new : CountingWorld) (event : Event) (r : Result StepKind E) → IsReached old →
     IsStepped old event new r → IsReached new
-stepped_reached old new event (Ok told) reached is = told_reached old new event told reached is
+stepped_reached old new event (Ok step_kind) reached is = told_reached old new event step_kind reached is
 stepped_reached old new event (Err error) reached is = subst IsReached (sym is) reached
 
 -- so many of the events were done
@@ -175,15 +175,15 @@ taken_more events position event lt is =
     ∙ ap (λ es. es ++ event_in event ∷ []) (sym (take-map event_in position events)))))
 
 pub runs_more : (old : CountingWorld) (events : List EventInCode) (position : ℕ) (event : EventInCode) (world next : World)
-    (told : Told) → RunsTo old events position world → position < length events →
-    event ≡ slice_index_or events position event → IsTold (world_in world) (event_in event) (world_in next) told →
+    (step_kind : StepKind) → RunsTo old events position world → position < length events →
+    event ≡ slice_index_or events position event → IsStepDone (world_in world) (event_in event) (world_in next) step_kind →
     next.submits ≤ length next.sent.frames → RunsTo old events (position + 1) next
-runs_more old events position event world next told runs lt is done counted = record {
+runs_more old events position event world next step_kind runs lt is done counted = record {
   run = done.world ∙ (ap (λ w. counting_step w (event_in event)) runs.run
       ∙ (sym (run_joined old (take position (events_in events)) (event_in event ∷ []))
       ∙ ap (counting_run old) (sym (taken_more events position event lt is))));
   is = record {
-    reached = told_reached (world_in world) (world_in next) (event_in event) told runs.is.reached done;
+    reached = told_reached (world_in world) (world_in next) (event_in event) step_kind runs.is.reached done;
     counted = counted;
   };
 }
@@ -196,9 +196,9 @@ ran old events count world runs all =
 -- the opening, step by step
 pub opened_so : (adapter one two three four five : AdapterState) (client registered opened : ClientState)
     (peer second : ℕ) (bytes : List ℕ) → begins adapter ≡ Ok peer → one ≡ after_call adapter Begins_peer →
-    exchange (record { adapter = one; client = client }) peer is_registered_news (registers client.state)
+    exchange (record { adapter = one; client = client }) peer is_registered_event (registers client.state)
     ≡ Ok (record { adapter = two; client = registered }) →
-    exchange (record { adapter = two; client = registered }) peer is_opened_news (opens registered.state)
+    exchange (record { adapter = two; client = registered }) peer is_opened_event (opens registered.state)
     ≡ Ok (record { adapter = three; client = opened }) →
     begins three ≡ Ok second → four ≡ after_call three Begins_peer → bytes ≡ frame (register_frame 0) →
     five ≡ after_call four (Feeds 0 second bytes) →
@@ -207,13 +207,13 @@ opened_so adapter one two three four five client registered opened peer second b
     let last : Ends → ℕ → Result CountingWorld Setup
     = λ ends peer. begins ends.adapter >>= λ second. Ok (counting_at_opening ends peer second) in
     let later : Ends → ℕ → Result CountingWorld Setup
-    = λ ends peer. exchange ends peer is_opened_news (opens ends.client.state) >>= λ opened. last opened peer in
+    = λ ends peer. exchange ends peer is_opened_event (opens ends.client.state) >>= λ opened. last opened peer in
     let first : ℕ → Result CountingWorld Setup
-    = λ peer. exchange (ends_at_beginning adapter client) peer is_registered_news (registers client.state)
+    = λ peer. exchange (ends_at_beginning adapter client) peer is_registered_event (registers client.state)
     >>= λ registered. later registered peer in
     ap (λ r. r >>= first) e1
     ∙ (ap (λ r. r >>= λ ends. later ends peer)
-    (ap (λ a. exchange (record { adapter = a; client = client }) peer is_registered_news (registers client.state)) (sym a1) ∙ e2)
+    (ap (λ a. exchange (record { adapter = a; client = client }) peer is_registered_event (registers client.state)) (sym a1) ∙ e2)
     ∙ (ap (λ r. r >>= λ ends. last ends peer) e3
     ∙ (ap (λ r. r >>= λ second. Ok (counting_at_opening (record { adapter = three; client = opened }) peer second)) e4
     ∙ ap (λ a. (let x : Result CountingWorld Setup = Ok (world_opened a opened (peer, second)) in x))

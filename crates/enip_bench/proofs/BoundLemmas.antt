@@ -88,7 +88,7 @@ abandoned_world request n = record {
   is_open = true;
   course = course n;
   accepted = numbered request 0 ∷ [];
-  tries = n;
+  unaccepted = n;
 }
 
 length-submitted : (request : List ℕ) (n : ℕ) → length (submitted request n) ≡ n + 1
@@ -122,7 +122,7 @@ given_up o_to_t_size n request events below formed =
     ap (λ why. tracked_run o_to_t_size
     (tracked_step o_to_t_size (after_submit why (abandoned_world request n) request) GiveUp) events)
     (taken o_to_t_size n request below formed)
-    ∙ ap (λ tries. tracked_run o_to_t_size (record (abandoned_world request (suc n)) { tries = tries }) events)
+    ∙ ap (λ unaccepted. tracked_run o_to_t_size (record (abandoned_world request (suc n)) { unaccepted = unaccepted }) events)
     (let more : n + 1 ≡ suc n = omega arith in more)
 
 all_given_up : (o_to_t_size more n : ℕ) (request : List ℕ) → more + n ≤ MOST_UNACCEPTED →

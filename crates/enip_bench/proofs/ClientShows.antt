@@ -1,7 +1,7 @@
 -- What the client is while its connection is open, and how each of its calls moves it.
 use Rattle.std.proofs.Common.{◌≡◌, ℕ, ◌≤◌, Bool, true, false, ◌&&◌, cond, eqb, Option, Some, None, option_map, List, [], length, refl, ap, sym, ◌∙◌, arith}
 use Rattle.std.proofs.lemmas.Bool.{eq-eqb}
-use Rattle.cip_bytes.specs.declared.protocol.TheConstants.{LARGEST_SIZE}
+use Rattle.cip_bytes.specs.declared.protocol.TheConstants.{LARGEST_CONNECTION_SIZE}
 use Rattle.cip_class3.specs.OriginatorRule.{OriginatorState, submit_refusal, waiting_item, after_item, accepted_reply, after_give_up}
 use Rattle.enip_wire.specs.Frames.{Frame, frame}
 use Rattle.enip_wire.proofs.WriteLemmas.{unit_again}
@@ -18,8 +18,8 @@ pub record ClientShows (wire : Wire) (c : ClientState) (end : OriginatorState) :
   pub held : c.held ≡ []
   pub registered : is_registered c.state.registration ≡ true
   pub session : session_in c.state.registration ≡ wire.peer
-  pub is_open : is_open c.state.link ≡ true
-  pub id : o_to_t_id_in c.state.link ≡ wire.id
+  pub is_open : is_open c.state.connection_state ≡ true
+  pub id : o_to_t_id_in c.state.connection_state ≡ wire.id
   pub awaiting : c.state.awaiting ≡ None
   pub fault : c.state.fault ≡ None
   pub originator : c.state.originator ≡ end
@@ -47,14 +47,14 @@ shows-originator wire c old new other shows same = record {
 pub item-out : (wire : Wire) (c : ClientState) (originator : OriginatorState) (item : List ℕ) →
     ClientShows wire c originator → frame (item_sent c.state item) ≡ frame_out wire item
 item-out wire c originator item shows =
-    ap (λ n. frame (item_frame n (o_to_t_id_in c.state.link) item)) shows.session
+    ap (λ n. frame (item_frame n (o_to_t_id_in c.state.connection_state) item)) shows.session
     ∙ ap (λ n. frame (item_frame wire.peer n item)) shows.id
 
 pub submits-allowed : (wire : Wire) (c : ClientState) (originator : OriginatorState) (request : List ℕ) →
     ClientShows wire c originator →
     submits c.state request ≡ submitted c.state request (submit_refusal originator request)
 submits-allowed wire c originator request shows =
-    let free : refusal c.state (is_open c.state.link) ≡ None = rw (shows.fault, shows.is_open) refl in
+    let free : refusal c.state (is_open c.state.connection_state) ≡ None = rw (shows.fault, shows.is_open) refl in
     ap (submits_unless c.state request) free
     ∙ ap (λ (o : OriginatorState). submitted c.state request (submit_refusal o request)) shows.originator
 
@@ -84,13 +84,13 @@ gives-up wire c originator shows =
 -- a frame with an item of the connection, heard
 pub record IsHeardItem (c : ClientState) (item : List ℕ) (fed : Fed) : Type 0 where
   pub client : fed.client ≡ with_originator c (after_item c.state.originator item)
-  pub news : fed.news ≡ accepted (accepted_reply c.state.originator item)
+  pub heard_event : fed.heard_event ≡ accepted (accepted_reply c.state.originator item)
 
 hears-item : (wire : Wire) (c : ClientState) (originator : OriginatorState) (item : List ℕ) → IsWire wire →
-    ClientShows wire c originator → length item ≤ LARGEST_SIZE →
+    ClientShows wire c originator → length item ≤ LARGEST_CONNECTION_SIZE →
     hears c.state (item_frame wire.peer wire.wants.t_to_o_id item) ≡ record {
       state = record c.state { originator = after_item c.state.originator item };
-      news = accepted (accepted_reply c.state.originator item);
+      heard_event = accepted (accepted_reply c.state.originator item);
     }
 hears-item wire c originator item is shows small =
     let f : Frame = item_frame wire.peer wire.wants.t_to_o_id item in
@@ -109,7 +109,7 @@ hears-item wire c originator item is shows small =
     otherwise false x y e = absurd (cc)
 
 pub heard-item : (wire : Wire) (c : ClientState) (originator : OriginatorState) (item : List ℕ) → IsWire wire →
-    ClientShows wire c originator → length item ≤ LARGEST_SIZE → IsHeardItem c item (fed c (frame_back wire item))
+    ClientShows wire c originator → length item ≤ LARGEST_CONNECTION_SIZE → IsHeardItem c item (fed c (frame_back wire item))
 heard-item wire c originator item is shows small =
     let f : Frame = item_frame wire.peer wire.wants.t_to_o_id item in
     let whole : IsHeardWhole c f (fed c (frame f))
@@ -117,5 +117,5 @@ heard-item wire c originator item is shows small =
     let turn = hears-item wire c originator item is shows small in
     record {
       client = whole.client ∙ ap (λ t. (let x : ClientState = record { state = t.state; held = [] } in x)) turn;
-      news = whole.news ∙ ap (λ t. t.news) turn;
+      heard_event = whole.heard_event ∙ ap (λ t. t.heard_event) turn;
     }

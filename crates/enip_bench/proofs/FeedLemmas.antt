@@ -2,36 +2,36 @@
 use Rattle.std.proofs.Common.{◌≡◌, ℕ, ◌+◌, ◌<◌, ◌≤◌, ◌^◌, Bool, true, false, cond, eqb, Some, None, List, [], ◌∷◌, length, refl, ap, sym, ◌∙◌, append-nil, arith}
 use Rattle.std.proofs.lemmas.Bool.{eq-eqb}
 use Rattle.std.proofs.lemmas.List.{take_all}
-use Rattle.cip_bytes.specs.declared.protocol.TheConstants.{LARGEST_SIZE}
+use Rattle.cip_bytes.specs.declared.protocol.TheConstants.{LARGEST_CONNECTION_SIZE}
 use Rattle.cip_bytes.specs.Protocol.{command_number}
 use Rattle.cip_bytes.specs.declared.protocol.Command.{Command}
 use Rattle.cip_bytes.specs.declared.protocol.Command.TheVariants as commands
-use Rattle.enip_wire.specs.Bodies.{rr_text, unit_text}
+use Rattle.enip_wire.specs.Bodies.{rr_body_bytes, unit_body_bytes}
 use Rattle.enip_wire.specs.Frames.{Frame, frame, IsFrame}
-use Rattle.enip_wire.specs.Stream.{sight_of, joined_of, taken_of, cleared}
-use Rattle.enip_wire.specs.Stream.{Sight}
-use Rattle.enip_wire.proofs.PieceLemmas.{taken_of-frame, sight_of-written}
+use Rattle.enip_wire.specs.Stream.{parsed, held_and_taken, bytes_taken, cleared}
+use Rattle.enip_wire.specs.Stream.{Parsed}
+use Rattle.enip_wire.proofs.PieceLemmas.{bytes_taken-frame, parsed-written}
 use Rattle.enip_adapter.specs.declared.peer.Session.{Session}
-use Rattle.enip_adapter.specs.declared.silence.Silence.TheVariants.{NotServed}
-use Rattle.enip_adapter.specs.Calls.{AdapterState, Held, Meaning, call_meaning, after_call, call_answer, after_meaning, answer_of, bytes_held, bytes_found, piece_to, piece_meaning, dropped_piece, at_a_moment, events_of_sight}
+use Rattle.enip_adapter.specs.declared.no_reply_reason.NoReplyReason.TheVariants.{NotServed}
+use Rattle.enip_adapter.specs.Calls.{AdapterState, Held, Meaning, call_meaning, after_call, call_answer, after_meaning, answer_of, bytes_held, bytes_found, piece_to, piece_meaning, dropped_piece, at_a_moment, events_of_parsed}
 use Rattle.enip_adapter.specs.Calls.Call.{Feeds}
 use Rattle.enip_adapter.specs.Commands.{command_served}
 use Rattle.enip_adapter.specs.Lookup.{first_with, with_first}
 use Rattle.enip_adapter.specs.Replies.{Served}
-use Rattle.enip_adapter.specs.Turn.{State, Turned, turned, session_of, session_after, shared_after, serve_found, sent, at_moment}
+use Rattle.enip_adapter.specs.Turn.{State, TurnResult, turned, session_of, session_after, shared_after, serve_found, sent, at_moment}
 use Rattle.enip_adapter.specs.Turn.Event.{At, Framed}
-use Rattle.enip_adapter.specs.Turn.Said.{Silent}
+use Rattle.enip_adapter.specs.Turn.Output.{NoReply}
 use Rattle.enip_adapter.proofs.ListLemmas.{first_with-number, first_with-set}
 use Rattle.enip_adapter.proofs.PeerLemmas.{at_state}
 use Rattle.enip_client.specs.Client.{ClientState, Fed, fed, fed_unless}
 use Rattle.enip_client.specs.Frames.{sent as framed}
-use Rattle.enip_client.specs.Hears.{hears, hears_sight}
+use Rattle.enip_client.specs.Hears.{hears, hears_parsed}
 
-length-unit_text : (id : ℕ) (bytes : List ℕ) → length (unit_text id bytes) ≡ 20 + length bytes
-length-unit_text id bytes = omega (arith, ap length (append-nil bytes))
+length-unit_body_bytes : (id : ℕ) (bytes : List ℕ) → length (unit_body_bytes id bytes) ≡ 20 + length bytes
+length-unit_body_bytes id bytes = omega (arith, ap length (append-nil bytes))
 
-length-rr_text : (bytes : List ℕ) → length (rr_text bytes) ≡ 16 + length bytes
-length-rr_text bytes = omega (arith, ap length (append-nil bytes))
+length-rr_body_bytes : (bytes : List ℕ) → length (rr_body_bytes bytes) ≡ 16 + length bytes
+length-rr_body_bytes bytes = omega (arith, ap length (append-nil bytes))
 
 -- the number of a command has 16 bits
 command-fits : (command : Command) → command_number command < 2 ^ 16
@@ -60,39 +60,39 @@ is_framed command session number body s l = record {
   within = l;
 }
 
-pub is_unit : (session id : ℕ) (bytes : List ℕ) → session < 2 ^ 32 → length bytes ≤ LARGEST_SIZE →
-    IsFrame (framed commands.SendUnitData session 0 (unit_text id bytes))
+pub is_unit : (session id : ℕ) (bytes : List ℕ) → session < 2 ^ 32 → length bytes ≤ LARGEST_CONNECTION_SIZE →
+    IsFrame (framed commands.SendUnitData session 0 (unit_body_bytes id bytes))
 is_unit session id bytes s l =
-    is_framed commands.SendUnitData session 0 (unit_text id bytes) s (omega (arith, length-unit_text id bytes))
+    is_framed commands.SendUnitData session 0 (unit_body_bytes id bytes) s (omega (arith, length-unit_body_bytes id bytes))
 
-pub is_rr : (session number : ℕ) (bytes : List ℕ) → session < 2 ^ 32 → length bytes ≤ LARGEST_SIZE →
-    IsFrame (framed commands.SendRRData session number (rr_text bytes))
+pub is_rr : (session number : ℕ) (bytes : List ℕ) → session < 2 ^ 32 → length bytes ≤ LARGEST_CONNECTION_SIZE →
+    IsFrame (framed commands.SendRRData session number (rr_body_bytes bytes))
 is_rr session number bytes s l =
-    is_framed commands.SendRRData session number (rr_text bytes) s (omega (arith, length-rr_text bytes))
+    is_framed commands.SendRRData session number (rr_body_bytes bytes) s (omega (arith, length-rr_body_bytes bytes))
 
-pub joined-frame : (f : Frame) → IsFrame f → joined_of [] (frame f) ≡ frame f
+pub joined-frame : (f : Frame) → IsFrame f → held_and_taken [] (frame f) ≡ frame f
 joined-frame f ok =
-    let all : taken_of [] (frame f) ≡ length (frame f)
-    = ap (taken_of []) (sym (append-nil (frame f))) ∙ taken_of-frame f [] ok in
-    take_all (taken_of [] (frame f)) (frame f) (omega (arith, all))
+    let all : bytes_taken [] (frame f) ≡ length (frame f)
+    = ap (bytes_taken []) (sym (append-nil (frame f))) ∙ bytes_taken-frame f [] ok in
+    take_all (bytes_taken [] (frame f)) (frame f) (omega (arith, all))
 
 -- what the client is and has heard after a whole frame
 pub record IsHeardWhole (c : ClientState) (f : Frame) (fed : Fed) : Type 0 where
   pub client : fed.client ≡ record { state = (hears c.state f).state; held = [] }
-  pub news : fed.news ≡ (hears c.state f).news
+  pub heard_event : fed.heard_event ≡ (hears c.state f).heard_event
 
 pub client-fed : (c : ClientState) (f : Frame) → c.held ≡ [] → c.state.fault ≡ None → IsFrame f →
     IsHeardWhole c f (fed c (frame f))
 client-fed c f blank fine ok =
     let unless : fed c (frame f) ≡ fed_unless c (frame f) None = ap (fed_unless c (frame f)) fine in
-    let joined : joined_of c.held (frame f) ≡ frame f = ap (λ h. joined_of h (frame f)) blank ∙ joined-frame f ok in
+    let joined : held_and_taken c.held (frame f) ≡ frame f = ap (λ h. held_and_taken h (frame f)) blank ∙ joined-frame f ok in
     record {
       client = ap (λ (x : Fed). x.client) unless
-          ∙ (ap (λ j. (let x : ClientState = record { state = (hears_sight c.state (sight_of j)).state; held = cleared (sight_of j) j } in x)) joined
-          ∙ ap (λ s. (let x : ClientState = record { state = (hears_sight c.state s).state; held = cleared s (frame f) } in x)) (sight_of-written f ok));
-      news = ap (λ (x : Fed). x.news) unless
-          ∙ (ap (λ j. (hears_sight c.state (sight_of j)).news) joined
-          ∙ ap (λ s. (hears_sight c.state s).news) (sight_of-written f ok));
+          ∙ (ap (λ j. (let x : ClientState = record { state = (hears_parsed c.state (parsed j)).state; held = cleared (parsed j) j } in x)) joined
+          ∙ ap (λ s. (let x : ClientState = record { state = (hears_parsed c.state s).state; held = cleared s (frame f) } in x)) (parsed-written f ok));
+      heard_event = ap (λ (x : Fed). x.heard_event) unless
+          ∙ (ap (λ j. (hears_parsed c.state (parsed j)).heard_event) joined
+          ∙ ap (λ s. (hears_parsed c.state s).heard_event) (parsed-written f ok));
     }
 
 -- a peer is held, and no byte of it
@@ -117,7 +117,7 @@ pub record IsServed (a : AdapterState) (peer : ℕ) (session : Session) (f : Fra
     };
     held = with_first (λ h. h.peer) peer (no_bytes peer) a.held;
   }
-  pub said : (call_answer a (Feeds 0 peer (frame f))).said ≡ sent served.reaction.answer
+  pub output : (call_answer a (Feeds 0 peer (frame f))).output ≡ sent served.reaction.answer
 
 abbrev whole_meaning : AdapterState → ℕ → Frame → ℕ → Meaning
 whole_meaning a peer f taken = record {
@@ -127,24 +127,24 @@ whole_meaning a peer f taken = record {
   dropped = false;
 }
 
-abbrev seen_meaning : AdapterState → ℕ → ℕ → Sight → List ℕ → Meaning
+abbrev seen_meaning : AdapterState → ℕ → ℕ → Parsed → List ℕ → Meaning
 seen_meaning a peer taken s j = record {
-  events = At 0 ∷ events_of_sight peer s;
+  events = At 0 ∷ events_of_parsed peer s;
   taken = taken;
   held = with_first (λ h. h.peer) peer (record { peer = peer; bytes = cleared s j }) a.held;
   dropped = false;
 }
 
 whole : (a : AdapterState) (peer : ℕ) (session : Session) (f : Frame) → IsReady a peer session → IsFrame f →
-    call_meaning a (Feeds 0 peer (frame f)) ≡ whole_meaning a peer f (taken_of [] (frame f))
+    call_meaning a (Feeds 0 peer (frame f)) ≡ whole_meaning a peer f (bytes_taken [] (frame f))
 whole a peer session f ready ok =
     ap (λ o. at_a_moment 0 (piece_to a.held peer (frame f) o)) ready.found
     ∙ (ap (λ b. at_a_moment 0 (cond b (dropped_piece a.held) (piece_meaning a.held peer (bytes_held a.held peer) (frame f)))) ready.alive
     ∙ (ap (λ bytes. at_a_moment 0 (piece_meaning a.held peer bytes (frame f))) ready.blank
-    ∙ (ap (λ j. seen_meaning a peer (taken_of [] (frame f)) (sight_of j) j) (joined-frame f ok)
-    ∙ ap (λ s. seen_meaning a peer (taken_of [] (frame f)) s (frame f)) (sight_of-written f ok))))
+    ∙ (ap (λ j. seen_meaning a peer (bytes_taken [] (frame f)) (parsed j) j) (joined-frame f ok)
+    ∙ ap (λ s. seen_meaning a peer (bytes_taken [] (frame f)) s (frame f)) (parsed-written f ok))))
 
-abbrev served_turn : State → ℕ → (Session → Served) → Session → Turned
+abbrev served_turn : State → ℕ → (Session → Served) → Session → TurnResult
 served_turn s peer serve session =
     turned (record s {
       shared = shared_after session (serve session);
@@ -159,14 +159,14 @@ adapter-fed a peer session f ready ok =
     let turn : serve_found s peer (λ p. command_served s.shared p f) (session_of s peer)
     ≡ served_turn s peer (λ p. command_served s.shared p f) session
     = ap (serve_found s peer (λ p. command_served s.shared p f)) ready.found
-    ∙ ap (λ b. cond b (turned s (Silent NotServed) true) (served_turn s peer (λ p. command_served s.shared p f) session)) ready.alive in
+    ∙ ap (λ b. cond b (turned s (NoReply NotServed) true) (served_turn s peer (λ p. command_served s.shared p f) session)) ready.alive in
     record {
       adapter = ap (after_meaning a.state) meant
-          ∙ ap (λ (t : Turned). (let x : AdapterState = record {
+          ∙ ap (λ (t : TurnResult). (let x : AdapterState = record {
             state = t.state;
             held = with_first (λ h. h.peer) peer (no_bytes peer) a.held;
           } in x)) turn;
-      said = ap (λ m. (answer_of a.state m).said) meant ∙ ap (λ (t : Turned). t.answer.said) turn;
+      output = ap (λ m. (answer_of a.state m).output) meant ∙ ap (λ (t : TurnResult). t.answer.output) turn;
     }
 
 -- no byte of the peer is held after it

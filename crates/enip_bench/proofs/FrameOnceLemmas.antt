@@ -167,8 +167,8 @@ module _ {world : CountingWorld} (by : IsReached world) where
       (sym (opened_of by).same_peer)
       ∙ ap (λ id. frame (item_frame by.begun.peer id (item_of by.wants.first_count own)))
       (sym (shows_of by).agrees.client_shows.id
-      ∙ sym (ap (λ (w : CountingWorld). o_to_t_id_in w.client.state.link) (shows_of by).is))
-      ∙ ap (λ request. frame (item_frame by.begun.peer (o_to_t_id_in world.client.state.link)
+      ∙ sym (ap (λ (w : CountingWorld). o_to_t_id_in w.client.state.connection_state) (shows_of by).is))
+      ∙ ap (λ request. frame (item_frame by.begun.peer (o_to_t_id_in world.client.state.connection_state)
       (item (count_of by own.number) request)))
       (sym (get_or_from_slice_get (numbers_of by).submits own.number own.request [] e))
 

@@ -17,7 +17,7 @@ use Rattle.enip_client.specs.Frames.{request_frame}
 use Rattle.enip_client.specs.Hears.{accepted}
 use Rattle.enip_bench.specs.CountingWorld as counting
 use Rattle.enip_bench.specs.CountingWorld.{CountingWorld, counting_step, counting_run, counting_seen, with_fed, LAST_MOMENT}
-use Rattle.cip_bytes.specs.declared.protocol.TheConstants.{UNCONNECTED_ROOM}
+use Rattle.cip_bytes.specs.declared.protocol.TheConstants.{UNCONNECTED_LIMIT}
 use Rattle.enip_bench.specs.Events.{Event, Submit, Resend, Reach, Back, Other, Shut, GiveUp, delivery, is_unconnected_request, with_any}
 use Rattle.enip_bench.specs.ItemWorld as items
 use Rattle.enip_bench.specs.ItemWorld.{ItemWorld, item_step, item_run, with_step, with_waiting_item_sent}
@@ -175,7 +175,7 @@ at_shut wire a c world agrees = record {
 at_other : (wire : Wire) (a : AdapterState) (c : ClientState) (world : ItemWorld Contents) (request : List ℕ) (is : Bool) →
     is_unconnected_request request ≡ is → IsWire wire → Agrees wire a c world →
     Shows wire (cond is (counting.after_other (shown wire a c world) request) (shown wire a c world))
-    (cond is (record world { router = after_exec world.router UNCONNECTED_ROOM request }) world)
+    (cond is (record world { router = after_exec world.router UNCONNECTED_LIMIT request }) world)
 at_other wire a c world request false e ok agrees = record { ends_at = a; starts_at = c; is = refl; agrees = agrees }
 at_other wire a c world request true e ok agrees = record {
   ends_at = after_call a (Feeds 0 wire.second (frame (request_frame wire.second 0 request)));
@@ -216,7 +216,7 @@ at_reached wire a c world bytes position true e ok short agrees =
         back = back;
         last_reached = Some position;
       } in x))
-          (ap (λ o. with_any o (map (frame_back wire) world.back)) done.said
+          (ap (λ o. with_any o (map (frame_back wire) world.back)) done.output
           ∙ sym (map-with_any (frame_back wire) (answer_to step) world.back));
       agrees = record {
         adapter_shows = subst (AdapterShows wire (after_call a (Feeds 0 wire.peer (frame_out wire bytes))) step.target step.router)
@@ -242,7 +242,7 @@ at_reached wire a c world bytes position false e ok short agrees =
         adapter = after_call a (Feeds 0 wire.peer (frame_out wire bytes));
         back = with_any o (map (frame_back wire) world.back);
         last_reached = Some position;
-      } in x)) done.said;
+      } in x)) done.output;
       agrees = record {
         adapter_shows = subst (AdapterShows wire (after_call a (Feeds 0 wire.peer (frame_out wire bytes))) world.target world.router)
             (sym e) done.shows;
@@ -282,11 +282,11 @@ at_back wire a c world position (Some bytes) short ok agrees =
     record {
       ends_at = a;
       starts_at = with_originator c (after_item c.state.originator bytes);
-      is = ap₂ (λ client news. (let x : CountingWorld = record (shown wire a c world) {
+      is = ap₂ (λ client heard_event. (let x : CountingWorld = record (shown wire a c world) {
         client = client;
         last_back = Some position;
-        accepted = with_any (counting.acceptance world.submits news) world.accepted;
-      } in x)) heard.client heard.news
+        accepted = with_any (counting.acceptance world.submits heard_event) world.accepted;
+      } in x)) heard.client heard.heard_event
           ∙ ap (λ o. (let x : CountingWorld = record (shown wire a c world) {
             client = with_originator c (after_item c.state.originator bytes);
             last_back = Some position;

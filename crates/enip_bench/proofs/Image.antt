@@ -1,9 +1,9 @@
 -- The item world that a tracked world stands for: what is held, the router's state and every reply follow from the log.
 use Rattle.std.proofs.Common.{ℕ, ◌-◌, ◌==◌, if◌then◌else◌, Option, Some, None, List, [], ◌∷◌, length, map}
 use Rattle.cip_class3.specs.Item.{item}
-use Rattle.cip_class3.specs.TargetRule.{Kept}
+use Rattle.cip_class3.specs.TargetRule.{KeptReply}
 use Rattle.cip_class3.specs.OriginatorRule.{Phase, Idle, Waiting, GivenUp}
-use Rattle.cip_bytes.specs.declared.protocol.TheConstants.{UNCONNECTED_ROOM}
+use Rattle.cip_bytes.specs.declared.protocol.TheConstants.{UNCONNECTED_LIMIT}
 use Rattle.enip_bench.specs.ItemWorld.{ItemWorld}
 use Rattle.enip_bench.proofs.CountLemmas.{count_of}
 use Rattle.enip_bench.proofs.TrackedWorld.{Own, Logged, OwnLogged, OtherLogged, Course, Resting, Awaiting, Abandoned, TrackedWorld}
@@ -23,7 +23,7 @@ module _ {M : Type 0} (after : M → ℕ → List ℕ → M) (answer : M → ℕ
   abbrev pub router_of : List Logged → M
   router_of [] = start
   router_of (OwnLogged own ∷ log) = after (router_of log) (t_to_o_size - 2) own.request
-  router_of (OtherLogged request ∷ log) = after (router_of log) UNCONNECTED_ROOM request
+  router_of (OtherLogged request ∷ log) = after (router_of log) UNCONNECTED_LIMIT request
 
   -- the reply to the request of this number
   abbrev pub reply_of : List Logged → ℕ → List ℕ
@@ -33,7 +33,7 @@ module _ {M : Type 0} (after : M → ℕ → List ℕ → M) (answer : M → ℕ
   reply_of (OtherLogged request ∷ log) number = reply_of log number
 
   -- the newest own request is held
-  abbrev pub held_of : List Logged → Option Kept
+  abbrev pub held_of : List Logged → Option KeptReply
   held_of [] = None
   held_of (OwnLogged own ∷ log) =
       Some (record {
@@ -60,7 +60,7 @@ module _ {M : Type 0} (after : M → ℕ → List ℕ → M) (answer : M → ℕ
       t_to_o_size = t_to_o_size;
       next = count_of first (length world.submits);
       phase = phase_of first world.course;
-      tries = world.tries;
+      unaccepted = world.unaccepted;
     };
     sent = map (item_of first) world.sent;
     back = map (answer_of world.log) world.back;

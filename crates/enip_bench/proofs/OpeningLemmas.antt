@@ -8,7 +8,7 @@ use Rattle.cip_manager.specs.Manager.{Turn}
 use Rattle.cip_manager.specs.Opening.{opening_check, opening_turn, decided_opening, service_in, read_opening_turn, open_success}
 use Rattle.cip_manager.specs.Replies.{failure_reply, open_success_data}
 use Rattle.cip_objects.specs.Contents.{Contents}
-use Rattle.enip_wire.specs.Bodies.{rr_text}
+use Rattle.enip_wire.specs.Bodies.{rr_body_bytes}
 use Rattle.enip_wire.specs.Frames.{Frame, frame}
 use Rattle.enip_wire.proofs.WriteLemmas.{rr_again}
 use Rattle.enip_adapter.specs.declared.adapter.Limits.{Limits}
@@ -27,10 +27,10 @@ use Rattle.enip_client.specs.Client.{ClientState, new_client, fed, with_state}
 use Rattle.cip_bytes.specs.Protocol.{manager_service_number}
 use Rattle.cip_bytes.specs.declared.protocol.Command.TheVariants.{RegisterSession}
 use Rattle.enip_client.specs.Frames.{register_frame, request_frame, layout_of, open_service_in, open_service, open_request, sent as framed}
-use Rattle.enip_client.specs.Hears.{hears, opening_turn as hears_opening, answer_in, answer_read, Answer, Turned}
-use Rattle.enip_client.specs.Hears.News.{Registered, Opened}
+use Rattle.enip_client.specs.Hears.{hears, opening_turn as hears_opening, answer_in, answer_read, Answer, TurnResult}
+use Rattle.enip_client.specs.Hears.HeardEvent.{Registered, Opened}
 use Rattle.enip_client.specs.declared.wants.Wants.{Wants}
-use Rattle.enip_bench.specs.CountingOpening.{ARefusal, IsWanted, is_registered_news, is_opened_news, exchange}
+use Rattle.enip_bench.specs.CountingOpening.{ARefusal, IsWanted, is_registered_event, is_opened_event, exchange}
 use Rattle.enip_bench.proofs.AdapterShows.{registered_as, request-served}
 use Rattle.enip_bench.proofs.FeedLemmas.{IsHeardWhole, client-fed, is_framed, is_rr}
 use Rattle.enip_bench.proofs.OpeningParts.{single, IsSingleFed, single-fed, heard-done, heard-refused, register-served, goes-to-manager, open-read, request-size, wanted, asked-is}
@@ -51,7 +51,7 @@ module _ (objects : Contents) (listen : Listen) (limits : Limits) (wants : Wants
   begun_single session = single limits.peers next (new_shared objects listen limits) session
 
   pub first-exchange : peer < 2 ^ 32 →
-      exchange (record { adapter = begun_single (new_session peer); client = new_client wants }) peer is_registered_news
+      exchange (record { adapter = begun_single (new_session peer); client = new_client wants }) peer is_registered_event
       (registers (new_client wants).state)
       ≡ Ok (record { adapter = begun_single (registered_as peer); client = registered wants peer })
   first-exchange below =
@@ -65,9 +65,9 @@ module _ (objects : Contents) (listen : Listen) (limits : Limits) (wants : Wants
       let whole : IsHeardWhole (registering wants) answer (fed (registering wants) (frame answer))
       = client-fed (registering wants) answer refl refl
       (is_framed RegisterSession peer 1 version_one below (omega arith)) in
-      heard-done is_registered_news (begun_single (new_session peer)) (begun_single (registered_as peer)) (registering wants)
-      (registered wants peer) (Feeds 0 peer (frame (register_frame 1))) (frame answer) Registered done.adapter done.said
-      whole.client whole.news refl
+      heard-done is_registered_event (begun_single (new_session peer)) (begun_single (registered_as peer)) (registering wants)
+      (registered wants peer) (Feeds 0 peer (frame (register_frame 1))) (frame answer) Registered done.adapter done.output
+      whole.client whole.heard_event refl
 
   -- the client that waits for its connection
   abbrev pub connecting : ClientState
@@ -89,7 +89,7 @@ module _ (objects : Contents) (listen : Listen) (limits : Limits) (wants : Wants
 
   abbrev open_served : Turn → Served
   open_served turn = leaving (managed shared turn).shared
-      (replied (registered_as peer) (request_frame peer 2 (open_request wants)).header (rr_text (managed shared turn).reply))
+      (replied (registered_as peer) (request_frame peer 2 (open_request wants)).header (rr_body_bytes (managed shared turn).reply))
 
   routed-open : IsWanted wants → routed shared (registered_as peer) (open_request wants) ≡ managed shared (decided checked)
   routed-open is = ap (routed_to shared (registered_as peer) (open_request wants)) (goes-to-manager layout wants)
@@ -105,7 +105,7 @@ module _ (objects : Contents) (listen : Listen) (limits : Limits) (wants : Wants
       (open_served (decided checked)) refl (is_rr peer 2 (open_request wants) below (omega (arith, size.1)))
       (request-served shared peer 2 (open_request wants) size.0 (omega (arith, size.1))
       ∙ ap (λ (x : Routed). leaving x.shared
-      (replied (registered_as peer) (request_frame peer 2 (open_request wants)).header (rr_text x.reply))) (routed-open is))
+      (replied (registered_as peer) (request_frame peer 2 (open_request wants)).header (rr_body_bytes x.reply))) (routed-open is))
       refl
 
   -- the reply to an opening that succeeds, and as it is read
@@ -136,8 +136,8 @@ module _ (objects : Contents) (listen : Listen) (limits : Limits) (wants : Wants
   failure_in l extended = failure_reply (service_in l) extended asked.triad
 
   refusal-heard : (l : Layout) (extended : ExtendedStatus) →
-      is_opened_news (hears_opening connecting.state
-      (answer_read (manager_service_number (open_service_in l)) (failure_in l extended) (reply_of (failure_in l extended)))).news
+      is_opened_event (hears_opening connecting.state
+      (answer_read (manager_service_number (open_service_in l)) (failure_in l extended) (reply_of (failure_in l extended)))).heard_event
       ≡ false
   unfolding reply_of
   refusal-heard small extended = refl
@@ -152,7 +152,7 @@ module _ (objects : Contents) (listen : Listen) (limits : Limits) (wants : Wants
   opened = record { state = (hears_opening connecting.state (Some (success_in layout))).state; held = [] }
 
   pub second-exchange : IsWanted wants → peer < 2 ^ 32 → (r : Result (Unit {0}) ExtendedStatus) → checked ≡ r →
-      exchange (record { adapter = begun_single (registered_as peer); client = registered wants peer }) peer is_opened_news
+      exchange (record { adapter = begun_single (registered_as peer); client = registered wants peer }) peer is_opened_event
       (opens (registered wants peer).state)
       ≡ elim r [
         | Ok done ↦ Ok (record { adapter = single limits.peers next (managed shared (decided (Ok tt))).shared (registered_as peer); client = opened })
@@ -167,9 +167,9 @@ module _ (objects : Contents) (listen : Listen) (limits : Limits) (wants : Wants
       = subst (λ r. IsSingleFed limits.peers next shared (registered_as peer) f (open_served (decided r))) check (open-fed is below) in
       let whole : IsHeardWhole connecting answer (fed connecting (frame answer))
       = client-fed connecting answer refl refl (is_rr peer 2 reply below (omega (arith, short))) in
-      heard-refused is_opened_news (begun_single (registered_as peer)) connecting (Feeds 0 peer (frame f)) (frame answer)
-      (hears connecting.state answer).news done.said whole.news
-      (ap (λ b. is_opened_news (hears_opening connecting.state (answer_in (manager_service_number (open_service wants)) b)).news)
+      heard-refused is_opened_event (begun_single (registered_as peer)) connecting (Feeds 0 peer (frame f)) (frame answer)
+      (hears connecting.state answer).heard_event done.output whole.heard_event
+      (ap (λ b. is_opened_event (hears_opening connecting.state (answer_in (manager_service_number (open_service wants)) b)).heard_event)
       (rr_again reply (omega (arith, short)))
       ∙ refusal-heard layout extended)
   second-exchange is below (Ok done) check =
@@ -184,8 +184,8 @@ module _ (objects : Contents) (listen : Listen) (limits : Limits) (wants : Wants
       let turn : hears connecting.state answer ≡ hears_opening connecting.state (Some (success_in layout))
       = ap (λ b. hears_opening connecting.state (answer_in (manager_service_number (open_service wants)) b)) (rr_again reply (omega (arith, short)))
       ∙ ap (λ a. hears_opening connecting.state a) (success-read layout) in
-      heard-done is_opened_news (begun_single (registered_as peer))
+      heard-done is_opened_event (begun_single (registered_as peer))
       (single limits.peers next (managed shared (decided (Ok tt))).shared (registered_as peer)) connecting opened
-      (Feeds 0 peer (frame f)) (frame answer) Opened fed_once.adapter fed_once.said
-      (whole.client ∙ ap (λ (t : Turned). (let x : ClientState = record { state = t.state; held = [] } in x)) turn)
-      (whole.news ∙ ap (λ (t : Turned). t.news) turn) refl
+      (Feeds 0 peer (frame f)) (frame answer) Opened fed_once.adapter fed_once.output
+      (whole.client ∙ ap (λ (t : TurnResult). (let x : ClientState = record { state = t.state; held = [] } in x)) turn)
+      (whole.heard_event ∙ ap (λ (t : TurnResult). t.heard_event) turn) refl

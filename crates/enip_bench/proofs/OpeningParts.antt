@@ -2,7 +2,7 @@
 use Rattle.std.proofs.Common.{◌≡◌, ℕ, ◌+◌, ◌%◌, ◌<◌, ◌≤◌, ◌^◌, Bool, true, false, not, ◌||◌, cond, ltb, Some, None, List, [], ◌∷◌, ◌++◌, length, Result, Ok, Err, refl, ap, ap₂, sym, ◌∙◌, subst, arith, ltb-false}
 use Rattle.std.proofs.lemmas.Bool.{eq-eqb}
 use Rattle.cip_bytes.proofs.Bytes.{le2_again, le4_again}
-use Rattle.cip_bytes.specs.declared.protocol.TheConstants.{LARGEST_SIZE}
+use Rattle.cip_bytes.specs.declared.protocol.TheConstants.{LARGEST_CONNECTION_SIZE}
 use Rattle.cip_message.specs.Open.{Layout, small, large, Open, open_of, open_fields, large_open_of, large_open_fields}
 use Rattle.cip_message.specs.Open.{connection_type, size_of, large_connection_type, large_size_of}
 use Rattle.cip_message.specs.PathReading.{path_of, class_of, instance_of, attribute_of, member_of, whole_of, segment_of}
@@ -21,15 +21,15 @@ use Rattle.enip_adapter.specs.Commands.{command_served}
 use Rattle.enip_adapter.specs.Replies.{Served, leaving}
 use Rattle.enip_adapter.specs.RegisterSession.{register_session}
 use Rattle.enip_adapter.specs.SendRRData.{Opens, destination_of}
-use Rattle.enip_adapter.specs.Turn.{State, Turned, turned, with_peer, session_after, without_connections, sent, at_moment}
-use Rattle.enip_adapter.specs.Turn.Said.{Sends, Begins, Refuses}
+use Rattle.enip_adapter.specs.Turn.{State, TurnResult, turned, with_peer, session_after, without_connections, sent, at_moment}
+use Rattle.enip_adapter.specs.Turn.Output.{Sends, Begins, Refuses}
 use Rattle.enip_client.specs.Client.{ClientState, fed}
 use Rattle.enip_client.specs.Frames.{register_frame, parameters_of, large_parameters_of, is_large, layout_of, open_asked, large_asked}
 use Rattle.enip_client.specs.Frames.{open_data_in, open_request_in}
-use Rattle.enip_client.specs.Hears.{News}
+use Rattle.enip_client.specs.Hears.{HeardEvent}
 use Rattle.enip_client.specs.declared.wants.Wants.{Wants}
-use Rattle.enip_bench.specs.CountingOpening.{ARefusal, IsWanted, begins, handle_said, fed_any, if_heard}
-use Rattle.enip_bench.specs.CountingWorld.{bytes_said}
+use Rattle.enip_bench.specs.CountingOpening.{ARefusal, IsWanted, begins, handle_in_output, fed_any, if_heard}
+use Rattle.enip_bench.specs.CountingWorld.{output_bytes}
 use Rattle.enip_bench.proofs.FeedLemmas.{IsReady, IsServed, adapter-fed, no_bytes}
 
 -- a peer that begins has the next handle, and holds no byte
@@ -42,22 +42,22 @@ pub record IsBegun (a : AdapterState) (handle : ℕ) : Type 0 where
 ok_same : {A E : Type 0} (x y : A) → ◌≡◌ {A = Result A E} (Ok x) (Ok y) → x ≡ y
 ok_same x y e = cc
 
-record AreBegun (a : AdapterState) (handle : ℕ) (t : Turned) : Type 0 where
+record AreBegun (a : AdapterState) (handle : ℕ) (t : TurnResult) : Type 0 where
   next : handle ≡ a.state.next_handle
   below : handle < 2 ^ 32
   state : t.state ≡ with_peer a.state
-  held : held_at_beginning a.held t.answer.said ≡ a.held ++ no_bytes a.state.next_handle ∷ []
+  held : held_at_beginning a.held t.answer.output ≡ a.held ++ no_bytes a.state.next_handle ∷ []
 
-abbrev begun_by : State → Bool → Bool → Turned
+abbrev begun_by : State → Bool → Bool → TurnResult
 begun_by s full late = cond full (turned s (Refuses Places) false)
     (cond late (turned s (Refuses Handles) false) (turned (with_peer s) (Begins s.next_handle) false))
 
 begun-by : (a : AdapterState) (handle : ℕ) (full late : Bool) → ltb 0xffffffff a.state.next_handle ≡ late →
-    handle_said (begun_by a.state full late).answer.said ≡ Ok handle → AreBegun a handle (begun_by a.state full late)
-begun-by a handle true late e said = absurd (cc)
-begun-by a handle false true e said = absurd (cc)
-begun-by a handle false false e said =
-    let same : a.state.next_handle ≡ handle = ok_same a.state.next_handle handle said in
+    handle_in_output (begun_by a.state full late).answer.output ≡ Ok handle → AreBegun a handle (begun_by a.state full late)
+begun-by a handle true late e output = absurd (cc)
+begun-by a handle false true e output = absurd (cc)
+begun-by a handle false false e output =
+    let same : a.state.next_handle ≡ handle = ok_same a.state.next_handle handle output in
     record {
       next = sym same;
       below = omega (arith, same, ltb-false 0xffffffff a.state.next_handle e);
@@ -66,8 +66,8 @@ begun-by a handle false false e said =
     }
 
 pub begun-ok : (a : AdapterState) (handle : ℕ) → begins a ≡ Ok handle → IsBegun a handle
-begun-ok a handle said =
-    let are = begun-by a handle (not (ltb (length a.state.peers) a.state.places)) (ltb 0xffffffff a.state.next_handle) refl said in
+begun-ok a handle output =
+    let are = begun-by a handle (not (ltb (length a.state.peers) a.state.places)) (ltb 0xffffffff a.state.next_handle) refl output in
     record {
       next = are.next;
       below = are.below;
@@ -92,7 +92,7 @@ single-ready places next shared session alive = record {
 pub record IsSingleFed (places next : ℕ) (shared : Shared) (session : Session) (f : Frame) (served : Served) : Type 0 where
   pub adapter : after_call (single places next shared session) (Feeds 0 session.handle (frame f))
       ≡ single places next served.shared (session_after session served)
-  pub said : (call_answer (single places next shared session) (Feeds 0 session.handle (frame f))).said
+  pub output : (call_answer (single places next shared session) (Feeds 0 session.handle (frame f))).output
       ≡ sent served.reaction.answer
 
 pub single-fed : (places next : ℕ) (shared : Shared) (session : Session) (f : Frame) (served : Served) →
@@ -114,26 +114,26 @@ single-fed places next shared session f served alive ok same stays =
             };
             held = cond own (no_bytes session.handle ∷ []) (no_bytes session.handle ∷ []);
           } in x)) (eq-eqb session.handle session.handle refl) stays;
-      said = is.said;
+      output = is.output;
     }
 
 -- an exchange in which the client heard what it has to hear, and one in which it did not
-pub heard-done : (is_wanted : News → Bool) (a after : AdapterState) (c then : ClientState) (call : Call) (bytes : List ℕ)
-    (news : News) → after_call a call ≡ after → (call_answer a call).said ≡ Sends bytes → (fed c bytes).client ≡ then →
-    (fed c bytes).news ≡ news → is_wanted news ≡ true →
-    if_heard is_wanted (after_call a call) (fed_any c (bytes_said (call_answer a call).said))
+pub heard-done : (is_wanted : HeardEvent → Bool) (a after : AdapterState) (c then : ClientState) (call : Call) (bytes : List ℕ)
+    (heard_event : HeardEvent) → after_call a call ≡ after → (call_answer a call).output ≡ Sends bytes → (fed c bytes).client ≡ then →
+    (fed c bytes).heard_event ≡ heard_event → is_wanted heard_event ≡ true →
+    if_heard is_wanted (after_call a call) (fed_any c (output_bytes (call_answer a call).output))
     ≡ Ok (record { adapter = after; client = then })
-heard-done is_wanted a after c then call bytes news goes said client heard wanted =
-    ap (λ s. if_heard is_wanted (after_call a call) (fed_any c (bytes_said s))) said
+heard-done is_wanted a after c then call bytes heard_event goes output client heard wanted =
+    ap (λ s. if_heard is_wanted (after_call a call) (fed_any c (output_bytes s))) output
     ∙ (ap (λ b. cond b (Ok (record { adapter = after_call a call; client = (fed c bytes).client })) (Err ARefusal))
     (ap is_wanted heard ∙ wanted)
     ∙ ap₂ (λ x y. Ok (record { adapter = x; client = y })) goes client)
 
-pub heard-refused : (is_wanted : News → Bool) (a : AdapterState) (c : ClientState) (call : Call) (bytes : List ℕ)
-    (news : News) → (call_answer a call).said ≡ Sends bytes → (fed c bytes).news ≡ news → is_wanted news ≡ false →
-    if_heard is_wanted (after_call a call) (fed_any c (bytes_said (call_answer a call).said)) ≡ Err ARefusal
-heard-refused is_wanted a c call bytes news said heard wanted =
-    ap (λ s. if_heard is_wanted (after_call a call) (fed_any c (bytes_said s))) said
+pub heard-refused : (is_wanted : HeardEvent → Bool) (a : AdapterState) (c : ClientState) (call : Call) (bytes : List ℕ)
+    (heard_event : HeardEvent) → (call_answer a call).output ≡ Sends bytes → (fed c bytes).heard_event ≡ heard_event → is_wanted heard_event ≡ false →
+    if_heard is_wanted (after_call a call) (fed_any c (output_bytes (call_answer a call).output)) ≡ Err ARefusal
+heard-refused is_wanted a c call bytes heard_event output heard wanted =
+    ap (λ s. if_heard is_wanted (after_call a call) (fed_any c (output_bytes s))) output
     ∙ ap (λ b. cond b (Ok (record { adapter = after_call a call; client = (fed c bytes).client })) (Err ARefusal))
     (ap is_wanted heard ∙ wanted)
 
@@ -193,7 +193,7 @@ small-direction wants size fits =
     let same : size_of (parameters_of size) ≡ size = omega (arith, fits) in
     ap₂ (λ k n. (let d : Direction = record { rpi = wants.rpi; connection_type = k; size = n } in d)) kind same
 
-large-direction : (wants : Wants) (size : ℕ) → size ≤ LARGEST_SIZE →
+large-direction : (wants : Wants) (size : ℕ) → size ≤ LARGEST_CONNECTION_SIZE →
     large_direction_of wants.rpi (large_parameters_of size) ≡ wanted_direction wants size
 large-direction wants size fits =
     let kind : large_connection_type (large_parameters_of size) ≡ 2 = omega (arith, fits) in

@@ -14,7 +14,7 @@ use Rattle.enip_client.specs.Calls.{registers, opens}
 use Rattle.enip_client.specs.Client.{new_client}
 use Rattle.enip_client.specs.Frames.{register_frame}
 use Rattle.enip_client.specs.declared.wants.Wants.{Wants}
-use Rattle.enip_bench.specs.CountingOpening.{Setup, ARefusal, IsWanted, begins, Ends, is_registered_news, is_opened_news, exchange, counting_at_opening, ends_at_beginning, opening}
+use Rattle.enip_bench.specs.CountingOpening.{Setup, ARefusal, IsWanted, begins, Ends, is_registered_event, is_opened_event, exchange, counting_at_opening, ends_at_beginning, opening}
 use Rattle.enip_bench.specs.CountingWorld.{CountingWorld}
 use Rattle.enip_bench.specs.ItemWorld.{items_at_opening}
 use Rattle.enip_bench.proofs.AdapterShows.{registered_as}
@@ -28,11 +28,11 @@ abbrev third : Ends → ℕ → Result CountingWorld Setup
 third ends peer = begins ends.adapter >>= λ second. Ok (counting_at_opening ends peer second)
 
 abbrev second : Ends → ℕ → Result CountingWorld Setup
-second ends peer = exchange ends peer is_opened_news (opens ends.client.state) >>= λ ends. third ends peer
+second ends peer = exchange ends peer is_opened_event (opens ends.client.state) >>= λ ends. third ends peer
 
 abbrev first : Ends → ℕ → Wants → Result CountingWorld Setup
 first ends peer wants =
-    exchange ends peer is_registered_news (registers (new_client wants).state) >>= λ ends. second ends peer
+    exchange ends peer is_registered_event (registers (new_client wants).state) >>= λ ends. second ends peer
 
 ok_is : {A E : Type 0} (x y : A) → ◌≡◌ {A = Result A E} (Ok x) (Ok y) → x ≡ y
 ok_is x y e = cc
@@ -105,9 +105,9 @@ module _ (objects : Contents) (listen : Listen) (limits : Limits) (wants : Wants
       let rest : first (ends_at_beginning start (new_client wants)) peer wants ≡ Ok world
       = subst (λ n. first (ends_at_beginning start (new_client wants)) n wants ≡ Ok world) is_begun.next begun.2 in
       let below : peer < 2 ^ 32 = subst (λ n. n < 2 ^ 32) is_begun.next is_begun.below in
-      let exchanged : exchange (ends_at_beginning start (new_client wants)) peer is_registered_news (registers (new_client wants).state)
+      let exchanged : exchange (ends_at_beginning start (new_client wants)) peer is_registered_event (registers (new_client wants).state)
       ≡ Ok (record { adapter = begun_single objects listen limits wants next peer (registered_as peer); client = registered wants peer })
-      = ap (λ a. exchange (record { adapter = a; client = new_client wants }) peer is_registered_news (registers (new_client wants).state))
+      = ap (λ a. exchange (record { adapter = a; client = new_client wants }) peer is_registered_event (registers (new_client wants).state))
       is_begun.adapter ∙ first-exchange objects listen limits wants next peer below in
       by_checks (checked objects listen limits wants next peer) refl below
       (sym (ap (λ r. r >>= λ ends. second ends peer) exchanged) ∙ rest)

@@ -20,7 +20,7 @@ use Rattle.enip_bench.specs.ItemWorld.{ItemWorld, items_at_opening, item_run}
 use Rattle.enip_bench.specs.ObjectsRun.{after_exec, exec_answer}
 use Rattle.enip_bench.specs.Reached.{IsReached}
 use Rattle.enip_bench.specs.Seen.{Seen}
-use Rattle.enip_bench.specs.Stored.{IsRoomFor}
+use Rattle.enip_bench.specs.Stored.{IsCapacityFor}
 use Rattle.enip_bench.proofs.AdapterShows.{Wire, IsWire, frame_back}
 use Rattle.enip_bench.proofs.ClientShows.{ClientShows, submits-allowed, IsHeardItem, heard-item}
 use Rattle.enip_bench.proofs.FrameAgreement.{frames_agree}
@@ -128,9 +128,9 @@ reply-within originator bytes reply e = go (is_reply originator.t_to_o_size orig
 -- a reply that is accepted is no longer than the frame that it came in
 shown-fits : (wire : Wire) (a : AdapterState) (c : ClientState) (world : ItemWorld Contents) (position : ℕ) (bytes reply : List ℕ) →
     IsWire wire → Agrees wire a c world →
-    delivery world.last_back (shown wire a c world).back position ≡ Some bytes → reply_heard (fed c bytes).news ≡ Some reply →
+    delivery world.last_back (shown wire a c world).back position ≡ Some bytes → reply_heard (fed c bytes).heard_event ≡ Some reply →
     length reply ≤ length bytes
-shown-fits wire a c world position bytes reply ok agrees e news =
+shown-fits wire a c world position bytes reply ok agrees e heard_event =
     go (delivery world.last_back world.back position) refl (sym (delivery-map (frame_back wire) world.last_back world.back position) ∙ e)
   where
     go : (found : Option (List ℕ)) → delivery world.last_back world.back position ≡ found →
@@ -141,17 +141,17 @@ shown-fits wire a c world position bytes reply ok agrees e news =
         let short : IsShort item = agrees.small.back position item (delivered world.last_back world.back position item f) in
         let heard : IsHeardItem c item (fed c (frame_back wire item)) = heard-item wire c world.originator item ok agrees.client_shows short in
         let within : length reply ≤ length item
-        = reply-within c.state.originator item reply (sym (ap reply_heard heard.news) ∙ (ap (λ b. reply_heard (fed c b).news) same ∙ news)) in
+        = reply-within c.state.originator item reply (sym (ap reply_heard heard.heard_event) ∙ (ap (λ b. reply_heard (fed c b).heard_event) same ∙ heard_event)) in
         let long : length item ≤ length bytes = subst (λ b. length item ≤ length b) same (longer wire item) in
         omega (arith, within, long)
 
 pub accepted_fits : (world : CountingWorld) (position : ℕ) (bytes : List ℕ) → IsReached world →
-    delivery world.last_back world.back position ≡ Some bytes → IsRoomFor (length bytes) (fed world.client bytes).news
-accepted_fits world position bytes reached e reply news =
+    delivery world.last_back world.back position ≡ Some bytes → IsCapacityFor (length bytes) (fed world.client bytes).heard_event
+accepted_fits world position bytes reached e reply heard_event =
     let item : Item world = item_of world reached in
     shown-fits item.wire item.shows.ends_at item.shows.starts_at item.items position bytes reply item.ok item.shows.agrees
     (subst (λ (w : CountingWorld). delivery w.last_back w.back position ≡ Some bytes) item.shows.is e)
-    (subst (λ (w : CountingWorld). reply_heard (fed w.client bytes).news ≡ Some reply) item.shows.is news)
+    (subst (λ (w : CountingWorld). reply_heard (fed w.client bytes).heard_event ≡ Some reply) item.shows.is heard_event)
 
 -- the headline, of a world that went on by these events
 pub headline_holds : (old : CountingWorld) (events : List Event) (new : CountingWorld) → new ≡ counting_run old events →

@@ -15,7 +15,7 @@ use Rattle.cip_objects.proofs.Refuses.{exec_left}
 use Rattle.enip_adapter.specs.declared.peer.Session.{Session}
 use Rattle.enip_adapter.specs.declared.shared.Shared.{Shared}
 use Rattle.enip_adapter.specs.SendRRData.{Destination, Opens, Closes, Executes, Routed, routed, routed_to, destination_by_request, destination_by_path, manager_service, is_manager}
-use Rattle.cip_bytes.specs.declared.protocol.TheConstants.{UNCONNECTED_ROOM}
+use Rattle.cip_bytes.specs.declared.protocol.TheConstants.{UNCONNECTED_LIMIT}
 use Rattle.enip_bench.specs.ObjectsRun.{after_exec}
 
 abbrev fails : {A E : Type 0} → Result A E → Bool
@@ -65,14 +65,14 @@ refused-same m room text refused = go (exec_left m room text)
 
 -- wherever a request goes, the objects are those after its execution, and the moment is the same
 pub record IsRouted (shared : Shared) (request : List ℕ) (done : Routed) : Type 0 where
-  pub objects : done.shared.objects ≡ after_exec shared.objects UNCONNECTED_ROOM request
+  pub objects : done.shared.objects ≡ after_exec shared.objects UNCONNECTED_LIMIT request
   pub moment : done.shared.moment ≡ shared.moment
 
 pub routed-objects : (shared : Shared) (session : Session) (request : List ℕ) →
     IsRouted shared request (routed shared session request)
 routed-objects shared session request = by_request (request_of request) refl
   where
-    unchanged : (d : Destination) → (exec shared.objects UNCONNECTED_ROOM request).after ≡ shared.objects →
+    unchanged : (d : Destination) → (exec shared.objects UNCONNECTED_LIMIT request).after ≡ shared.objects →
         IsRouted shared request (routed_to shared session request d)
     unchanged (Opens layout bytes) same = record { objects = sym same; moment = refl }
     unchanged (Closes bytes) same = record { objects = sym same; moment = refl }
@@ -83,7 +83,7 @@ routed-objects shared session request = by_request (request_of request) refl
         IsRouted shared request (routed_to shared session request (cond b (manager_service q.service q.data) Executes))
     by_manager q path true read found manages =
         unchanged (manager_service q.service q.data)
-        (refused-same shared.objects UNCONNECTED_ROOM request
+        (refused-same shared.objects UNCONNECTED_LIMIT request
         (manager-refused shared.objects request q path read found manages))
     by_manager q path false read found manages = record { objects = refl; moment = refl }
 

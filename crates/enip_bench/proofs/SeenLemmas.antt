@@ -4,7 +4,7 @@ use Rattle.std.proofs.lemmas.Bool.{or_parts, cond-true, cond-false}
 use Rattle.std.proofs.lemmas.Option.{get_or_from_slice_get}
 use Rattle.cip_class3.specs.Item.{item}
 use Rattle.cip_class3.specs.OriginatorRule as originator_rule
-use Rattle.cip_bytes.specs.declared.protocol.TheConstants.{UNCONNECTED_ROOM}
+use Rattle.cip_bytes.specs.declared.protocol.TheConstants.{UNCONNECTED_LIMIT}
 use Rattle.enip_bench.specs.ItemWorld.{items_seen}
 use Rattle.enip_bench.specs.NumberedWorld.{Entry, OwnRequest, OtherRequest, stands, stage_of, request_of, execution_of, router_after, reply_to, numbers_seen}
 use Rattle.enip_bench.specs.Seen.{Seen}
@@ -70,7 +70,7 @@ module _ {M : Type 0} (after : M → ℕ → List ℕ → M) (answer : M → ℕ
       (reply_by next log number) (λ e. reply_to-kept next log entry number
       (or_rest (own == number) (stands number log) is e))
   reply_to-kept router (OtherRequest request ∷ log) entry number is =
-      reply_to-kept (after router UNCONNECTED_ROOM request) log entry number is
+      reply_to-kept (after router UNCONNECTED_LIMIT request) log entry number is
 
   -- and one that is new gets its reply now
   pub reply_to-new : (router : M) (log : List Entry) (own number : ℕ) → stands number log ≡ false → own ≡ number →
@@ -85,7 +85,7 @@ module _ {M : Type 0} (after : M → ℕ → List ℕ → M) (answer : M → ℕ
       (reply_by next (log ++ OwnRequest own ∷ []) number) parts.0
       ∙ reply_to-new next log own number parts.1 same
   reply_to-new router (OtherRequest request ∷ log) own number is same =
-      reply_to-new (after router UNCONNECTED_ROOM request) log own number is same
+      reply_to-new (after router UNCONNECTED_LIMIT request) log own number is same
 
 module _ {M : Type 0} (after : M → ℕ → List ℕ → M) (answer : M → ℕ → List ℕ → List ℕ) (first t_to_o_size : ℕ)
     (start : M)
@@ -110,7 +110,7 @@ module _ {M : Type 0} (after : M → ℕ → List ℕ → M) (answer : M → ℕ
       (get_or_from_slice_get submits own.number own.request [] are.0)
   router-same (OtherLogged request ∷ log) are =
       router_after-push after answer t_to_o_size submits start (entries_of log) (OtherRequest request)
-      ∙ ap (λ m. after m UNCONNECTED_ROOM request) (router-same log are)
+      ∙ ap (λ m. after m UNCONNECTED_LIMIT request) (router-same log are)
 
   reply-by_test : (own : Own) (log : List Logged) (number : ℕ) (is : Bool) → (own.number == number) ≡ is →
       (next_logged log ≤ own.number) × Falls log → AreSubmitted submits (OwnLogged own ∷ log) →

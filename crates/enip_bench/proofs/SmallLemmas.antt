@@ -3,10 +3,10 @@ use Rattle.std.proofs.Common.{◌≡◌, ℕ, ◌-◌, ◌≤◌, Bool, true, fa
 use Rattle.std.proofs.lemmas.Option.{same_Some}
 use Rattle.cip_class3.proofs.Counts.{IsAllowed, first_refusal-none}
 use Rattle.cip_class3.specs.Deliveries.{answer_to}
-use Rattle.cip_bytes.specs.declared.protocol.TheConstants.{LARGEST_SIZE}
+use Rattle.cip_bytes.specs.declared.protocol.TheConstants.{LARGEST_CONNECTION_SIZE}
 use Rattle.cip_class3.specs.Item.{item, sequence_count_of, message_of}
 use Rattle.cip_class3.specs.OriginatorRule.{OriginatorState, Phase, Idle, Waiting, GivenUp, is_waiting, form_refusal, submit_refusal, with_next_request, waiting_item, is_reply, idle_again, after_item, after_give_up}
-use Rattle.cip_class3.specs.TargetRule.{TargetState, TargetStep, step_of, target_step, after_execution, kept_bytes, is_of_size, is_held}
+use Rattle.cip_class3.specs.TargetRule.{TargetState, TargetStep, step_of, target_step, after_execution, kept_bytes, has_accepted_size, is_held}
 use Rattle.cip_class3.specs.declared.target.Received.{Received}
 use Rattle.cip_class3.specs.declared.target.Received.TheVariants.{Dropped, Repeated, Executed}
 use Rattle.cip_objects.specs.Contents.{Contents}
@@ -17,17 +17,17 @@ use Rattle.enip_bench.proofs.HeldLemmas.{IsOfForm, has_form}
 use Rattle.enip_bench.proofs.PositionLemmas.{Each, each-push}
 
 abbrev pub IsShort : List ℕ → Type 0
-IsShort bytes = length bytes ≤ LARGEST_SIZE
+IsShort bytes = length bytes ≤ LARGEST_CONNECTION_SIZE
 
 -- the originator's O->T size, and the item that waits
 pub record IsSmallOriginator (originator : OriginatorState) : Type 0 where
-  pub o_to_t_to : originator.o_to_t_size ≤ LARGEST_SIZE
+  pub o_to_t_to : originator.o_to_t_size ≤ LARGEST_CONNECTION_SIZE
   pub waiting : (bytes : List ℕ) → waiting_item originator.phase ≡ Some bytes → IsShort bytes
 
 -- the target's T->O size, and the reply that is held
 pub record IsSmallTarget (target : TargetState) : Type 0 where
   pub t_to_o_from : 10 ≤ target.t_to_o_size
-  pub t_to_o_to : target.t_to_o_size ≤ LARGEST_SIZE
+  pub t_to_o_to : target.t_to_o_size ≤ LARGEST_CONNECTION_SIZE
   pub kept : IsShort (kept_bytes target.held)
 
 pub each-any : (o : Option (List ℕ)) (xs : List (List ℕ)) → Each IsShort xs →
@@ -40,8 +40,8 @@ each-any (Some x) xs each one = each-push IsShort xs x each (one x refl)
 pub allowed-formed : (originator : OriginatorState) (request : List ℕ) → submit_refusal originator request ≡ None →
     form_refusal originator.o_to_t_size request ≡ None
 allowed-formed originator request e =
-    let is : IsAllowed originator.tries (is_waiting originator.phase) (form_refusal originator.o_to_t_size request) =
-    first_refusal-none originator.tries (is_waiting originator.phase) (form_refusal originator.o_to_t_size request) e in
+    let is : IsAllowed originator.unaccepted (is_waiting originator.phase) (form_refusal originator.o_to_t_size request) =
+    first_refusal-none originator.unaccepted (is_waiting originator.phase) (form_refusal originator.o_to_t_size request) e in
     is.formed
 
 pub submitted-short : (originator : OriginatorState) (request : List ℕ) → IsSmallOriginator originator →
@@ -83,7 +83,7 @@ small-give_up originator small = go originator.phase small.waiting
 pub small-step : (target : TargetState) (router : Contents) (bytes : List ℕ) → IsSmallTarget target →
     IsSmallTarget (target_step after_exec exec_answer target router bytes).target
 small-step target router bytes small =
-    go (is_of_size target bytes) (is_held target.held (sequence_count_of bytes))
+    go (has_accepted_size target bytes) (is_held target.held (sequence_count_of bytes))
   where
     executed : IsSmallTarget (after_execution after_exec exec_answer target router bytes).target
     executed =

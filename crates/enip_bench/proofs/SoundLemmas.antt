@@ -42,7 +42,7 @@ after_last-push (before ∷ next ∷ numbers) number = after_last-push (next ∷
 -- A request is taken only where there is room for one more since the last accepted reply.
 allowed : (o_to_t_size : ℕ) (world : TrackedWorld) (request : List ℕ) → IsSound o_to_t_size world →
     refusal o_to_t_size (plain world) request ≡ None →
-    (form_refusal o_to_t_size request ≡ None) × (world.tries < 65535)
+    (form_refusal o_to_t_size request ≡ None) × (world.unaccepted < 65535)
 allowed o_to_t_size world request sound e =
     let is : IsAllowed (submits_since_accepted (plain world)) (is_awaiting (plain world).progress)
     (form_refusal o_to_t_size request) =
@@ -75,7 +75,7 @@ sent-submit submits sent last log request sound = record {
 }
 
 submit_sound : (o_to_t_size : ℕ) (world : TrackedWorld) (request : List ℕ) → IsSound o_to_t_size world →
-    (form_refusal o_to_t_size request ≡ None) × (world.tries < 65535) →
+    (form_refusal o_to_t_size request ≡ None) × (world.unaccepted < 65535) →
     IsSound o_to_t_size (after_submit None world request)
 submit_sound o_to_t_size world request sound allows =
     let more : length (world.submits ++ request ∷ []) ≡ length world.submits + 1 = length_push world.submits request in
@@ -153,11 +153,11 @@ sent-reached submits sent last log later own position sound found new = record {
 }
 
 -- what was executed is sent back
-back-push : (submits : List (List ℕ)) (back : List Own) (last : Option ℕ) (log : List Logged) (tries : ℕ) (own : Own) →
-    IsBackSound submits back last log tries → Falls log → is_logged own.number log ≡ true →
+back-push : (submits : List (List ℕ)) (back : List Own) (last : Option ℕ) (log : List Logged) (unaccepted : ℕ) (own : Own) →
+    IsBackSound submits back last log unaccepted → Falls log → is_logged own.number log ≡ true →
     next_logged log ≤ own.number + 1 →
-    length submits ≤ next_logged log + tries → IsBackSound submits (back ++ own ∷ []) last log tries
-back-push submits back last log tries own sound falls is near span = record {
+    length submits ≤ next_logged log + unaccepted → IsBackSound submits (back ++ own ∷ []) last log unaccepted
+back-push submits back last log unaccepted own sound falls is near span = record {
   logged = each-push (λ (o : Own). is_logged o.number log ≡ true) back own sound.logged is;
   order = ordered-push (λ (x : Own) (y : Own). x.number ≤ y.number) back own sound.order
       (λ i x e. omega (arith, logged_below log x.number falls (sound.logged i x e)));
@@ -168,9 +168,9 @@ back-push submits back last log tries own sound falls is near span = record {
 }
 
 -- a further execution leaves what was sent back
-back-kept : (submits : List (List ℕ)) (back : List Own) (last : Option ℕ) (log : List Logged) (tries : ℕ) (own : Own) →
-    IsBackSound submits back last log tries → IsBackSound submits back last (OwnLogged own ∷ log) tries
-back-kept submits back last log tries own sound = record {
+back-kept : (submits : List (List ℕ)) (back : List Own) (last : Option ℕ) (log : List Logged) (unaccepted : ℕ) (own : Own) →
+    IsBackSound submits back last log unaccepted → IsBackSound submits back last (OwnLogged own ∷ log) unaccepted
+back-kept submits back last log unaccepted own sound = record {
   logged = λ i x e. logged-kept log own x.number (sound.logged i x e);
   order = sound.order;
   near = sound.near;
@@ -187,7 +187,7 @@ execution_sound o_to_t_size world own position true sound found is = record {
   log = sound.log;
   sent = sent-reached world.submits world.sent world.last_reached world.log world.log own position sound.sent found
       (inl (omega arith));
-  back = back-push world.submits world.back world.last_back world.log world.tries own sound.back sound.log.falls is
+  back = back-push world.submits world.back world.last_back world.log world.unaccepted own sound.back sound.log.falls is
       (sound.sent.above position own found) sound.window.span;
   accepted = sound.accepted;
   course = sound.course;
@@ -208,8 +208,8 @@ execution_sound o_to_t_size world own position false sound found is =
       };
       sent = sent-reached world.submits world.sent world.last_reached world.log (OwnLogged own ∷ world.log) own
           position sound.sent found (inr refl);
-      back = back-push world.submits world.back world.last_back (OwnLogged own ∷ world.log) world.tries own
-          (back-kept world.submits world.back world.last_back world.log world.tries own sound.back) falls
+      back = back-push world.submits world.back world.last_back (OwnLogged own ∷ world.log) world.unaccepted own
+          (back-kept world.submits world.back world.last_back world.log world.unaccepted own sound.back) falls
           (or_left _ _ (eq-eqb own.number own.number refl)) (omega arith) (omega (arith, sound.window.span));
       accepted = record {
         logged = λ i x e. logged-kept world.log own x.number (sound.accepted.logged i x e);
@@ -247,22 +247,22 @@ at_reach o_to_t_size world position (Some own) sound e =
     reached_sound o_to_t_size world own position world.is_open sound e
 
 -- what can come back behind a delivery could come back before it
-back-came : (submits : List (List ℕ)) (back : List Own) (last : Option ℕ) (log : List Logged) (tries : ℕ) (own : Own)
+back-came : (submits : List (List ℕ)) (back : List Own) (last : Option ℕ) (log : List Logged) (unaccepted : ℕ) (own : Own)
     (position : ℕ) →
-    IsBackSound submits back last log tries → delivery last back position ≡ Some own →
-    IsBackSound submits back (Some position) log tries
-back-came submits back last log tries own position sound found = record {
+    IsBackSound submits back last log unaccepted → delivery last back position ≡ Some own →
+    IsBackSound submits back (Some position) log unaccepted
+back-came submits back last log unaccepted own position sound found = record {
   logged = sound.logged;
   order = sound.order;
   near = λ k x e. sound.near k x (delivered_later last back position k own x found e).1;
 }
 
 -- behind the last submit nothing is far behind
-back-last : (submits : List (List ℕ)) (back : List Own) (last : Option ℕ) (log : List Logged) (tries : ℕ) (own : Own)
+back-last : (submits : List (List ℕ)) (back : List Own) (last : Option ℕ) (log : List Logged) (unaccepted : ℕ) (own : Own)
     (position : ℕ) →
-    IsBackSound submits back last log tries → delivery last back position ≡ Some own → length submits ≡ own.number + 1 →
+    IsBackSound submits back last log unaccepted → delivery last back position ≡ Some own → length submits ≡ own.number + 1 →
     IsBackSound submits back (Some position) log 0
-back-last submits back last log tries own position sound found end = record {
+back-last submits back last log unaccepted own position sound found end = record {
   logged = sound.logged;
   order = sound.order;
   near = λ k x e.
@@ -286,7 +286,7 @@ accepted_sound o_to_t_size world own waiting position sound found same =
       form = sound.form;
       log = sound.log;
       sent = sound.sent;
-      back = back-last world.submits world.back world.last_back world.log world.tries own position sound.back found end;
+      back = back-last world.submits world.back world.last_back world.log world.unaccepted own position sound.back found end;
       accepted = record {
         logged = each-push (λ (o : Own). is_logged o.number world.log ≡ true) world.accepted own sound.accepted.logged
             is;
@@ -313,7 +313,7 @@ came_sound o_to_t_size world own position sound found = record {
   form = sound.form;
   log = sound.log;
   sent = sound.sent;
-  back = back-came world.submits world.back world.last_back world.log world.tries own position sound.back found;
+  back = back-came world.submits world.back world.last_back world.log world.unaccepted own position sound.back found;
   accepted = sound.accepted;
   course = sound.course;
   window = sound.window;

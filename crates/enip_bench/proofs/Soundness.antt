@@ -28,10 +28,10 @@ pub record IsSentSound (submits : List (List ℕ)) (sent : List Own) (last : Opt
 
 -- what was sent back was executed, in order; what can still be delivered is not too far behind the last submit
 pub record IsBackSound (submits : List (List ℕ)) (back : List Own) (last : Option ℕ) (log : List Logged)
-    (tries : ℕ) : Type 0 where
+    (unaccepted : ℕ) : Type 0 where
   pub logged : Each (λ own. is_logged own.number log ≡ true) back
   pub order : AreNotLower back
-  pub near : (k : ℕ) (own : Own) → delivery last back k ≡ Some own → length submits ≤ own.number + 1 + tries
+  pub near : (k : ℕ) (own : Own) → delivery last back k ≡ Some own → length submits ≤ own.number + 1 + unaccepted
 
 -- each reply that was accepted is that of an execution, in order
 pub record IsAcceptedSound (accepted : List Own) (log : List Logged) : Type 0 where
@@ -46,16 +46,16 @@ IsCourseSound submits accepted (Awaiting own) =
 IsCourseSound submits accepted Abandoned = Unit {0}
 
 -- since the last accepted reply there were fewer submits than counts, and all before were executed or left behind
-pub record IsWindow (submits : List (List ℕ)) (accepted : List Own) (log : List Logged) (tries : ℕ) : Type 0 where
-  pub since : tries + after_last (map number_of accepted) ≡ length submits
-  pub span : length submits ≤ next_logged log + tries
-  pub bound : tries ≤ 65535
+pub record IsWindow (submits : List (List ℕ)) (accepted : List Own) (log : List Logged) (unaccepted : ℕ) : Type 0 where
+  pub since : unaccepted + after_last (map number_of accepted) ≡ length submits
+  pub span : length submits ≤ next_logged log + unaccepted
+  pub bound : unaccepted ≤ 65535
 
 pub record IsSound (o_to_t_size : ℕ) (world : TrackedWorld) : Type 0 where
   pub form : HaveForm o_to_t_size world.submits
   pub log : IsLogSound world.submits world.log
   pub sent : IsSentSound world.submits world.sent world.last_reached world.log
-  pub back : IsBackSound world.submits world.back world.last_back world.log world.tries
+  pub back : IsBackSound world.submits world.back world.last_back world.log world.unaccepted
   pub accepted : IsAcceptedSound world.accepted world.log
   pub course : IsCourseSound world.submits world.accepted world.course
-  pub window : IsWindow world.submits world.accepted world.log world.tries
+  pub window : IsWindow world.submits world.accepted world.log world.unaccepted

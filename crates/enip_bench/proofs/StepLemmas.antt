@@ -3,16 +3,16 @@ use Rattle.std.proofs.Common.{◌≡◌, ℕ, ◌+◌, ◌-◌, ◌<◌, ◌≤�
 use Rattle.std.proofs.lemmas.Bool.{and_from, and_right, and_left, both_ways}
 use Rattle.std.proofs.lemmas.List.{length_push}
 use Rattle.std.proofs.lemmas.Option.{same_Some, slice_get_within}
-use Rattle.cip_class3.proofs.Repeats.{sequence_count_of-item, is_of_size-item, step-first}
+use Rattle.cip_class3.proofs.Repeats.{sequence_count_of-item, has_accepted_size-item, step-first}
 use Rattle.cip_class3.specs.Deliveries.{Delivery, IsDeliverable}
 use Rattle.cip_class3.specs.Item.{item, sequence_count_of}
 use Rattle.cip_class3.specs.OriginatorRule.{Waiting, is_waiting, form_refusal, first_refusal, submit_refusal, waiting_item, answers, is_reply, idle_again}
-use Rattle.cip_class3.specs.TargetRule.{TargetState, Kept, TargetStep, step_of, target_step, is_of_size, is_held}
+use Rattle.cip_class3.specs.TargetRule.{TargetState, KeptReply, TargetStep, step_of, target_step, has_accepted_size, is_held}
 use Rattle.cip_class3.specs.declared.originator.Refused.{Refused}
 use Rattle.cip_class3.specs.declared.target.Received.TheVariants.{Repeated, Executed}
 use Rattle.cip_message.specs.Reply.{reply_service}
 use Rattle.cip_objects.specs.Router.{IsReplyTo}
-use Rattle.cip_bytes.specs.declared.protocol.TheConstants.{UNCONNECTED_ROOM}
+use Rattle.cip_bytes.specs.declared.protocol.TheConstants.{UNCONNECTED_LIMIT}
 use Rattle.enip_bench.specs.Events.{Event, Submit, Resend, Reach, Back, Other, Shut, GiveUp, delivery, is_unconnected_request, with_any}
 use Rattle.enip_bench.specs.ItemWorld as items
 use Rattle.enip_bench.specs.ItemWorld.{ItemWorld, item_step, item_run, with_waiting_item_sent, with_step}
@@ -63,13 +63,13 @@ module _ {M : Type 0} (after : M → ℕ → List ℕ → M) (answer : M → ℕ
   waiting-same Abandoned = refl
 
   -- the submits since the last accepted reply, as they are counted
-  tries-since : (world : TrackedWorld) → IsSound o_to_t_size world → world.tries ≡ submits_since_accepted (plain world)
-  tries-since world sound = omega (arith, sound.window.since)
+  unaccepted-since : (world : TrackedWorld) → IsSound o_to_t_size world → world.unaccepted ≡ submits_since_accepted (plain world)
+  unaccepted-since world sound = omega (arith, sound.window.since)
 
   pub refusal-same : (world : TrackedWorld) (request : List ℕ) → IsSound o_to_t_size world →
       submit_refusal (shown world).originator request ≡ refusal o_to_t_size (plain world) request
   refusal-same world request sound =
-      ap₂ (λ tries waits. first_refusal tries waits (form_refusal o_to_t_size request)) (tries-since world sound)
+      ap₂ (λ unaccepted waits. first_refusal unaccepted waits (form_refusal o_to_t_size request)) (unaccepted-since world sound)
       (waiting-same world.course)
 
   pub at_submit : (world : TrackedWorld) (why : Option Refused) (request : List ℕ) →
@@ -80,7 +80,7 @@ module _ {M : Type 0} (after : M → ℕ → List ℕ → M) (answer : M → ℕ
       same_items (items.after_submit None (shown world) request) (shown (after_submit None world request)) refl refl
       refl
       (ap (λ next. record (shown world).originator
-      { next = next; phase = Waiting (count_of first (length world.submits)) request; tries = world.tries + 1 })
+      { next = next; phase = Waiting (count_of first (length world.submits)) request; unaccepted = world.unaccepted + 1 })
       (count_of-next first (length world.submits) ∙ ap (count_of first) (sym more)))
       (sym (map-push (item_of first) world.sent (next_own world request))) refl refl refl (sym more) refl
   at_submit world (Some why) request = refl
@@ -101,7 +101,7 @@ module _ {M : Type 0} (after : M → ℕ → List ℕ → M) (answer : M → ℕ
 
   at_other : (world : TrackedWorld) (request : List ℕ) (is : Bool) →
       cond is (record (shown world) {
-        router = after (router_of after answer first t_to_o_size start world.log) UNCONNECTED_ROOM request;
+        router = after (router_of after answer first t_to_o_size start world.log) UNCONNECTED_LIMIT request;
       }) (shown world)
       ≡ shown (after_other is world request)
   at_other world request true = refl
@@ -137,8 +137,8 @@ module _ {M : Type 0} (after : M → ℕ → List ℕ → M) (answer : M → ℕ
       target_step after answer (target world) (show world).router (item_of first own)
       ≡ step_of Repeated (target world) (show world).router
   repeats world own form same =
-      let sized : is_of_size (target world) (item_of first own) ≡ true =
-      is_of_size-item (target world) (deliverable own) (is_deliverable own form) in
+      let sized : has_accepted_size (target world) (item_of first own) ≡ true =
+      has_accepted_size-item (target world) (deliverable own) (is_deliverable own form) in
       let held : is_held (held_of after answer first t_to_o_size start world.log)
       (sequence_count_of (item_of first own)) ≡ true =
       ap (is_held (held_of after answer first t_to_o_size start world.log))
@@ -172,7 +172,7 @@ module _ {M : Type 0} (after : M → ℕ → List ℕ → M) (answer : M → ℕ
       let router : M = router_of after answer first t_to_o_size start world.log in
       let moved : TrackedWorld = record world
       { last_reached = Some position; log = log; back = world.back ++ own ∷ [] } in
-      let kept : Kept = record {
+      let kept : KeptReply = record {
         sequence_count = count_of first own.number;
         reply = answer router (t_to_o_size - 2) own.request;
       } in

@@ -33,7 +33,7 @@ after_submit None world request = record world {
   submits = world.submits ++ request ∷ [];
   sent = world.sent ++ next_own world request ∷ [];
   course = Awaiting (next_own world request);
-  tries = world.tries + 1;
+  unaccepted = world.unaccepted + 1;
 }
 after_submit (Some why) world request = world
 
@@ -56,7 +56,7 @@ after_reach (Some own) world position = reached world.is_open world own position
 
 abbrev pub came_back : Bool → TrackedWorld → Own → ℕ → TrackedWorld
 came_back true world own position =
-    record world { last_back = Some position; course = Resting; accepted = world.accepted ++ own ∷ []; tries = 0 }
+    record world { last_back = Some position; course = Resting; accepted = world.accepted ++ own ∷ []; unaccepted = 0 }
 came_back false world own position = record world { last_back = Some position }
 
 abbrev pub after_back : Option Own → TrackedWorld → ℕ → TrackedWorld

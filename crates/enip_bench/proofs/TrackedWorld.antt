@@ -26,7 +26,7 @@ pub record TrackedWorld : Type 0 where
   pub is_open : Bool
   pub course : Course
   pub accepted : List Own
-  pub tries : ℕ
+  pub unaccepted : ℕ
 
 abbrev pub tracked_at_opening : TrackedWorld
 tracked_at_opening = record {
@@ -39,7 +39,7 @@ tracked_at_opening = record {
   is_open = true;
   course = Resting;
   accepted = [];
-  tries = 0;
+  unaccepted = 0;
 }
 
 abbrev pub is_logged : ℕ → List Logged → Bool

@@ -1,24 +1,24 @@
 -- The opening of the counting world: the client registers and opens its connection without loss, at moment 0.
 use Rattle.std.specs.Prelude.{ℕ, ◌<◌, ◌≤◌, ◌^◌, if◌then◌else◌, Bool, true, false, Option, Some, None, List, [], Result, Ok, Err}
 use Rattle.cip_bytes.specs.Reading.{◌>>=◌}
-use Rattle.cip_bytes.specs.declared.protocol.TheConstants.{LARGEST_SIZE}
+use Rattle.cip_bytes.specs.declared.protocol.TheConstants.{LARGEST_CONNECTION_SIZE}
 use Rattle.cip_objects.specs.Contents.{Contents}
 use Rattle.enip_adapter.specs.Adapter.{new_adapter}
 use Rattle.enip_adapter.specs.Calls.{AdapterState, Call, after_call, call_answer}
 use Rattle.enip_adapter.specs.Calls.Call.{Begins_peer, Feeds}
-use Rattle.enip_adapter.specs.Turn.Said.{Silent, Sends, Begins, Refuses}
-use Rattle.enip_adapter.specs.Turn.{Said}
+use Rattle.enip_adapter.specs.Turn.Output.{NoReply, Sends, Begins, Refuses}
+use Rattle.enip_adapter.specs.Turn.{Output}
 use Rattle.enip_adapter.specs.declared.adapter.Limits.{Limits}
 use Rattle.enip_adapter.specs.declared.shared.Listen.{Listen}
 use Rattle.enip_client.specs.Calls.{Lent, registers, opens}
 use Rattle.enip_client.specs.Client.{ClientState, Fed, new_client, fed, with_state}
 use Rattle.enip_client.specs.Frames.{register_frame}
-use Rattle.enip_client.specs.Hears.{News}
-use Rattle.enip_client.specs.Hears.News.{Nothing, Registered, Opened}
+use Rattle.enip_client.specs.Hears.{HeardEvent}
+use Rattle.enip_client.specs.Hears.HeardEvent.{Nothing, Registered, Opened}
 use Rattle.enip_client.specs.declared.fault.ClientFault.{ClientFault}
 use Rattle.enip_client.specs.declared.wants.Wants.{Wants}
 use Rattle.enip_wire.specs.Frames.{frame}
-use Rattle.enip_bench.specs.CountingWorld.{CountingWorld, bytes_said}
+use Rattle.enip_bench.specs.CountingWorld.{CountingWorld, output_bytes}
 
 -- a begin, a register or an open was refused
 pub data Setup : Type 0 where
@@ -33,20 +33,20 @@ pub record IsWanted (wants : Wants) : Type 0 where
   pub rpi : wants.rpi < 2 ^ 32
   pub timeout_multiplier : wants.timeout_multiplier < 2 ^ 8
   pub o_to_t_from : 4 ≤ wants.o_to_t_size
-  pub o_to_t_to : wants.o_to_t_size ≤ LARGEST_SIZE
+  pub o_to_t_to : wants.o_to_t_size ≤ LARGEST_CONNECTION_SIZE
   pub t_to_o_from : 10 ≤ wants.t_to_o_size
-  pub t_to_o_to : wants.t_to_o_size ≤ LARGEST_SIZE
+  pub t_to_o_to : wants.t_to_o_size ≤ LARGEST_CONNECTION_SIZE
   pub first_count : wants.first_count < 2 ^ 16
 
 -- the handle that a begin gives out
-abbrev pub handle_said : Said → Result ℕ Setup
-handle_said (Silent why) = Err ARefusal
-handle_said (Sends bytes) = Err ARefusal
-handle_said (Begins handle) = Ok handle
-handle_said (Refuses full) = Err ARefusal
+abbrev pub handle_in_output : Output → Result ℕ Setup
+handle_in_output (NoReply why) = Err ARefusal
+handle_in_output (Sends bytes) = Err ARefusal
+handle_in_output (Begins handle) = Ok handle
+handle_in_output (Refuses full) = Err ARefusal
 
 abbrev pub begins : AdapterState → Result ℕ Setup
-begins adapter = handle_said (call_answer adapter Begins_peer).said
+begins adapter = handle_in_output (call_answer adapter Begins_peer).output
 
 -- both ends
 pub record Ends : Type 0 where
@@ -55,29 +55,29 @@ pub record Ends : Type 0 where
 
 -- the client gets what the adapter sends, if it sends anything
 abbrev pub fed_any : ClientState → Option (List ℕ) → Fed
-fed_any client None = record { client = client; taken = 0; news = Nothing }
+fed_any client None = record { client = client; taken = 0; heard_event = Nothing }
 fed_any client (Some bytes) = fed client bytes
 
-abbrev pub is_registered_news : News → Bool
-is_registered_news Registered = true
-is_registered_news other = false
+abbrev pub is_registered_event : HeardEvent → Bool
+is_registered_event Registered = true
+is_registered_event other = false
 
-abbrev pub is_opened_news : News → Bool
-is_opened_news Opened = true
-is_opened_news other = false
+abbrev pub is_opened_event : HeardEvent → Bool
+is_opened_event Opened = true
+is_opened_event other = false
 
 -- the client has to hear this
-abbrev pub if_heard : (News → Bool) → AdapterState → Fed → Result Ends Setup
+abbrev pub if_heard : (HeardEvent → Bool) → AdapterState → Fed → Result Ends Setup
 if_heard is_wanted adapter fed =
-    if is_wanted fed.news then Ok (record { adapter = adapter; client = fed.client }) else Err ARefusal
+    if is_wanted fed.heard_event then Ok (record { adapter = adapter; client = fed.client }) else Err ARefusal
 
 -- a frame that the client lends goes to the adapter at moment 0, and its answer to the client
-abbrev pub exchange : Ends → ℕ → (News → Bool) → Result Lent ClientFault → Result Ends Setup
+abbrev pub exchange : Ends → ℕ → (HeardEvent → Bool) → Result Lent ClientFault → Result Ends Setup
 exchange ends peer is_wanted (Err fault) = Err ARefusal
 exchange ends peer is_wanted (Ok lent) =
     let call : Call = Feeds 0 peer (frame lent.frame) in
     if_heard is_wanted (after_call ends.adapter call)
-    (fed_any (with_state ends.client lent.state) (bytes_said (call_answer ends.adapter call).said))
+    (fed_any (with_state ends.client lent.state) (output_bytes (call_answer ends.adapter call).output))
 
 -- a connection that was just opened between these ends, and a second session, which is registered
 abbrev pub counting_at_opening : Ends → ℕ → ℕ → CountingWorld
@@ -102,8 +102,8 @@ ends_at_beginning adapter client = record { adapter = after_call adapter Begins_
 abbrev pub opening_between : AdapterState → ClientState → Result CountingWorld Setup
 opening_between adapter client = do
   peer ← begins adapter
-  registered ← exchange (ends_at_beginning adapter client) peer is_registered_news (registers client.state)
-  opened ← exchange registered peer is_opened_news (opens registered.client.state)
+  registered ← exchange (ends_at_beginning adapter client) peer is_registered_event (registers client.state)
+  opened ← exchange registered peer is_opened_event (opens registered.client.state)
   second ← begins opened.adapter
   Ok (counting_at_opening opened peer second)
 

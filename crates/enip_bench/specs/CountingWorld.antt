@@ -4,13 +4,13 @@ use Rattle.cip_class3.specs.OriginatorRule.{stage_of}
 use Rattle.cip_objects.specs.Contents.{Contents}
 use Rattle.enip_adapter.specs.Calls.{AdapterState, after_call, call_answer}
 use Rattle.enip_adapter.specs.Calls.Call.{Feeds, Ticks}
-use Rattle.enip_adapter.specs.Turn.Said.{Silent, Sends, Begins, Refuses}
-use Rattle.enip_adapter.specs.Turn.{Said}
+use Rattle.enip_adapter.specs.Turn.Output.{NoReply, Sends, Begins, Refuses}
+use Rattle.enip_adapter.specs.Turn.{Output}
 use Rattle.enip_client.specs.Calls.{Lent, submits, resends, after_giving_up}
 use Rattle.enip_client.specs.Client.{ClientState, Fed, fed, with_state}
 use Rattle.enip_client.specs.Frames.{request_frame}
-use Rattle.enip_client.specs.Hears.{News}
-use Rattle.enip_client.specs.Hears.News.{Accepted}
+use Rattle.enip_client.specs.Hears.{HeardEvent}
+use Rattle.enip_client.specs.Hears.HeardEvent.{Accepted}
 use Rattle.enip_client.specs.declared.fault.SubmitFault.{SubmitFault}
 use Rattle.enip_wire.specs.Frames.{Frame, frame}
 use Rattle.enip_bench.specs.Events.{Event, Submit, Resend, Reach, Back, Other, Shut, GiveUp, delivery, is_unconnected_request, with_any}
@@ -45,36 +45,36 @@ abbrev pub after_resend : Option Frame → CountingWorld → CountingWorld
 after_resend lent world = record world { sent = with_any (option_map frame lent) world.sent }
 
 -- the bytes that the adapter sends
-abbrev pub bytes_said : Said → Option (List ℕ)
-bytes_said (Silent why) = None
-bytes_said (Sends bytes) = Some bytes
-bytes_said (Begins handle) = None
-bytes_said (Refuses full) = None
+abbrev pub output_bytes : Output → Option (List ℕ)
+output_bytes (NoReply why) = None
+output_bytes (Sends bytes) = Some bytes
+output_bytes (Begins handle) = None
+output_bytes (Refuses full) = None
 
 -- the adapter gets bytes of the client at moment 0, and what it sends is sent back
 abbrev pub after_reach : Option (List ℕ) → CountingWorld → ℕ → CountingWorld
 after_reach None world position = world
 after_reach (Some bytes) world position = record world {
   adapter = after_call world.adapter (Feeds 0 world.peer bytes);
-  back = with_any (bytes_said (call_answer world.adapter (Feeds 0 world.peer bytes)).said) world.back;
+  back = with_any (output_bytes (call_answer world.adapter (Feeds 0 world.peer bytes)).output) world.back;
   last_reached = Some position;
 }
 
 -- the reply that was heard as accepted, if one was
-abbrev pub reply_heard : News → Option (List ℕ)
+abbrev pub reply_heard : HeardEvent → Option (List ℕ)
 reply_heard (Accepted bytes) = Some bytes
 reply_heard other = None
 
 -- an accepted reply is that to the last submit
-abbrev pub acceptance : ℕ → News → Option (ℕ × List ℕ)
-acceptance submits news = option_map (λ reply. (submits - 1, reply)) (reply_heard news)
+abbrev pub acceptance : ℕ → HeardEvent → Option (ℕ × List ℕ)
+acceptance submits heard_event = option_map (λ reply. (submits - 1, reply)) (reply_heard heard_event)
 
 -- the client is fed
 abbrev pub with_fed : CountingWorld → ℕ → Fed → CountingWorld
 with_fed world position fed = record world {
   client = fed.client;
   last_back = Some position;
-  accepted = with_any (acceptance world.submits fed.news) world.accepted;
+  accepted = with_any (acceptance world.submits fed.heard_event) world.accepted;
 }
 
 -- the client gets bytes of the adapter

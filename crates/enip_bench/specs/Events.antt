@@ -1,6 +1,6 @@
 -- What happens between the two ends of an open class 3 connection, and what of it is possible.
 use Rattle.std.specs.Prelude.{ℕ, nat_le, Bool, true, ◌&&◌, if◌then◌else◌, Option, Some, None, List, [], ◌∷◌, ◌++◌, length, slice_get}
-use Rattle.cip_bytes.specs.declared.protocol.TheConstants.{SMALLEST_REQUEST, UNCONNECTED_ROOM}
+use Rattle.cip_bytes.specs.declared.protocol.TheConstants.{SMALLEST_REQUEST, UNCONNECTED_LIMIT}
 
 -- an event, seen from outside: a call of the originator, a delivery by position, or something else at the target
 pub data Event : Type 0 where
@@ -32,7 +32,7 @@ delivery last sent position = if is_in_order last position then slice_get sent p
 -- an unconnected request has 2 to 504 bytes
 abbrev pub is_unconnected_request : List ℕ → Bool
 is_unconnected_request request =
-    nat_le SMALLEST_REQUEST (length request) && nat_le (length request) UNCONNECTED_ROOM
+    nat_le SMALLEST_REQUEST (length request) && nat_le (length request) UNCONNECTED_LIMIT
 
 -- with one more at the end, where there is one
 abbrev pub with_any : {A : Type 0} → Option A → List A → List A

@@ -34,7 +34,7 @@ module _ {world : CountingWorld} (by : IsReached world) where
   -- this number's request, in a frame to the adapter
   abbrev pub request_frame : ℕ → List ℕ
   request_frame number =
-      frame (item_frame by.begun.peer (o_to_t_id_in world.client.state.link)
+      frame (item_frame by.begun.peer (o_to_t_id_in world.client.state.connection_state)
       (item (count_of number) (request_of numbers_of.submits number)))
 
   -- a reply to this number's request, in a frame to the client

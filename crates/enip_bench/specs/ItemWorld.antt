@@ -4,7 +4,7 @@ use Rattle.cip_class3.specs.TargetRule.{TargetState, TargetStep, target_at_openi
 use Rattle.cip_class3.specs.OriginatorRule.{OriginatorState, originator_at_opening, submit_refusal, with_next_request, waiting_item, after_item, accepted_reply, after_give_up, stage_of}
 use Rattle.cip_class3.specs.Deliveries.{answer_to}
 use Rattle.cip_class3.specs.declared.originator.Refused.{Refused}
-use Rattle.cip_bytes.specs.declared.protocol.TheConstants.{UNCONNECTED_ROOM}
+use Rattle.cip_bytes.specs.declared.protocol.TheConstants.{UNCONNECTED_LIMIT}
 use Rattle.enip_bench.specs.Events.{Event, Submit, Resend, Reach, Back, Other, Shut, GiveUp, delivery, is_unconnected_request, with_any}
 use Rattle.enip_bench.specs.Seen.{Seen}
 
@@ -82,7 +82,7 @@ module _ {M : Type 0} (after : M → ℕ → List ℕ → M) (answer : M → ℕ
   item_step world (Reach position) = after_reach (delivery world.last_reached world.sent position) world position
   item_step world (Back position) = after_back (delivery world.last_back world.back position) world position
   item_step world (Other request) =
-      let served : ItemWorld M = record world { router = after world.router UNCONNECTED_ROOM request } in
+      let served : ItemWorld M = record world { router = after world.router UNCONNECTED_LIMIT request } in
       if is_unconnected_request request then served else world
   item_step world Shut = record world { is_open = false }
   item_step world GiveUp = record world { originator = after_give_up world.originator }

@@ -16,7 +16,7 @@ use Rattle.enip_bench.specs.Reached.{IsNewAdapter, IsNewClient}
 pub record IsOpenAtAdapter (wants : Wants) (world : CountingWorld) : Type 0 where
   pub connection : Connection
   pub alone : of_session world.peer world.adapter.state.shared.manager.connections ≡ connection ∷ []
-  pub o_to_t_id : connection.o_to_t_id ≡ o_to_t_id_in world.client.state.link
+  pub o_to_t_id : connection.o_to_t_id ≡ o_to_t_id_in world.client.state.connection_state
   pub t_to_o_id : connection.t_to_o_id ≡ wants.t_to_o_id
   pub target : connection.target ≡ target_at_opening wants.o_to_t_size wants.t_to_o_size
 
@@ -24,7 +24,7 @@ pub record IsOpenAtAdapter (wants : Wants) (world : CountingWorld) : Type 0 wher
 pub record IsOpenAtClient (wants : Wants) (world : CountingWorld) : Type 0 where
   pub registered : is_registered world.client.state.registration ≡ true
   pub session : session_in world.client.state.registration ≡ world.peer
-  pub is_opened : is_open world.client.state.link ≡ true
+  pub is_opened : is_open world.client.state.connection_state ≡ true
   pub originator : world.client.state.originator
       ≡ originator_at_opening wants.first_count wants.o_to_t_size wants.t_to_o_size
 

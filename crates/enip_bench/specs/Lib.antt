@@ -16,5 +16,5 @@ pub mod Reached
 pub mod Rows
 pub mod Seen
 pub mod Stored
-pub mod Telling
+pub mod EventResults
 pub mod WorldLaws

@@ -5,7 +5,7 @@ use Rattle.cip_class3.specs.OriginatorRule.{first_refusal, form_refusal}
 use Rattle.cip_class3.specs.declared.originator.Refused.{Refused}
 use Rattle.cip_class3.specs.declared.originator.Stage.{Stage}
 use Rattle.cip_class3.specs.declared.originator.Stage.TheVariants as stages
-use Rattle.cip_bytes.specs.declared.protocol.TheConstants.{UNCONNECTED_ROOM}
+use Rattle.cip_bytes.specs.declared.protocol.TheConstants.{UNCONNECTED_LIMIT}
 use Rattle.enip_bench.specs.Events.{Event, Submit, Resend, Reach, Back, Other, Shut, GiveUp, delivery, is_unconnected_request, with_any}
 use Rattle.enip_bench.specs.Seen.{Seen}
 
@@ -159,7 +159,7 @@ request_of submits number = slice_index_or submits number []
 -- the room for the reply, at this T->O size, and the request of an entry
 abbrev pub execution_of : ℕ → List (List ℕ) → Entry → ℕ × List ℕ
 execution_of t_to_o_size submits (OwnRequest number) = (t_to_o_size - 2, request_of submits number)
-execution_of t_to_o_size submits (OtherRequest request) = (UNCONNECTED_ROOM, request)
+execution_of t_to_o_size submits (OtherRequest request) = (UNCONNECTED_LIMIT, request)
 
 -- the entry is the execution of this number's request
 abbrev pub is_execution_of : ℕ → Entry → Bool

@@ -4,21 +4,21 @@ use Rattle.cip_objects.specs.Contents.{Contents}
 use Rattle.enip_adapter.specs.Calls.{AdapterState, after_call}
 use Rattle.enip_adapter.specs.Calls.Call.{Begins_peer}
 use Rattle.enip_client.specs.Client.{ClientState}
-use Rattle.enip_client.specs.Hears.{News}
+use Rattle.enip_client.specs.Hears.{HeardEvent}
 use Rattle.enip_bench.specs.CountingOpening.{Setup, ARefusal, Ends, begins}
 use Rattle.enip_bench.specs.CountingWorld.{CountingWorld, reply_heard, counting_step}
 use Rattle.enip_bench.specs.Events.{Event, Submit, Resend, Reach, Back, Other, Shut, GiveUp}
 use Rattle.enip_bench.specs.Reached.{IsReached}
 use Rattle.enip_bench.specs.Seen.{Seen}
-use Rattle.enip_bench.specs.Telling.{Telling, Sends, Refuses, Resends, Reaches, Accepts, Ignores, Impossible, Done, telling}
+use Rattle.enip_bench.specs.EventResults.{EventResult, Sends, Refuses, Resends, Reaches, Accepts, Ignores, Impossible, Done, event_result}
 use Rattle.enip_bench.specs.declared.bench.BenchFault.{BenchFault}
 use Rattle.enip_bench.specs.declared.bench.BenchFault.TheVariants as faults
-use Rattle.enip_bench.specs.declared.bench.Between.{Between}
+use Rattle.enip_bench.specs.declared.bench.InFlight.{InFlight}
 use Rattle.enip_bench.specs.declared.bench.Seen.{Seen as SeenInCode}
 use Rattle.enip_bench.specs.declared.event.Event.{Event as EventInCode}
 use Rattle.enip_bench.specs.declared.event.Event.TheVariants as events
-use Rattle.enip_bench.specs.declared.event.Told.{Told}
-use Rattle.enip_bench.specs.declared.event.Told.TheVariants as tolds
+use Rattle.enip_bench.specs.declared.event.StepKind.{StepKind}
+use Rattle.enip_bench.specs.declared.event.StepKind.TheVariants as step_kinds
 use Rattle.enip_bench.specs.declared.event.Step.{Step}
 use Rattle.enip_bench.specs.declared.event.Step.TheVariants as steps
 use Rattle.enip_bench.specs.declared.world.Accepted.{Accepted}
@@ -63,42 +63,42 @@ last_reply (accepted ∷ []) = accepted.1
 last_reply (accepted ∷ next ∷ later) = last_reply (next ∷ later)
 
 -- what is told, where an accepted reply has these bytes
-abbrev pub telling_with : List ℕ → Told → Telling
-telling_with reply (tolds.Sent number position) = Sends number position
-telling_with reply (tolds.Refused why) = Refuses why
-telling_with reply (tolds.Resent position) = Resends position
-telling_with reply (tolds.Reached position) = Reaches position
-telling_with reply tolds.Accepted = Accepts reply
-telling_with reply tolds.Ignored = Ignores
-telling_with reply tolds.Impossible = Impossible
-telling_with reply tolds.Done = Done
+abbrev pub event_result_with : List ℕ → StepKind → EventResult
+event_result_with reply (step_kinds.Sent number position) = Sends number position
+event_result_with reply (step_kinds.Refused why) = Refuses why
+event_result_with reply (step_kinds.Resent position) = Resends position
+event_result_with reply (step_kinds.Reached position) = Reaches position
+event_result_with reply step_kinds.Accepted = Accepts reply
+event_result_with reply step_kinds.Ignored = Ignores
+event_result_with reply step_kinds.Impossible = Impossible
+event_result_with reply step_kinds.Done = Done
 
-abbrev pub telling_in : Step → Telling
-telling_in (steps.Sent number position) = Sends number position
-telling_in (steps.Refused why) = Refuses why
-telling_in (steps.Resent position) = Resends position
-telling_in (steps.Reached position) = Reaches position
-telling_in (steps.Accepted reply) = Accepts reply.now
-telling_in steps.Ignored = Ignores
-telling_in steps.Impossible = Impossible
-telling_in steps.Done = Done
+abbrev pub event_result_in : Step → EventResult
+event_result_in (steps.Sent number position) = Sends number position
+event_result_in (steps.Refused why) = Refuses why
+event_result_in (steps.Resent position) = Resends position
+event_result_in (steps.Reached position) = Reaches position
+event_result_in (steps.Accepted reply) = Accepts reply.now
+event_result_in steps.Ignored = Ignores
+event_result_in steps.Impossible = Impossible
+event_result_in steps.Done = Done
 
 -- a reply that is heard as accepted fits this much room
-abbrev pub IsRoomFor : ℕ → News → Type 0
-IsRoomFor room news = (bytes : List ℕ) → reply_heard news ≡ Some bytes → length bytes ≤ room
+abbrev pub IsCapacityFor : ℕ → HeardEvent → Type 0
+IsCapacityFor room heard_event = (bytes : List ℕ) → reply_heard heard_event ≡ Some bytes → length bytes ≤ room
 
 -- the bytes, if there are any
 abbrev pub reply_put : Bool → List ℕ → Option (List ℕ)
 reply_put is bytes = if is then Some bytes else None
 
 -- the event was done, and this is told of it
-pub record IsTold (old : CountingWorld) (event : Event) (new : CountingWorld) (told : Told) : Type 0 where
+pub record IsStepDone (old : CountingWorld) (event : Event) (new : CountingWorld) (step_kind : StepKind) : Type 0 where
   pub world : new ≡ counting_step old event
-  pub telling_is : telling_with (last_reply new.accepted) told ≡ telling old event
+  pub result_is : event_result_with (last_reply new.accepted) step_kind ≡ event_result old event
 
 -- the event was done, or for want of memory nothing was
-abbrev pub IsStepped : {E : Type 0} → CountingWorld → Event → CountingWorld → Result Told E → Type 0
-IsStepped old event new (Ok told) = IsTold old event new told
+abbrev pub IsStepped : {E : Type 0} → CountingWorld → Event → CountingWorld → Result StepKind E → Type 0
+IsStepped old event new (Ok step_kind) = IsStepDone old event new step_kind
 IsStepped old event new (Err error) = new ≡ old
 
 -- a peer began, or could not
@@ -132,7 +132,7 @@ HasOpened opened adapter client (Ok peers) = opened ≡ Ok (world_opened adapter
 HasOpened opened adapter client (Err fault) = (fault ≡ faults.Setup) × (opened ≡ Err ARefusal)
 
 -- the world of these ends and of what lies between them, before any event
-abbrev pub world_between : AdapterState → ClientState → Between → CountingWorld
+abbrev pub world_between : AdapterState → ClientState → InFlight → CountingWorld
 world_between adapter client between = record (world_opened adapter client (between.peer, between.second)) {
   sent = between.sent.frames;
   back = between.back.frames;
@@ -140,7 +140,7 @@ world_between adapter client between = record (world_opened adapter client (betw
 }
 
 -- the same, where memory may be refused first
-abbrev pub IsOpenBetween : Result CountingWorld Setup → AdapterState → ClientState → Result Between BenchFault → Type 0
+abbrev pub IsOpenBetween : Result CountingWorld Setup → AdapterState → ClientState → Result InFlight BenchFault → Type 0
 IsOpenBetween opened adapter client (Ok between) = opened ≡ Ok (world_between adapter client between)
 IsOpenBetween opened adapter client (Err faults.Setup) = opened ≡ Err ARefusal
 IsOpenBetween opened adapter client (Err faults.Memory) = ⊤
@@ -158,7 +158,7 @@ pub record IsOfOpening (world : World) : Type 0 where
 
 -- the world after an event; for want of memory the event is not done
 abbrev pub after_step : {A E : Type 0} → CountingWorld → Event → Result A E → CountingWorld
-after_step old event (Ok told) = counting_step old event
+after_step old event (Ok step_kind) = counting_step old event
 after_step old event (Err error) = old
 
 -- the events that were done: those before the first that was not, for want of memory

@@ -54,7 +54,7 @@ pub struct Seen<'a> {
 }
 
 /// How many frames each direction has places for from the start.
-const FIRST_ROOM: usize = 16;
+const FIRST_CAPACITY: usize = 16;
 
 /// An adapter and a client with an open connection, and a second session at the adapter.
 pub struct Bench {
@@ -91,8 +91,8 @@ impl Bench {
     ghost use Rattle.enip_bench.specs.CountingWorld.{counting_run};
     ghost use Rattle.enip_bench.specs.FrameLaw.{headline, ShowsNumbers};
     ghost use Rattle.enip_bench.specs.Stored.{event_in, events_in, events_done, IsOpening, NamesAnEvent, after_step, seen_in};
-    ghost use Rattle.enip_bench.specs.Stored.{telling_in};
-    ghost use Rattle.enip_bench.specs.Telling.{telling};
+    ghost use Rattle.enip_bench.specs.Stored.{event_result_in};
+    ghost use Rattle.enip_bench.specs.EventResults.{event_result};
     ghost use Rattle.enip_bench.specs.contracts.bench.Bench.{the_row};
 
     /// A bench of a new adapter and a new client. The client registers and opens its connection without loss at moment
@@ -108,13 +108,13 @@ impl Bench {
     {
         let mut adapter = adapter;
         let mut client = client;
-        let Between {
+        let InFlight {
             peer,
             second,
             sent,
             back,
             accepted,
-        } = Between::open(alloc, &mut adapter, &mut client)?;
+        } = InFlight::open(alloc, &mut adapter, &mut client)?;
         Ok(Bench {
             world: World {
                 alloc,
@@ -140,10 +140,10 @@ impl Bench {
     pub fn step(&mut self, event: &Event) -> Result<Step<'_>, AllocError>
         ensures* moved { sem 𝓛 (Rests the_row self.entry (λ new. new
             ≡ after_step self.old (event_in event.now) result)) }
-        ensures told { IfOk result (λ step. telling_in step ≡ telling self.old (event_in event.now)) }
+        ensures step_kind { IfOk result (λ step. event_result_in step ≡ event_result self.old (event_in event.now)) }
     {
-        let told = self.world.step(event)?;
-        Ok(told.step(last_reply(&self.world.accepted)))
+        let step_kind = self.world.step(event)?;
+        Ok(step_kind.step(last_reply(&self.world.accepted)))
     }
 
     /// Does these events, in order.
@@ -181,7 +181,7 @@ impl Bench {
 
 /// What lies between both ends once they are open.
 #[derive(Drop)]
-struct Between {
+struct InFlight {
     peer: Peer,
     second: Peer,
     sent: Frames,
@@ -189,20 +189,20 @@ struct Between {
     accepted: Vec<Accepted>,
 }
 
-impl Between {
+impl InFlight {
     /// Opens both ends, once there is room for what lies between them.
     fn open(
         alloc: Global,
         adapter: &mut Adapter,
         client: &mut Client,
-    ) -> Result<Between, BenchFault>
+    ) -> Result<InFlight, BenchFault>
         ensures { IsOpenBetween (opening_between adapter.old client.old) adapter.new client.new result }
     {
-        let sent = Frames::with_places(alloc, FIRST_ROOM)?;
-        let back = Frames::with_places(alloc, FIRST_ROOM)?;
-        let accepted = Vec::with_capacity(alloc, FIRST_ROOM)?;
+        let sent = Frames::with_capacity_for(alloc, FIRST_CAPACITY)?;
+        let back = Frames::with_capacity_for(alloc, FIRST_CAPACITY)?;
+        let accepted = Vec::with_capacity(alloc, FIRST_CAPACITY)?;
         let (peer, second) = open_both(adapter, client)?;
-        Ok(Between {
+        Ok(InFlight {
             peer,
             second,
             sent,

@@ -1,7 +1,7 @@
 //! What happens between the two ends, and what is told of it.
 
 ghost use Rattle.std.specs.Prelude.{◌≡◌};
-ghost use Rattle.enip_bench.specs.Stored.{telling_in, telling_with};
+ghost use Rattle.enip_bench.specs.Stored.{event_result_in, event_result_with};
 
 use cip_class3::Refused;
 
@@ -47,7 +47,7 @@ pub enum Step<'a> {
 
 /// What is told of an event, apart from the bytes of a reply.
 #[derive(Clone, Copy)]
-pub(crate) enum Told {
+pub(crate) enum StepKind {
     Sent(u64, usize),
     Refused(Refused),
     Resent(Option<usize>),
@@ -58,20 +58,20 @@ pub(crate) enum Told {
     Done,
 }
 
-impl Told {
+impl StepKind {
     /// What is told, where an accepted reply has these bytes.
     pub(crate) fn step(self, reply: &[u8]) -> Step<'_>
-        ensures { telling_in result ≡ telling_with reply.now self }
+        ensures { event_result_in result ≡ event_result_with reply.now self }
     {
         match self {
-            Told::Sent(number, position) => Step::Sent(number, position),
-            Told::Refused(why) => Step::Refused(why),
-            Told::Resent(position) => Step::Resent(position),
-            Told::Reached(position) => Step::Reached(position),
-            Told::Accepted => Step::Accepted(reply),
-            Told::Ignored => Step::Ignored,
-            Told::Impossible => Step::Impossible,
-            Told::Done => Step::Done,
+            StepKind::Sent(number, position) => Step::Sent(number, position),
+            StepKind::Refused(why) => Step::Refused(why),
+            StepKind::Resent(position) => Step::Resent(position),
+            StepKind::Reached(position) => Step::Reached(position),
+            StepKind::Accepted => Step::Accepted(reply),
+            StepKind::Ignored => Step::Ignored,
+            StepKind::Impossible => Step::Impossible,
+            StepKind::Done => Step::Done,
         }
     }
 }

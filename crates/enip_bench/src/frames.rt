@@ -50,7 +50,7 @@ impl Frames {
     /// # Errors
     ///
     /// `AllocError` where memory is refused.
-    pub(crate) fn with_places(alloc: Global, places: usize) -> Result<Frames, AllocError>
+    pub(crate) fn with_capacity_for(alloc: Global, places: usize) -> Result<Frames, AllocError>
         ensures { IfOk result (λ made. made.frames ≡ []) }
     {
         Ok(Frames {
@@ -64,7 +64,7 @@ impl Frames {
     /// # Errors
     ///
     /// `AllocError` where memory is refused.
-    pub(crate) fn make_room(&mut self, size: usize) -> Result<(), AllocError>
+    pub(crate) fn reserve_frame(&mut self, size: usize) -> Result<(), AllocError>
         ensures kept { self.new.frames ≡ self.old.frames }
         ensures place { OnOk result (0 < self.new.places) }
         ensures room { OnOk result (size ≤ self.new.spare) }

@@ -4,7 +4,7 @@
 //! request waits, and nothing was sent. They are any list of submits, resends, deliveries in order with any losses
 //! and repeats, other sessions' requests, closings and givings up, so any number of wraps of the count.
 
-ghost use Rattle.cip_objects.specs.Router.{RepliesInForm};
+ghost use Rattle.cip_objects.specs.Router.{RepliesWellFormed};
 ghost use Rattle.enip_bench.specs.Bound.{bound_law, refusals_law, raised_law};
 ghost use Rattle.enip_bench.specs.FrameBound.{raised_in_frames};
 ghost use Rattle.enip_bench.specs.FrameLaw.{frame_law};
@@ -21,7 +21,7 @@ use cip_objects::Router;
 /// Both ends by their rules show what the numbered world shows: the router's state, every item sent back, each
 /// accepted reply with its request's number, and where the originator stands.
 pub fn worlds_agree<R: Router>()
-    ensures { RepliesInForm R.answer → agreement_law R.after R.answer }
+    ensures { RepliesWellFormed R.answer → agreement_law R.after R.answer }
 {}
 
 /// In the numbered world no request is executed twice, and requests are executed in the order of their numbers.
@@ -38,14 +38,14 @@ pub fn executed_on_arrival()
 /// A reply that the originator accepts is that of the only execution of its request, and at most one is accepted
 /// for each request.
 pub fn accepted_once<R: Router>()
-    ensures reply { RepliesInForm R.answer → accepted_law R.after R.answer }
-    ensures order { RepliesInForm R.answer → accepted_order_law R.after R.answer }
+    ensures reply { RepliesWellFormed R.answer → accepted_law R.after R.answer }
+    ensures order { RepliesWellFormed R.answer → accepted_order_law R.after R.answer }
 {}
 
 /// Whatever answers a request has its count and the reply of its only execution, so the same bytes each time.
 pub fn answered_alike<R: Router>()
-    ensures reply { RepliesInForm R.answer → answer_law R.after R.answer }
-    ensures same_bytes { RepliesInForm R.answer → same_bytes_law R.after R.answer }
+    ensures reply { RepliesWellFormed R.answer → answer_law R.after R.answer }
+    ensures same_bytes { RepliesWellFormed R.answer → same_bytes_law R.after R.answer }
 {}
 
 /// Since the last accepted reply fewer requests were submitted than there are counts.
@@ -58,14 +58,14 @@ pub fn fewer_than_counts()
 /// every list of events.
 pub fn refused_at_the_bound<R: Router>()
     ensures bound { bound_law }
-    ensures refusals { RepliesInForm R.answer → refusals_law R.after R.answer }
+    ensures refusals { RepliesWellFormed R.answer → refusals_law R.after R.answer }
 {}
 
 /// The bound can't be raised. A request is executed and its reply accepted, and 65,535 more are submitted, given up and
 /// lost. Were one more taken, it would have the count of the first one: an open target would not execute it, would send
 /// the first one's reply again, and the originator would accept that as the reply to the last one.
 pub fn bound_cannot_be_raised<R: Router>()
-    ensures { RepliesInForm R.answer → raised_law R.after R.answer }
+    ensures { RepliesWellFormed R.answer → raised_law R.after R.answer }
 {}
 
 /// At the objects, a log of the numbered world is a run of requests: the map after it, and each reply at its place.

@@ -2,12 +2,12 @@
 
 ghost use Rattle.std.specs.Prelude.{◌≡◌, ℕ, Bool, Option, MatchResult};
 ghost use Rattle.std.specs.Option.{option_map};
-ghost use Rattle.enip_bench.specs.CountingOpening.{opening_between, exchange, is_registered_news, is_opened_news, begins};
+ghost use Rattle.enip_bench.specs.CountingOpening.{opening_between, exchange, is_registered_event, is_opened_event, begins};
 ghost use Rattle.enip_bench.specs.Stored.{HasExchanged, HasBegun, HasOpened};
 ghost use Rattle.enip_client.specs.Calls.{registers, opens};
 
 use crate::bench::BenchFault;
-use crate::world::feed_silently;
+use crate::world::feed_unanswered;
 use enip_adapter::{Adapter, Peer};
 use enip_client::{Client, Heard, Sent, write_register};
 
@@ -28,7 +28,7 @@ pub(crate) fn open_both(
     let second = begin(adapter)?;
     let mut frame = Sent::new();
     write_register(0, &mut frame);
-    feed_silently(adapter, &second, &frame);
+    feed_unanswered(adapter, &second, &frame);
     Ok((peer, second))
 }
 
@@ -49,7 +49,7 @@ fn begin(adapter: &mut Adapter) -> Result<Peer, BenchFault>
 ///
 /// `Setup` where it is refused.
 fn register(adapter: &mut Adapter, client: &mut Client, peer: &Peer) -> Result<(), BenchFault>
-    ensures { HasExchanged (exchange (record { adapter = adapter.old; client = client.old }) peer.now is_registered_news
+    ensures { HasExchanged (exchange (record { adapter = adapter.old; client = client.old }) peer.now is_registered_event
         (registers client.old.state)) adapter.new client.new result }
 {
     let Ok(frame) = client.register() else {
@@ -70,7 +70,7 @@ fn register(adapter: &mut Adapter, client: &mut Client, peer: &Peer) -> Result<(
 ///
 /// `Setup` where it is refused.
 fn open(adapter: &mut Adapter, client: &mut Client, peer: &Peer) -> Result<(), BenchFault>
-    ensures { HasExchanged (exchange (record { adapter = adapter.old; client = client.old }) peer.now is_opened_news
+    ensures { HasExchanged (exchange (record { adapter = adapter.old; client = client.old }) peer.now is_opened_event
         (opens client.old.state)) adapter.new client.new result }
 {
     let Ok(frame) = client.open() else {

@@ -9,16 +9,16 @@ ghost use Rattle.std.specs.Option.{option_map};
 ghost use Rattle.enip_bench.specs.CountingWorld.{reply_heard};
 ghost use Rattle.enip_bench.specs.Events.{Submit, Resend, Reach, Back, Other, Shut, GiveUp, delivery, is_unconnected_request};
 ghost use Rattle.enip_bench.specs.Reached.{IsReached};
-ghost use Rattle.enip_bench.specs.Stored.{world_in, event_in, IsStepped, IsTold};
-ghost use Rattle.enip_bench.specs.Stored.{IsRoomFor, reply_put};
+ghost use Rattle.enip_bench.specs.Stored.{world_in, event_in, IsStepped, IsStepDone};
+ghost use Rattle.enip_bench.specs.Stored.{IsCapacityFor, reply_put};
 ghost use Rattle.enip_adapter.specs.Calls.{after_call};
 ghost use Rattle.enip_adapter.specs.Calls.Call.{Feeds};
 ghost use Rattle.enip_client.specs.Client.{fed};
 
-use crate::event::{Event, Told};
+use crate::event::{Event, StepKind};
 use crate::frames::Frames;
 use bytes::BytesMut;
-use cip_bytes::protocol::{SMALLEST_REQUEST, UNCONNECTED_ROOM};
+use cip_bytes::protocol::{SMALLEST_REQUEST, UNCONNECTED_LIMIT};
 use enip_adapter::{Adapter, LONGEST_ANSWER, Peer};
 use enip_client::{Client, Heard, LONGEST_SENT, Sent, SubmitFault, write_request};
 use std::alloc::{AllocError, Global};
@@ -54,7 +54,7 @@ pub(crate) struct World {
 
 impl World {
     /// Does an event, or nothing for want of memory.
-    pub(crate) fn step(&mut self, event: &Event) -> Result<Told, AllocError>
+    pub(crate) fn step(&mut self, event: &Event) -> Result<StepKind, AllocError>
         requires reached { IsReached (world_in self.old) }
         requires counted { self.old.submits ≤ length self.old.sent.frames }
         ensures stepped { IsStepped (world_in self.old) (event_in event.now) (world_in self.new) result }
@@ -64,7 +64,7 @@ impl World {
             Event::Submit(request) => self.submit(request),
             Event::Resend => self.resend(),
             Event::Reach(position) => self.reach(*position),
-            Event::Back(position) => self.hear(*position),
+            Event::Back(position) => self.deliver_back(*position),
             Event::Other(request) => Ok(self.execute_other(request)),
             Event::Shut => Ok(self.shut()),
             Event::GiveUp => Ok(self.give_up()),
@@ -72,123 +72,123 @@ impl World {
     }
 
     /// The client is given a request, and its frame is sent.
-    fn submit(&mut self, request: &[u8]) -> Result<Told, AllocError>
+    fn submit(&mut self, request: &[u8]) -> Result<StepKind, AllocError>
         requires reached { IsReached (world_in self.old) }
         requires counted { self.old.submits ≤ length self.old.sent.frames }
         ensures stepped { IsStepped (world_in self.old) (Submit request.now) (world_in self.new) result }
         ensures counted { self.new.submits ≤ length self.new.sent.frames }
     {
-        self.sent.make_room(LONGEST_SENT)?;
+        self.sent.reserve_frame(LONGEST_SENT)?;
         let frame = match self.client.submit(request) {
             Ok(frame) => frame,
-            Err(SubmitFault::Refused(why)) => return Ok(Told::Refused(why)),
+            Err(SubmitFault::Refused(why)) => return Ok(StepKind::Refused(why)),
             // an open connection has no fault
             Err(SubmitFault::Client(_)) => unreachable!(),
         };
-        let told = Told::Sent(self.submits, self.sent.len());
+        let step_kind = StepKind::Sent(self.submits, self.sent.len());
         self.sent.push(frame);
         self.submits += 1;
-        Ok(told)
+        Ok(step_kind)
     }
 
     /// The client sends the request that waits once more.
-    fn resend(&mut self) -> Result<Told, AllocError>
+    fn resend(&mut self) -> Result<StepKind, AllocError>
         ensures stepped { IsStepped (world_in self.old) Resend (world_in self.new) result }
         ensures counted { self.new.submits ≡ self.old.submits }
         ensures sent { length self.old.sent.frames ≤ length self.new.sent.frames }
     {
-        self.sent.make_room(LONGEST_SENT)?;
+        self.sent.reserve_frame(LONGEST_SENT)?;
         let Some(frame) = self.client.resend() else {
-            return Ok(Told::Resent(None));
+            return Ok(StepKind::Resent(None));
         };
         let position = self.sent.len();
         self.sent.push(frame);
-        Ok(Told::Resent(Some(position)))
+        Ok(StepKind::Resent(Some(position)))
     }
 
     /// A frame that was sent reaches the adapter, at moment 0, and what answers it is sent back.
-    fn reach(&mut self, position: usize) -> Result<Told, AllocError>
+    fn reach(&mut self, position: usize) -> Result<StepKind, AllocError>
         ensures stepped { IsStepped (world_in self.old) (Reach position) (world_in self.new) result }
         ensures submits { self.new.submits ≡ self.old.submits }
         ensures sent { self.new.sent ≡ self.old.sent }
     {
         let Some(frame) = delivered(self.last_reached, &self.sent, position) else {
-            return Ok(Told::Impossible);
+            return Ok(StepKind::Impossible);
         };
-        self.back.make_room(LONGEST_ANSWER)?;
+        self.back.reserve_frame(LONGEST_ANSWER)?;
         self.last_reached = Some(position);
         let Some(answer) = self.adapter.feed(0, &self.peer, frame).answer else {
-            return Ok(Told::Reached(None));
+            return Ok(StepKind::Reached(None));
         };
         let position = self.back.len();
         self.back.push(answer);
-        Ok(Told::Reached(Some(position)))
+        Ok(StepKind::Reached(Some(position)))
     }
 
     /// A frame that was sent back reaches the client.
-    fn hear(&mut self, position: usize) -> Result<Told, AllocError>
+    fn deliver_back(&mut self, position: usize) -> Result<StepKind, AllocError>
         requires { IsReached (world_in self.old) }
         ensures stepped { IsStepped (world_in self.old) (Back position) (world_in self.new) result }
         ensures submits { self.new.submits ≡ self.old.submits }
         ensures sent { self.new.sent ≡ self.old.sent }
     {
         let Some(frame) = delivered(self.last_back, &self.back, position) else {
-            return Ok(Told::Impossible);
+            return Ok(StepKind::Impossible);
         };
         self.accepted.reserve(1)?;
         let mut reply = BytesMut::with_capacity(self.alloc, frame.len())?;
         self.last_back = Some(position);
-        if !hear_frame(&mut self.client, frame, &mut reply) {
-            return Ok(Told::Ignored);
+        if !feed_client(&mut self.client, frame, &mut reply) {
+            return Ok(StepKind::Ignored);
         }
         // the reply to the last submit; none is accepted before the first
         let number = self.submits.saturating_sub(1);
         self.accepted.push_reserved(Accepted { number, reply });
-        Ok(Told::Accepted)
+        Ok(StepKind::Accepted)
     }
 
     /// The second session has a request executed, unconnected, at moment 0. Its answer is dropped.
-    fn execute_other(&mut self, request: &[u8]) -> Told
-        ensures told { IsTold (world_in self.old) (Other request.now) (world_in self.new) result }
+    fn execute_other(&mut self, request: &[u8]) -> StepKind
+        ensures step_kind { IsStepDone (world_in self.old) (Other request.now) (world_in self.new) result }
         ensures submits { self.new.submits ≡ self.old.submits }
         ensures sent { self.new.sent ≡ self.old.sent }
     {
         if !is_unconnected(request) {
-            return Told::Impossible;
+            return StepKind::Impossible;
         }
         let mut frame = Sent::new();
         write_request(self.second.handle(), 0, request, &mut frame);
-        feed_silently(&mut self.adapter, &self.second, &frame);
-        Told::Done
+        feed_unanswered(&mut self.adapter, &self.second, &frame);
+        StepKind::Done
     }
 
     /// Every connection ends by its time.
-    fn shut(&mut self) -> Told
-        ensures told { IsTold (world_in self.old) Shut (world_in self.new) result }
+    fn shut(&mut self) -> StepKind
+        ensures step_kind { IsStepDone (world_in self.old) Shut (world_in self.new) result }
         ensures submits { self.new.submits ≡ self.old.submits }
         ensures sent { self.new.sent ≡ self.old.sent }
     {
         self.adapter.tick(u64::MAX);
-        Told::Done
+        StepKind::Done
     }
 
     /// The client gives the request that waits up.
-    fn give_up(&mut self) -> Told
-        ensures told { IsTold (world_in self.old) GiveUp (world_in self.new) result }
+    fn give_up(&mut self) -> StepKind
+        ensures step_kind { IsStepDone (world_in self.old) GiveUp (world_in self.new) result }
         ensures submits { self.new.submits ≡ self.old.submits }
         ensures sent { self.new.sent ≡ self.old.sent }
     {
         self.client.give_up();
-        Told::Done
+        StepKind::Done
     }
 }
 
 /// The client hears a frame. A reply that it accepts is put into `reply`. False where none is.
-fn hear_frame(client: &mut Client, frame: &[u8], reply: &mut BytesMut) -> bool
+fn feed_client(client: &mut Client, frame: &[u8], reply: &mut BytesMut) -> bool
     requires empty { reply.old.items ≡ [] }
-    requires room { IsRoomFor reply.old.spare (fed client.old frame.now).news }
+    requires room { IsCapacityFor reply.old.spare (fed client.old frame.now).heard_event }
     ensures client { client.new ≡ (fed client.old frame.now).client }
-    ensures reply { reply_heard (fed client.old frame.now).news ≡ reply_put result reply.new.items }
+    ensures reply { reply_heard (fed client.old frame.now).heard_event ≡ reply_put result reply.new.items }
 {
     let Heard::Accepted(bytes) = client.feed(frame).heard else {
         return false;
@@ -198,7 +198,7 @@ fn hear_frame(client: &mut Client, frame: &[u8], reply: &mut BytesMut) -> bool
 }
 
 /// A peer sends a whole frame at moment 0. What answers it is dropped.
-pub(crate) fn feed_silently(adapter: &mut Adapter, peer: &Peer, frame: &[u8])
+pub(crate) fn feed_unanswered(adapter: &mut Adapter, peer: &Peer, frame: &[u8])
     ensures { adapter.new ≡ after_call adapter.old (Feeds 0 peer.now frame.now) }
 {
     adapter.feed(0, peer, frame);
@@ -218,5 +218,5 @@ fn delivered(last: Option<usize>, frames: &Frames, position: usize) -> Option<&[
 fn is_unconnected(request: &[u8]) -> bool
     ensures { result ≡ is_unconnected_request request.now }
 {
-    (SMALLEST_REQUEST..=UNCONNECTED_ROOM).contains(&request.len())
+    (SMALLEST_REQUEST..=UNCONNECTED_LIMIT).contains(&request.len())
 }

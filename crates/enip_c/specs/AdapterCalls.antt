@@ -5,39 +5,39 @@ use Rattle.cip_manager.specs.Connection.{earliest_deadline}
 use Rattle.cip_objects.specs.Contents.{value_at}
 use Rattle.enip_adapter.specs.declared.adapter.Full.{Full}
 use Rattle.enip_adapter.specs.declared.adapter.Full.TheVariants.{Places, Handles}
-use Rattle.enip_adapter.specs.declared.silence.Silence.{Silence}
-use Rattle.enip_adapter.specs.declared.silence.Silence.TheVariants as silence
+use Rattle.enip_adapter.specs.declared.no_reply_reason.NoReplyReason.{NoReplyReason}
+use Rattle.enip_adapter.specs.declared.no_reply_reason.NoReplyReason.TheVariants as no_reply_reason
 use Rattle.enip_adapter.specs.Calls.{AdapterState, Call, call_meaning, call_answer, after_call}
 use Rattle.enip_adapter.specs.Calls.Call.{Begins_peer, Feeds}
-use Rattle.enip_adapter.specs.Turn.{Said, Answer}
-use Rattle.enip_adapter.specs.Turn.Said.{Silent, Sends, Begins, Refuses}
-use Rattle.enip_config.specs.declared.fault.Refusal.{Refusal}
+use Rattle.enip_adapter.specs.Turn.{Output, Answer}
+use Rattle.enip_adapter.specs.Turn.Output.{NoReply, Sends, Begins, Refuses}
+use Rattle.enip_config.specs.declared.fault.ConfigurationRefusal.{ConfigurationRefusal}
 use Rattle.enip_config.specs.Configured.{IsAdapterOf}
 use Rattle.enip_config.specs.Refusals.{refusal_number}
-use Rattle.enip_config.specs.Told.{IsRefused}
+use Rattle.enip_config.specs.Documents.{IsRefused}
 use Rattle.enip_c.specs.declared.adapter.Fed.{Fed}
 use Rattle.enip_c.specs.declared.status.Status.{Status}
 use Rattle.enip_c.specs.declared.status.Status.TheVariants as status
 use Rattle.enip_c.specs.Room.{status_number, in_room}
 
 -- Why there is no answer, as C is told it; 0 where there is one.
-abbrev pub silence_number : Silence → ℕ
-silence_number silence.NoFrame = 1
-silence_number silence.Options = 2
-silence_number silence.Status = 3
-silence_number silence.Nop = 4
-silence_number silence.AnotherSession = 5
-silence_number (silence.NotAPacket fault) = 6
-silence_number silence.NotTaken = 7
-silence_number silence.Unregistered = 8
-silence_number silence.NotServed = 9
+abbrev pub no_reply_reason_number : NoReplyReason → ℕ
+no_reply_reason_number no_reply_reason.NoFrame = 1
+no_reply_reason_number no_reply_reason.Options = 2
+no_reply_reason_number no_reply_reason.Status = 3
+no_reply_reason_number no_reply_reason.Nop = 4
+no_reply_reason_number no_reply_reason.AnotherSession = 5
+no_reply_reason_number (no_reply_reason.NotAPacket fault) = 6
+no_reply_reason_number no_reply_reason.NotTaken = 7
+no_reply_reason_number no_reply_reason.Unregistered = 8
+no_reply_reason_number no_reply_reason.NotServed = 9
 
-abbrev pub silence_told : Said → ℕ
-silence_told (Silent why) = silence_number why
+abbrev pub silence_told : Output → ℕ
+silence_told (NoReply why) = no_reply_reason_number why
 silence_told other = 0
 
 -- The bytes of an answer; none where there is no answer.
-abbrev pub answer_bytes : Said → List ℕ
+abbrev pub answer_bytes : Output → List ℕ
 answer_bytes (Sends bytes) = bytes
 answer_bytes other = []
 
@@ -50,15 +50,15 @@ bool_number false = 0
 abbrev pub fed_told : AdapterState → Call → Fed
 fed_told a call = record {
   taken = (call_meaning a call).taken;
-  answer = length (answer_bytes (call_answer a call).said);
-  silence = silence_told (call_answer a call).said;
+  answer = length (answer_bytes (call_answer a call).output);
+  no_reply_reason = silence_told (call_answer a call).output;
   close = bool_number (call_answer a call).close;
 }
 
 -- A piece was fed to the adapter that stands there, its answer is in front of the room, and C was told of it.
 pub record IsFed (old new : AdapterState) (call : Call) (room_old room_new : List ℕ) (fed : Fed) : Type 0 where
   pub state : new ≡ after_call old call
-  pub answer : room_new ≡ in_room (answer_bytes (call_answer old call).said) room_old
+  pub answer : room_new ≡ in_room (answer_bytes (call_answer old call).output) room_old
   pub told : fed ≡ fed_told old call
 
 -- The same of what C keeps.
@@ -71,18 +71,18 @@ abbrev pub full_status : Full → Status
 full_status Places = status.Places
 full_status Handles = status.Handles
 
-abbrev pub IsBegun : Said → ℕ → ℕ → ℕ → Type 0
+abbrev pub IsBegun : Output → ℕ → ℕ → ℕ → Type 0
 IsBegun (Begins handle) old new result = (result ≡ status_number status.Done) × (new ≡ handle)
 IsBegun (Refuses full) old new result = (result ≡ status_number (full_status full)) × (new ≡ old)
 IsBegun other old new result = ⊥
 
 abbrev pub IsBegunKept : Option AdapterState → ℕ → ℕ → ℕ → Type 0
 IsBegunKept None old new result = ⊥
-IsBegunKept (Some a) old new result = IsBegun (call_answer a Begins_peer).said old new result
+IsBegunKept (Some a) old new result = IsBegun (call_answer a Begins_peer).output old new result
 
 -- A text is refused by the check of this number.
 abbrev pub IsRefusedBy : List ℕ → ℕ → Type 0
-IsRefusedBy text number = (refusal : Refusal) × ((number ≡ refusal_number refusal) × IsRefused text refusal)
+IsRefusedBy text number = (refusal : ConfigurationRefusal) × ((number ≡ refusal_number refusal) × IsRefused text refusal)
 
 -- How many places for peers and for connections are free.
 pub record AreFree (a : AdapterState) (peers connections : ℕ) : Type 0 where

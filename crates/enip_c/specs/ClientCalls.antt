@@ -6,8 +6,8 @@ use Rattle.cip_class3.specs.declared.originator.Refused.TheVariants as refusals
 use Rattle.enip_client.specs.Calls.{Lent, registers, opens, asks, submits, closes, unregisters, resends, gives_up}
 use Rattle.enip_client.specs.Calls.{bytes_lent, after_lending, after_giving_up}
 use Rattle.enip_client.specs.Client.{ClientState, Fed, fed, new_client, with_state}
-use Rattle.enip_client.specs.Hears.{News}
-use Rattle.enip_client.specs.Hears.News.{Nothing, Registered, Opened, Replied, Accepted, Closed, Refused as RefusedNews}
+use Rattle.enip_client.specs.Hears.{HeardEvent}
+use Rattle.enip_client.specs.Hears.HeardEvent.{Nothing, Registered, Opened, Replied, Accepted, Closed, Refused as RefusedNews}
 use Rattle.enip_client.specs.declared.fault.ClientFault.{ClientFault}
 use Rattle.enip_client.specs.declared.fault.ClientFault.TheVariants as faults
 use Rattle.enip_client.specs.declared.fault.SubmitFault.{SubmitFault}
@@ -54,12 +54,12 @@ resent_told None count room = told status.Absent count room
 -- A client after a call, and what C was told.
 pub record Outcome : Type 0 where
   pub client : ClientState
-  pub said : Told
+  pub output : Told
 
 abbrev pub lends : {E : Type 0} → (E → Status) → ClientState → Result Lent E → ℕ → List ℕ → Outcome
 lends of_fault c lent count room = record {
   client = with_state c (after_lending c.state lent);
-  said = lent_told of_fault (bytes_lent lent) count room;
+  output = lent_told of_fault (bytes_lent lent) count room;
 }
 
 -- Each call that lends a frame.
@@ -85,12 +85,12 @@ abbrev pub bytes_resent : ClientState → Option (List ℕ)
 bytes_resent c = elim (resends c.state) [ Some f ↦ Some (frame f) | None ↦ None ]
 
 abbrev pub resend_outcome : ClientState → ℕ → List ℕ → Outcome
-resend_outcome c count room = record { client = c; said = resent_told (bytes_resent c) count room }
+resend_outcome c count room = record { client = c; output = resent_told (bytes_resent c) count room }
 
 -- A call did what its outcome says, to the client and to C.
 pub record IsDone (outcome : Outcome) (new : ClientState) (result count : ℕ) (room : List ℕ) : Type 0 where
   pub client : new ≡ outcome.client
-  pub said : ◌≡◌ {A = Told} (record { status = result; count = count; room = room }) outcome.said
+  pub output : ◌≡◌ {A = Told} (record { status = result; count = count; room = room }) outcome.output
 
 -- The same of what C keeps.
 abbrev pub IsDoneKept : (ClientState → ℕ → List ℕ → Outcome) → Option ClientState → Option ClientState → ℕ → ℕ → ℕ
@@ -139,7 +139,7 @@ reply_told taken kind reply room = record {
   room = if nat_le (length reply) (length room) then in_room reply room else room;
 }
 
-abbrev pub news_told : ℕ → News → List ℕ → HeardTold
+abbrev pub news_told : ℕ → HeardEvent → List ℕ → HeardTold
 news_told taken Nothing room = plainly taken 0 0 0 room
 news_told taken Registered room = plainly taken 1 0 0 room
 news_told taken Opened room = plainly taken 2 0 0 room
@@ -152,7 +152,7 @@ news_told taken Closed room = plainly taken 6 0 0 room
 pub record IsHeardBy (old new : ClientState) (piece : List ℕ) (heard : Heard) (room_old room_new : List ℕ) : Type 0 where
   pub client : new ≡ (fed old piece).client
   pub told : ◌≡◌ {A = HeardTold} (record { heard = heard; room = room_new })
-      (news_told (fed old piece).taken (fed old piece).news room_old)
+      (news_told (fed old piece).taken (fed old piece).heard_event room_old)
 
 abbrev pub IsHeardKept : Option ClientState → Option ClientState → List ℕ → Heard → List ℕ → List ℕ → Type 0
 IsHeardKept (Some old) (Some new) piece heard room_old room_new = IsHeardBy old new piece heard room_old room_new

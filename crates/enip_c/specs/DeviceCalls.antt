@@ -5,11 +5,11 @@ use Rattle.cip_objects.specs.Contents.{Contents}
 use Rattle.cip_objects.specs.DeviceWrites.{device_write}
 use Rattle.enip_adapter.specs.Calls.{AdapterState}
 use Rattle.enip_adapter.specs.Device.{with_objects}
-use Rattle.enip_adapter.specs.Endings.{EndingsState, looked}
-use Rattle.enip_adapter.specs.declared.endings.Ended.{Ended}
-use Rattle.enip_adapter.specs.declared.endings.Why.{Why}
-use Rattle.enip_adapter.specs.declared.endings.Why.TheVariants.{TimedOut, PeerEnded, SessionEnded, Closed}
-use Rattle.enip_c.specs.declared.device.EndedConnection.{EndedConnection}
+use Rattle.enip_adapter.specs.Endings.{EndingsState, updated}
+use Rattle.enip_adapter.specs.declared.endings.EndedConnection.{EndedConnection}
+use Rattle.enip_adapter.specs.declared.endings.EndReason.{EndReason}
+use Rattle.enip_adapter.specs.declared.endings.EndReason.TheVariants.{TimedOut, PeerEnded, SessionEnded, Closed}
+use Rattle.enip_c.specs.declared.device.CEndedConnection.{CEndedConnection}
 use Rattle.enip_c.specs.declared.status.Status.{Status}
 use Rattle.enip_c.specs.declared.status.Status.TheVariants as status
 use Rattle.enip_c.specs.Room.{status_number}
@@ -36,26 +36,26 @@ changes_kept None instance = None
 changes_kept (Some a) instance = changes_of instance a.state.shared.objects.changes
 
 -- Why a connection ended, as C is told it.
-abbrev pub why_number : Why → ℕ
-why_number TimedOut = 1
-why_number PeerEnded = 2
-why_number SessionEnded = 3
-why_number Closed = 4
+abbrev pub end_reason_number : EndReason → ℕ
+end_reason_number TimedOut = 1
+end_reason_number PeerEnded = 2
+end_reason_number SessionEnded = 3
+end_reason_number Closed = 4
 
-abbrev pub ended_told : Ended → EndedConnection
-ended_told e = record { id = e.id; peer = e.session; why = why_number e.why }
+abbrev pub c_ended_connection : EndedConnection → CEndedConnection
+c_ended_connection e = record { id = e.id; peer = e.session; why = end_reason_number e.reason }
 
 -- The endings after a look at the adapter.
 abbrev pub looked_kept : Option EndingsState → Option AdapterState → Option EndingsState
-looked_kept (Some e) (Some a) = Some (looked e a)
+looked_kept (Some e) (Some a) = Some (updated e a)
 looked_kept e a = e
 
 -- The connection at a place of those that ended, counted from 0.
-abbrev pub ended_kept : Option EndingsState → ℕ → Option Ended
+abbrev pub ended_kept : Option EndingsState → ℕ → Option EndedConnection
 ended_kept None place = None
 ended_kept (Some e) place = slice_get e.ended place
 
 -- The status and the connection that C is told, where there is one.
-abbrev pub IsToldEnding : Option Ended → EndedConnection → EndedConnection → ℕ → Type 0
+abbrev pub IsToldEnding : Option EndedConnection → CEndedConnection → CEndedConnection → ℕ → Type 0
 IsToldEnding None old new result = (result ≡ status_number status.Absent) × (new ≡ old)
-IsToldEnding (Some e) old new result = (result ≡ status_number status.Done) × (new ≡ ended_told e)
+IsToldEnding (Some e) old new result = (result ≡ status_number status.Done) × (new ≡ c_ended_connection e)

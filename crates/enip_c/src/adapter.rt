@@ -4,8 +4,8 @@ ghost use Rattle.std.specs.Prelude.{◌≡◌, ◌≤◌, ◌<◌, length, None,
 ghost use Rattle.std.specs.Option.{option_map, IsSomeAnd};
 ghost use Rattle.enip_adapter.specs.Calls.{Call, after_call, call_answer};
 ghost use Rattle.enip_config.specs.Configured.{IsAdapterOf};
-ghost use Rattle.enip_config.specs.Told.{IsFaultOf};
-ghost use Rattle.enip_c.specs.AdapterCalls.{IsFed, IsFedKept, IsBegun, IsBegunKept, IsRefusedBy, silence_number, fed_told};
+ghost use Rattle.enip_config.specs.Documents.{IsFaultOf};
+ghost use Rattle.enip_c.specs.AdapterCalls.{IsFed, IsFedKept, IsBegun, IsBegunKept, IsRefusedBy, no_reply_reason_number, fed_told};
 ghost use Rattle.enip_c.specs.AdapterCalls.{bool_number, full_status, AreFreeKept, deadline_kept, attribute_kept};
 ghost use Rattle.enip_c.specs.Kept.{IsLive};
 ghost use Rattle.cip_objects.specs.Contents.{value_at};
@@ -14,8 +14,8 @@ ghost use Rattle.enip_c.specs.Room.{status_number, told_bytes, IsToldNumber};
 use crate::kept_adapter::KeptAdapter;
 use crate::room::{copy_front, tell_bytes};
 use crate::status::Status;
-use enip_adapter::{Adapter, Full, LONGEST_ANSWER, Peer, Silence};
-use enip_config::{Fault, adapter_from, explain};
+use enip_adapter::{Adapter, Full, LONGEST_ANSWER, NoReplyReason, Peer};
+use enip_config::{LoadFault, adapter_from, explain};
 use std::alloc::Global;
 
 /// What C is told of a piece that was fed.
@@ -27,7 +27,7 @@ pub struct Fed {
     /// How many bytes of the room are the answer, 0 where there is none.
     pub answer: usize,
     /// Why there is no answer, 0 where there is one.
-    pub silence: u32,
+    pub no_reply_reason: u32,
     /// 1 where the peer is closed or not held, else 0.
     pub close: u32,
 }
@@ -49,16 +49,16 @@ pub extern "C" fn enip_core_adapter_new(
             *kept = KeptAdapter::of(adapter);
             Status::Done.number()
         }
-        Err(Fault::Refused(why)) => {
+        Err(LoadFault::Refused(why)) => {
             *refusal = u32::from(why.number());
             Status::Configuration.number()
         }
-        Err(Fault::Memory) => Status::Memory.number(),
+        Err(LoadFault::Memory) => Status::Memory.number(),
     }
 }
 
 /// The adapter of a configuration, in a block of its own.
-fn boxed_adapter(alloc: Global, text: &[u8]) -> Result<Box<Adapter, Global>, Fault>
+fn boxed_adapter(alloc: Global, text: &[u8]) -> Result<Box<Adapter, Global>, LoadFault>
     ensures made { IfOk result (λ adapter. IsAdapterOf text.now adapter.value) }
     ensures refused { IfErr result (IsFaultOf text.now) }
 {
@@ -153,31 +153,31 @@ fn feed(adapter: &mut Adapter, now: u64, peer: u32, piece: &[u8], room: &mut [u8
         Some(bytes) => copy_front(bytes, room),
         None => 0,
     };
-    let silence = match fed.silent {
+    let no_reply_reason = match fed.no_reply_reason {
         Some(why) => number_of(why),
         None => 0,
     };
     Fed {
         taken: fed.taken,
         answer,
-        silence,
+        no_reply_reason,
         close: u32::from(fed.close),
     }
 }
 
-fn number_of(why: Silence) -> u32
-    ensures { result ≡ silence_number why }
+fn number_of(why: NoReplyReason) -> u32
+    ensures { result ≡ no_reply_reason_number why }
 {
     match why {
-        Silence::NoFrame => 1,
-        Silence::Options => 2,
-        Silence::Status => 3,
-        Silence::Nop => 4,
-        Silence::AnotherSession => 5,
-        Silence::NotAPacket(_) => 6,
-        Silence::NotTaken => 7,
-        Silence::Unregistered => 8,
-        Silence::NotServed => 9,
+        NoReplyReason::NoFrame => 1,
+        NoReplyReason::Options => 2,
+        NoReplyReason::Status => 3,
+        NoReplyReason::Nop => 4,
+        NoReplyReason::AnotherSession => 5,
+        NoReplyReason::NotAPacket(_) => 6,
+        NoReplyReason::NotTaken => 7,
+        NoReplyReason::Unregistered => 8,
+        NoReplyReason::NotServed => 9,
     }
 }
 

@@ -3,7 +3,7 @@
 ghost use Rattle.std.specs.Prelude.{◌≡◌, ◌≤◌, ◌<◌, length, Some, None, IfOk, IfErr, IfSome};
 ghost use Rattle.std.specs.Option.{option_map};
 ghost use Rattle.enip_client.specs.Calls.{bytes_in};
-ghost use Rattle.enip_client.specs.Client.{new_client, fed, news_in};
+ghost use Rattle.enip_client.specs.Client.{new_client, fed, heard_event_in};
 ghost use Rattle.enip_c.specs.ClientCalls.{fault_status, refused_status, submit_status, lent_told, resent_told, wants_of};
 ghost use Rattle.enip_c.specs.ClientCalls.{register_outcome, open_outcome, ask_outcome, submit_outcome, close_outcome};
 ghost use Rattle.enip_c.specs.ClientCalls.{unregister_outcome, resend_outcome, IsDone, IsDoneKept, IsTooSmall};
@@ -15,7 +15,7 @@ ghost use Rattle.enip_c.specs.Room.{status_number};
 use crate::kept_client::KeptClient;
 use crate::room::copy_front;
 use crate::status::Status;
-use cip_bytes::protocol::LARGEST_SIZE;
+use cip_bytes::protocol::LARGEST_CONNECTION_SIZE;
 use cip_class3::Refused;
 use enip_client::{Client, ClientFault, LONGEST_SENT, SubmitFault, Wants};
 use std::alloc::Global;
@@ -81,10 +81,14 @@ pub extern "C" fn enip_core_client_new(
     ensures made { result ≡ status_number Status.Done → kept.new.value ≡ Some (new_client (wants_of wants.now)) }
     ensures unchanged { (result ≡ status_number Status.Done → ⊥) → kept.new.value ≡ kept.old.value }
 {
-    if wants.o_to_t_size < SMALLEST_OUT || usize::from(wants.o_to_t_size) > LARGEST_SIZE {
+    if wants.o_to_t_size < SMALLEST_OUT
+        || usize::from(wants.o_to_t_size) > LARGEST_CONNECTION_SIZE
+    {
         return Status::Wants.number();
     }
-    if wants.t_to_o_size < SMALLEST_BACK || usize::from(wants.t_to_o_size) > LARGEST_SIZE {
+    if wants.t_to_o_size < SMALLEST_BACK
+        || usize::from(wants.t_to_o_size) > LARGEST_CONNECTION_SIZE
+    {
         return Status::Wants.number();
     }
     let Ok(client) = Client::new(alloc, &wants_of(wants)) else {
@@ -471,7 +475,7 @@ fn feed(client: &mut Client, piece: &[u8], room: &mut [u8]) -> Heard
 }
 
 fn tell_heard(taken: usize, heard: enip_client::Heard<'_>, room: &mut [u8]) -> Heard
-    ensures { record { heard = result; room = room.new } ≡ news_told taken (news_in heard.entry) room.old }
+    ensures { record { heard = result; room = room.new } ≡ news_told taken (heard_event_in heard.entry) room.old }
 {
     match heard {
         enip_client::Heard::Nothing => plainly(taken, 0, 0, 0),

@@ -4,8 +4,8 @@ ghost use Rattle.std.specs.Prelude.{◌≡◌, Some, None, slice_get};
 ghost use Rattle.std.specs.Option.{option_map};
 ghost use Rattle.cip_objects.specs.DeviceWrites.{with_device_status, with_device_state};
 ghost use Rattle.enip_adapter.specs.Device.{with_objects};
-ghost use Rattle.enip_adapter.specs.Endings.{nothing_seen, looked};
-ghost use Rattle.enip_c.specs.DeviceCalls.{IsWrittenKept, changes_kept, why_number, ended_told, looked_kept, ended_kept};
+ghost use Rattle.enip_adapter.specs.Endings.{no_endings, updated};
+ghost use Rattle.enip_c.specs.DeviceCalls.{IsWrittenKept, changes_kept, end_reason_number, c_ended_connection, looked_kept, ended_kept};
 ghost use Rattle.enip_c.specs.DeviceCalls.{IsToldEnding, write_status};
 ghost use Rattle.enip_c.specs.Kept.{IsLive};
 ghost use Rattle.enip_c.specs.Room.{status_number, IsToldNumber};
@@ -13,13 +13,13 @@ ghost use Rattle.enip_c.specs.Room.{status_number, IsToldNumber};
 use crate::kept_adapter::KeptAdapter;
 use crate::kept_endings::KeptEndings;
 use crate::status::Status;
-use enip_adapter::{Endings, Why};
+use enip_adapter::{EndReason, Endings};
 use std::alloc::Global;
 
 /// A connection that ended, as C is told it.
 #[repr(C)]
 #[derive(Clone, Copy, Debug)]
-pub struct EndedConnection {
+pub struct CEndedConnection {
     /// Its O->T connection ID.
     pub id: u32,
     /// The peer that opened it.
@@ -107,7 +107,7 @@ pub extern "C" fn enip_core_adapter_changes(
 /// Makes endings: nothing was looked at.
 #[unsafe(no_mangle)]
 pub extern "C" fn enip_core_endings_new(alloc: Global, kept: &mut KeptEndings) -> u32
-    ensures made { result ≡ status_number Status.Done → kept.new.value ≡ Some nothing_seen }
+    ensures made { result ≡ status_number Status.Done → kept.new.value ≡ Some no_endings }
     ensures unchanged { (result ≡ status_number Status.Done → ⊥) → kept.new.value ≡ kept.old.value }
 {
     let Ok(boxed) = Box::new(alloc, Endings::new()) else {
@@ -151,7 +151,7 @@ pub extern "C" fn enip_core_endings_at(
     alloc: Global,
     kept: &mut KeptEndings,
     place: usize,
-    ended: &mut EndedConnection,
+    ended: &mut CEndedConnection,
 ) -> u32
     requires { IsLive kept.old.value }
     ensures kept { kept.new.value ≡ kept.old.value }
@@ -163,27 +163,27 @@ pub extern "C" fn enip_core_endings_at(
     status
 }
 
-fn tell(endings: &Endings, place: usize, told: &mut EndedConnection) -> u32
+fn tell(endings: &Endings, place: usize, told: &mut CEndedConnection) -> u32
     ensures { IsToldEnding (slice_get endings.now.ended place) told.old told.new result }
 {
     let Some(ended) = endings.ended().get(place) else {
         return Status::Absent.number();
     };
-    *told = EndedConnection {
+    *told = CEndedConnection {
         id: ended.id,
         peer: ended.session,
-        why: number_of(ended.why),
+        why: number_of(ended.reason),
     };
     Status::Done.number()
 }
 
-fn number_of(why: Why) -> u32
-    ensures { result ≡ why_number why }
+fn number_of(why: EndReason) -> u32
+    ensures { result ≡ end_reason_number why }
 {
     match why {
-        Why::TimedOut => 1,
-        Why::PeerEnded => 2,
-        Why::SessionEnded => 3,
-        Why::Closed => 4,
+        EndReason::TimedOut => 1,
+        EndReason::PeerEnded => 2,
+        EndReason::SessionEnded => 3,
+        EndReason::Closed => 4,
     }
 }

@@ -5,9 +5,9 @@ ghost use Rattle.std.specs.Prelude.{◌≤◌, length};
 use crate::room::copy_front;
 use crate::status::Status;
 use arrayvec::ArrayString;
-use cip_bytes::protocol::GeneralStatus;
 use cip_bytes::StatusText;
-use enip_adapter::Silence;
+use cip_bytes::protocol::GeneralStatus;
+use enip_adapter::NoReplyReason;
 use std::fmt::{self, Write};
 
 /// The longest text, in bytes.
@@ -20,7 +20,7 @@ type Words = ArrayString<LONGEST_TEXT>;
 #[derive(Clone, Copy)]
 enum Kind {
     Call,
-    Silence,
+    NoReplyReason,
     General,
     Extended,
     Ending,
@@ -31,7 +31,7 @@ impl Kind {
     fn of(number: u32) -> Option<Kind> {
         Some(match number {
             0 => Kind::Call,
-            1 => Kind::Silence,
+            1 => Kind::NoReplyReason,
             2 => Kind::General,
             3 => Kind::Extended,
             4 => Kind::Ending,
@@ -82,7 +82,7 @@ pub extern "C" fn enip_core_status_text(kind: u32, number: u32, room: &mut [u8])
 fn write_text(kind: Kind, number: u32, words: &mut Words) -> fmt::Result {
     match kind {
         Kind::Call => write_status(number, words),
-        Kind::Silence => write_silence(number, words),
+        Kind::NoReplyReason => write_silence(number, words),
         Kind::General => write_general(number, words),
         Kind::Extended => write_extended(number, words),
         Kind::Ending => words.write_str(ending_text(number)),
@@ -98,16 +98,16 @@ fn write_status(number: u32, words: &mut Words) -> fmt::Result {
 
 fn write_silence(number: u32, words: &mut Words) -> fmt::Result {
     let why = match number {
-        1 => Silence::NoFrame,
-        2 => Silence::Options,
-        3 => Silence::Status,
-        4 => Silence::Nop,
-        5 => Silence::AnotherSession,
+        1 => NoReplyReason::NoFrame,
+        2 => NoReplyReason::Options,
+        3 => NoReplyReason::Status,
+        4 => NoReplyReason::Nop,
+        5 => NoReplyReason::AnotherSession,
         // which fault of a packet it is, is not told
         6 => return words.write_str("the data are no packet"),
-        7 => Silence::NotTaken,
-        8 => Silence::Unregistered,
-        9 => Silence::NotServed,
+        7 => NoReplyReason::NotTaken,
+        8 => NoReplyReason::Unregistered,
+        9 => NoReplyReason::NotServed,
         _ => return Ok(()),
     };
     write!(words, "{why}")

@@ -11,8 +11,8 @@ use Rattle.enip_client.specs.declared.fault.ClientFault.TheVariants as faults
 use Rattle.enip_client.specs.declared.state.Awaited.{Awaited}
 use Rattle.enip_client.specs.declared.state.Awaited.TheVariants as awaited
 use Rattle.enip_client.specs.declared.state.Awaiting.{Awaiting}
-use Rattle.enip_client.specs.declared.state.Link.{Link}
-use Rattle.enip_client.specs.declared.state.Link.TheVariants.{Closed}
+use Rattle.enip_client.specs.declared.state.ConnectionState.{ConnectionState}
+use Rattle.enip_client.specs.declared.state.ConnectionState.TheVariants.{Closed}
 use Rattle.enip_client.specs.declared.state.Registration.{Registration}
 use Rattle.enip_client.specs.declared.state.Registration.TheVariants.{Unregistered}
 use Rattle.enip_client.specs.declared.state.State.{State}
@@ -29,11 +29,11 @@ use Rattle.enip_client.specs.Runs.Action.{Register, Open, Unconnected, Submit, R
 -- from it.
 pub data IsAction (s : State) (what : Option Awaited) : Option Frame → State → Type 0 where
   Stays : IsAction s what None s
-  Asks : (w : Awaited) (f : Frame) (link : Link) → what ≡ Some w → s.awaiting ≡ None
+  Asks : (w : Awaited) (f : Frame) (connection_state : ConnectionState) → what ≡ Some w → s.awaiting ≡ None
       → f.header.context ≡ le 8 (next_number s)
-      → IsAction s what (Some f) (record (awaiting w s) { link = link })
-  Sends : (f : Option Frame) (registration : Registration) (link : Link) (originator : OriginatorState) → what ≡ None
-      → IsAction s what f (record s { registration = registration; link = link; originator = originator })
+      → IsAction s what (Some f) (record (awaiting w s) { connection_state = connection_state })
+  Sends : (f : Option Frame) (registration : Registration) (connection_state : ConnectionState) (originator : OriginatorState) → what ≡ None
+      → IsAction s what f (record s { registration = registration; connection_state = connection_state; originator = originator })
 
 -- A call that is not refused is possible.
 pub possible-not_refused : (s : State) (possible : Bool) → refusal s possible ≡ None → possible ≡ true
@@ -55,18 +55,18 @@ free-none None e = refl
 free-none (Some w) e = cc
 
 -- A request, by whether it is refused.
-asks-unless : (s : State) (what : Option Awaited) (o : Option ClientFault) (w : Awaited) (f : Frame) (link : Link)
+asks-unless : (s : State) (what : Option Awaited) (o : Option ClientFault) (w : Awaited) (f : Frame) (connection_state : ConnectionState)
     → what ≡ Some w → (o ≡ None → s.awaiting ≡ None) → f.header.context ≡ le 8 (next_number s)
-    → IsAction s what (lent_in (unless o (Ok (lending f (record (awaiting w s) { link = link })))))
-    (after_lending s (unless o (Ok (lending f (record (awaiting w s) { link = link })))))
-asks-unless s what None w f link is free numbered = Asks w f link is (free refl) numbered
-asks-unless s what (Some fault) w f link is free numbered = Stays
+    → IsAction s what (lent_in (unless o (Ok (lending f (record (awaiting w s) { connection_state = connection_state })))))
+    (after_lending s (unless o (Ok (lending f (record (awaiting w s) { connection_state = connection_state })))))
+asks-unless s what None w f connection_state is free numbered = Asks w f connection_state is (free refl) numbered
+asks-unless s what (Some fault) w f connection_state is free numbered = Stays
 
-sends-unless : (s : State) (o : Option ClientFault) (f : Frame) (registration : Registration) (link : Link)
-    → IsAction s None (lent_in (unless o (Ok (lending f (record s { registration = registration; link = link })))))
-    (after_lending s (unless o (Ok (lending f (record s { registration = registration; link = link })))))
-sends-unless s None f registration link = Sends (Some f) registration link s.originator refl
-sends-unless s (Some fault) f registration link = Stays
+sends-unless : (s : State) (o : Option ClientFault) (f : Frame) (registration : Registration) (connection_state : ConnectionState)
+    → IsAction s None (lent_in (unless o (Ok (lending f (record s { registration = registration; connection_state = connection_state })))))
+    (after_lending s (unless o (Ok (lending f (record s { registration = registration; connection_state = connection_state })))))
+sends-unless s None f registration connection_state = Sends (Some f) registration connection_state s.originator refl
+sends-unless s (Some fault) f registration connection_state = Stays
 
 is-free : (s : State) (more : Bool) → refusal s (more && is_free s) ≡ None → s.awaiting ≡ None
 is-free s more is =
@@ -84,11 +84,11 @@ is-free-first s before more is =
 
 pub is-action : (s : State) (a : Action) → IsAction s (awaited_by a) (frame_lent s a) (after_action s a)
 is-action s Register =
-    asks-unless s (Some awaited.Session) (refusal s (can_register s)) awaited.Session _ s.link refl
+    asks-unless s (Some awaited.Session) (refusal s (can_register s)) awaited.Session _ s.connection_state refl
     (is-free s (is_not_registered s.registration)) refl
 is-action s Open =
-    asks-unless s (Some awaited.Connection) (refusal s (can_open s)) awaited.Connection _ s.link refl
-    (is-free-first s (is_registered s.registration) (is_not_opened s.link)) refl
+    asks-unless s (Some awaited.Connection) (refusal s (can_open s)) awaited.Connection _ s.connection_state refl
+    (is-free-first s (is_registered s.registration) (is_not_opened s.connection_state)) refl
 is-action s (Unconnected request) = go (refusal s (can_ask s)) refl (is_unconnected request)
   where
     go : (o : Option ClientFault) → refusal s (can_ask s) ≡ o → (b : Bool)
@@ -97,28 +97,28 @@ is-action s (Unconnected request) = go (refusal s (can_ask s)) refl (is_unconnec
         (cond b (Ok (asking s (awaited.Reply (slice_index request 0)) request)) (Err faults.Request))))
         (after_lending s
         (unless o (cond b (Ok (asking s (awaited.Reply (slice_index request 0)) request)) (Err faults.Request))))
-    go None is true = Asks _ _ s.link refl (is-free s (is_registered s.registration) is) refl
+    go None is true = Asks _ _ s.connection_state refl (is-free s (is_registered s.registration) is) refl
     go None is false = Stays
     go (Some fault) is b = Stays
 is-action s (Submit request) = go (refusal s (can_submit s))
   where
     by : (o : Option Refused)
         → IsAction s None (lent_in (submitted s request o)) (after_lending s (submitted s request o))
-    by None = Sends _ s.registration s.link (with_next_request s.originator request) refl
+    by None = Sends _ s.registration s.connection_state (with_next_request s.originator request) refl
     by (Some why) = Stays
 
     go : (o : Option ClientFault)
         → IsAction s None (lent_in (submits_unless s request o)) (after_lending s (submits_unless s request o))
     go None = by (submit_refusal s.originator request)
     go (Some fault) = Stays
-is-action s Resend = Sends _ s.registration s.link s.originator refl
+is-action s Resend = Sends _ s.registration s.connection_state s.originator refl
 is-action s GiveUp = go (is_connected s)
   where
     go : (b : Bool) → IsAction s None None (cond b (record s { originator = after_give_up s.originator }) s)
-    go true = Sends None s.registration s.link (after_give_up s.originator) refl
+    go true = Sends None s.registration s.connection_state (after_give_up s.originator) refl
     go false = Stays
 is-action s Close =
     asks-unless s (Some awaited.End) (refusal s (can_close s)) awaited.End _ Closed refl
-    (is-free s (is_open s.link)) refl
+    (is-free s (is_open s.connection_state)) refl
 is-action s Unregister =
-    sends-unless s (refusal s (can_ask s)) (unregister_frame (session_in s.registration)) Unregistered (ended s.link)
+    sends-unless s (refusal s (can_ask s)) (unregister_frame (session_in s.registration)) Unregistered (ended s.connection_state)

@@ -6,8 +6,8 @@ use Rattle.std.specs.Io.KnownBytes.{Appends}
 use Rattle.enip_wire.specs.Frames.{Frame, frame}
 use Rattle.enip_wire.specs.Bodies.{unit_body_of}
 use Rattle.enip_wire.specs.declared.item_list.CpfFault.{CpfFault}
-use Rattle.enip_wire.specs.Stream.{Sight, sight_of, joined_of, cleared}
-use Rattle.enip_wire.specs.Stream.Sight.{Nothing_yet, A_frame, A_long_header}
+use Rattle.enip_wire.specs.Stream.{Parsed, parsed, held_and_taken, cleared}
+use Rattle.enip_wire.specs.Stream.Parsed.{Incomplete, WholeFrame, TooLongHeader}
 use Rattle.cip_class3.specs.OriginatorRule.{accepted_reply, after_item}
 use Rattle.enip_client.specs.declared.fault.AskFault.{AskFault}
 use Rattle.enip_client.specs.declared.fault.AskFault.TheVariants as ask_faults
@@ -28,34 +28,34 @@ use Rattle.enip_client.specs.Calls.{Lent, after_lending, opens, closes, unregist
 use Rattle.enip_client.specs.Client.{ClientState, fed, fed_unless, with_state}
 use Rattle.cip_message.specs.Reply.{Reply}
 use Rattle.cip_bytes.specs.Numbers.{number_at}
-use Rattle.enip_client.specs.declared.state.Link.TheVariants.{Open}
+use Rattle.enip_client.specs.declared.state.ConnectionState.TheVariants.{Open}
 use Rattle.enip_client.specs.declared.state.Registration.TheVariants as registrations
 use Rattle.enip_client.specs.Frames.{open_service}
 use Rattle.cip_bytes.specs.Protocol.{manager_service_number}
 use Rattle.cip_bytes.specs.declared.protocol.ManagerService.TheVariants.{ForwardClose}
-use Rattle.enip_client.specs.Hears.{answered, refuses, accepted, is_answer, is_for_connection, Turned, News, Answer, tells, faulted, session_turn, opening_turn, reply_turn, closing_turn, shaped, answer_to, answer_turn, item_turn, other_turn, hears_awaiting, hears_sight}
-use Rattle.enip_client.specs.Hears.News.{Nothing, Registered, Opened, Replied, Accepted, Closed}
-use Rattle.enip_client.specs.Asking.{Stand, Exchange, LONGEST_REPLY, is_awaiting, failed, lends, lends_plainly, requests, submit_failure, says, opening, requesting, closing, leaving, goes_on, hears_unless, after_sight}
-use Rattle.enip_client.specs.Asking.Stand.{Failed}
-use Rattle.enip_client.specs.AskSteps.{stand_of, step_after, called, next_of, reply_after, IsSaid, held_as, now_held, Held, Stands, CameTo, IsHeardOnce}
+use Rattle.enip_client.specs.Hears.{answered, refuses, accepted, is_answer, is_for_connection, TurnResult, HeardEvent, Answer, turned_to, faulted, session_turn, opening_turn, reply_turn, closing_turn, shaped, answer_to, answer_turn, item_turn, other_turn, hears_awaiting, hears_parsed}
+use Rattle.enip_client.specs.Hears.HeardEvent.{Nothing, Registered, Opened, Replied, Accepted, Closed}
+use Rattle.enip_client.specs.Asking.{AskPhase, Exchange, LONGEST_REPLY, is_awaiting, failed, lends, lends_call, requests, submit_failure, sends_lent, opening, requesting, closing, leaving, goes_on, hears_unless, after_parsed}
+use Rattle.enip_client.specs.Asking.AskPhase.{Failed}
+use Rattle.enip_client.specs.AskSteps.{ask_phase_of, step_after, called, next_of, reply_after, IsPerformed, exchange_as, exchange_now, Held, IsAtPhase, ExchangeResult, IsAdvanced}
 
 -- A turn after which no fault lasts, or that tells nothing.
-record Mild (t : Turned) : Type 0 where
-  either : (t.state.fault ≡ None) ⊎ (t.news ≡ Nothing)
+record Mild (t : TurnResult) : Type 0 where
+  either : (t.state.fault ≡ None) ⊎ (t.heard_event ≡ Nothing)
 
-mild_if : (b : Bool) (t u : Turned) → Mild t → Mild u → Mild (if b then t else u)
+mild_if : (b : Bool) (t u : TurnResult) → Mild t → Mild u → Mild (if b then t else u)
 mild_if true t u p q = p
 mild_if false t u p q = q
 
-mild_tells : (s : State) (news : News) → s.fault ≡ None → Mild (tells s news)
-mild_tells s news healthy = record { either = inl healthy }
+mild_tells : (s : State) (heard_event : HeardEvent) → s.fault ≡ None → Mild (turned_to s heard_event)
+mild_tells s heard_event healthy = record { either = inl healthy }
 
 mild_faulted : (s : State) (fault : ClientFault) → Mild (faulted s fault)
 mild_faulted s fault = record { either = inr refl }
 
 mild_session : (s : State) (f : Frame) → s.fault ≡ None → Mild (session_turn s f)
 mild_session s f healthy =
-    mild_if (length f.body == 4) (tells (record (answered s) { registration = registrations.Registered f.header.session }) Registered)
+    mild_if (length f.body == 4) (turned_to (record (answered s) { registration = registrations.Registered f.header.session }) Registered)
     (faulted s faults.Malformed) (record { either = inl healthy }) (mild_faulted s faults.Malformed)
 
 mild_refuses : (s : State) (r : Reply) → s.fault ≡ None → Mild (refuses s r)
@@ -64,8 +64,8 @@ mild_refuses s r healthy = record { either = inl healthy }
 mild_opening : (s : State) (a : Option Answer) → s.fault ≡ None → Mild (opening_turn s a)
 mild_opening s None healthy = mild_faulted s faults.Malformed
 mild_opening s (Some a) healthy =
-    let opened : Turned = tells (record (answered s) { link = Open (number_at 0 4 a.reply.data) }) Opened in
-    let some : Turned = if nat_le 26 (length a.reply.data) then opened else faulted s faults.Malformed in
+    let opened : TurnResult = turned_to (record (answered s) { connection_state = Open (number_at 0 4 a.reply.data) }) Opened in
+    let some : TurnResult = if nat_le 26 (length a.reply.data) then opened else faulted s faults.Malformed in
     mild_if (a.reply.status == 0) some (refuses s a.reply)
     (mild_if (nat_le 26 (length a.reply.data)) opened (faulted s faults.Malformed) (record { either = inl healthy }) (mild_faulted s faults.Malformed))
     (mild_refuses s a.reply healthy)
@@ -77,7 +77,7 @@ mild_reply s (Some a) healthy = record { either = inl healthy }
 mild_closing : (s : State) (a : Option Answer) → s.fault ≡ None → Mild (closing_turn s a)
 mild_closing s None healthy = mild_faulted s faults.Malformed
 mild_closing s (Some a) healthy =
-    mild_if (a.reply.status == 0) (tells (answered s) Closed) (refuses s a.reply) (record { either = inl healthy }) (mild_refuses s a.reply healthy)
+    mild_if (a.reply.status == 0) (turned_to (answered s) Closed) (refuses s a.reply) (record { either = inl healthy }) (mild_refuses s a.reply healthy)
 
 mild_shaped : (s : State) (w : Awaited) (f : Frame) → s.fault ≡ None → Mild (shaped s w f)
 mild_shaped s awaited.Session f healthy = mild_session s f healthy
@@ -89,12 +89,12 @@ mild_item : (s : State) (r : Result (ℕ × List ℕ) CpfFault) → s.fault ≡ 
 mild_item s (Err fault) healthy = record { either = inl healthy }
 mild_item s (Ok (id, item)) healthy =
     mild_if (id == s.wants.t_to_o_id)
-    (tells (record s { originator = after_item s.originator item }) (accepted (accepted_reply s.originator item)))
-    (tells s Nothing) (record { either = inl healthy }) (record { either = inl healthy })
+    (turned_to (record s { originator = after_item s.originator item }) (accepted (accepted_reply s.originator item)))
+    (turned_to s Nothing) (record { either = inl healthy }) (record { either = inl healthy })
 
 mild_other : (s : State) (f : Frame) → s.fault ≡ None → Mild (other_turn s f)
 mild_other s f healthy =
-    mild_if (is_for_connection s f.header) (item_turn s (unit_body_of f.body)) (tells s Nothing)
+    mild_if (is_for_connection s f.header) (item_turn s (unit_body_of f.body)) (turned_to s Nothing)
     (mild_item s (unit_body_of f.body) healthy) (record { either = inl healthy })
 
 mild_answer : (s : State) (w : Awaited) (f : Frame) → s.fault ≡ None → Mild (answer_turn s w f)
@@ -107,16 +107,16 @@ mild_awaiting s f None healthy = mild_other s f healthy
 mild_awaiting s f (Some w) healthy =
     mild_if (is_answer w f.header) (answer_turn s w.awaited f) (other_turn s f) (mild_answer s w.awaited f healthy) (mild_other s f healthy)
 
-mild_sight : (s : State) (sight : Sight) → s.fault ≡ None → Mild (hears_sight s sight)
-mild_sight s Nothing_yet healthy = record { either = inl healthy }
-mild_sight s (A_frame f) healthy = mild_awaiting s f s.awaiting healthy
-mild_sight s (A_long_header h) healthy = mild_faulted s faults.TooLong
+mild_sight : (s : State) (parsed_frame : Parsed) → s.fault ≡ None → Mild (hears_parsed s parsed_frame)
+mild_sight s Incomplete healthy = record { either = inl healthy }
+mild_sight s (WholeFrame f) healthy = mild_awaiting s f s.awaiting healthy
+mild_sight s (TooLongHeader h) healthy = mild_faulted s faults.TooLong
 
 -- What follows, by the next call.
 abbrev followed : Exchange → Result (Option Call) AskFault → Exchange
 followed e (Err fault) = failed e fault
 followed e (Ok None) = e
-followed e (Ok (Some call)) = says e (stand_of (step_after call)) (called call e.state e.request e.connected)
+followed e (Ok (Some call)) = sends_lent e (ask_phase_of (step_after call)) (called call e.state e.request e.connected)
 
 registered_follows : (e : Exchange) (connected : Bool)
     → (if connected then opening e else requesting e)
@@ -133,26 +133,26 @@ reply_follows e bytes true connected = refl
 reply_follows e bytes false true = refl
 reply_follows e bytes false false = refl
 
-follows : (asked : Asked) (s : State) (step : Step) (news : News) (reply : List ℕ) (sent : List Frame)
-    → goes_on (held_as asked s (stand_of step) reply sent) (stand_of step) news
-    ≡ followed (held_as asked s (stand_of step) (reply_after step news reply) sent) (next_of step asked.connected news)
+follows : (asked : Asked) (s : State) (step : Step) (heard_event : HeardEvent) (reply : List ℕ) (sent : List Frame)
+    → goes_on (exchange_as asked s (ask_phase_of step) reply sent) (ask_phase_of step) heard_event
+    ≡ followed (exchange_as asked s (ask_phase_of step) (reply_after step heard_event reply) sent) (next_of step asked.connected heard_event)
 follows asked s steps.Registering Registered reply sent =
-    registered_follows (held_as asked s (stand_of steps.Registering) reply sent) asked.connected
+    registered_follows (exchange_as asked s (ask_phase_of steps.Registering) reply sent) asked.connected
 follows asked s steps.Requesting (Replied bytes) reply sent =
-    reply_follows (held_as asked s (stand_of steps.Requesting) reply sent) bytes (nat_lt LONGEST_REPLY (length bytes)) asked.connected
+    reply_follows (exchange_as asked s (ask_phase_of steps.Requesting) reply sent) bytes (nat_lt LONGEST_REPLY (length bytes)) asked.connected
 follows asked s steps.Requesting (Accepted bytes) reply sent =
-    reply_follows (held_as asked s (stand_of steps.Requesting) reply sent) bytes (nat_lt LONGEST_REPLY (length bytes)) asked.connected
+    reply_follows (exchange_as asked s (ask_phase_of steps.Requesting) reply sent) bytes (nat_lt LONGEST_REPLY (length bytes)) asked.connected
 follows asked s steps.Opening Opened reply sent = refl
 follows asked s steps.Closing Closed reply sent = refl
-follows asked s step news reply sent = refl
+follows asked s step heard_event reply sent = refl
 
 -- An exchange that awaits hears.
-reach : (asked : Asked) (s : State) (step : Step) (reply : List ℕ) (sent : List Frame) (sight : Sight) → is_awaiting (stand_of step) ≡ true
-    → after_sight (held_as asked s (stand_of step) reply sent) sight
-    ≡ hears_unless (held_as asked (hears_sight s sight).state (stand_of step) reply sent) (hears_sight s sight).news (hears_sight s sight).state.fault
-reach asked s step reply sent sight waits =
-    ap (λ b. if b then hears_unless (held_as asked (hears_sight s sight).state (stand_of step) reply sent) (hears_sight s sight).news (hears_sight s sight).state.fault
-    else held_as asked s (stand_of step) reply sent) waits
+reach : (asked : Asked) (s : State) (step : Step) (reply : List ℕ) (sent : List Frame) (parsed_frame : Parsed) → is_awaiting (ask_phase_of step) ≡ true
+    → after_parsed (exchange_as asked s (ask_phase_of step) reply sent) parsed_frame
+    ≡ hears_unless (exchange_as asked (hears_parsed s parsed_frame).state (ask_phase_of step) reply sent) (hears_parsed s parsed_frame).heard_event (hears_parsed s parsed_frame).state.fault
+reach asked s step reply sent parsed_frame waits =
+    ap (λ b. if b then hears_unless (exchange_as asked (hears_parsed s parsed_frame).state (ask_phase_of step) reply sent) (hears_parsed s parsed_frame).heard_event (hears_parsed s parsed_frame).state.fault
+    else exchange_as asked s (ask_phase_of step) reply sent) waits
 
 -- A failure of the client or the connection.
 abbrev pub IsOwn : AskFault → Type 0
@@ -177,16 +177,16 @@ own_replied true connected = tt
 own_replied false true = tt
 own_replied false false = tt
 
-own_next : (step : Step) (connected : Bool) (news : News) → OwnFault (next_of step connected news)
+own_next : (step : Step) (connected : Bool) (heard_event : HeardEvent) → OwnFault (next_of step connected heard_event)
 own_next steps.Registering true Registered = tt
 own_next steps.Registering false Registered = tt
 own_next steps.Requesting connected (Replied bytes) = own_replied (nat_lt LONGEST_REPLY (length bytes)) connected
 own_next steps.Requesting connected (Accepted bytes) = own_replied (nat_lt LONGEST_REPLY (length bytes)) connected
 own_next steps.Opening connected Opened = tt
 own_next steps.Closing connected Closed = tt
-own_next step connected news = tt
+own_next step connected heard_event = tt
 
-own_plainly : (r : Result Lent ClientFault) → OwnFault (lends_plainly r)
+own_plainly : (r : Result Lent ClientFault) → OwnFault (lends_call r)
 own_plainly (Ok lent) = tt
 own_plainly (Err fault) = tt
 
@@ -207,7 +207,7 @@ own_called calls.Leave s request connected = own_plainly (unregisters s)
 
 -- an exchange that failed
 failed_came : (asked : Asked) (sent : List Frame) (old new : Held) (e : Exchange) (fault : AskFault) → IsOwn fault
-    → Stands asked sent old new (Failed fault) e → CameTo asked sent old new e (Err fault)
+    → IsAtPhase asked sent old new (Failed fault) e → ExchangeResult asked sent old new e (Err fault)
 failed_came asked sent old new e (ask_faults.Client fault) own p = p
 failed_came asked sent old new e (ask_faults.Submit why) own p = p
 failed_came asked sent old new e ask_faults.Read own p = absurd own
@@ -220,91 +220,91 @@ abbrev pub said_step : Step → Result (Unit {0}) AskFault → Result Step AskFa
 said_step step (Ok done) = Ok step
 said_step step (Err fault) = Err fault
 
-said_came : (asked : Asked) (sent : List Frame) (s : State) (held : List ℕ) (stand : Stand) (reply : List ℕ) (before after : Option (List ℕ)) (old : Held) (step : Step)
-    (lent : Result Lent AskFault) (r : Result (Unit {0}) AskFault) → OwnFault lent → old.written ≡ before → IsSaid lent before after r
-    → CameTo asked sent old (record { client = record { state = after_lending s lent; held = held }; written = after; reply = reply })
-    (says (held_as asked s stand reply sent) (stand_of step) lent) (said_step step r)
-said_came asked sent s held stand reply before after old step (Ok lent) (Ok done) own is said =
+said_came : (asked : Asked) (sent : List Frame) (s : State) (held : List ℕ) (ask_phase : AskPhase) (reply : List ℕ) (before after : Option (List ℕ)) (old : Held) (step : Step)
+    (lent : Result Lent AskFault) (r : Result (Unit {0}) AskFault) → OwnFault lent → old.written ≡ before → IsPerformed lent before after r
+    → ExchangeResult asked sent old (record { client = record { state = after_lending s lent; held = held }; written = after; reply = reply })
+    (sends_lent (exchange_as asked s ask_phase reply sent) (ask_phase_of step) lent) (said_step step r)
+said_came asked sent s held ask_phase reply before after old step (Ok lent) (Ok done) own is said =
     record {
       frames = lent.frame ∷ [];
       exchange = refl;
       written = subst (λ w. Appends w after (frame lent.frame ++ [])) (sym is) (subst (Appends before after) (sym (append-nil (frame lent.frame))) said);
     }
-said_came asked sent s held stand reply before after old step (Ok lent) (Err fault) own is said =
+said_came asked sent s held ask_phase reply before after old step (Ok lent) (Err fault) own is said =
     let new : Held = record { client = record { state = lent.state; held = held }; written = after; reply = reply } in
-    subst (λ x. CameTo asked sent old new (says (held_as asked s stand reply sent) (stand_of step) (Ok lent)) (Err x)) (sym said.fault_is)
+    subst (λ x. ExchangeResult asked sent old new (sends_lent (exchange_as asked s ask_phase reply sent) (ask_phase_of step) (Ok lent)) (Err x)) (sym said.fault_is)
     (record {
       whole = [];
       last = lent.frame;
-      stand = stand_of step;
+      ask_phase = ask_phase_of step;
       exchange = refl;
       front = said.front;
       not_all = said.not_all;
       written = subst (λ w. Appends w after (take said.front (frame lent.frame))) (sym is) said.written;
     })
-said_came asked sent s held stand reply before after old step (Err why) (Ok done) own is said = absurd said
-said_came asked sent s held stand reply before after old step (Err why) (Err fault) own is said =
+said_came asked sent s held ask_phase reply before after old step (Err why) (Ok done) own is said = absurd said
+said_came asked sent s held ask_phase reply before after old step (Err why) (Err fault) own is said =
     let new : Held = record { client = record { state = s; held = held }; written = after; reply = reply } in
-    subst (λ x. CameTo asked sent old new (failed (held_as asked s stand reply sent) why) (Err x)) (sym said.0)
-    (failed_came asked sent old new (failed (held_as asked s stand reply sent) why) why own (record {
+    subst (λ x. ExchangeResult asked sent old new (failed (exchange_as asked s ask_phase reply sent) why) (Err x)) (sym said.0)
+    (failed_came asked sent old new (failed (exchange_as asked s ask_phase reply sent) why) why own (record {
       frames = [];
-      exchange = ap (λ l. held_as asked s (Failed why) reply l) (sym (append-nil sent));
+      exchange = ap (λ l. exchange_as asked s (Failed why) reply l) (sym (append-nil sent));
       written = subst (λ w. Appends w after []) (sym is) said.1;
     }))
 
 -- What was fed once, and what was told and kept.
-pub record Once (asked : Asked) (step : Step) (piece : List ℕ) (c : ClientState) (reply : List ℕ) (news : News) (new : ClientState)
+pub record Once (asked : Asked) (step : Step) (piece : List ℕ) (c : ClientState) (reply : List ℕ) (heard_event : HeardEvent) (new : ClientState)
     (after : List ℕ) : Type 0 where
   pub healthy : c.state.fault ≡ None
-  pub waits : is_awaiting (stand_of step) ≡ true
+  pub waits : is_awaiting (ask_phase_of step) ≡ true
   pub client : new ≡ (fed c piece).client
-  pub told : news ≡ (fed c piece).news
-  pub kept : after ≡ reply_after step news reply
+  pub told : heard_event ≡ (fed c piece).heard_event
+  pub kept : after ≡ reply_after step heard_event reply
 
-once_client : (asked : Asked) (step : Step) (piece : List ℕ) (c : ClientState) (reply : List ℕ) (news : News) (new : ClientState) (after : List ℕ)
-    → Once asked step piece c reply news new after
+once_client : (asked : Asked) (step : Step) (piece : List ℕ) (c : ClientState) (reply : List ℕ) (heard_event : HeardEvent) (new : ClientState) (after : List ℕ)
+    → Once asked step piece c reply heard_event new after
     → new ≡ record {
-      state = (hears_sight c.state (sight_of (joined_of c.held piece))).state;
-      held = cleared (sight_of (joined_of c.held piece)) (joined_of c.held piece);
+      state = (hears_parsed c.state (parsed (held_and_taken c.held piece))).state;
+      held = cleared (parsed (held_and_taken c.held piece)) (held_and_taken c.held piece);
     }
-once_client asked step piece c reply news new after o = o.client ∙ ap (λ w. (fed_unless c piece w).client) o.healthy
+once_client asked step piece c reply heard_event new after o = o.client ∙ ap (λ w. (fed_unless c piece w).client) o.healthy
 
-once_told : (asked : Asked) (step : Step) (piece : List ℕ) (c : ClientState) (reply : List ℕ) (news : News) (new : ClientState) (after : List ℕ)
-    → Once asked step piece c reply news new after
-    → news ≡ (hears_sight c.state (sight_of (joined_of c.held piece))).news
-once_told asked step piece c reply news new after o = o.told ∙ ap (λ w. (fed_unless c piece w).news) o.healthy
+once_told : (asked : Asked) (step : Step) (piece : List ℕ) (c : ClientState) (reply : List ℕ) (heard_event : HeardEvent) (new : ClientState) (after : List ℕ)
+    → Once asked step piece c reply heard_event new after
+    → heard_event ≡ (hears_parsed c.state (parsed (held_and_taken c.held piece))).heard_event
+once_told asked step piece c reply heard_event new after o = o.told ∙ ap (λ w. (fed_unless c piece w).heard_event) o.healthy
 
-once_mild : (asked : Asked) (step : Step) (piece : List ℕ) (c : ClientState) (reply : List ℕ) (news : News) (new : ClientState) (after : List ℕ)
-    → Once asked step piece c reply news new after → (new.state.fault ≡ None) ⊎ (news ≡ Nothing)
-once_mild asked step piece c reply news new after o =
-    let client = once_client asked step piece c reply news new after o in
-    let told = once_told asked step piece c reply news new after o in
-    elim (mild_sight c.state (sight_of (joined_of c.held piece)) o.healthy).either [
+once_mild : (asked : Asked) (step : Step) (piece : List ℕ) (c : ClientState) (reply : List ℕ) (heard_event : HeardEvent) (new : ClientState) (after : List ℕ)
+    → Once asked step piece c reply heard_event new after → (new.state.fault ≡ None) ⊎ (heard_event ≡ Nothing)
+once_mild asked step piece c reply heard_event new after o =
+    let client = once_client asked step piece c reply heard_event new after o in
+    let told = once_told asked step piece c reply heard_event new after o in
+    elim (mild_sight c.state (parsed (held_and_taken c.held piece)) o.healthy).either [
       | inl none ↦ inl (ap (λ x. x.state.fault) client ∙ none)
       | inr nothing ↦ inr (told ∙ nothing)
     ]
 
-once_reached : (asked : Asked) (step : Step) (piece : List ℕ) (c : ClientState) (reply : List ℕ) (news : News) (new : ClientState) (after : List ℕ)
-    (sent : List Frame) → Once asked step piece c reply news new after
-    → after_sight (held_as asked c.state (stand_of step) reply sent) (sight_of (joined_of c.held piece))
-    ≡ hears_unless (held_as asked new.state (stand_of step) reply sent) news new.state.fault
-once_reached asked step piece c reply news new after sent o =
-    let client = once_client asked step piece c reply news new after o in
-    let told = once_told asked step piece c reply news new after o in
-    let turned : Turned = hears_sight c.state (sight_of (joined_of c.held piece)) in
-    reach asked c.state step reply sent (sight_of (joined_of c.held piece)) o.waits
-    ∙ ap (λ x. hears_unless (held_as asked x.state (stand_of step) reply sent) turned.news x.state.fault) (sym client)
-    ∙ ap (λ n. hears_unless (held_as asked new.state (stand_of step) reply sent) n new.state.fault) (sym told)
+once_reached : (asked : Asked) (step : Step) (piece : List ℕ) (c : ClientState) (reply : List ℕ) (heard_event : HeardEvent) (new : ClientState) (after : List ℕ)
+    (sent : List Frame) → Once asked step piece c reply heard_event new after
+    → after_parsed (exchange_as asked c.state (ask_phase_of step) reply sent) (parsed (held_and_taken c.held piece))
+    ≡ hears_unless (exchange_as asked new.state (ask_phase_of step) reply sent) heard_event new.state.fault
+once_reached asked step piece c reply heard_event new after sent o =
+    let client = once_client asked step piece c reply heard_event new after o in
+    let told = once_told asked step piece c reply heard_event new after o in
+    let turned : TurnResult = hears_parsed c.state (parsed (held_and_taken c.held piece)) in
+    reach asked c.state step reply sent (parsed (held_and_taken c.held piece)) o.waits
+    ∙ ap (λ x. hears_unless (exchange_as asked x.state (ask_phase_of step) reply sent) turned.heard_event x.state.fault) (sym client)
+    ∙ ap (λ n. hears_unless (exchange_as asked new.state (ask_phase_of step) reply sent) n new.state.fault) (sym told)
 
-once_followed : (asked : Asked) (step : Step) (piece : List ℕ) (c : ClientState) (reply : List ℕ) (news : News) (new : ClientState) (after : List ℕ)
-    (sent : List Frame) → Once asked step piece c reply news new after → new.state.fault ≡ None
-    → after_sight (held_as asked c.state (stand_of step) reply sent) (sight_of (joined_of c.held piece))
-    ≡ followed (held_as asked new.state (stand_of step) after sent) (next_of step asked.connected news)
-once_followed asked step piece c reply news new after sent o none =
-    once_reached asked step piece c reply news new after sent o
-    ∙ ap (λ w. hears_unless (held_as asked new.state (stand_of step) reply sent) news w) none
-    ∙ follows asked new.state step news reply sent
-    ∙ ap (λ r. followed (held_as asked new.state (stand_of step) r sent) (next_of step asked.connected news)) (sym o.kept)
+once_followed : (asked : Asked) (step : Step) (piece : List ℕ) (c : ClientState) (reply : List ℕ) (heard_event : HeardEvent) (new : ClientState) (after : List ℕ)
+    (sent : List Frame) → Once asked step piece c reply heard_event new after → new.state.fault ≡ None
+    → after_parsed (exchange_as asked c.state (ask_phase_of step) reply sent) (parsed (held_and_taken c.held piece))
+    ≡ followed (exchange_as asked new.state (ask_phase_of step) after sent) (next_of step asked.connected heard_event)
+once_followed asked step piece c reply heard_event new after sent o none =
+    once_reached asked step piece c reply heard_event new after sent o
+    ∙ ap (λ w. hears_unless (exchange_as asked new.state (ask_phase_of step) reply sent) heard_event w) none
+    ∙ follows asked new.state step heard_event reply sent
+    ∙ ap (λ r. followed (exchange_as asked new.state (ask_phase_of step) r sent) (next_of step asked.connected heard_event)) (sym o.kept)
 
 nothing_next : (step : Step) (connected : Bool) → next_of step connected Nothing ≡ Ok None
 nothing_next steps.Registering connected = refl
@@ -321,96 +321,96 @@ nothing_kept steps.Closing reply = refl
 nothing_kept steps.Completed reply = refl
 
 -- what ended the exchange was heard
-pub once_failed : (asked : Asked) (step : Step) (piece : List ℕ) (c : ClientState) (reply : List ℕ) (news : News) (new : ClientState) (after : List ℕ)
-    (w : Option (List ℕ)) (fault : AskFault) (r : Result Step AskFault) → Once asked step piece c reply news new after
-    → Err fault ≡ next_of step asked.connected news → r ≡ Err fault
-    → IsHeardOnce asked step piece (record { client = c; written = w; reply = reply }) (record { client = new; written = w; reply = after }) r
-once_failed asked step piece c reply news new after w fault r o next is =
-    let none : new.state.fault ≡ None = elim (once_mild asked step piece c reply news new after o) [
+pub once_failed : (asked : Asked) (step : Step) (piece : List ℕ) (c : ClientState) (reply : List ℕ) (heard_event : HeardEvent) (new : ClientState) (after : List ℕ)
+    (w : Option (List ℕ)) (fault : AskFault) (r : Result Step AskFault) → Once asked step piece c reply heard_event new after
+    → Err fault ≡ next_of step asked.connected heard_event → r ≡ Err fault
+    → IsAdvanced asked step piece (record { client = c; written = w; reply = reply }) (record { client = new; written = w; reply = after }) r
+once_failed asked step piece c reply heard_event new after w fault r o next is =
+    let none : new.state.fault ≡ None = elim (once_mild asked step piece c reply heard_event new after o) [
       | inl none ↦ none
       | inr nothing ↦ let e = next ∙ ap (next_of step asked.connected) nothing ∙ nothing_next step asked.connected in cc
     ] in
     let old : Held = record { client = c; written = w; reply = reply } in
     let last : Held = record { client = new; written = w; reply = after } in
-    let own : IsOwn fault = subst OwnFault (sym next) (own_next step asked.connected news) in
+    let own : IsOwn fault = subst OwnFault (sym next) (own_next step asked.connected heard_event) in
     record {
-      bytes = ap (λ x. x.held) (once_client asked step piece c reply news new after o);
+      bytes = ap (λ x. x.held) (once_client asked step piece c reply heard_event new after o);
       came = λ sent.
-          subst (CameTo asked sent old last (after_sight (now_held asked step old sent) (sight_of (joined_of c.held piece)))) (sym is)
-          (failed_came asked sent old last (after_sight (now_held asked step old sent) (sight_of (joined_of c.held piece))) fault own (record {
+          subst (ExchangeResult asked sent old last (after_parsed (exchange_now asked step old sent) (parsed (held_and_taken c.held piece)))) (sym is)
+          (failed_came asked sent old last (after_parsed (exchange_now asked step old sent) (parsed (held_and_taken c.held piece))) fault own (record {
             frames = [];
-            exchange = once_followed asked step piece c reply news new after sent o none
-                ∙ ap (followed (held_as asked new.state (stand_of step) after sent)) (sym next)
-                ∙ ap (λ l. held_as asked new.state (Failed fault) after l) (sym (append-nil sent));
+            exchange = once_followed asked step piece c reply heard_event new after sent o none
+                ∙ ap (followed (exchange_as asked new.state (ask_phase_of step) after sent)) (sym next)
+                ∙ ap (λ l. exchange_as asked new.state (Failed fault) after l) (sym (append-nil sent));
             written = Appends-nil w;
           }));
     }
 
 -- a fault lasts
-pub once_faulted : (asked : Asked) (step : Step) (piece : List ℕ) (c : ClientState) (reply : List ℕ) (news : News) (new : ClientState) (after : List ℕ)
-    (w : Option (List ℕ)) (fault : ClientFault) → Once asked step piece c reply news new after
+pub once_faulted : (asked : Asked) (step : Step) (piece : List ℕ) (c : ClientState) (reply : List ℕ) (heard_event : HeardEvent) (new : ClientState) (after : List ℕ)
+    (w : Option (List ℕ)) (fault : ClientFault) → Once asked step piece c reply heard_event new after
     → Some fault ≡ new.state.fault
-    → IsHeardOnce asked step piece (record { client = c; written = w; reply = reply }) (record { client = new; written = w; reply = after })
+    → IsAdvanced asked step piece (record { client = c; written = w; reply = reply }) (record { client = new; written = w; reply = after })
     (Err (ask_faults.Client fault))
-once_faulted asked step piece c reply news new after w fault o lasts =
-    let nothing : news ≡ Nothing = elim (once_mild asked step piece c reply news new after o) [
+once_faulted asked step piece c reply heard_event new after w fault o lasts =
+    let nothing : heard_event ≡ Nothing = elim (once_mild asked step piece c reply heard_event new after o) [
       | inl none ↦ let e = lasts ∙ none in cc
       | inr nothing ↦ nothing
     ] in
     let same : after ≡ reply = o.kept ∙ ap (λ n. reply_after step n reply) nothing ∙ nothing_kept step reply in
     record {
-      bytes = ap (λ x. x.held) (once_client asked step piece c reply news new after o);
+      bytes = ap (λ x. x.held) (once_client asked step piece c reply heard_event new after o);
       came = λ sent. record {
         frames = [];
-        exchange = once_reached asked step piece c reply news new after sent o
-            ∙ ap (λ f. hears_unless (held_as asked new.state (stand_of step) reply sent) news f) (sym lasts)
-            ∙ ap (λ r. held_as asked new.state (Failed (ask_faults.Client fault)) r sent) (sym same)
-            ∙ ap (λ l. held_as asked new.state (Failed (ask_faults.Client fault)) after l) (sym (append-nil sent));
+        exchange = once_reached asked step piece c reply heard_event new after sent o
+            ∙ ap (λ f. hears_unless (exchange_as asked new.state (ask_phase_of step) reply sent) heard_event f) (sym lasts)
+            ∙ ap (λ r. exchange_as asked new.state (Failed (ask_faults.Client fault)) r sent) (sym same)
+            ∙ ap (λ l. exchange_as asked new.state (Failed (ask_faults.Client fault)) after l) (sym (append-nil sent));
         written = Appends-nil w;
       };
     }
 
 -- nothing follows
-pub once_waits : (asked : Asked) (step : Step) (piece : List ℕ) (c : ClientState) (reply : List ℕ) (news : News) (new : ClientState) (after : List ℕ)
-    (w : Option (List ℕ)) → Once asked step piece c reply news new after → None ≡ new.state.fault
-    → Ok None ≡ next_of step asked.connected news
-    → IsHeardOnce asked step piece (record { client = c; written = w; reply = reply }) (record { client = new; written = w; reply = after })
+pub once_waits : (asked : Asked) (step : Step) (piece : List ℕ) (c : ClientState) (reply : List ℕ) (heard_event : HeardEvent) (new : ClientState) (after : List ℕ)
+    (w : Option (List ℕ)) → Once asked step piece c reply heard_event new after → None ≡ new.state.fault
+    → Ok None ≡ next_of step asked.connected heard_event
+    → IsAdvanced asked step piece (record { client = c; written = w; reply = reply }) (record { client = new; written = w; reply = after })
     (Ok step)
-once_waits asked step piece c reply news new after w o none next =
+once_waits asked step piece c reply heard_event new after w o none next =
     record {
-      bytes = ap (λ x. x.held) (once_client asked step piece c reply news new after o);
+      bytes = ap (λ x. x.held) (once_client asked step piece c reply heard_event new after o);
       came = λ sent. record {
         frames = [];
-        exchange = once_followed asked step piece c reply news new after sent o (sym none)
-            ∙ ap (followed (held_as asked new.state (stand_of step) after sent)) (sym next)
-            ∙ ap (λ l. held_as asked new.state (stand_of step) after l) (sym (append-nil sent));
+        exchange = once_followed asked step piece c reply heard_event new after sent o (sym none)
+            ∙ ap (followed (exchange_as asked new.state (ask_phase_of step) after sent)) (sym next)
+            ∙ ap (λ l. exchange_as asked new.state (ask_phase_of step) after l) (sym (append-nil sent));
         written = Appends-nil w;
       };
     }
 
 -- a call follows
-pub once_said : (asked : Asked) (step : Step) (piece : List ℕ) (c : ClientState) (reply : List ℕ) (news : News) (new : ClientState) (after : List ℕ)
+pub once_said : (asked : Asked) (step : Step) (piece : List ℕ) (c : ClientState) (reply : List ℕ) (heard_event : HeardEvent) (new : ClientState) (after : List ℕ)
     (w v : Option (List ℕ)) (call : Call) (last : ClientState) (said : Result (Unit {0}) AskFault) (r : Result Step AskFault)
-    → Once asked step piece c reply news new after → None ≡ new.state.fault
-    → Ok (Some call) ≡ next_of step asked.connected news
+    → Once asked step piece c reply heard_event new after → None ≡ new.state.fault
+    → Ok (Some call) ≡ next_of step asked.connected heard_event
     → last ≡ with_state new (after_lending new.state (called call new.state asked.request.now asked.connected))
-    → IsSaid (called call new.state asked.request.now asked.connected) w v said
+    → IsPerformed (called call new.state asked.request.now asked.connected) w v said
     → r ≡ said_step (step_after call) said
-    → IsHeardOnce asked step piece (record { client = c; written = w; reply = reply }) (record { client = last; written = v; reply = after }) r
-once_said asked step piece c reply news new after w v call last said r o none next is wrote gives =
+    → IsAdvanced asked step piece (record { client = c; written = w; reply = reply }) (record { client = last; written = v; reply = after }) r
+once_said asked step piece c reply heard_event new after w v call last said r o none next is wrote gives =
     let old : Held = record { client = c; written = w; reply = reply } in
     let lent : Result Lent AskFault = called call new.state asked.request.now asked.connected in
     let made : ClientState = record { state = after_lending new.state lent; held = new.held } in
     record {
-      bytes = ap (λ x. x.held) is ∙ ap (λ x. x.held) (once_client asked step piece c reply news new after o);
+      bytes = ap (λ x. x.held) is ∙ ap (λ x. x.held) (once_client asked step piece c reply heard_event new after o);
       came = λ sent.
-          let path = once_followed asked step piece c reply news new after sent o (sym none)
-          ∙ ap (followed (held_as asked new.state (stand_of step) after sent)) (sym next) in
-          let came = said_came asked sent new.state new.held (stand_of step) after w v old (step_after call) lent said
+          let path = once_followed asked step piece c reply heard_event new after sent o (sym none)
+          ∙ ap (followed (exchange_as asked new.state (ask_phase_of step) after sent)) (sym next) in
+          let came = said_came asked sent new.state new.held (ask_phase_of step) after w v old (step_after call) lent said
           (own_called call new.state asked.request.now asked.connected) refl wrote in
-          subst (λ x. CameTo asked sent old (record { client = x; written = v; reply = after })
-          (after_sight (now_held asked step old sent) (sight_of (joined_of c.held piece))) r) (sym is)
-          (subst (CameTo asked sent old (record { client = made; written = v; reply = after })
-          (after_sight (now_held asked step old sent) (sight_of (joined_of c.held piece)))) (sym gives)
-          (subst (λ e. CameTo asked sent old (record { client = made; written = v; reply = after }) e (said_step (step_after call) said)) (sym path) came));
+          subst (λ x. ExchangeResult asked sent old (record { client = x; written = v; reply = after })
+          (after_parsed (exchange_now asked step old sent) (parsed (held_and_taken c.held piece))) r) (sym is)
+          (subst (ExchangeResult asked sent old (record { client = made; written = v; reply = after })
+          (after_parsed (exchange_now asked step old sent) (parsed (held_and_taken c.held piece)))) (sym gives)
+          (subst (λ e. ExchangeResult asked sent old (record { client = made; written = v; reply = after }) e (said_step (step_after call) said)) (sym path) came));
     }

@@ -6,8 +6,8 @@ use Rattle.std.proofs.lemmas.List.{length-take-le}
 use Rattle.std.proofs.KnownBytes.{Appends-nil, Consumes-nil, Consumes-trans}
 use Rattle.std.specs.Io.KnownBytes.{Appends, Consumes}
 use Rattle.enip_wire.specs.Frames.{Frame, frame, IsFrame}
-use Rattle.enip_wire.specs.Stream.{Sight, sight_of}
-use Rattle.enip_wire.specs.Stream.Sight.{Nothing_yet, A_frame, A_long_header}
+use Rattle.enip_wire.specs.Stream.{Parsed, parsed}
+use Rattle.enip_wire.specs.Stream.Parsed.{Incomplete, WholeFrame, TooLongHeader}
 use Rattle.enip_client.specs.declared.fault.AskFault.{AskFault}
 use Rattle.enip_client.specs.declared.fault.AskFault.TheVariants as ask_faults
 use Rattle.enip_client.specs.declared.step.Step.{Step}
@@ -20,19 +20,19 @@ use Rattle.enip_client.specs.declared.state.Awaited.TheVariants.{Session}
 use Rattle.enip_client.specs.Frames.{register_frame}
 use Rattle.enip_client.specs.Calls.{Lent, lending, unless, refusal, can_register, next_number, awaiting, registers, bytes_lent, after_lending}
 use Rattle.enip_client.specs.Client.{ClientState, with_state, IsBetween}
-use Rattle.enip_client.specs.Hears.{hears_sight}
-use Rattle.enip_client.specs.Asking.{Stand, Exchange, is_awaiting, failed, lends_plainly, says, begun, after_turn, after_sight, at_last, over, AllAwaited, Heard, IsPartial, Writes, Ends, Asking, IsAwaiting, IsAsked}
-use Rattle.enip_client.specs.Asking.Stand.{Registering, Completed, Failed}
-use Rattle.enip_client.specs.AskSteps.{stand_of, held_as, now_held, Held, Stands, CameTo, Hears, IsHeardPiece, IsAwaited, IsRead, FailsWithin}
+use Rattle.enip_client.specs.Hears.{hears_parsed}
+use Rattle.enip_client.specs.Asking.{AskPhase, Exchange, is_awaiting, failed, lends_call, sends_lent, begun, after_turn, after_parsed, at_last, over, AllAwaited, Heard, IsPartial, Writes, Ends, Asking, IsAwaiting, IsAsked}
+use Rattle.enip_client.specs.Asking.AskPhase.{Registering, Completed, Failed}
+use Rattle.enip_client.specs.AskSteps.{ask_phase_of, exchange_as, exchange_now, Held, IsAtPhase, ExchangeResult, Hears, IsPieceFed, IsAwaited, IsRead, FailsWithin}
 use Rattle.enip_client.proofs.HearingLemmas.{hears_none, heard_of, parts_on, came_more}
 
 over-join : (e : Exchange) (fs gs : List Frame) → over e (fs ++ gs) ≡ over (over e fs) gs
 over-join e [] gs = refl
-over-join e (x ∷ xs) gs = over-join (after_sight e (A_frame x)) xs gs
+over-join e (x ∷ xs) gs = over-join (after_parsed e (WholeFrame x)) xs gs
 
 awaited-join : (e : Exchange) (fs gs : List Frame) → AllAwaited e fs → AllAwaited (over e fs) gs → AllAwaited e (fs ++ gs)
 awaited-join e [] gs p q = q
-awaited-join e (x ∷ xs) gs p q = (p.0, awaited-join (after_sight e (A_frame x)) xs gs p.1 q)
+awaited-join e (x ∷ xs) gs p q = (p.0, awaited-join (after_parsed e (WholeFrame x)) xs gs p.1 q)
 
 each-join : (fs gs : List Frame) → AllByRecursion IsFrame fs → AllByRecursion IsFrame gs → AllByRecursion IsFrame (fs ++ gs)
 each-join [] gs p q = q
@@ -52,8 +52,8 @@ heard_join begins e last before fed held more after h k = record {
   each = each-join h.frames k.frames h.each k.each;
   awaited = awaited-join begins h.frames k.frames h.awaited (subst (λ x. AllAwaited x k.frames) h.exchange k.awaited);
   unheard = k.unheard;
-  exchange = k.exchange ∙ ap (λ x. at_last (over x k.frames) (sight_of after.held)) h.exchange
-      ∙ ap (λ x. at_last x (sight_of after.held)) (sym (over-join begins h.frames k.frames));
+  exchange = k.exchange ∙ ap (λ x. at_last (over x k.frames) (parsed after.held)) h.exchange
+      ∙ ap (λ x. at_last x (parsed after.held)) (sym (over-join begins h.frames k.frames));
   state = k.state;
 }
 
@@ -83,7 +83,7 @@ pub record Come (asked : Asked) (old new : Ends) (r : Result Step AskFault) : Ty
   pub few : length rest < 4096
   pub consumed : Consumes old.left new.left (fed ++ rest)
   pub heard : Heard (begins_at asked old) old.client.held fed new.client exchange
-  pub came : CameTo asked [] (held_in old) (held_in new) exchange r
+  pub came : ExchangeResult asked [] (held_in old) (held_in new) exchange r
   pub more : IsAwaited r → (rest ≡ []) × Hears (begins_at asked old) old.client.held fed new.client.held exchange
 
 -- a read gave so many bytes
@@ -92,14 +92,14 @@ size_read size into within room = length-take-le size into (omega arith)
 
 -- a further piece was read and heard
 pub come_on : (asked : Asked) (step : Step) (old mid new : Ends) (piece : List ℕ) (size : ℕ) (r : Result Step AskFault)
-    → Come asked old mid (Ok step) → is_awaiting (stand_of step) ≡ true → Consumes mid.left new.left piece
+    → Come asked old mid (Ok step) → is_awaiting (ask_phase_of step) ≡ true → Consumes mid.left new.left piece
     → length piece ≡ size → 0 < size → size ≤ 4096
-    → (IsPartial mid.client.held → (sent : List Frame) → IsHeardPiece asked step piece (held_in mid) (held_in new) r sent)
+    → (IsPartial mid.client.held → (sent : List Frame) → IsPieceFed asked step piece (held_in mid) (held_in new) r sent)
     → Come asked old new r
 come_on asked step old mid new piece size r c waits consumed all some few pieces =
     let sent : List Frame = c.came.frames in
-    let p : IsHeardPiece asked step piece (held_in mid) (held_in new) r sent = pieces (c.more waits).1.partial sent in
-    let h : Hears (begins_at asked old) old.client.held c.fed mid.client.held (now_held asked step (held_in mid) sent)
+    let p : IsPieceFed asked step piece (held_in mid) (held_in new) r sent = pieces (c.more waits).1.partial sent in
+    let h : Hears (begins_at asked old) old.client.held c.fed mid.client.held (exchange_now asked step (held_in mid) sent)
     = subst (Hears (begins_at asked old) old.client.held c.fed mid.client.held) c.came.exchange (c.more waits).1 in
     let bytes : (c.fed ++ c.rest) ++ piece ≡ (c.fed ++ p.fed) ++ p.rest
     = ap (λ l. (c.fed ++ l) ++ piece) (c.more waits).0 ∙ ap (λ l. l ++ piece) (append-nil c.fed) ∙ ap (λ l. c.fed ++ l) p.parts
@@ -110,18 +110,18 @@ come_on asked step old mid new piece size r c waits consumed all some few pieces
       rest = p.rest;
       few = omega (arith, p.some (omega arith));
       consumed = subst (Consumes old.left new.left) bytes (Consumes-trans old.left mid.left new.left (c.fed ++ c.rest) piece c.consumed consumed);
-      heard = heard_join (begins_at asked old) (now_held asked step (held_in mid) sent) p.exchange old.client.held c.fed mid.client.held p.fed new.client h p.heard;
+      heard = heard_join (begins_at asked old) (exchange_now asked step (held_in mid) sent) p.exchange old.client.held c.fed mid.client.held p.fed new.client h p.heard;
       came = came_more asked [] sent (held_in old) (held_in mid) (held_in new) p.exchange r c.came.written p.came;
-      more = λ w. ((p.more w).0, hears_join (begins_at asked old) (now_held asked step (held_in mid) sent) p.exchange old.client.held c.fed mid.client.held p.fed new.client.held h (p.more w).1);
+      more = λ w. ((p.more w).0, hears_join (begins_at asked old) (exchange_now asked step (held_in mid) sent) p.exchange old.client.held c.fed mid.client.held p.fed new.client.held h (p.more w).1);
     }
 
-stands_reply : (asked : Asked) (sent : List Frame) (old new : Held) (stand : Stand) (e : Exchange)
-    → Stands asked sent old new stand e → new.reply ≡ e.reply
-stands_reply asked sent old new stand e p = ap (λ x. x.reply) (sym p.exchange)
+stands_reply : (asked : Asked) (sent : List Frame) (old new : Held) (ask_phase : AskPhase) (e : Exchange)
+    → IsAtPhase asked sent old new ask_phase e → new.reply ≡ e.reply
+stands_reply asked sent old new ask_phase e p = ap (λ x. x.reply) (sym p.exchange)
 
 came_reply : (asked : Asked) (sent : List Frame) (old new : Held) (e : Exchange) (r : Result Step AskFault)
-    → CameTo asked sent old new e r → new.reply ≡ e.reply
-came_reply asked sent old new e (Ok step) p = stands_reply asked sent old new (stand_of step) e p
+    → ExchangeResult asked sent old new e r → new.reply ≡ e.reply
+came_reply asked sent old new e (Ok step) p = stands_reply asked sent old new (ask_phase_of step) e p
 came_reply asked sent old new e (Err ask_faults.Write) p = ap (λ x. x.reply) (sym p.exchange)
 came_reply asked sent old new e (Err ask_faults.Read) p = absurd p
 came_reply asked sent old new e (Err ask_faults.Ended) p = absurd p
@@ -141,9 +141,9 @@ asking_of asked old new r c = record {
   reply = came_reply asked [] (held_in old) (held_in new) c.exchange r c.came;
 }
 
-stands_writes : (asked : Asked) (old new : Held) (stand : Stand) (e : Exchange) → Stands asked [] old new stand e
+stands_writes : (asked : Asked) (old new : Held) (ask_phase : AskPhase) (e : Exchange) → IsAtPhase asked [] old new ask_phase e
     → Writes old.written new.written e.sent
-stands_writes asked old new stand e p =
+stands_writes asked old new ask_phase e p =
     subst (λ l. Appends old.written new.written (flat_map frame l)) (ap (λ x. x.sent) (sym p.exchange)) p.written
 
 -- a piece ended the exchange
@@ -162,19 +162,19 @@ asked_fault asked old new ask_faults.Write c = (
 )
 asked_fault asked old new (ask_faults.Client fault) c = (
   asking_of asked old new (Err (ask_faults.Client fault)) c,
-  ap (λ x. x.stand) c.came.exchange,
+  ap (λ x. x.ask_phase) c.came.exchange,
   stands_writes asked (held_in old) (held_in new) (Failed (ask_faults.Client fault)) c.exchange c.came,
 )
 asked_fault asked old new (ask_faults.Submit why) c = (
   asking_of asked old new (Err (ask_faults.Submit why)) c,
-  ap (λ x. x.stand) c.came.exchange,
+  ap (λ x. x.ask_phase) c.came.exchange,
   stands_writes asked (held_in old) (held_in new) (Failed (ask_faults.Submit why)) c.exchange c.came,
 )
 asked_fault asked old new ask_faults.Read c = absurd c.came
 asked_fault asked old new ask_faults.Ended c = absurd c.came
 asked_fault asked old new ask_faults.Spent c = absurd c.came
 
-completed : (step : Step) → is_awaiting (stand_of step) ≡ false → stand_of step ≡ Completed
+completed : (step : Step) → is_awaiting (ask_phase_of step) ≡ false → ask_phase_of step ≡ Completed
 completed steps.Completed ended = refl
 completed steps.Registering ended = let no : true ≡ false = ended in cc
 completed steps.Opening ended = let no : true ≡ false = ended in cc
@@ -182,12 +182,12 @@ completed steps.Requesting ended = let no : true ≡ false = ended in cc
 completed steps.Closing ended = let no : true ≡ false = ended in cc
 
 -- the exchange was completed
-pub asked_done : (asked : Asked) (old new : Ends) (step : Step) → Come asked old new (Ok step) → is_awaiting (stand_of step) ≡ false
+pub asked_done : (asked : Asked) (old new : Ends) (step : Step) → Come asked old new (Ok step) → is_awaiting (ask_phase_of step) ≡ false
     → IsAsked asked.request.now asked.connected old new (Ok tt)
 asked_done asked old new step c ended = (
   asking_of asked old new (Ok step) c,
-  ap (λ x. x.stand) c.came.exchange ∙ completed step ended,
-  stands_writes asked (held_in old) (held_in new) (stand_of step) c.exchange c.came,
+  ap (λ x. x.ask_phase) c.came.exchange ∙ completed step ended,
+  stands_writes asked (held_in old) (held_in new) (ask_phase_of step) c.exchange c.came,
 )
 
 -- The ends after a read that gave no byte.
@@ -208,34 +208,34 @@ still asked step old mid left reads c none = record {
   more = c.more;
 }
 
-awaiting_of : (asked : Asked) (step : Step) (old new : Ends) (c : Come asked old new (Ok step)) → is_awaiting (stand_of step) ≡ true
+awaiting_of : (asked : Asked) (step : Step) (old new : Ends) (c : Come asked old new (Ok step)) → is_awaiting (ask_phase_of step) ≡ true
     → IsAwaiting c.exchange c.rest
 awaiting_of asked step old new c waits =
-    record { stand = ap (λ x. is_awaiting x.stand) c.came.exchange ∙ waits; all = (c.more waits).0 }
+    record { ask_phase = ap (λ x. is_awaiting x.ask_phase) c.came.exchange ∙ waits; all = (c.more waits).0 }
 
 -- a read gave no byte
 pub asked_read : (asked : Asked) (step : Step) (old mid : Ends) (left : Option (List ℕ)) (reads : ℕ) (into : List ℕ) (fault : AskFault)
-    → Come asked old mid (Ok step) → is_awaiting (stand_of step) ≡ true → IsRead mid.left left mid.reads reads into (Err fault)
+    → Come asked old mid (Ok step) → is_awaiting (ask_phase_of step) ≡ true → IsRead mid.left left mid.reads reads into (Err fault)
     → IsAsked asked.request.now asked.connected old (read_on mid left reads) (Err fault)
 asked_read asked step old mid left reads into ask_faults.Ended c waits is =
     let s : Come asked old (read_on mid left reads) (Ok step) = still asked step old mid left reads c is.0 in (
       asking_of asked old (read_on mid left reads) (Ok step) s,
       awaiting_of asked step old (read_on mid left reads) s waits,
       is.1,
-      stands_writes asked (held_in old) (held_in mid) (stand_of step) c.exchange c.came,
+      stands_writes asked (held_in old) (held_in mid) (ask_phase_of step) c.exchange c.came,
     )
 asked_read asked step old mid left reads into ask_faults.Read c waits is =
     let s : Come asked old (read_on mid left reads) (Ok step) = still asked step old mid left reads c is in (
       asking_of asked old (read_on mid left reads) (Ok step) s,
       awaiting_of asked step old (read_on mid left reads) s waits,
-      stands_writes asked (held_in old) (held_in mid) (stand_of step) c.exchange c.came,
+      stands_writes asked (held_in old) (held_in mid) (ask_phase_of step) c.exchange c.came,
     )
 asked_read asked step old mid left reads into ask_faults.Spent c waits is =
     let s : Come asked old (read_on mid left reads) (Ok step) = still asked step old mid left reads c is.0 in (
       asking_of asked old (read_on mid left reads) (Ok step) s,
       awaiting_of asked step old (read_on mid left reads) s waits,
       is.1,
-      stands_writes asked (held_in old) (held_in mid) (stand_of step) c.exchange c.came,
+      stands_writes asked (held_in old) (held_in mid) (ask_phase_of step) c.exchange c.came,
     )
 asked_read asked step old mid left reads into ask_faults.Write c waits is = absurd is
 asked_read asked step old mid left reads into (ask_faults.Client fault) c waits is = absurd is
@@ -244,7 +244,7 @@ asked_read asked step old mid left reads into (ask_faults.Submit why) c waits is
 -- the exchange began
 pub started : (asked : Asked) (old new : Ends) (r : Result Step AskFault) → IsPartial old.client.held → new.client.held ≡ old.client.held
     → new.client.state ≡ (begins_at asked old).state → new.left ≡ old.left
-    → CameTo asked [] (held_in old) (held_in new) (begins_at asked old) r → Come asked old new r
+    → ExchangeResult asked [] (held_in old) (held_in new) (begins_at asked old) r → Come asked old new r
 started asked old new r partial held state left came =
     let hears : Hears (begins_at asked old) old.client.held [] new.client.held (begins_at asked old)
     = subst (λ h. Hears (begins_at asked old) old.client.held [] h (begins_at asked old)) (sym held) (hears_none (begins_at asked old) old.client.held partial) in
@@ -261,7 +261,7 @@ started asked old new r partial held state left came =
 
 -- The exchange before it begins.
 abbrev unbegun : Asked → Ends → Exchange
-unbegun asked old = held_as asked old.client.state Registering old.reply []
+unbegun asked old = exchange_as asked old.client.state Registering old.reply []
 
 pub lent_ok : {E : Type 0} (r : Result Lent E) (bytes : List ℕ) → Ok bytes ≡ bytes_lent r → (l : Lent) × (r ≡ Ok l) × (bytes ≡ frame l.frame)
 lent_ok (Ok lent) bytes is = (lent, refl, cc)
@@ -272,10 +272,10 @@ lent_err (Ok lent) fault is = cc
 lent_err (Err why) fault is = cc
 
 -- an exchange that ended hears nothing more
-stays : (e : Exchange) (seen : Sight) → is_awaiting e.stand ≡ false → at_last e seen ≡ e
-stays e Nothing_yet ended = refl
-stays e (A_frame f) ended = refl
-stays e (A_long_header h) ended = ap (λ b. if b then after_turn e (hears_sight e.state (A_long_header h)) else e) ended
+stays : (e : Exchange) (seen : Parsed) → is_awaiting e.ask_phase ≡ false → at_last e seen ≡ e
+stays e Incomplete ended = refl
+stays e (WholeFrame f) ended = refl
+stays e (TooLongHeader h) ended = ap (λ b. if b then after_turn e (hears_parsed e.state (TooLongHeader h)) else e) ended
 
 -- the first call was refused
 pub start_refused : (asked : Asked) (old : Ends) (client : ClientState) (fault : ClientFault) → registers old.client.state ≡ Err fault
@@ -283,7 +283,7 @@ pub start_refused : (asked : Asked) (old : Ends) (client : ClientState) (fault :
     → Come asked old (record old { client = client }) (Err (ask_faults.Client fault))
 start_refused asked old client fault refused is between =
     let begins : begins_at asked old ≡ failed (unbegun asked old) (ask_faults.Client fault)
-    = ap (λ l. says (unbegun asked old) Registering (lends_plainly l)) refused in
+    = ap (λ l. sends_lent (unbegun asked old) Registering (lends_call l)) refused in
     let same : client ≡ old.client = is ∙ ap (λ l. with_state old.client (after_lending old.client.state l)) refused in
     record {
       exchange = begins_at asked old;
@@ -296,13 +296,13 @@ start_refused asked old client fault refused is between =
         parts = append-nil old.client.held ∙ ap (λ x. x.held) (sym same);
         each = tt;
         awaited = tt;
-        unheard = λ f is. between.unheard f (ap (λ x. sight_of x.held) (sym same) ∙ is);
-        exchange = sym (stays (begins_at asked old) (sight_of client.held) (ap (λ x. is_awaiting x.stand) begins));
+        unheard = λ f is. between.unheard f (ap (λ x. parsed x.held) (sym same) ∙ is);
+        exchange = sym (stays (begins_at asked old) (parsed client.held) (ap (λ x. is_awaiting x.ask_phase) begins));
         state = ap (λ x. x.state) same ∙ ap (λ x. x.state) (sym begins);
       };
       came = record {
         frames = [];
-        exchange = begins ∙ ap (λ x. held_as asked x.state (Failed (ask_faults.Client fault)) old.reply []) (sym same);
+        exchange = begins ∙ ap (λ x. exchange_as asked x.state (Failed (ask_faults.Client fault)) old.reply []) (sym same);
         written = Appends-nil old.written;
       };
       more = λ no. absurd no;
@@ -333,14 +333,14 @@ pub start_sent : (asked : Asked) (old : Ends) (client : ClientState) (after : Op
     → Appends old.written after (frame lent.frame)
     → Come asked old (record old { client = client; written = after }) (Ok steps.Registering)
 start_sent asked old client after lent made is between wrote =
-    let begins : begins_at asked old ≡ held_as asked lent.state Registering old.reply (lent.frame ∷ [])
-    = ap (λ l. says (unbegun asked old) Registering (lends_plainly l)) made in
+    let begins : begins_at asked old ≡ exchange_as asked lent.state Registering old.reply (lent.frame ∷ [])
+    = ap (λ l. sends_lent (unbegun asked old) Registering (lends_call l)) made in
     let same : client ≡ with_state old.client lent.state = is ∙ ap (λ l. with_state old.client (after_lending old.client.state l)) made in
     started asked old (record old { client = client; written = after }) (Ok steps.Registering)
     (start_partial old.client lent made between) (ap (λ x. x.held) same)
     (ap (λ x. x.state) same ∙ ap (λ x. x.state) (sym begins)) refl (record {
       frames = lent.frame ∷ [];
-      exchange = begins ∙ ap (λ x. held_as asked x.state Registering old.reply (lent.frame ∷ [])) (sym same);
+      exchange = begins ∙ ap (λ x. exchange_as asked x.state Registering old.reply (lent.frame ∷ [])) (sym same);
       written = subst (Appends old.written after) (sym (append-nil (frame lent.frame))) wrote;
     })
 
@@ -351,8 +351,8 @@ pub start_broken : (asked : Asked) (old : Ends) (client : ClientState) (after : 
     → FailsWithin old.written after bytes fault
     → Come asked old (record old { client = client; written = after }) (Err fault)
 start_broken asked old client after lent bytes fault made whole is between fails =
-    let begins : begins_at asked old ≡ held_as asked lent.state Registering old.reply (lent.frame ∷ [])
-    = ap (λ l. says (unbegun asked old) Registering (lends_plainly l)) made in
+    let begins : begins_at asked old ≡ exchange_as asked lent.state Registering old.reply (lent.frame ∷ [])
+    = ap (λ l. sends_lent (unbegun asked old) Registering (lends_call l)) made in
     let same : client ≡ with_state old.client lent.state = is ∙ ap (λ l. with_state old.client (after_lending old.client.state l)) made in
     subst (λ f. Come asked old (record old { client = client; written = after }) (Err f)) (sym fails.fault_is)
     (started asked old (record old { client = client; written = after }) (Err ask_faults.Write)
@@ -360,8 +360,8 @@ start_broken asked old client after lent bytes fault made whole is between fails
     (ap (λ x. x.state) same ∙ ap (λ x. x.state) (sym begins)) refl (record {
       whole = [];
       last = lent.frame;
-      stand = Registering;
-      exchange = begins ∙ ap (λ x. held_as asked x.state Registering old.reply (lent.frame ∷ [])) (sym same);
+      ask_phase = Registering;
+      exchange = begins ∙ ap (λ x. exchange_as asked x.state Registering old.reply (lent.frame ∷ [])) (sym same);
       front = fails.front;
       not_all = subst (λ b. fails.front < length b) whole fails.not_all;
       written = subst (λ b. Appends old.written after (take fails.front b)) whole fails.written;

@@ -23,8 +23,8 @@ use Rattle.enip_client.specs.Calls.{Lent, refusal, unless, submits, after_lendin
 use Rattle.enip_client.specs.Calls.{can_register, can_open, can_ask, can_submit, can_close, is_connected}
 use Rattle.enip_client.specs.Calls.{submits_unless, submitted, asking, item_sent}
 use Rattle.enip_client.specs.Client.{ClientState, new_client, fed}
-use Rattle.enip_client.specs.Hears.{News, Turned, accepted}
-use Rattle.enip_client.specs.Hears.News.{Nothing, Registered, Opened, Replied, Accepted, Closed}
+use Rattle.enip_client.specs.Hears.{HeardEvent, TurnResult, accepted}
+use Rattle.enip_client.specs.Hears.HeardEvent.{Nothing, Registered, Opened, Replied, Accepted, Closed}
 use Rattle.enip_client.specs.Runs.{Action, Call, Event, Act, Feed, Acted, Framed, Long, after_action, frame_lent}
 use Rattle.enip_client.specs.Runs.{after_call, lent_in}
 use Rattle.enip_client.specs.Runs.{after_calls, frame_before, after_event, after_events, events_of_calls, IsReplyTo}
@@ -70,7 +70,7 @@ taken-by : (s : State) (request : List ℕ) (o : Option Refused)
 taken-by s request None = refl
 taken-by s request (Some why) = refl
 
-allows : (s : State) (request : List ℕ) → (o : Option ClientFault) → s.fault ≡ o → (b : Bool) → is_open s.link ≡ b
+allows : (s : State) (request : List ℕ) → (o : Option ClientFault) → s.fault ≡ o → (b : Bool) → is_open s.connection_state ≡ b
     → (after_lending s (submits s request)).originator
     ≡ stepped s.originator (call_where_connected s (originators.Submit request))
 allows s request (Some fault) e b d = submits-by s request (Some fault) false (rw e refl) (rw e refl) refl
@@ -96,17 +96,17 @@ originator-action s Open = kept s (refusal s (can_open s)) (Ok _) refl
 originator-action s (Unconnected request) =
     kept s (refusal s (can_ask s)) _
     (asked-kept s (is_unconnected request) (asking s (awaited.Reply (slice_index request 0)) request) refl)
-originator-action s (Submit request) = allows s request s.fault refl (is_open s.link) refl
+originator-action s (Submit request) = allows s request s.fault refl (is_open s.connection_state) refl
 originator-action s Resend = resent s (is_connected s)
 originator-action s GiveUp = gives s (is_connected s)
 originator-action s Close = kept s (refusal s (can_close s)) (Ok _) refl
 originator-action s Unregister = kept s (refusal s (can_ask s)) (Ok _) refl
 
-originator-turn : {s : State} {o : Option (List ℕ)} {t : Turned} → IsTurn s o t
+originator-turn : {s : State} {o : Option (List ℕ)} {t : TurnResult} → IsTurn s o t
     → t.state.originator ≡ stepped s.originator (call_of_item o)
 originator-turn Ignores = refl
 originator-turn (Fails fault) = refl
-originator-turn (Answers w registration link news is to) = refl
+originator-turn (Answers w registration connection_state heard_event is to) = refl
 originator-turn (Receives item) = refl
 
 originator-event : (s : State) (e : Event) → (after_event s e).originator ≡ stepped s.originator (call_of_event s e)
@@ -142,15 +142,15 @@ next-item originator item = go (is_reply originator.t_to_o_size originator.phase
     go true = refl
     go false = refl
 
-next-turn : {s : State} {o : Option (List ℕ)} {t : Turned} → IsTurn s o t → t.state.originator.next ≡ s.originator.next
+next-turn : {s : State} {o : Option (List ℕ)} {t : TurnResult} → IsTurn s o t → t.state.originator.next ≡ s.originator.next
 next-turn Ignores = refl
 next-turn (Fails fault) = refl
-next-turn (Answers w registration link news is to) = refl
+next-turn (Answers w registration connection_state heard_event is to) = refl
 next-turn {s} (Receives item) = next-item s.originator item
 
 next-piece : (c : ClientState) (piece : List ℕ) → (fed c piece).client.state.originator.next ≡ c.state.originator.next
 next-piece c piece =
-    by-turns (λ s news. s.originator.next ≡ c.state.originator.next) c piece refl (λ f. next-turn (is-turn c.state f))
+    by-turns (λ s heard_event. s.originator.next ≡ c.state.originator.next) c piece refl (λ f. next-turn (is-turn c.state f))
     (λ fault. refl)
 
 next-give_up : (originator : OriginatorState) → (after_give_up originator).next ≡ originator.next
@@ -200,9 +200,9 @@ items-submit n s t request lent later Not_sent is rest = rest n is
 items-submit n s t request lent later (Sent free) is rest = (
   (
     session_in s.registration,
-    o_to_t_id_in s.link,
+    o_to_t_id_in s.connection_state,
     request,
-    ap (λ count. item_frame (session_in s.registration) (o_to_t_id_in s.link) (item count request)) is,
+    ap (λ count. item_frame (session_in s.registration) (o_to_t_id_in s.connection_state) (item count request)) is,
   ),
   rest (n + 1) (ap (λ k. (k + 1) % 65536) is ∙ omega arith),
 )
@@ -239,20 +239,20 @@ Once Idle more = RepliedOnce more
 Once (Waiting count request) more = RepliedOnce (Requested request ∷ more)
 Once GivenUp more = RepliedOnce more
 
-submit-once : (size tries : ℕ) (request : List ℕ) (later : List Exchange) (p : Phase)
-    → first_refusal tries (is_waiting p) (form_refusal size request) ≡ None
+submit-once : (size unaccepted : ℕ) (request : List ℕ) (later : List Exchange) (p : Phase)
+    → first_refusal unaccepted (is_waiting p) (form_refusal size request) ≡ None
     → RepliedOnce (Requested request ∷ later) → Once p (Requested request ∷ later)
-submit-once size tries request later Idle free once = once
-submit-once size tries request later (Waiting count waiting) free once =
-    absurd (let no : true ≡ false = (first_refusal-none tries true (form_refusal size request) free).free in cc)
-submit-once size tries request later GivenUp free once = once
+submit-once size unaccepted request later Idle free once = once
+submit-once size unaccepted request later (Waiting count waiting) free once =
+    absurd (let no : true ≡ false = (first_refusal-none unaccepted true (form_refusal size request) free).free in cc)
+submit-once size unaccepted request later GivenUp free once = once
 
 submitted-once : (s t : State) (request : List ℕ) (lent : Option Frame) (later : List Exchange)
     → IsSubmit s request lent t
     → Once t.originator.phase later → Once s.originator.phase (requested_before lent request later)
 submitted-once s t request lent later Not_sent once = once
 submitted-once s t request lent later (Sent free) once =
-    submit-once s.originator.o_to_t_size s.originator.tries request later s.originator.phase free once
+    submit-once s.originator.o_to_t_size s.originator.unaccepted request later s.originator.phase free once
 
 requested-before : (request : List ℕ) (later : List Exchange) → RepliedOnce later
     → RepliedOnce (Requested request ∷ later)
@@ -261,20 +261,20 @@ requested-before request (Requested next ∷ later) once = once
 requested-before request (Heard reply ∷ later) once = absurd once
 
 abbrev state : ℕ → ℕ → ℕ → ℕ → Phase → OriginatorState
-state o_to_t_size t_to_o_size next tries phase =
-    record { o_to_t_size = o_to_t_size; t_to_o_size = t_to_o_size; next = next; phase = phase; tries = tries }
+state o_to_t_size t_to_o_size next unaccepted phase =
+    record { o_to_t_size = o_to_t_size; t_to_o_size = t_to_o_size; next = next; phase = phase; unaccepted = unaccepted }
 
-give-once : (o_to_t_size t_to_o_size next tries : ℕ) (p : Phase) (later : List Exchange)
-    → Once (after_give_up (state o_to_t_size t_to_o_size next tries p)).phase later → Once p later
-give-once o_to_t_size t_to_o_size next tries Idle later once = once
-give-once o_to_t_size t_to_o_size next tries (Waiting count request) later once = requested-before request later once
-give-once o_to_t_size t_to_o_size next tries GivenUp later once = once
+give-once : (o_to_t_size t_to_o_size next unaccepted : ℕ) (p : Phase) (later : List Exchange)
+    → Once (after_give_up (state o_to_t_size t_to_o_size next unaccepted p)).phase later → Once p later
+give-once o_to_t_size t_to_o_size next unaccepted Idle later once = once
+give-once o_to_t_size t_to_o_size next unaccepted (Waiting count request) later once = requested-before request later once
+give-once o_to_t_size t_to_o_size next unaccepted GivenUp later once = once
 
 gives-once : (s : State) (b : Bool) (later : List Exchange)
     → Once (let t : State = cond b (record s { originator = after_give_up s.originator }) s in t).originator.phase later
     → Once s.originator.phase later
 gives-once s true later once =
-    give-once s.originator.o_to_t_size s.originator.t_to_o_size s.originator.next s.originator.tries s.originator.phase later once
+    give-once s.originator.o_to_t_size s.originator.t_to_o_size s.originator.next s.originator.unaccepted s.originator.phase later once
 gives-once s false later once = once
 
 -- An accepted reply's service is behind its count.
@@ -283,24 +283,24 @@ service-after [] = refl
 service-after (x ∷ []) = refl
 service-after (x ∷ y ∷ bytes) = refl
 
-item-once : (o_to_t_size t_to_o_size next tries : ℕ) (p : Phase) (bytes : List ℕ) (later : List Exchange)
-    → Once (after_item (state o_to_t_size t_to_o_size next tries p) bytes).phase later
-    → Once p (heard_before (accepted (accepted_reply (state o_to_t_size t_to_o_size next tries p) bytes)) later)
-item-once o_to_t_size t_to_o_size next tries Idle bytes later once = once
-item-once o_to_t_size t_to_o_size next tries GivenUp bytes later once = once
-item-once o_to_t_size t_to_o_size next tries (Waiting count request) bytes later once =
+item-once : (o_to_t_size t_to_o_size next unaccepted : ℕ) (p : Phase) (bytes : List ℕ) (later : List Exchange)
+    → Once (after_item (state o_to_t_size t_to_o_size next unaccepted p) bytes).phase later
+    → Once p (heard_before (accepted (accepted_reply (state o_to_t_size t_to_o_size next unaccepted p) bytes)) later)
+item-once o_to_t_size t_to_o_size next unaccepted Idle bytes later once = once
+item-once o_to_t_size t_to_o_size next unaccepted GivenUp bytes later once = once
+item-once o_to_t_size t_to_o_size next unaccepted (Waiting count request) bytes later once =
     go (answers t_to_o_size count (slice_index request 0) bytes) refl once
   where
     go : (b : Bool) → answers t_to_o_size count (slice_index request 0) bytes ≡ b
         → Once (let o : OriginatorState = cond b
-        (idle_again (state o_to_t_size t_to_o_size next tries (Waiting count request)))
-        (state o_to_t_size t_to_o_size next tries (Waiting count request)) in o).phase later
+        (idle_again (state o_to_t_size t_to_o_size next unaccepted (Waiting count request)))
+        (state o_to_t_size t_to_o_size next unaccepted (Waiting count request)) in o).phase later
         → RepliedOnce (Requested request ∷ heard_before (accepted (cond b (Some (message_of bytes)) None)) later)
     go true is once = (service-after bytes ∙ eqb-true _ _ ((and_parts _ _ is).1), once)
     go false is once = once
 
 -- Other replies are not the connection's.
-unheard : (what : Awaited) (news : News) (later : List Exchange) → IsReplyTo what news → heard_before news later ≡ later
+unheard : (what : Awaited) (heard_event : HeardEvent) (later : List Exchange) → IsReplyTo what heard_event → heard_before heard_event later ≡ later
 unheard what Nothing later to = refl
 unheard what Registered later to = refl
 unheard what Opened later to = refl
@@ -309,17 +309,17 @@ unheard awaited.Session (Accepted bytes) later to = absurd to
 unheard awaited.Connection (Accepted bytes) later to = absurd to
 unheard (awaited.Reply service) (Accepted bytes) later to = absurd to
 unheard awaited.End (Accepted bytes) later to = absurd to
-unheard what (News.Refused status extended) later to = refl
+unheard what (HeardEvent.Refused status extended) later to = refl
 unheard what Closed later to = refl
 
-turn-once : {s : State} {o : Option (List ℕ)} {t : Turned} → IsTurn s o t → (later : List Exchange)
-    → Once t.state.originator.phase later → Once s.originator.phase (heard_before t.news later)
+turn-once : {s : State} {o : Option (List ℕ)} {t : TurnResult} → IsTurn s o t → (later : List Exchange)
+    → Once t.state.originator.phase later → Once s.originator.phase (heard_before t.heard_event later)
 turn-once Ignores later once = once
 turn-once (Fails fault) later once = once
-turn-once {s} (Answers w registration link news is to) later once =
-    subst (Once s.originator.phase) (sym (unheard w.awaited news later to)) once
+turn-once {s} (Answers w registration connection_state heard_event is to) later once =
+    subst (Once s.originator.phase) (sym (unheard w.awaited heard_event later to)) once
 turn-once {s} (Receives bytes) later once =
-    item-once s.originator.o_to_t_size s.originator.t_to_o_size s.originator.next s.originator.tries s.originator.phase bytes
+    item-once s.originator.o_to_t_size s.originator.t_to_o_size s.originator.next s.originator.unaccepted s.originator.phase bytes
     later once
 
 kept-once : (s t : State) (later : List Exchange) → t.originator ≡ s.originator → Once t.originator.phase later
@@ -355,8 +355,8 @@ replied-from (Act Unregister ∷ calls) c =
     kept-once c.state (after_action c.state Unregister) _ (originator-action c.state Unregister)
     (replied-from calls (after_call c (Act Unregister)))
 replied-from (Feed piece ∷ calls) c =
-    by-turns (λ s news. (later : List Exchange) → Once s.originator.phase later
-    → Once c.state.originator.phase (heard_before news later)) c piece
+    by-turns (λ s heard_event. (later : List Exchange) → Once s.originator.phase later
+    → Once c.state.originator.phase (heard_before heard_event later)) c piece
     (λ later once. once) (λ f. turn-once (is-turn c.state f)) (λ fault later once. once)
     (exchanges (after_call c (Feed piece)) calls) (replied-from calls (after_call c (Feed piece)))
 

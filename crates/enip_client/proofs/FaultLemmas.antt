@@ -8,10 +8,10 @@ use Rattle.enip_client.specs.Calls.{resends, gives_up}
 use Rattle.enip_client.specs.Calls.{submits_unless, is_connected, after_lending, can_register, can_open, can_ask}
 use Rattle.enip_client.specs.Calls.{can_submit, can_close}
 use Rattle.enip_client.specs.Client.{ClientState, Fed, fed, fed_unless, with_state}
-use Rattle.enip_client.specs.Hears.News.{Nothing}
+use Rattle.enip_client.specs.Hears.HeardEvent.{Nothing}
 use Rattle.enip_client.specs.Runs.{Action, Call, Act, Feed, after_action, frame_lent, after_call, lent_by_call}
-use Rattle.enip_client.specs.Runs.{news_of_call}
-use Rattle.enip_client.specs.Runs.{after_calls, frames_lent, news_of_calls, frame_before, news_before, lent_in}
+use Rattle.enip_client.specs.Runs.{heard_events_of_call}
+use Rattle.enip_client.specs.Runs.{after_calls, frames_lent, heard_events_of_calls, frame_before, heard_events_before, lent_in}
 use Rattle.enip_client.specs.Runs.Action.{Register, Open, Unconnected, Submit, Resend, GiveUp, Close, Unregister}
 
 module _ (s : State) (fault : ClientFault) (lasts : s.fault ≡ Some fault) where
@@ -72,7 +72,7 @@ module _ (s : State) (fault : ClientFault) (lasts : s.fault ≡ Some fault) wher
   action-none Unregister = ap lent_in unregister-fault
 
 pub fed-fault : (c : ClientState) (fault : ClientFault) (piece : List ℕ) → c.state.fault ≡ Some fault
-    → fed c piece ≡ record { client = c; taken = 0; news = Nothing }
+    → fed c piece ≡ record { client = c; taken = 0; heard_event = Nothing }
 fed-fault c fault piece lasts = ap (fed_unless c piece) lasts
 
 call-same : (c : ClientState) (fault : ClientFault) (call : Call) → c.state.fault ≡ Some fault → after_call c call ≡ c
@@ -85,9 +85,9 @@ call-none c fault (Act a) lasts = action-none c.state fault lasts a
 call-none c fault (Feed piece) lasts = refl
 
 call-nothing : (c : ClientState) (fault : ClientFault) (call : Call) → c.state.fault ≡ Some fault
-    → news_of_call c call ≡ Nothing
+    → heard_events_of_call c call ≡ Nothing
 call-nothing c fault (Act a) lasts = refl
-call-nothing c fault (Feed piece) lasts = ap (λ (f : Fed). f.news) (fed-fault c fault piece lasts)
+call-nothing c fault (Feed piece) lasts = ap (λ (f : Fed). f.heard_event) (fed-fault c fault piece lasts)
 
 pub same-client : (c : ClientState) (fault : ClientFault) (calls : List Call) → c.state.fault ≡ Some fault
     → after_calls c calls ≡ c
@@ -103,11 +103,11 @@ none-lent c fault (call ∷ calls) lasts =
     ∙ (ap (λ d. frames_lent d calls) (call-same c fault call lasts) ∙ none-lent c fault calls lasts)
 
 pub none-heard : (c : ClientState) (fault : ClientFault) (calls : List Call) → c.state.fault ≡ Some fault
-    → news_of_calls c calls ≡ []
+    → heard_events_of_calls c calls ≡ []
 none-heard c fault [] lasts = refl
 none-heard c fault (call ∷ calls) lasts =
-    ap (λ n. news_before n (news_of_calls (after_call c call) calls)) (call-nothing c fault call lasts)
-    ∙ (ap (λ d. news_of_calls d calls) (call-same c fault call lasts) ∙ none-heard c fault calls lasts)
+    ap (λ n. heard_events_before n (heard_events_of_calls (after_call c call) calls)) (call-nothing c fault call lasts)
+    ∙ (ap (λ d. heard_events_of_calls d calls) (call-same c fault call lasts) ∙ none-heard c fault calls lasts)
 
 pub none-taken : (c : ClientState) (fault : ClientFault) (piece : List ℕ) → c.state.fault ≡ Some fault
     → (fed c piece).taken ≡ 0

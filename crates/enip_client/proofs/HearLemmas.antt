@@ -10,19 +10,19 @@ use Rattle.enip_wire.specs.Frames.{Frame, frame}
 use Rattle.enip_wire.specs.Bodies.{unit_body_of}
 use Rattle.enip_client.specs.declared.hearing.Found.TheVariants as founds
 use Rattle.enip_client.specs.declared.state.State.{State}
-use Rattle.enip_client.specs.Client.{StandsAt, IsHeard}
+use Rattle.enip_client.specs.Client.{LiesAt, IsHeard}
 use Rattle.enip_client.specs.Hears.{Answer, answered, reply_turn, is_for_connection, other_turn}
-use Rattle.enip_client.specs.Hears.News.{Replied, Accepted}
+use Rattle.enip_client.specs.Hears.HeardEvent.{Replied, Accepted}
 use Rattle.enip_client.proofs.PlaceLemmas.{frame_place}
 
 pub reply_heard : (s : State) (f : Frame) (a : Answer) (found : Option Answer) → found ≡ Some a
-    → StandsAt 16 a.bytes f.body
+    → LiesAt 16 a.bytes f.body
     → length f.header.context ≡ 8 → IsHeard f (answered s) (founds.Reply 40 (40 + length a.bytes)) (reply_turn s found)
 reply_heard s f a found is at eight =
-    let p : StandsAt 40 a.bytes (frame f) = frame_place f 16 a.bytes eight at in
+    let p : LiesAt 40 a.bytes (frame f) = frame_place f 16 a.bytes eight at in
     subst (λ x. IsHeard f (answered s) (founds.Reply 40 (40 + length a.bytes)) (reply_turn s x)) (sym is) (record {
       state = refl;
-      news = ap Replied p.1;
+      heard_event = ap Replied p.1;
       within = (omega arith, p.0);
     })
 
@@ -44,8 +44,8 @@ accepted_long o item reply is =
     (reply_long o.t_to_o_size o.phase item by.0, by.1)
 
 -- the bytes behind the first two
-pub second : (place : ℕ) (item rest text : List ℕ) → StandsAt place item text → 2 ≤ length item → rest ≡ drop 2 item
-    → StandsAt (place + 2) rest text
+pub second : (place : ℕ) (item rest text : List ℕ) → LiesAt place item text → 2 ≤ length item → rest ≡ drop 2 item
+    → LiesAt (place + 2) rest text
 second place [] rest text at two is = absurd (omega (arith, two))
 second place (x ∷ []) rest text at two is = absurd (omega (arith, two))
 second place (x ∷ y ∷ more) rest text at two is =
@@ -59,15 +59,15 @@ second place (x ∷ y ∷ more) rest text at two is =
 pub item_heard : (s : State) (f : Frame) (id : ℕ) (item reply : List ℕ) → is_for_connection s f.header ≡ true
     → unit_body_of f.body ≡ Ok (id, item) → (id == s.wants.t_to_o_id) ≡ true
     → accepted_reply s.originator item ≡ Some reply
-    → StandsAt 20 item f.body → length f.header.context ≡ 8
+    → LiesAt 20 item f.body → length f.header.context ≡ 8
     → IsHeard f (record s { originator = after_item s.originator item }) (founds.Accepted 46 (46 + length reply))
     (other_turn s f)
 item_heard s f id item reply for is same came at eight =
     let long : (6 ≤ length item) × (reply ≡ message_of item) = accepted_long s.originator item reply came in
-    let p : StandsAt 46 reply (frame f)
+    let p : LiesAt 46 reply (frame f)
     = frame_place f 22 reply eight (second 20 item reply f.body at (omega (arith, long.0)) long.1) in
     rw (for, is, same, came) (record {
       state = refl;
-      news = ap Accepted p.1;
+      heard_event = ap Accepted p.1;
       within = (omega arith, p.0);
     })

@@ -11,13 +11,13 @@ use Rattle.cip_bytes.proofs.Bytes.{AreBytes-second, AreBytes-take}
 use Rattle.enip_wire.specs.Frames.{Frame, frame, IsFrame}
 use Rattle.enip_wire.specs.Headers.{header_spelling}
 use Rattle.enip_wire.specs.Items.{Item, item, items_of}
-use Rattle.enip_wire.specs.Stream.{Sight, sight_of}
-use Rattle.enip_wire.specs.Stream.Sight.{Nothing_yet, A_frame, A_long_header}
+use Rattle.enip_wire.specs.Stream.{Parsed, parsed}
+use Rattle.enip_wire.specs.Stream.Parsed.{Incomplete, WholeFrame, TooLongHeader}
 use Rattle.enip_wire.specs.declared.item_list.CpfFault.{CpfFault}
 use Rattle.enip_wire.proofs.ItemLemmas.{items_iff}
 use Rattle.enip_wire.proofs.WriteLemmas.{items_again}
-use Rattle.enip_wire.proofs.SightLemmas.{seen-frame}
-use Rattle.enip_wire.proofs.PieceLemmas.{sight_of-written}
+use Rattle.enip_wire.proofs.ParsedLemmas.{seen-frame}
+use Rattle.enip_wire.proofs.PieceLemmas.{parsed-written}
 use Rattle.enip_client.specs.declared.fault.ClientFault.{ClientFault}
 use Rattle.enip_client.specs.declared.fault.ClientFault.TheVariants as faults
 use Rattle.enip_client.specs.declared.lists.ListCommand.{ListCommand}
@@ -144,11 +144,11 @@ frame_taken command bytes f entries fits is spelled e =
       lists = subst (λ (es : List Entry). Lists command found.0 es) found.3 (sound_lists command found.0 flat found.2);
     }
 
-answer_taken : (command : ListCommand) (bytes : List ℕ) (sight : Sight) (entries : List Entry) → AreBytes bytes → sight_of bytes ≡ sight → answer_in command sight ≡ Ok entries
+answer_taken : (command : ListCommand) (bytes : List ℕ) (parsed_frame : Parsed) (entries : List Entry) → AreBytes bytes → parsed bytes ≡ parsed_frame → answer_in command parsed_frame ≡ Ok entries
     → IsAnswer command bytes entries
-answer_taken command bytes Nothing_yet entries fits is e = absurd cc
-answer_taken command bytes (A_long_header h) entries fits is e = absurd cc
-answer_taken command bytes (A_frame f) entries fits is e =
+answer_taken command bytes Incomplete entries fits is e = absurd cc
+answer_taken command bytes (TooLongHeader h) entries fits is e = absurd cc
+answer_taken command bytes (WholeFrame f) entries fits is e =
     let seen = seen-frame bytes f fits is in
     frame_taken command bytes f entries fits seen.0 seen.1 e
 
@@ -165,14 +165,14 @@ frame_again command bytes entries h =
     ∙ ap (λ (t : Bool). if t then Ok (entries_in command h.items_in) else Err faults.Malformed) l.0
     ∙ ap (λ (es : List Entry). Ok es) l.1
 
-answer_again : (command : ListCommand) (bytes : List ℕ) (entries : List Entry) → IsAnswer command bytes entries → answer_in command (sight_of bytes) ≡ Ok entries
+answer_again : (command : ListCommand) (bytes : List ℕ) (entries : List Entry) → IsAnswer command bytes entries → answer_in command (parsed bytes) ≡ Ok entries
 answer_again command bytes entries h =
-    ap (λ (b : List ℕ). answer_in command (sight_of b)) h.spelled
-    ∙ ap (answer_in command) (sight_of-written h.answer h.is_frame)
+    ap (λ (b : List ℕ). answer_in command (parsed b)) h.spelled
+    ∙ ap (answer_in command) (parsed-written h.answer h.is_frame)
     ∙ frame_again command bytes entries h
 
 -- of what a reader returned
-pub reads_list : (command : ListCommand) (bytes : List ℕ) (r : Result (List Entry) ClientFault) → AreBytes bytes → r ≡ answer_in command (sight_of bytes) → (entries : List Entry)
+pub reads_list : (command : ListCommand) (bytes : List ℕ) (r : Result (List Entry) ClientFault) → AreBytes bytes → r ≡ answer_in command (parsed bytes) → (entries : List Entry)
     → (r ≡ Ok entries) ↔ IsAnswer command bytes entries
 reads_list command bytes r fits e entries =
-    ((λ h. answer_taken command bytes (sight_of bytes) entries fits refl (sym e ∙ h)), (λ h. e ∙ answer_again command bytes entries h))
+    ((λ h. answer_taken command bytes (parsed bytes) entries fits refl (sym e ∙ h)), (λ h. e ∙ answer_again command bytes entries h))

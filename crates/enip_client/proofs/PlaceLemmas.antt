@@ -10,10 +10,10 @@ use Rattle.enip_wire.specs.Items.{item}
 use Rattle.enip_wire.specs.Bodies.{IsRrBody, IsUnitBody, null_address, unconnected_data, connected_address}
 use Rattle.enip_wire.specs.Bodies.{connected_data}
 use Rattle.enip_wire.proofs.HeaderLemmas.{length-header_spelling}
-use Rattle.enip_client.specs.Client.{StandsAt}
+use Rattle.enip_client.specs.Client.{LiesAt}
 
 -- behind these stand those
-behind : (front bytes rest : List ℕ) → StandsAt (length front) bytes (front ++ (bytes ++ rest))
+behind : (front bytes rest : List ℕ) → LiesAt (length front) bytes (front ++ (bytes ++ rest))
 behind front bytes rest = (
   omega (arith, length-append front (bytes ++ rest), length-append bytes rest),
   ap (λ n. take n (drop (length front) (front ++ (bytes ++ rest)))) (omega arith)
@@ -21,32 +21,32 @@ behind front bytes rest = (
 )
 
 -- what stands at a place of a text stands as much further where others come before it
-further : (place : ℕ) (front bytes text : List ℕ) → StandsAt place bytes text
-    → StandsAt (length front + place) bytes (front ++ text)
+further : (place : ℕ) (front bytes text : List ℕ) → LiesAt place bytes text
+    → LiesAt (length front + place) bytes (front ++ text)
 further place front bytes text at = (
   omega (arith, at.0, length-append front text),
   ap (λ n. take n (drop (length front + place) (front ++ text))) (omega arith)
       ∙ ap (take ((place + length bytes) - place)) (drop-append-add front text place) ∙ at.1,
 )
 
-pub rr_place : (text bytes : List ℕ) → IsRrBody text bytes → StandsAt 16 bytes text
+pub rr_place : (text bytes : List ℕ) → IsRrBody text bytes → LiesAt 16 bytes text
 rr_place text bytes b =
-    subst (StandsAt 16 bytes) (sym b.body.opens.spelled)
+    subst (LiesAt 16 bytes) (sym b.body.opens.spelled)
     (behind (le 4 0 ++ le 2 b.body.opens.timeout ++ le 2
     (length (null_address ∷ unconnected_data bytes ∷ b.further)) ++ le 2 0 ++ le 2 0
     ++ le 2 0xb2 ++ le 2 (length bytes))
     bytes (flat_map item b.further))
 
-pub unit_place : (text bytes : List ℕ) (id : ℕ) → IsUnitBody text id bytes → StandsAt 20 bytes text
+pub unit_place : (text bytes : List ℕ) (id : ℕ) → IsUnitBody text id bytes → LiesAt 20 bytes text
 unit_place text bytes id b =
-    subst (StandsAt 20 bytes) (sym b.body.opens.spelled)
+    subst (LiesAt 20 bytes) (sym b.body.opens.spelled)
     (behind (le 4 0 ++ le 2 b.body.opens.timeout ++ le 2
     (length (connected_address id ∷ connected_data bytes ∷ b.further))
     ++ le 2 0xa1 ++ le 2 4 ++ le 4 id ++ le 2 0xb1 ++ le 2 (length bytes))
     bytes (flat_map item b.further))
 
-pub frame_place : (f : Frame) (place : ℕ) (bytes : List ℕ) → length f.header.context ≡ 8 → StandsAt place bytes f.body
-    → StandsAt (24 + place) bytes (frame f)
+pub frame_place : (f : Frame) (place : ℕ) (bytes : List ℕ) → length f.header.context ≡ 8 → LiesAt place bytes f.body
+    → LiesAt (24 + place) bytes (frame f)
 frame_place f place bytes eight at =
-    subst (λ n. StandsAt (n + place) bytes (frame f)) (length-header_spelling f.header eight)
+    subst (λ n. LiesAt (n + place) bytes (frame f)) (length-header_spelling f.header eight)
     (further place (header_spelling f.header) bytes f.body at)

@@ -3,8 +3,8 @@ use Rattle.std.proofs.Common.{◌≡◌, ℕ, ◌+◌, ◌%◌, ◌^◌, Option,
 use Rattle.std.proofs.Common.{◌∙◌, arith}
 use Rattle.cip_bytes.specs.Numbers.{le}
 use Rattle.enip_wire.specs.Frames.{Frame}
-use Rattle.enip_wire.specs.Stream.{Sight, joined_of, sight_of}
-use Rattle.enip_wire.specs.Stream.Sight.{Nothing_yet, A_frame, A_long_header}
+use Rattle.enip_wire.specs.Stream.{Parsed, held_and_taken, parsed}
+use Rattle.enip_wire.specs.Stream.Parsed.{Incomplete, WholeFrame, TooLongHeader}
 use Rattle.enip_client.specs.declared.fault.ClientFault.{ClientFault}
 use Rattle.enip_client.specs.declared.fault.ClientFault.TheVariants as faults
 use Rattle.enip_client.specs.declared.state.Awaited.{Awaited}
@@ -14,16 +14,16 @@ use Rattle.enip_client.specs.declared.state.State.{State}
 use Rattle.enip_client.specs.declared.wants.Wants.{Wants}
 use Rattle.enip_client.specs.Calls.{next_number}
 use Rattle.enip_client.specs.Client.{ClientState, new_client, fed, fed_unless}
-use Rattle.enip_client.specs.Hears.{News, Turned, hears, hears_sight, faulted}
-use Rattle.enip_client.specs.Hears.News.{Nothing, Registered, Opened, Replied, Accepted, Refused, Closed}
+use Rattle.enip_client.specs.Hears.{HeardEvent, TurnResult, hears, hears_parsed, faulted}
+use Rattle.enip_client.specs.Hears.HeardEvent.{Nothing, Registered, Opened, Replied, Accepted, Refused, Closed}
 use Rattle.cip_class3.specs.OriginatorRule.{accepted_reply}
 use Rattle.enip_client.specs.Hears.{accepted}
 use Rattle.enip_client.specs.Runs.{Call, Event, Act, Feed, after_action, frame_lent, after_call}
-use Rattle.enip_client.specs.Runs.{lent_by_call, news_of_call, after_calls, frame_before, frames_lent, news_before}
-use Rattle.enip_client.specs.Runs.{news_of_calls}
-use Rattle.enip_client.specs.Runs.{after_event, lent_by_event, news_of_event, after_events, lent_by_events}
-use Rattle.enip_client.specs.Runs.{news_of_events}
-use Rattle.enip_client.specs.Runs.{events_of_sight, events_of_piece, events_of_call, events_of_calls}
+use Rattle.enip_client.specs.Runs.{lent_by_call, heard_events_of_call, after_calls, frame_before, frames_lent, heard_events_before}
+use Rattle.enip_client.specs.Runs.{heard_events_of_calls}
+use Rattle.enip_client.specs.Runs.{after_event, lent_by_event, heard_events_of_event, after_events, lent_by_events}
+use Rattle.enip_client.specs.Runs.{heard_events_of_events}
+use Rattle.enip_client.specs.Runs.{events_of_parsed, events_of_piece, events_of_call, events_of_calls}
 use Rattle.enip_client.specs.Runs.{awaited_by, context_before, contexts_lent, CountFrom}
 use Rattle.enip_client.specs.Runs.{Seen, Asked, asked_before, answered_before, seen_of_calls, IsReplyTo, AnsweredOnce}
 use Rattle.enip_client.proofs.TurnLemmas.{IsTurn, Ignores, Fails, Answers, Receives, is-turn}
@@ -45,52 +45,52 @@ lent-append s (x ∷ xs) ys =
     ap (frame_before (lent_by_event s x)) (lent-append (after_event s x) xs ys)
     ∙ frame-more (lent_by_event s x) (lent_by_events (after_event s x) xs) _
 
-pub news-more : (news : News) (xs ys : List News) → news_before news (xs ++ ys) ≡ news_before news xs ++ ys
-news-more Nothing xs ys = refl
-news-more Registered xs ys = refl
-news-more Opened xs ys = refl
-news-more (Replied bytes) xs ys = refl
-news-more (Accepted bytes) xs ys = refl
-news-more (Refused status extended) xs ys = refl
-news-more Closed xs ys = refl
+pub heard_event-more : (heard_event : HeardEvent) (xs ys : List HeardEvent) → heard_events_before heard_event (xs ++ ys) ≡ heard_events_before heard_event xs ++ ys
+heard_event-more Nothing xs ys = refl
+heard_event-more Registered xs ys = refl
+heard_event-more Opened xs ys = refl
+heard_event-more (Replied bytes) xs ys = refl
+heard_event-more (Accepted bytes) xs ys = refl
+heard_event-more (Refused status extended) xs ys = refl
+heard_event-more Closed xs ys = refl
 
-news-append : (s : State) (xs ys : List Event)
-    → news_of_events s (xs ++ ys) ≡ news_of_events s xs ++ news_of_events (after_events s xs) ys
-news-append s [] ys = refl
-news-append s (x ∷ xs) ys =
-    ap (news_before (news_of_event s x)) (news-append (after_event s x) xs ys)
-    ∙ news-more (news_of_event s x) (news_of_events (after_event s x) xs) _
+heard_event-append : (s : State) (xs ys : List Event)
+    → heard_events_of_events s (xs ++ ys) ≡ heard_events_of_events s xs ++ heard_events_of_events (after_events s xs) ys
+heard_event-append s [] ys = refl
+heard_event-append s (x ∷ xs) ys =
+    ap (heard_events_before (heard_events_of_event s x)) (heard_event-append (after_event s x) xs ys)
+    ∙ heard_event-more (heard_events_of_event s x) (heard_events_of_events (after_event s x) xs) _
 
 -- A piece is its event.
-sight-state : (s : State) (x : Sight) → (hears_sight s x).state ≡ after_events s (events_of_sight x)
-sight-state s Nothing_yet = refl
-sight-state s (A_frame f) = refl
-sight-state s (A_long_header h) = refl
+parsed_frame-state : (s : State) (x : Parsed) → (hears_parsed s x).state ≡ after_events s (events_of_parsed x)
+parsed_frame-state s Incomplete = refl
+parsed_frame-state s (WholeFrame f) = refl
+parsed_frame-state s (TooLongHeader h) = refl
 
-sight-lent : (s : State) (x : Sight) → [] ≡ lent_by_events s (events_of_sight x)
-sight-lent s Nothing_yet = refl
-sight-lent s (A_frame f) = refl
-sight-lent s (A_long_header h) = refl
+parsed_frame-lent : (s : State) (x : Parsed) → [] ≡ lent_by_events s (events_of_parsed x)
+parsed_frame-lent s Incomplete = refl
+parsed_frame-lent s (WholeFrame f) = refl
+parsed_frame-lent s (TooLongHeader h) = refl
 
-sight-news : (s : State) (x : Sight) → news_before (hears_sight s x).news [] ≡ news_of_events s (events_of_sight x)
-sight-news s Nothing_yet = refl
-sight-news s (A_frame f) = refl
-sight-news s (A_long_header h) = refl
+parsed_frame-heard_event : (s : State) (x : Parsed) → heard_events_before (hears_parsed s x).heard_event [] ≡ heard_events_of_events s (events_of_parsed x)
+parsed_frame-heard_event s Incomplete = refl
+parsed_frame-heard_event s (WholeFrame f) = refl
+parsed_frame-heard_event s (TooLongHeader h) = refl
 
 piece-state : (c : ClientState) (piece : List ℕ) (o : Option ClientFault)
     → (fed_unless c piece o).client.state ≡ after_events c.state (events_of_piece c.held piece o)
-piece-state c piece None = sight-state c.state (sight_of (joined_of c.held piece))
+piece-state c piece None = parsed_frame-state c.state (parsed (held_and_taken c.held piece))
 piece-state c piece (Some fault) = refl
 
 piece-lent : (c : ClientState) (piece : List ℕ) (o : Option ClientFault)
     → [] ≡ lent_by_events c.state (events_of_piece c.held piece o)
-piece-lent c piece None = sight-lent c.state (sight_of (joined_of c.held piece))
+piece-lent c piece None = parsed_frame-lent c.state (parsed (held_and_taken c.held piece))
 piece-lent c piece (Some fault) = refl
 
-piece-news : (c : ClientState) (piece : List ℕ) (o : Option ClientFault)
-    → news_before (fed_unless c piece o).news [] ≡ news_of_events c.state (events_of_piece c.held piece o)
-piece-news c piece None = sight-news c.state (sight_of (joined_of c.held piece))
-piece-news c piece (Some fault) = refl
+piece-heard_event : (c : ClientState) (piece : List ℕ) (o : Option ClientFault)
+    → heard_events_before (fed_unless c piece o).heard_event [] ≡ heard_events_of_events c.state (events_of_piece c.held piece o)
+piece-heard_event c piece None = parsed_frame-heard_event c.state (parsed (held_and_taken c.held piece))
+piece-heard_event c piece (Some fault) = refl
 
 call-state : (c : ClientState) (call : Call) → (after_call c call).state ≡ after_events c.state (events_of_call c call)
 call-state c (Act a) = refl
@@ -101,10 +101,10 @@ call-lent : (c : ClientState) (call : Call)
 call-lent c (Act a) = refl
 call-lent c (Feed piece) = piece-lent c piece c.state.fault
 
-call-news : (c : ClientState) (call : Call)
-    → news_before (news_of_call c call) [] ≡ news_of_events c.state (events_of_call c call)
-call-news c (Act a) = refl
-call-news c (Feed piece) = piece-news c piece c.state.fault
+call-heard_event : (c : ClientState) (call : Call)
+    → heard_events_before (heard_events_of_call c call) [] ≡ heard_events_of_events c.state (events_of_call c call)
+call-heard_event c (Act a) = refl
+call-heard_event c (Feed piece) = piece-heard_event c piece c.state.fault
 
 pub state-calls : (c : ClientState) (calls : List Call)
     → (after_calls c calls).state ≡ after_events c.state (events_of_calls c calls)
@@ -126,49 +126,49 @@ lent-calls c (call ∷ calls) =
     ∙ ap (λ s. lent_by_events s (events_of_calls (after_call c call) calls)) (call-state c call))
     ∙ sym (lent-append c.state (events_of_call c call) (events_of_calls (after_call c call) calls))))
 
-pub news-calls : (c : ClientState) (calls : List Call)
-    → news_of_calls c calls ≡ news_of_events c.state (events_of_calls c calls)
-news-calls c [] = refl
-news-calls c (call ∷ calls) =
-    news-more (news_of_call c call) [] (news_of_calls (after_call c call) calls)
-    ∙ (ap (λ fs. fs ++ news_of_calls (after_call c call) calls) (call-news c call)
-    ∙ (ap (λ fs. news_of_events c.state (events_of_call c call) ++ fs)
-    (news-calls (after_call c call) calls
-    ∙ ap (λ s. news_of_events s (events_of_calls (after_call c call) calls)) (call-state c call))
-    ∙ sym (news-append c.state (events_of_call c call) (events_of_calls (after_call c call) calls))))
+pub heard_event-calls : (c : ClientState) (calls : List Call)
+    → heard_events_of_calls c calls ≡ heard_events_of_events c.state (events_of_calls c calls)
+heard_event-calls c [] = refl
+heard_event-calls c (call ∷ calls) =
+    heard_event-more (heard_events_of_call c call) [] (heard_events_of_calls (after_call c call) calls)
+    ∙ (ap (λ fs. fs ++ heard_events_of_calls (after_call c call) calls) (call-heard_event c call)
+    ∙ (ap (λ fs. heard_events_of_events c.state (events_of_call c call) ++ fs)
+    (heard_event-calls (after_call c call) calls
+    ∙ ap (λ s. heard_events_of_events s (events_of_calls (after_call c call) calls)) (call-state c call))
+    ∙ sym (heard_event-append c.state (events_of_call c call) (events_of_calls (after_call c call) calls))))
 
 pub each-call : (c : ClientState) (call : Call)
     → ((after_call c call).state ≡ after_events c.state (events_of_call c call))
     × (frame_before (lent_by_call c call) [] ≡ lent_by_events c.state (events_of_call c call))
-    × (news_before (news_of_call c call) [] ≡ news_of_events c.state (events_of_call c call))
-each-call c call = (call-state c call, call-lent c call, call-news c call)
+    × (heard_events_before (heard_events_of_call c call) [] ≡ heard_events_of_events c.state (events_of_call c call))
+each-call c call = (call-state c call, call-lent c call, call-heard_event c call)
 
 -- What holds after each turn of a state holds after a piece.
-pub by-turns : (P : State → News → Type 0) (c : ClientState) (piece : List ℕ) → P c.state Nothing
-    → ((f : Frame) → P (hears c.state f).state (hears c.state f).news)
+pub by-turns : (P : State → HeardEvent → Type 0) (c : ClientState) (piece : List ℕ) → P c.state Nothing
+    → ((f : Frame) → P (hears c.state f).state (hears c.state f).heard_event)
     → ((fault : ClientFault) → P (faulted c.state fault).state Nothing)
-    → P (fed c piece).client.state (fed c piece).news
+    → P (fed c piece).client.state (fed c piece).heard_event
 by-turns P c piece same framed failed = go c.state.fault
   where
-    see : (x : Sight) → P (hears_sight c.state x).state (hears_sight c.state x).news
-    see Nothing_yet = same
-    see (A_frame f) = framed f
-    see (A_long_header h) = failed faults.TooLong
+    parse_frame : (x : Parsed) → P (hears_parsed c.state x).state (hears_parsed c.state x).heard_event
+    parse_frame Incomplete = same
+    parse_frame (WholeFrame f) = framed f
+    parse_frame (TooLongHeader h) = failed faults.TooLong
 
-    go : (o : Option ClientFault) → P (fed_unless c piece o).client.state (fed_unless c piece o).news
-    go None = see (sight_of (joined_of c.held piece))
+    go : (o : Option ClientFault) → P (fed_unless c piece o).client.state (fed_unless c piece o).heard_event
+    go None = parse_frame (parsed (held_and_taken c.held piece))
     go (Some fault) = same
 
 -- Contexts count.
-frames-turn : {s : State} {o : Option (List ℕ)} {t : Turned} → IsTurn s o t → t.state.frames ≡ s.frames
+frames-turn : {s : State} {o : Option (List ℕ)} {t : TurnResult} → IsTurn s o t → t.state.frames ≡ s.frames
 frames-turn Ignores = refl
 frames-turn (Fails fault) = refl
-frames-turn (Answers w registration link news is to) = refl
+frames-turn (Answers w registration connection_state heard_event is to) = refl
 frames-turn (Receives item) = refl
 
 pub frames-piece : (c : ClientState) (piece : List ℕ) → (fed c piece).client.state.frames ≡ c.state.frames
 frames-piece c piece =
-    by-turns (λ s news. s.frames ≡ c.state.frames) c piece refl (λ f. frames-turn (is-turn c.state f)) (λ fault. refl)
+    by-turns (λ s heard_event. s.frames ≡ c.state.frames) c piece refl (λ f. frames-turn (is-turn c.state f)) (λ fault. refl)
 
 context-none : (what : Option Awaited) (later : List (List ℕ)) → context_before what None later ≡ later
 context-none None later = refl
@@ -180,11 +180,11 @@ contexts-action : (n : ℕ) (later : List (List ℕ)) (s t : State) (what : Opti
     → CountFrom (n + 1) (context_before what lent later)
 contexts-action n later s t what lent Stays is rest =
     subst (CountFrom (n + 1)) (sym (context-none what later)) (rest n is)
-contexts-action n later s t what lent (Asks w f link e free numbered) is rest =
+contexts-action n later s t what lent (Asks w f connection_state e free numbered) is rest =
     let next : next_number s ≡ (n + 1) % 2 ^ 64 = ap (λ k. (k + 1) % 2 ^ 64) is ∙ omega arith in
     subst (λ o. CountFrom (n + 1) (context_before o (Some f) later)) (sym e)
     (numbered ∙ ap (le 8) next, rest (n + 1) next)
-contexts-action n later s t what lent (Sends f registration link originator e) is rest =
+contexts-action n later s t what lent (Sends f registration connection_state originator e) is rest =
     subst (λ o. CountFrom (n + 1) (context_before o lent later)) (sym e) (rest n is)
 
 count-from : (calls : List Call) (c : ClientState) (n : ℕ) → c.state.frames ≡ n % 2 ^ 64
@@ -211,14 +211,14 @@ asked-none (Some w) later = refl
 seen-action : (s t : State) (what : Option Awaited) (lent : Option Frame) (later : List Seen) → IsAction s what lent t
     → Once t.awaiting later → Once s.awaiting (asked_before what lent later)
 seen-action s t what lent later Stays once = subst (Once s.awaiting) (sym (asked-none what later)) once
-seen-action s t what lent later (Asks w f link e free numbered) once =
+seen-action s t what lent later (Asks w f connection_state e free numbered) once =
     subst (λ o. Once o (asked_before what (Some f) later)) (sym free)
     (subst (λ o. AnsweredOnce (asked_before o (Some f) later)) (sym e) once)
-seen-action s t what lent later (Sends f registration link originator e) once =
+seen-action s t what lent later (Sends f registration connection_state originator e) once =
     subst (λ o. Once s.awaiting (asked_before o lent later)) (sym e) once
 
-answer-seen : (what : Awaited) (news : News) (later : List Seen) → IsReplyTo what news → AnsweredOnce later
-    → AnsweredOnce (Asked what ∷ answered_before news later)
+answer-seen : (what : Awaited) (heard_event : HeardEvent) (later : List Seen) → IsReplyTo what heard_event → AnsweredOnce later
+    → AnsweredOnce (Asked what ∷ answered_before heard_event later)
 answer-seen awaited.Session Registered later to once = (tt, once)
 answer-seen awaited.Session Nothing later to once = absurd to
 answer-seen awaited.Session Opened later to once = absurd to
@@ -252,13 +252,13 @@ accepted-seen : (o : Option (List ℕ)) (later : List Seen) → answered_before 
 accepted-seen None later = refl
 accepted-seen (Some bytes) later = refl
 
-seen-turn : {s : State} {o : Option (List ℕ)} {t : Turned} → IsTurn s o t → (later : List Seen)
+seen-turn : {s : State} {o : Option (List ℕ)} {t : TurnResult} → IsTurn s o t → (later : List Seen)
     → Once t.state.awaiting later
-    → Once s.awaiting (answered_before t.news later)
+    → Once s.awaiting (answered_before t.heard_event later)
 seen-turn Ignores later once = once
 seen-turn (Fails fault) later once = once
-seen-turn (Answers w registration link news is to) later once =
-    subst (λ o. Once o (answered_before news later)) (sym is) (answer-seen w.awaited news later to once)
+seen-turn (Answers w registration connection_state heard_event is to) later once =
+    subst (λ o. Once o (answered_before heard_event later)) (sym is) (answer-seen w.awaited heard_event later to once)
 seen-turn {s} (Receives item) later once =
     subst (Once s.awaiting) (sym (accepted-seen (accepted_reply s.originator item) later)) once
 
@@ -272,8 +272,8 @@ once-from (Act a ∷ calls) c =
     seen-action c.state (after_action c.state a) (awaited_by a) (frame_lent c.state a)
     (seen_of_calls (after_call c (Act a)) calls) (is-action c.state a) (once-from calls (after_call c (Act a)))
 once-from (Feed piece ∷ calls) c =
-    by-turns (λ s news. (later : List Seen) → Once s.awaiting later
-    → Once c.state.awaiting (answered_before news later)) c piece
+    by-turns (λ s heard_event. (later : List Seen) → Once s.awaiting later
+    → Once c.state.awaiting (answered_before heard_event later)) c piece
     (λ later once. once) (λ f. seen-turn (is-turn c.state f)) (λ fault later once. once)
     (seen_of_calls (after_call c (Feed piece)) calls) (once-from calls (after_call c (Feed piece)))
 

@@ -5,17 +5,17 @@ use Rattle.std.specs.List.{flat_map, AllByRecursion}
 use Rattle.cip_bytes.specs.Numbers.{AreBytes}
 use Rattle.cip_bytes.proofs.Bytes.{AreBytes-take, AreBytes-append}
 use Rattle.enip_wire.specs.Frames.{Frame, frame, IsFrame}
-use Rattle.enip_wire.specs.Stream.{Cut, Sight, taken_of, joined_of, sight_of, cleared}
-use Rattle.enip_wire.specs.Stream.Sight.{Nothing_yet, A_frame, A_long_header}
+use Rattle.enip_wire.specs.Stream.{Cut, Parsed, bytes_taken, held_and_taken, parsed, cleared}
+use Rattle.enip_wire.specs.Stream.Parsed.{Incomplete, WholeFrame, TooLongHeader}
 use Rattle.enip_wire.proofs.RunningLemmas.{IsRunning, running-empty, running-taken}
-use Rattle.enip_wire.proofs.SightLemmas.{HasNone, none-running, none-long, seen-frame, seen-long, then-cut}
+use Rattle.enip_wire.proofs.ParsedLemmas.{HasNone, none-running, none-long, seen-frame, seen-long, then-cut}
 use Rattle.enip_client.specs.declared.fault.ClientFault.{ClientFault}
 use Rattle.enip_client.specs.declared.state.State.{State}
 use Rattle.enip_client.specs.declared.wants.Wants.{Wants}
 use Rattle.enip_client.specs.Client.{ClientState, new_client, fed_unless}
-use Rattle.enip_client.specs.Hears.{hears_sight}
+use Rattle.enip_client.specs.Hears.{hears_parsed}
 use Rattle.enip_client.specs.Runs.{Call, Event, Act, Feed, Acted, Framed, Long}
-use Rattle.enip_client.specs.Runs.{after_call, after_calls, events_of_sight, events_of_piece, events_of_call}
+use Rattle.enip_client.specs.Runs.{after_call, after_calls, events_of_parsed, events_of_piece, events_of_call}
 use Rattle.enip_client.specs.Runs.{events_of_calls}
 use Rattle.enip_client.specs.Runs.{frames_of_events, taken_by_call, taken_by_calls, IsOfBytes}
 use Rattle.enip_client.proofs.ActionLemmas.{IsAction, Stays, Asks, Sends, is-action}
@@ -26,21 +26,21 @@ IsReady c = c.state.fault ≡ None → IsRunning c.held
 
 fault-kept : {s t : State} {what : Option _} {lent : Option Frame} → IsAction s what lent t → t.fault ≡ s.fault
 fault-kept Stays = refl
-fault-kept (Asks w f link e free numbered) = refl
-fault-kept (Sends f registration link originator e) = refl
+fault-kept (Asks w f connection_state e free numbered) = refl
+fault-kept (Sends f registration connection_state originator e) = refl
 
-ready-sight : (s : State) (held piece : List ℕ) (x : Sight) → sight_of (joined_of held piece) ≡ x → IsRunning held
-    → (hears_sight s x).state.fault ≡ None → IsRunning (cleared x (joined_of held piece))
-ready-sight s held piece Nothing_yet seen running well = running-taken held piece running seen
-ready-sight s held piece (A_frame f) seen running well = running-empty
-ready-sight s held piece (A_long_header h) seen running well = cc
+ready-parsed_frame : (s : State) (held piece : List ℕ) (x : Parsed) → parsed (held_and_taken held piece) ≡ x → IsRunning held
+    → (hears_parsed s x).state.fault ≡ None → IsRunning (cleared x (held_and_taken held piece))
+ready-parsed_frame s held piece Incomplete seen running well = running-taken held piece running seen
+ready-parsed_frame s held piece (WholeFrame f) seen running well = running-empty
+ready-parsed_frame s held piece (TooLongHeader h) seen running well = cc
 
 pub ready-call : (c : ClientState) (call : Call) → IsReady c → IsReady (after_call c call)
 ready-call c (Act a) ready = λ well. ready (sym (fault-kept (is-action c.state a)) ∙ well)
 ready-call c (Feed piece) ready = go c.state.fault refl
   where
     go : (o : Option ClientFault) → c.state.fault ≡ o → IsReady (fed_unless c piece o).client
-    go None e = ready-sight c.state c.held piece (sight_of (joined_of c.held piece)) refl (ready e)
+    go None e = ready-parsed_frame c.state c.held piece (parsed (held_and_taken c.held piece)) refl (ready e)
     go (Some fault) e = ready
 
 pub ready-calls : (c : ClientState) (calls : List Call) → IsReady c → IsReady (after_calls c calls)
@@ -67,31 +67,31 @@ record Advances (bytes taken : List ℕ) (events : List Event) (left : List ℕ)
   parts : bytes ++ taken ≡ flat_map frame (frames_of_events events) ++ left
   each : AllByRecursion IsFrame (frames_of_events events)
 
-advances-sight : (held piece : List ℕ) (x : Sight) → sight_of (joined_of held piece) ≡ x → IsRunning held → IsHeld held
+advances-parsed_frame : (held piece : List ℕ) (x : Parsed) → parsed (held_and_taken held piece) ≡ x → IsRunning held → IsHeld held
     → AreBytes piece
-    → Advances held (take (taken_of held piece) piece) (events_of_sight x) (cleared x (joined_of held piece))
-advances-sight held piece x seen running at fits = go x seen
+    → Advances held (take (bytes_taken held piece) piece) (events_of_parsed x) (cleared x (held_and_taken held piece))
+advances-parsed_frame held piece x seen running at fits = go x seen
   where
-    whole : AreBytes (joined_of held piece)
-    whole = AreBytes-append held (take (taken_of held piece) piece) at.fits
-        (AreBytes-take (taken_of held piece) piece fits)
+    whole : AreBytes (held_and_taken held piece)
+    whole = AreBytes-append held (take (bytes_taken held piece) piece) at.fits
+        (AreBytes-take (bytes_taken held piece) piece fits)
 
-    go : (x : Sight) → sight_of (joined_of held piece) ≡ x
-        → Advances held (take (taken_of held piece) piece) (events_of_sight x) (cleared x (joined_of held piece))
-    go Nothing_yet seen = record {
-      at = record { fits = whole; none = none-running (joined_of held piece) (running-taken held piece running seen) };
+    go : (x : Parsed) → parsed (held_and_taken held piece) ≡ x
+        → Advances held (take (bytes_taken held piece) piece) (events_of_parsed x) (cleared x (held_and_taken held piece))
+    go Incomplete seen = record {
+      at = record { fits = whole; none = none-running (held_and_taken held piece) (running-taken held piece running seen) };
       parts = refl;
       each = tt;
     }
-    go (A_frame f) seen =
-        let is : IsFrame f × (joined_of held piece ≡ frame f) = seen-frame (joined_of held piece) f whole seen in
+    go (WholeFrame f) seen =
+        let is : IsFrame f × (held_and_taken held piece ≡ frame f) = seen-frame (held_and_taken held piece) f whole seen in
         record {
           at = none-held;
           parts = is.1 ∙ (sym (append-nil (frame f)) ∙ sym (append-nil (frame f ++ [])));
           each = (is.0, tt);
         }
-    go (A_long_header h) seen = record {
-      at = record { fits = whole; none = none-long (joined_of held piece) (seen-long (joined_of held piece) h seen) };
+    go (TooLongHeader h) seen = record {
+      at = record { fits = whole; none = none-long (held_and_taken held piece) (seen-long (held_and_taken held piece) h seen) };
       parts = refl;
       each = tt;
     }
@@ -104,7 +104,7 @@ advances-call c (Feed piece) ready at fits = go c.state.fault refl
     go : (o : Option ClientFault) → c.state.fault ≡ o
         → Advances c.held (take (fed_unless c piece o).taken piece) (events_of_piece c.held piece o)
         (fed_unless c piece o).client.held
-    go None e = advances-sight c.held piece (sight_of (joined_of c.held piece)) refl (ready e) at fits
+    go None e = advances-parsed_frame c.held piece (parsed (held_and_taken c.held piece)) refl (ready e) at fits
     go (Some fault) e = record { at = at; parts = append-nil c.held; each = tt }
 
 frames-append : (es fs : List Event) → frames_of_events (es ++ fs) ≡ frames_of_events es ++ frames_of_events fs

@@ -17,8 +17,8 @@ use Rattle.enip_client.specs.declared.fault.ClientFault.TheVariants as faults
 use Rattle.enip_client.specs.declared.state.Awaited.{Awaited}
 use Rattle.enip_client.specs.declared.state.Awaited.TheVariants as awaited
 use Rattle.enip_client.specs.declared.state.Awaiting.{Awaiting}
-use Rattle.enip_client.specs.declared.state.Link.{Link}
-use Rattle.enip_client.specs.declared.state.Link.TheVariants.{Open}
+use Rattle.enip_client.specs.declared.state.ConnectionState.{ConnectionState}
+use Rattle.enip_client.specs.declared.state.ConnectionState.TheVariants.{Open}
 use Rattle.enip_client.specs.declared.state.Registration.{Registration}
 use Rattle.enip_client.specs.declared.state.Registration.TheVariants as registrations
 use Rattle.enip_client.specs.declared.state.State.{State}
@@ -27,23 +27,23 @@ use Rattle.enip_client.specs.Frames.{open_service}
 use Rattle.cip_bytes.specs.Protocol.{command_number, manager_service_number}
 use Rattle.cip_bytes.specs.declared.protocol.Command.TheVariants.{SendUnitData}
 use Rattle.cip_bytes.specs.declared.protocol.ManagerService.TheVariants.{ForwardClose}
-use Rattle.enip_client.specs.Hears.{News, Turned, Answer, tells, faulted, answered, hears, hears_awaiting, is_answer}
+use Rattle.enip_client.specs.Hears.{HeardEvent, TurnResult, Answer, turned_to, faulted, answered, hears, hears_awaiting, is_answer}
 use Rattle.enip_client.specs.Hears.{command_awaited, answer_turn, shaped, opening_turn, reply_turn, closing_turn}
 use Rattle.enip_client.specs.Hears.{other_turn, item_turn, accepted, is_for_connection, answer_to, refuses}
 use Rattle.enip_client.specs.Hears.{answer_in, answer_read}
-use Rattle.enip_client.specs.Hears.News.{Nothing}
+use Rattle.enip_client.specs.Hears.HeardEvent.{Nothing}
 use Rattle.enip_client.specs.Runs.{IsReplyTo, item_in, item_of}
 
 -- Nothing; a fault that lasts; the reply to what is awaited; or an item of the connection.
-pub data IsTurn (s : State) : Option (List ℕ) → Turned → Type 0 where
-  Ignores : IsTurn s None (tells s Nothing)
+pub data IsTurn (s : State) : Option (List ℕ) → TurnResult → Type 0 where
+  Ignores : IsTurn s None (turned_to s Nothing)
   Fails : (fault : ClientFault) → IsTurn s None (faulted s fault)
-  Answers : (w : Awaiting) (registration : Registration) (link : Link) (news : News) → s.awaiting ≡ Some w
-      → IsReplyTo w.awaited news
-      → IsTurn s None (tells (record s { awaiting = None; registration = registration; link = link }) news)
+  Answers : (w : Awaiting) (registration : Registration) (connection_state : ConnectionState) (heard_event : HeardEvent) → s.awaiting ≡ Some w
+      → IsReplyTo w.awaited heard_event
+      → IsTurn s None (turned_to (record s { awaiting = None; registration = registration; connection_state = connection_state }) heard_event)
   Receives : (item : List ℕ)
       → IsTurn s (Some item)
-      (tells (record s { originator = after_item s.originator item }) (accepted (accepted_reply s.originator item)))
+      (turned_to (record s { originator = after_item s.originator item }) (accepted (accepted_reply s.originator item)))
 
 item-turn : (s : State) (r : Result (ℕ × List ℕ) CpfFault) → IsTurn s (item_of s r) (item_turn s r)
 item-turn s (Err fault) = Ignores
@@ -51,8 +51,8 @@ item-turn s (Ok (id, item)) = go (id == s.wants.t_to_o_id)
   where
     go : (b : Bool)
         → IsTurn s (cond b (Some item) None)
-        (cond b (tells (record s { originator = after_item s.originator item })
-        (accepted (accepted_reply s.originator item))) (tells s Nothing))
+        (cond b (turned_to (record s { originator = after_item s.originator item })
+        (accepted (accepted_reply s.originator item))) (turned_to s Nothing))
     go true = Receives item
     go false = Ignores
 
@@ -61,14 +61,14 @@ other-turn s f = go (is_for_connection s f.header)
   where
     go : (b : Bool)
         → IsTurn s (cond b (item_of s (unit_body_of f.body)) None)
-        (cond b (item_turn s (unit_body_of f.body)) (tells s Nothing))
+        (cond b (item_turn s (unit_body_of f.body)) (turned_to s Nothing))
     go true = item-turn s (unit_body_of f.body)
     go false = Ignores
 
 -- An awaited reply has another command than an item.
 not-connected : (s : State) (h : Header) → (h.command == command_number SendUnitData) ≡ false → is_for_connection s h ≡ false
 not-connected s h other =
-    ap (λ b. b && (h.status == 0) && is_open s.link && is_registered s.registration &&
+    ap (λ b. b && (h.status == 0) && is_open s.connection_state && is_registered s.registration &&
     (h.session == session_in s.registration))
     other
 
@@ -130,24 +130,24 @@ module _ (s : State) (f : Frame) (number : ℕ) where
   waits what = record { number = number; awaited = what }
 
   refused : (what : Awaited) → s.awaiting ≡ Some (waits what)
-      → ((status extended : ℕ) → IsReplyTo what (News.Refused status extended)) → (reply : Reply)
+      → ((status extended : ℕ) → IsReplyTo what (HeardEvent.Refused status extended)) → (reply : Reply)
       → IsTurn s None (refuses s reply)
-  refused what is reply-to reply = Answers (waits what) s.registration s.link _ is (reply-to _ _)
+  refused what is reply-to reply = Answers (waits what) s.registration s.connection_state _ is (reply-to _ _)
 
   opening : (o : Option Answer) → s.awaiting ≡ Some (waits awaited.Connection) → IsTurn s None (opening_turn s o)
   opening None is = Fails faults.Malformed
   opening (Some a) is = go (a.reply.status == 0)
     where
       whole : (b : Bool)
-          → IsTurn s None (cond b (tells (record (answered s) { link = Open (number_at 0 4 a.reply.data) }) News.Opened)
+          → IsTurn s None (cond b (turned_to (record (answered s) { connection_state = Open (number_at 0 4 a.reply.data) }) HeardEvent.Opened)
           (faulted s faults.Malformed))
       whole true = Answers (waits awaited.Connection) s.registration
-          (Open (number_at 0 4 a.reply.data)) News.Opened is tt
+          (Open (number_at 0 4 a.reply.data)) HeardEvent.Opened is tt
       whole false = Fails faults.Malformed
 
       go : (b : Bool)
           → IsTurn s None (cond b (cond (nat_le 26 (length a.reply.data))
-          (tells (record (answered s) { link = Open (number_at 0 4 a.reply.data) }) News.Opened)
+          (turned_to (record (answered s) { connection_state = Open (number_at 0 4 a.reply.data) }) HeardEvent.Opened)
           (faulted s faults.Malformed))
           (refuses s a.reply))
       go true = whole (nat_le 26 (length a.reply.data))
@@ -157,24 +157,24 @@ module _ (s : State) (f : Frame) (number : ℕ) where
   closing None is = Fails faults.Malformed
   closing (Some a) is = go (a.reply.status == 0)
     where
-      go : (b : Bool) → IsTurn s None (cond b (tells (answered s) News.Closed) (refuses s a.reply))
-      go true = Answers (waits awaited.End) s.registration s.link News.Closed is tt
+      go : (b : Bool) → IsTurn s None (cond b (turned_to (answered s) HeardEvent.Closed) (refuses s a.reply))
+      go true = Answers (waits awaited.End) s.registration s.connection_state HeardEvent.Closed is tt
       go false = refused awaited.End is (λ status extended. tt) a.reply
 
   reply : (service : ℕ) (o : Option Answer) → answer_to service f.body ≡ o
       → s.awaiting ≡ Some (waits (awaited.Reply service)) → IsTurn s None (reply_turn s o)
   reply service None of is = Fails faults.Malformed
   reply service (Some a) of is =
-      Answers (waits (awaited.Reply service)) s.registration s.link (News.Replied a.bytes) is
+      Answers (waits (awaited.Reply service)) s.registration s.connection_state (HeardEvent.Replied a.bytes) is
       (answer-service service f.body a of)
 
   session : (b : Bool) → s.awaiting ≡ Some (waits awaited.Session)
       → IsTurn s None
-      (cond b (tells
-      (record (answered s) { registration = registrations.Registered f.header.session }) News.Registered)
+      (cond b (turned_to
+      (record (answered s) { registration = registrations.Registered f.header.session }) HeardEvent.Registered)
       (faulted s faults.Malformed))
   session true is =
-      Answers (waits awaited.Session) (registrations.Registered f.header.session) s.link News.Registered is tt
+      Answers (waits awaited.Session) (registrations.Registered f.header.session) s.connection_state HeardEvent.Registered is tt
   session false is = Fails faults.Malformed
 
   shape : (what : Awaited) → s.awaiting ≡ Some (waits what) → IsTurn s None (shaped s what f)

@@ -4,7 +4,7 @@ use Rattle.std.specs.Prelude.{length, take, Option, Some, None, Result, Ok, Err}
 use Rattle.std.specs.List.{flat_map, AllByRecursion}
 use Rattle.std.specs.Io.KnownBytes.{Appends, Consumes, IsAtEnd}
 use Rattle.enip_wire.specs.Frames.{Frame, frame, IsFrame}
-use Rattle.enip_wire.specs.Stream.{sight_of, joined_of, cleared}
+use Rattle.enip_wire.specs.Stream.{parsed, held_and_taken, cleared}
 use Rattle.enip_client.specs.declared.fault.AskFault.{AskFault}
 use Rattle.enip_client.specs.declared.fault.AskFault.TheVariants as ask_faults
 use Rattle.enip_client.specs.declared.step.Step.{Step}
@@ -17,18 +17,18 @@ use Rattle.enip_client.specs.declared.fault.ClientFault.TheVariants as faults
 use Rattle.enip_client.specs.declared.state.State.{State}
 use Rattle.enip_client.specs.Calls.{Lent, opens, closes, unregisters}
 use Rattle.enip_client.specs.Client.{ClientState}
-use Rattle.enip_client.specs.Hears.{News}
-use Rattle.enip_client.specs.Hears.News.{Registered, Opened, Replied, Accepted, Refused, Closed}
-use Rattle.enip_client.specs.Asking.{Stand, Exchange, Heard, LONGEST_REPLY, is_awaiting, over, AllAwaited, IsPartial}
-use Rattle.enip_client.specs.Asking.{lends_plainly, requests, after_sight}
-use Rattle.enip_client.specs.Asking.Stand.{Registering, Opening, Requesting, Closing, Completed, Failed}
+use Rattle.enip_client.specs.Hears.{HeardEvent}
+use Rattle.enip_client.specs.Hears.HeardEvent.{Registered, Opened, Replied, Accepted, Refused, Closed}
+use Rattle.enip_client.specs.Asking.{AskPhase, Exchange, Heard, LONGEST_REPLY, is_awaiting, over, AllAwaited, IsPartial}
+use Rattle.enip_client.specs.Asking.{lends_call, requests, after_parsed}
+use Rattle.enip_client.specs.Asking.AskPhase.{Registering, Opening, Requesting, Closing, Completed, Failed}
 
-abbrev pub stand_of : Step → Stand
-stand_of steps.Registering = Registering
-stand_of steps.Opening = Opening
-stand_of steps.Requesting = Requesting
-stand_of steps.Closing = Closing
-stand_of steps.Completed = Completed
+abbrev pub ask_phase_of : Step → AskPhase
+ask_phase_of steps.Registering = Registering
+ask_phase_of steps.Opening = Opening
+ask_phase_of steps.Requesting = Requesting
+ask_phase_of steps.Closing = Closing
+ask_phase_of steps.Completed = Completed
 
 -- Which reply is awaited after a call.
 abbrev pub step_after : Call → Step
@@ -39,10 +39,10 @@ step_after calls.Leave = steps.Completed
 
 -- What a call lends.
 abbrev pub called : Call → State → List ℕ → Bool → Result Lent AskFault
-called calls.Open s request connected = lends_plainly (opens s)
+called calls.Open s request connected = lends_call (opens s)
 called calls.Request s request connected = requests s request connected
-called calls.Close s request connected = lends_plainly (closes s)
-called calls.Leave s request connected = lends_plainly (unregisters s)
+called calls.Close s request connected = lends_call (closes s)
+called calls.Leave s request connected = lends_call (unregisters s)
 
 -- The call that follows a reply, which may be too long.
 abbrev pub next_replied : Bool → List ℕ → Result (Option Call) AskFault
@@ -52,7 +52,7 @@ next_replied connected bytes =
     else Ok (Some calls.Leave)
 
 -- The call that follows what was heard, if any.
-abbrev pub next_of : Step → Bool → News → Result (Option Call) AskFault
+abbrev pub next_of : Step → Bool → HeardEvent → Result (Option Call) AskFault
 next_of steps.Registering connected Registered =
     if connected then Ok (Some calls.Open) else Ok (Some calls.Request)
 next_of steps.Opening connected Opened = Ok (Some calls.Request)
@@ -73,7 +73,7 @@ fits bytes = if nat_lt LONGEST_REPLY (length bytes) then Err (ask_faults.Client 
 abbrev pub kept : List ℕ → List ℕ → List ℕ
 kept old bytes = if nat_lt LONGEST_REPLY (length bytes) then old else bytes
 
-abbrev pub reply_after : Step → News → List ℕ → List ℕ
+abbrev pub reply_after : Step → HeardEvent → List ℕ → List ℕ
 reply_after steps.Requesting (Replied bytes) old = kept old bytes
 reply_after steps.Requesting (Accepted bytes) old = kept old bytes
 reply_after step heard old = old
@@ -86,21 +86,21 @@ pub record FailsWithin (before after : Option (List ℕ)) (bytes : List ℕ) (fa
   pub written : Appends before after (take front bytes)
 
 -- A call was made, and its frame was written.
-abbrev pub IsSaid : Result Lent AskFault → Option (List ℕ) → Option (List ℕ) → Result (Unit {0}) AskFault → Type 0
-IsSaid (Ok lent) before after (Ok done) = Appends before after (frame lent.frame)
-IsSaid (Ok lent) before after (Err fault) = FailsWithin before after (frame lent.frame) fault
-IsSaid (Err why) before after (Ok done) = ⊥
-IsSaid (Err why) before after (Err fault) = (fault ≡ why) × Appends before after []
+abbrev pub IsPerformed : Result Lent AskFault → Option (List ℕ) → Option (List ℕ) → Result (Unit {0}) AskFault → Type 0
+IsPerformed (Ok lent) before after (Ok done) = Appends before after (frame lent.frame)
+IsPerformed (Ok lent) before after (Err fault) = FailsWithin before after (frame lent.frame) fault
+IsPerformed (Err why) before after (Ok done) = ⊥
+IsPerformed (Err why) before after (Err fault) = (fault ≡ why) × Appends before after []
 
 -- The exchange as the code holds it.
-abbrev pub held_as : Asked → State → Stand → List ℕ → List Frame → Exchange
-held_as asked s stand reply sent = record {
+abbrev pub exchange_as : Asked → State → AskPhase → List ℕ → List Frame → Exchange
+exchange_as asked s ask_phase reply sent = record {
   request = asked.request.now;
   connected = asked.connected;
   state = s;
   sent = sent;
   reply = reply;
-  stand = stand;
+  ask_phase = ask_phase;
 }
 
 -- The client, what the writer has, and the reply.
@@ -110,52 +110,52 @@ pub record Held : Type 0 where
   pub reply : List ℕ
 
 -- An exchange sent further frames, and stands there.
-pub record Stands (asked : Asked) (sent : List Frame) (old new : Held) (stand : Stand) (e : Exchange) : Type 0 where
+pub record IsAtPhase (asked : Asked) (sent : List Frame) (old new : Held) (ask_phase : AskPhase) (e : Exchange) : Type 0 where
   pub frames : List Frame
-  pub exchange : e ≡ held_as asked new.client.state stand new.reply (sent ++ frames)
+  pub exchange : e ≡ exchange_as asked new.client.state ask_phase new.reply (sent ++ frames)
   pub written : Appends old.written new.written (flat_map frame frames)
 
 -- An exchange sent further frames, the last of which the writer failed to write.
-pub record Breaks (asked : Asked) (sent : List Frame) (old new : Held) (e : Exchange) : Type 0 where
+pub record FailsAtWrite (asked : Asked) (sent : List Frame) (old new : Held) (e : Exchange) : Type 0 where
   pub whole : List Frame
   pub last : Frame
-  pub stand : Stand
-  pub exchange : e ≡ held_as asked new.client.state stand new.reply (sent ++ (whole ++ (last ∷ [])))
+  pub ask_phase : AskPhase
+  pub exchange : e ≡ exchange_as asked new.client.state ask_phase new.reply (sent ++ (whole ++ (last ∷ [])))
   pub front : ℕ
   pub not_all : front < length (frame last)
   pub written : Appends old.written new.written (flat_map frame whole ++ take front (frame last))
 
 -- What an exchange came to, by what is answered.
-abbrev pub CameTo : Asked → List Frame → Held → Held → Exchange → Result Step AskFault → Type 0
-CameTo asked sent old new e (Ok step) = Stands asked sent old new (stand_of step) e
-CameTo asked sent old new e (Err ask_faults.Write) = Breaks asked sent old new e
-CameTo asked sent old new e (Err ask_faults.Read) = ⊥
-CameTo asked sent old new e (Err ask_faults.Ended) = ⊥
-CameTo asked sent old new e (Err ask_faults.Spent) = ⊥
-CameTo asked sent old new e (Err (ask_faults.Client fault)) =
-    Stands asked sent old new (Failed (ask_faults.Client fault)) e
-CameTo asked sent old new e (Err (ask_faults.Submit why)) =
-    Stands asked sent old new (Failed (ask_faults.Submit why)) e
+abbrev pub ExchangeResult : Asked → List Frame → Held → Held → Exchange → Result Step AskFault → Type 0
+ExchangeResult asked sent old new e (Ok step) = IsAtPhase asked sent old new (ask_phase_of step) e
+ExchangeResult asked sent old new e (Err ask_faults.Write) = FailsAtWrite asked sent old new e
+ExchangeResult asked sent old new e (Err ask_faults.Read) = ⊥
+ExchangeResult asked sent old new e (Err ask_faults.Ended) = ⊥
+ExchangeResult asked sent old new e (Err ask_faults.Spent) = ⊥
+ExchangeResult asked sent old new e (Err (ask_faults.Client fault)) =
+    IsAtPhase asked sent old new (Failed (ask_faults.Client fault)) e
+ExchangeResult asked sent old new e (Err (ask_faults.Submit why)) =
+    IsAtPhase asked sent old new (Failed (ask_faults.Submit why)) e
 
 abbrev pub step_in : Result Progress AskFault → Result Step AskFault
 step_in (Ok p) = Ok p.step
 step_in (Err fault) = Err fault
 
 -- The exchange that the code holds, of which these frames were sent.
-abbrev pub now_held : Asked → Step → Held → List Frame → Exchange
-now_held asked step held sent = held_as asked held.client.state (stand_of step) held.reply sent
+abbrev pub exchange_now : Asked → Step → Held → List Frame → Exchange
+exchange_now asked step held sent = exchange_as asked held.client.state (ask_phase_of step) held.reply sent
 
 -- A piece was fed once.
-pub record IsHeardOnce (asked : Asked) (step : Step) (piece : List ℕ) (old new : Held)
+pub record IsAdvanced (asked : Asked) (step : Step) (piece : List ℕ) (old new : Held)
     (result : Result Step AskFault) : Type 0 where
-  pub bytes : new.client.held ≡ cleared (sight_of (joined_of old.client.held piece)) (joined_of old.client.held piece)
+  pub bytes : new.client.held ≡ cleared (parsed (held_and_taken old.client.held piece)) (held_and_taken old.client.held piece)
   pub came : (sent : List Frame)
-      → CameTo asked sent old new
-      (after_sight (now_held asked step old sent) (sight_of (joined_of old.client.held piece))) result
+      → ExchangeResult asked sent old new
+      (after_parsed (exchange_now asked step old sent) (parsed (held_and_taken old.client.held piece))) result
 
 -- A reply is awaited.
 abbrev pub IsAwaited : Result Step AskFault → Type 0
-IsAwaited (Ok step) = is_awaiting (stand_of step) ≡ true
+IsAwaited (Ok step) = is_awaiting (ask_phase_of step) ≡ true
 IsAwaited (Err fault) = ⊥
 
 -- No fault lasts, where a reply is awaited.
@@ -174,17 +174,17 @@ pub record Hears (begins : Exchange) (before fed held : List ℕ) (ends : Exchan
   pub partial : IsPartial held
 
 -- Of a piece a front was fed, which is not empty: all of it, where a reply is awaited.
-pub record IsHeardPiece (asked : Asked) (step : Step) (piece : List ℕ) (old new : Held) (result : Result Step AskFault)
+pub record IsPieceFed (asked : Asked) (step : Step) (piece : List ℕ) (old new : Held) (result : Result Step AskFault)
     (sent : List Frame) : Type 0 where
   pub exchange : Exchange
   pub fed : List ℕ
   pub rest : List ℕ
   pub some : 0 < length piece → length rest < length piece
   pub parts : piece ≡ fed ++ rest
-  pub heard : Heard (now_held asked step old sent) old.client.held fed new.client exchange
-  pub came : CameTo asked sent old new exchange result
+  pub heard : Heard (exchange_now asked step old sent) old.client.held fed new.client exchange
+  pub came : ExchangeResult asked sent old new exchange result
   pub more : IsAwaited result
-      → (rest ≡ []) × Hears (now_held asked step old sent) old.client.held fed new.client.held exchange
+      → (rest ≡ []) × Hears (exchange_now asked step old sent) old.client.held fed new.client.held exchange
 
 -- What a read came to.
 abbrev pub IsRead : Option (List ℕ) → Option (List ℕ) → ℕ → ℕ → List ℕ → Result ℕ AskFault → Type 0

@@ -5,8 +5,8 @@ use Rattle.std.specs.List.{flat_map, AllByRecursion}
 use Rattle.std.specs.Io.KnownBytes.{Appends, Consumes, IsAtEnd}
 use Rattle.cip_bytes.specs.Numbers.{AreBytes}
 use Rattle.enip_wire.specs.Frames.{Frame, frame, IsFrame}
-use Rattle.enip_wire.specs.Stream.{Sight, sight_of}
-use Rattle.enip_wire.specs.Stream.Sight.{Nothing_yet, A_frame, A_long_header}
+use Rattle.enip_wire.specs.Stream.{Parsed, parsed}
+use Rattle.enip_wire.specs.Stream.Parsed.{Incomplete, WholeFrame, TooLongHeader}
 use Rattle.enip_client.specs.declared.fault.AskFault.{AskFault}
 use Rattle.enip_client.specs.declared.fault.AskFault.TheVariants as ask_faults
 use Rattle.enip_client.specs.declared.fault.ClientFault.{ClientFault}
@@ -16,23 +16,23 @@ use Rattle.enip_client.specs.declared.fault.SubmitFault.TheVariants as submit_fa
 use Rattle.enip_client.specs.declared.state.State.{State}
 use Rattle.enip_client.specs.Calls.{Lent, registers, opens, asks, submits, closes, unregisters}
 use Rattle.enip_client.specs.Client.{ClientState}
-use Rattle.enip_client.specs.Hears.{Turned, News, hears_sight}
-use Rattle.enip_client.specs.Hears.News.{Registered, Opened, Replied, Accepted, Refused, Closed}
+use Rattle.enip_client.specs.Hears.{TurnResult, HeardEvent, hears_parsed}
+use Rattle.enip_client.specs.Hears.HeardEvent.{Registered, Opened, Replied, Accepted, Refused, Closed}
 
 -- The longest reply that is taken, in bytes.
 abbrev pub LONGEST_REPLY : ℕ
 LONGEST_REPLY = 4000
 
 -- Which reply the exchange awaits, or how it ended.
-pub data Stand : Type 0 where
-  Registering : Stand
-  Opening : Stand
-  Requesting : Stand
-  Closing : Stand
-  Completed : Stand
-  Failed : (fault : AskFault) → Stand
+pub data AskPhase : Type 0 where
+  Registering : AskPhase
+  Opening : AskPhase
+  Requesting : AskPhase
+  Closing : AskPhase
+  Completed : AskPhase
+  Failed : (fault : AskFault) → AskPhase
 
-abbrev pub is_awaiting : Stand → Bool
+abbrev pub is_awaiting : AskPhase → Bool
 is_awaiting Registering = true
 is_awaiting Opening = true
 is_awaiting Requesting = true
@@ -48,10 +48,10 @@ pub record Exchange : Type 0 where
   pub state : State
   pub sent : List Frame
   pub reply : List ℕ
-  pub stand : Stand
+  pub ask_phase : AskPhase
 
 abbrev pub failed : Exchange → AskFault → Exchange
-failed e fault = record e { stand = Failed fault }
+failed e fault = record e { ask_phase = Failed fault }
 
 -- How the exchange fails where a call is refused.
 abbrev pub client_failure : ClientFault → AskFault
@@ -66,31 +66,31 @@ abbrev pub lends : {E : Type 0} → (E → AskFault) → Result Lent E → Resul
 lends failure (Ok lent) = Ok lent
 lends failure (Err fault) = Err (failure fault)
 
-abbrev pub lends_plainly : Result Lent ClientFault → Result Lent AskFault
-lends_plainly lent = lends client_failure lent
+abbrev pub lends_call : Result Lent ClientFault → Result Lent AskFault
+lends_call lent = lends client_failure lent
 
 -- The request, on the connection or not.
 abbrev pub requests : State → List ℕ → Bool → Result Lent AskFault
 requests s request connected =
-    if connected then lends submit_failure (submits s request) else lends_plainly (asks s request)
+    if connected then lends submit_failure (submits s request) else lends_call (asks s request)
 
 -- The frame that a call lends is sent, and its reply is awaited; a call that is refused ends the exchange.
-abbrev pub says : Exchange → Stand → Result Lent AskFault → Exchange
-says e next (Ok lent) = record e { state = lent.state; sent = e.sent ++ (lent.frame ∷ []); stand = next }
-says e next (Err fault) = failed e fault
+abbrev pub sends_lent : Exchange → AskPhase → Result Lent AskFault → Exchange
+sends_lent e next (Ok lent) = record e { state = lent.state; sent = e.sent ++ (lent.frame ∷ []); ask_phase = next }
+sends_lent e next (Err fault) = failed e fault
 
 abbrev pub opening : Exchange → Exchange
-opening e = says e Opening (lends_plainly (opens e.state))
+opening e = sends_lent e Opening (lends_call (opens e.state))
 
 abbrev pub requesting : Exchange → Exchange
-requesting e = says e Requesting (requests e.state e.request e.connected)
+requesting e = sends_lent e Requesting (requests e.state e.request e.connected)
 
 abbrev pub closing : Exchange → Exchange
-closing e = says e Closing (lends_plainly (closes e.state))
+closing e = sends_lent e Closing (lends_call (closes e.state))
 
 -- The session ends, and the exchange with it: an UnRegisterSession has no reply.
 abbrev pub leaving : Exchange → Exchange
-leaving e = says e Completed (lends_plainly (unregisters e.state))
+leaving e = sends_lent e Completed (lends_call (unregisters e.state))
 
 -- The reply is kept, and the connection is closed, where there is one. A longer reply ends the exchange (ours).
 abbrev pub replied : Exchange → List ℕ → Exchange
@@ -104,7 +104,7 @@ abbrev pub refused : Exchange → ℕ → ℕ → Exchange
 refused e status extended = failed e (ask_faults.Client (faults.Refused status extended))
 
 -- What follows what was heard: the next call, as soon as the one before was answered.
-abbrev pub goes_on : Exchange → Stand → News → Exchange
+abbrev pub goes_on : Exchange → AskPhase → HeardEvent → Exchange
 goes_on e Registering Registered = if e.connected then opening e else requesting e
 goes_on e Opening Opened = requesting e
 goes_on e Opening (Refused status extended) = refused e status extended
@@ -112,41 +112,41 @@ goes_on e Requesting (Replied bytes) = replied e bytes
 goes_on e Requesting (Accepted bytes) = replied e bytes
 goes_on e Closing Closed = leaving e
 goes_on e Closing (Refused status extended) = refused e status extended
-goes_on e stand heard = e
+goes_on e ask_phase heard = e
 
 -- A fault that lasts ends the exchange.
-abbrev pub hears_unless : Exchange → News → Option ClientFault → Exchange
+abbrev pub hears_unless : Exchange → HeardEvent → Option ClientFault → Exchange
 hears_unless e heard (Some fault) = failed e (ask_faults.Client fault)
-hears_unless e heard None = goes_on e e.stand heard
+hears_unless e heard None = goes_on e e.ask_phase heard
 
-abbrev pub after_turn : Exchange → Turned → Exchange
-after_turn e turned = hears_unless (record e { state = turned.state }) turned.news turned.state.fault
+abbrev pub after_turn : Exchange → TurnResult → Exchange
+after_turn e turned = hears_unless (record e { state = turned.state }) turned.heard_event turned.state.fault
 
 -- The exchange after a sight of the bytes that came. Once it has ended it hears nothing.
-abbrev pub after_sight : Exchange → Sight → Exchange
-after_sight e sight = if is_awaiting e.stand then after_turn e (hears_sight e.state sight) else e
+abbrev pub after_parsed : Exchange → Parsed → Exchange
+after_parsed e parsed_frame = if is_awaiting e.ask_phase then after_turn e (hears_parsed e.state parsed_frame) else e
 
 -- The exchange begins: the session is registered.
 abbrev pub begun : State → List ℕ → Bool → List ℕ → Exchange
 begun s request connected reply =
-    says (record { request = request; connected = connected; state = s; sent = []; reply = reply; stand = Registering })
-    Registering (lends_plainly (registers s))
+    sends_lent (record { request = request; connected = connected; state = s; sent = []; reply = reply; ask_phase = Registering })
+    Registering (lends_call (registers s))
 
 -- The exchange after whole frames.
 abbrev pub over : Exchange → List Frame → Exchange
 over e [] = e
-over e (f ∷ fs) = over (after_sight e (A_frame f)) fs
+over e (f ∷ fs) = over (after_parsed e (WholeFrame f)) fs
 
 -- At each of these frames the exchange awaits a reply.
 abbrev pub AllAwaited : Exchange → List Frame → Type 0
 AllAwaited e [] = ⊤
-AllAwaited e (f ∷ fs) = (is_awaiting e.stand ≡ true) × AllAwaited (after_sight e (A_frame f)) fs
+AllAwaited e (f ∷ fs) = (is_awaiting e.ask_phase ≡ true) × AllAwaited (after_parsed e (WholeFrame f)) fs
 
 -- A header that is too long ends the exchange.
-abbrev pub at_last : Exchange → Sight → Exchange
-at_last e Nothing_yet = e
-at_last e (A_frame f) = e
-at_last e (A_long_header h) = after_sight e (A_long_header h)
+abbrev pub at_last : Exchange → Parsed → Exchange
+at_last e Incomplete = e
+at_last e (WholeFrame f) = e
+at_last e (TooLongHeader h) = after_parsed e (TooLongHeader h)
 
 -- The bytes that the client held before, joined with those that it was fed, are these frames and what it still holds,
 -- which is no frame that was not heard. The exchange is that over the frames, unless the header of what is held is too
@@ -156,14 +156,14 @@ pub record Heard (begins : Exchange) (before fed : List ℕ) (after : ClientStat
   pub parts : before ++ fed ≡ flat_map frame frames ++ after.held
   pub each : AllByRecursion IsFrame frames
   pub awaited : AllAwaited begins frames
-  pub unheard : (f : Frame) → sight_of after.held ≡ A_frame f → ⊥
-  pub exchange : ends ≡ at_last (over begins frames) (sight_of after.held)
+  pub unheard : (f : Frame) → parsed after.held ≡ WholeFrame f → ⊥
+  pub exchange : ends ≡ at_last (over begins frames) (parsed after.held)
   pub state : after.state ≡ ends.state
 
 -- No byte of a frame, or a front of one.
 pub record IsPartial (held : List ℕ) : Type 0 where
   pub bytes : AreBytes held
-  pub partly : sight_of held ≡ Nothing_yet
+  pub partly : parsed held ≡ Incomplete
 
 -- These frames were written.
 abbrev pub Writes : Option (List ℕ) → Option (List ℕ) → List Frame → Type 0
@@ -204,13 +204,13 @@ pub record Asking (request : List ℕ) (connected : Bool) (old new : Ends) : Typ
 
 -- It awaits a reply, and heard all that was read.
 pub record IsAwaiting (e : Exchange) (rest : List ℕ) : Type 0 where
-  pub stand : is_awaiting e.stand ≡ true
+  pub ask_phase : is_awaiting e.ask_phase ≡ true
   pub all : rest ≡ []
 
 -- What an exchange does, by what is answered.
 abbrev pub IsAsked : List ℕ → Bool → Ends → Ends → Result (Unit {0}) AskFault → Type 0
 IsAsked request connected old new (Ok done) =
-    (a : Asking request connected old new) × (a.exchange.stand ≡ Completed)
+    (a : Asking request connected old new) × (a.exchange.ask_phase ≡ Completed)
     × Writes old.written new.written a.exchange.sent
 IsAsked request connected old new (Err ask_faults.Read) =
     (a : Asking request connected old new) × IsAwaiting a.exchange a.rest
@@ -221,10 +221,10 @@ IsAsked request connected old new (Err ask_faults.Ended) =
     (a : Asking request connected old new) × IsAwaiting a.exchange a.rest × IsAtEnd new.left
     × Writes old.written new.written a.exchange.sent
 IsAsked request connected old new (Err (ask_faults.Client fault)) =
-    (a : Asking request connected old new) × (a.exchange.stand ≡ Failed (ask_faults.Client fault))
+    (a : Asking request connected old new) × (a.exchange.ask_phase ≡ Failed (ask_faults.Client fault))
     × Writes old.written new.written a.exchange.sent
 IsAsked request connected old new (Err (ask_faults.Submit why)) =
-    (a : Asking request connected old new) × (a.exchange.stand ≡ Failed (ask_faults.Submit why))
+    (a : Asking request connected old new) × (a.exchange.ask_phase ≡ Failed (ask_faults.Submit why))
     × Writes old.written new.written a.exchange.sent
 IsAsked request connected old new (Err ask_faults.Spent) =
     (a : Asking request connected old new) × IsAwaiting a.exchange a.rest × (new.reads ≡ 2 ^ 64 - 1)

@@ -7,8 +7,8 @@ use Rattle.cip_class3.specs.OriginatorRule.{after_give_up, stage_of}
 use Rattle.cip_class3.specs.declared.originator.Refused.{Refused}
 use Rattle.cip_class3.specs.declared.originator.Stage.{Stage}
 use Rattle.std.specs.Borrow.{Bor}
-use Rattle.cip_bytes.specs.Reading.{seen_by}
-use Rattle.cip_bytes.specs.declared.protocol.TheConstants.{SMALLEST_REQUEST, UNCONNECTED_ROOM}
+use Rattle.cip_bytes.specs.Reading.{map_ok}
+use Rattle.cip_bytes.specs.declared.protocol.TheConstants.{SMALLEST_REQUEST, UNCONNECTED_LIMIT}
 use Rattle.enip_wire.specs.Frames.{Frame, frame}
 use Rattle.enip_client.specs.declared.fault.ClientFault.{ClientFault}
 use Rattle.enip_client.specs.declared.fault.ClientFault.TheVariants as faults
@@ -16,7 +16,7 @@ use Rattle.enip_client.specs.declared.fault.SubmitFault.{SubmitFault}
 use Rattle.enip_client.specs.declared.fault.SubmitFault.TheVariants as submit_faults
 use Rattle.enip_client.specs.declared.state.Awaited.{Awaited}
 use Rattle.enip_client.specs.declared.state.Awaited.TheVariants.{Session, Connection, Reply, End}
-use Rattle.enip_client.specs.declared.state.Link.TheVariants.{Closed}
+use Rattle.enip_client.specs.declared.state.ConnectionState.TheVariants.{Closed}
 use Rattle.enip_client.specs.declared.state.Registration.TheVariants.{Unregistered}
 use Rattle.enip_client.specs.declared.state.State.{State}
 use Rattle.enip_client.specs.Frames.{register_frame, unregister_frame, request_frame, item_frame, open_request}
@@ -38,16 +38,16 @@ abbrev pub can_register : State → Bool
 can_register s = is_not_registered s.registration && is_free s
 
 abbrev pub can_open : State → Bool
-can_open s = is_registered s.registration && is_free s && is_not_opened s.link
+can_open s = is_registered s.registration && is_free s && is_not_opened s.connection_state
 
 abbrev pub can_ask : State → Bool
 can_ask s = is_registered s.registration && is_free s
 
 abbrev pub can_submit : State → Bool
-can_submit s = is_open s.link
+can_submit s = is_open s.connection_state
 
 abbrev pub can_close : State → Bool
-can_close s = is_open s.link && is_free s
+can_close s = is_open s.connection_state && is_free s
 
 -- A fault that lasts is answered again; then a call that is not possible now is `State`.
 abbrev pub refusal : State → Bool → Option ClientFault
@@ -88,7 +88,7 @@ opens s = unless (refusal s (can_open s)) (Ok (asking s Connection (open_request
 -- An unconnected request has 2 to 504 bytes, and a service without bit 7.
 abbrev pub is_unconnected : List ℕ → Bool
 is_unconnected request =
-    nat_le SMALLEST_REQUEST (length request) && nat_le (length request) UNCONNECTED_ROOM
+    nat_le SMALLEST_REQUEST (length request) && nat_le (length request) UNCONNECTED_LIMIT
     && nat_lt (slice_index request 0) 128
 
 abbrev pub asks : State → List ℕ → Result Lent ClientFault
@@ -98,18 +98,18 @@ asks s request =
 
 -- The connection is over from here on.
 abbrev pub closes : State → Result Lent ClientFault
-closes s = unless (refusal s (can_close s)) (Ok (asking (record s { link = Closed }) End (close_request s.wants)))
+closes s = unless (refusal s (can_close s)) (Ok (asking (record s { connection_state = Closed }) End (close_request s.wants)))
 
 -- The session is over, and the connection with it.
 abbrev pub unregisters : State → Result Lent ClientFault
 unregisters s =
     unless (refusal s (can_ask s))
     (Ok (lending (unregister_frame (session_in s.registration))
-    (record s { registration = Unregistered; link = ended s.link })))
+    (record s { registration = Unregistered; connection_state = ended s.connection_state })))
 
 -- A frame with an item of the connection.
 abbrev pub item_sent : State → List ℕ → Frame
-item_sent s bytes = item_frame (session_in s.registration) (o_to_t_id_in s.link) bytes
+item_sent s bytes = item_frame (session_in s.registration) (o_to_t_id_in s.connection_state) bytes
 
 abbrev pub submitted : State → List ℕ → Option Refused → Result Lent SubmitFault
 submitted s request (Some why) = Err (submit_faults.Refused why)
@@ -126,7 +126,7 @@ submits s request = submits_unless s request (refusal s (can_submit s))
 
 -- The client has no lasting fault, and an open connection.
 abbrev pub is_connected : State → Bool
-is_connected s = elim s.fault [ Some fault ↦ false | None ↦ is_open s.link ]
+is_connected s = elim s.fault [ Some fault ↦ false | None ↦ is_open s.connection_state ]
 
 -- The frame of the request that waits, once more.
 abbrev pub resends : State → Option Frame
@@ -141,7 +141,7 @@ after_giving_up s = if is_connected s then record s { originator = after_give_up
 
 -- Where the connection's originator stands, where a connection is open.
 abbrev pub stage_in : State → Option Stage
-stage_in s = if is_open s.link then Some (stage_of s.originator.phase) else None
+stage_in s = if is_open s.connection_state then Some (stage_of s.originator.phase) else None
 
 -- The client after a call that lends a frame: one that is refused changes nothing.
 abbrev pub after_lending : {E : Type 0} → State → Result Lent E → State
@@ -150,8 +150,8 @@ after_lending s (Err fault) = s
 
 -- The bytes of the frame that is lent.
 abbrev pub bytes_lent : {E : Type 0} → Result Lent E → Result (List ℕ) E
-bytes_lent lent = seen_by (λ l. frame l.frame) lent
+bytes_lent lent = map_ok (λ l. frame l.frame) lent
 
 -- The bytes that a call returned.
 abbrev pub bytes_in : {E : Type 0} → Result (Bor (List ℕ)) E → Result (List ℕ) E
-bytes_in result = seen_by (λ b. b.now) result
+bytes_in result = map_ok (λ b. b.now) result

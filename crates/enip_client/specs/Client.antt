@@ -4,20 +4,20 @@ use Rattle.std.specs.Prelude.{Some, None, Result, Ok, Err}
 use Rattle.cip_message.specs.Reply.{view}
 use Rattle.cip_bytes.specs.Numbers.{AreBytes}
 use Rattle.enip_wire.specs.Frames.{Frame, frame, IsTooLong}
-use Rattle.enip_wire.specs.Stream.{taken_of, joined_of, sight_of, cleared}
-use Rattle.enip_wire.specs.Stream.Sight.{Nothing_yet, A_frame}
+use Rattle.enip_wire.specs.Stream.{bytes_taken, held_and_taken, parsed, cleared}
+use Rattle.enip_wire.specs.Stream.Parsed.{Incomplete, WholeFrame}
 use Rattle.enip_client.specs.declared.fault.ClientFault.{ClientFault}
 use Rattle.enip_client.specs.declared.hearing.Heard.{Heard}
 use Rattle.enip_client.specs.declared.hearing.Heard.TheVariants as heards
 use Rattle.enip_client.specs.declared.hearing.Found.{Found}
 use Rattle.enip_client.specs.declared.hearing.Found.TheVariants as founds
-use Rattle.enip_client.specs.declared.client.Told.{Told}
+use Rattle.enip_client.specs.declared.client.PieceOutcome.{PieceOutcome}
 use Rattle.enip_client.specs.declared.hearing.Answer.{Answer as RepliedTo}
 use Rattle.enip_client.specs.declared.state.State.{State}
 use Rattle.enip_client.specs.declared.wants.Wants.{Wants}
 use Rattle.enip_client.specs.State.{new_state}
-use Rattle.enip_client.specs.Hears.{Turned, News, Answer, hears_sight}
-use Rattle.enip_client.specs.Hears.News.{Nothing, Registered, Opened, Replied, Accepted, Refused, Closed}
+use Rattle.enip_client.specs.Hears.{TurnResult, HeardEvent, Answer, hears_parsed}
+use Rattle.enip_client.specs.Hears.HeardEvent.{Nothing, Registered, Opened, Replied, Accepted, Refused, Closed}
 
 pub record ClientState : Type 0 where
   pub state : State
@@ -30,19 +30,19 @@ new_client wants = record { state = new_state wants; held = [] }
 pub record Fed : Type 0 where
   pub client : ClientState
   pub taken : ℕ
-  pub news : News
+  pub heard_event : HeardEvent
 
 -- Bytes are taken up to the end of one frame, and it is heard.
-abbrev pub fed_sight : State → List ℕ → ℕ → Turned → Fed
-fed_sight s left taken turned =
-    record { client = record { state = turned.state; held = left }; taken = taken; news = turned.news }
+abbrev pub fed_parsed : State → List ℕ → ℕ → TurnResult → Fed
+fed_parsed s left taken turned =
+    record { client = record { state = turned.state; held = left }; taken = taken; heard_event = turned.heard_event }
 
 -- Where a fault lasts no byte is taken.
 abbrev pub fed_unless : ClientState → List ℕ → Option ClientFault → Fed
-fed_unless c piece (Some fault) = record { client = c; taken = 0; news = Nothing }
+fed_unless c piece (Some fault) = record { client = c; taken = 0; heard_event = Nothing }
 fed_unless c piece None =
-    fed_sight c.state (cleared (sight_of (joined_of c.held piece)) (joined_of c.held piece))
-    (taken_of c.held piece) (hears_sight c.state (sight_of (joined_of c.held piece)))
+    fed_parsed c.state (cleared (parsed (held_and_taken c.held piece)) (held_and_taken c.held piece))
+    (bytes_taken c.held piece) (hears_parsed c.state (parsed (held_and_taken c.held piece)))
 
 abbrev pub fed : ClientState → List ℕ → Fed
 fed c piece = fed_unless c piece c.state.fault
@@ -52,24 +52,24 @@ abbrev pub with_state : ClientState → State → ClientState
 with_state c s = record c { state = s }
 
 -- What was heard, apart from where its bytes lie.
-abbrev pub news_in : Heard → News
-news_in heards.Nothing = Nothing
-news_in heards.Registered = Registered
-news_in heards.Opened = Opened
-news_in (heards.Reply bytes) = Replied bytes.now
-news_in (heards.Accepted bytes) = Accepted bytes.now
-news_in (heards.Refused status extended) = Refused status extended
-news_in heards.Closed = Closed
+abbrev pub heard_event_in : Heard → HeardEvent
+heard_event_in heards.Nothing = Nothing
+heard_event_in heards.Registered = Registered
+heard_event_in heards.Opened = Opened
+heard_event_in (heards.Reply bytes) = Replied bytes.now
+heard_event_in (heards.Accepted bytes) = Accepted bytes.now
+heard_event_in (heards.Refused status extended) = Refused status extended
+heard_event_in heards.Closed = Closed
 
 -- What was found in the bytes of a frame: a reply stands from one index to another.
-abbrev pub news_at : List ℕ → Found → News
-news_at frame founds.Nothing = Nothing
-news_at frame founds.Registered = Registered
-news_at frame founds.Opened = Opened
-news_at frame (founds.Reply from to) = Replied (slice_range frame from to)
-news_at frame (founds.Accepted from to) = Accepted (slice_range frame from to)
-news_at frame (founds.Refused status extended) = Refused status extended
-news_at frame founds.Closed = Closed
+abbrev pub heard_event_at : List ℕ → Found → HeardEvent
+heard_event_at frame founds.Nothing = Nothing
+heard_event_at frame founds.Registered = Registered
+heard_event_at frame founds.Opened = Opened
+heard_event_at frame (founds.Reply from to) = Replied (slice_range frame from to)
+heard_event_at frame (founds.Accepted from to) = Accepted (slice_range frame from to)
+heard_event_at frame (founds.Refused status extended) = Refused status extended
+heard_event_at frame founds.Closed = Closed
 
 -- The indices are within so many bytes.
 abbrev pub IsWithin : ℕ → Found → Type 0
@@ -82,14 +82,14 @@ IsWithin size (founds.Refused status extended) = ⊤
 IsWithin size founds.Closed = ⊤
 
 -- What was found in a frame, and the client after it, are the turn's.
-pub record IsHeard (f : Frame) (s : State) (found : Found) (turned : Turned) : Type 0 where
+pub record IsHeard (f : Frame) (s : State) (found : Found) (turned : TurnResult) : Type 0 where
   pub state : s ≡ turned.state
-  pub news : news_at (frame f) found ≡ turned.news
+  pub heard_event : heard_event_at (frame f) found ≡ turned.heard_event
   pub within : IsWithin (length (frame f)) found
 
 -- The bytes stand in a text from an index on.
-abbrev pub StandsAt : ℕ → List ℕ → List ℕ → Type 0
-StandsAt index bytes text = (index + length bytes ≤ length text)
+abbrev pub LiesAt : ℕ → List ℕ → List ℕ → Type 0
+LiesAt index bytes text = (index + length bytes ≤ length text)
     × (slice_range text index (index + length bytes) ≡ bytes)
 
 -- The code's answer, apart from where it lies.
@@ -117,23 +117,23 @@ frame_bytes false taken piece held = held
 
 -- The client as it is stored: a frame that was heard stays with the reader until more comes, and counts as no byte.
 abbrev pub client_in : State → List ℕ → ClientState
-client_in s bytes = record { state = s; held = cleared (sight_of bytes) bytes }
+client_in s bytes = record { state = s; held = cleared (parsed bytes) bytes }
 
 -- Between calls a client holds bytes that are no whole frame; where no fault lasts, they are a front of one, or none.
 pub record IsBetween (c : ClientState) : Type 0 where
   pub bytes : AreBytes c.held
-  pub unheard : (f : Frame) → sight_of c.held ≡ A_frame f → ⊥
-  pub partly : c.state.fault ≡ None → sight_of c.held ≡ Nothing_yet
+  pub unheard : (f : Frame) → parsed c.held ≡ WholeFrame f → ⊥
+  pub partly : c.state.fault ≡ None → parsed c.held ≡ Incomplete
 
 -- Where no fault lasts, what is held goes on.
 abbrev pub IsListening : State → List ℕ → Type 0
 IsListening s bytes = s.fault ≡ None → IsTooLong bytes → ⊥
 
 -- What a piece told, and the client after it, are those of the definition.
-pub record IsTold (s : State) (bytes : List ℕ) (told : Told) (piece : List ℕ) (f : Fed) : Type 0 where
+pub record IsPieceOutcome (s : State) (bytes : List ℕ) (outcome : PieceOutcome) (piece : List ℕ) (f : Fed) : Type 0 where
   pub client : client_in s bytes ≡ f.client
-  pub taken : told.taken ≡ f.taken
-  pub news : news_at (frame_bytes told.in_place told.taken piece bytes) told.found ≡ f.news
-  pub within : IsWithin (length (frame_bytes told.in_place told.taken piece bytes)) told.found
-  pub part : told.taken ≤ length piece
+  pub taken : outcome.taken ≡ f.taken
+  pub heard_event : heard_event_at (frame_bytes outcome.in_place outcome.taken piece bytes) outcome.found ≡ f.heard_event
+  pub within : IsWithin (length (frame_bytes outcome.in_place outcome.taken piece bytes)) outcome.found
+  pub part : outcome.taken ≤ length piece
   pub listening : IsListening s bytes

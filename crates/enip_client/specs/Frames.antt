@@ -7,11 +7,11 @@ use Rattle.cip_bytes.specs.declared.protocol.Command.TheVariants.{RegisterSessio
 use Rattle.cip_bytes.specs.declared.protocol.Command.TheVariants.{SendUnitData}
 use Rattle.cip_bytes.specs.declared.protocol.ManagerService.{ManagerService}
 use Rattle.cip_bytes.specs.declared.protocol.ManagerService.TheVariants.{ForwardOpen, LargeForwardOpen, ForwardClose}
-use Rattle.cip_bytes.specs.declared.protocol.TheConstants.{CONNECTION_MANAGER, LARGEST_SMALL_SIZE, MESSAGE_ROUTER}
+use Rattle.cip_bytes.specs.declared.protocol.TheConstants.{CONNECTION_MANAGER, LARGEST_FORWARD_OPEN_SIZE, MESSAGE_ROUTER}
 use Rattle.cip_message.specs.Open.{Layout, small, large, Open, «open», large_open}
 use Rattle.cip_message.specs.Close.{Close, close}
 use Rattle.cip_message.specs.Request.{request}
-use Rattle.enip_wire.specs.Bodies.{rr_text, unit_text}
+use Rattle.enip_wire.specs.Bodies.{rr_body_bytes, unit_body_bytes}
 use Rattle.enip_wire.specs.Frames.{Frame}
 use Rattle.enip_wire.specs.declared.header.Header.{Header}
 use Rattle.enip_client.specs.declared.wants.Wants.{Wants}
@@ -42,11 +42,11 @@ unregister_frame session = sent UnRegisterSession session 0 []
 
 -- SendRRData: an unconnected request.
 abbrev pub request_frame : ℕ → ℕ → List ℕ → Frame
-request_frame session number bytes = sent SendRRData session number (rr_text bytes)
+request_frame session number bytes = sent SendRRData session number (rr_body_bytes bytes)
 
 -- SendUnitData: an item of the connection with this O->T ID. Its count tells it, and not its context.
 abbrev pub item_frame : ℕ → ℕ → List ℕ → Frame
-item_frame session o_to_t_id item = sent SendUnitData session 0 (unit_text o_to_t_id item)
+item_frame session o_to_t_id item = sent SendUnitData session 0 (unit_body_bytes o_to_t_id item)
 
 -- The Connection Manager, instance 1; and the message router, instance 1, to which a connection is opened.
 abbrev pub connection_manager : List ℕ
@@ -70,7 +70,7 @@ large_parameters_of size = 0x42000000 + size
 
 -- A size that a Forward_Open can't say, in either direction, asks for a large connection.
 abbrev pub is_large : Wants → Bool
-is_large wants = nat_lt LARGEST_SMALL_SIZE wants.o_to_t_size || nat_lt LARGEST_SMALL_SIZE wants.t_to_o_size
+is_large wants = nat_lt LARGEST_FORWARD_OPEN_SIZE wants.o_to_t_size || nat_lt LARGEST_FORWARD_OPEN_SIZE wants.t_to_o_size
 
 abbrev pub layout_of : Wants → Layout
 layout_of wants = if is_large wants then large else small

@@ -12,8 +12,8 @@ use Rattle.cip_message.specs.declared.reply.ReplyFault.{ReplyFault}
 use Rattle.cip_class3.specs.OriginatorRule.{after_item, accepted_reply}
 use Rattle.enip_wire.specs.Bodies.{rr_body_of, unit_body_of}
 use Rattle.enip_wire.specs.Frames.{Frame}
-use Rattle.enip_wire.specs.Stream.{Sight}
-use Rattle.enip_wire.specs.Stream.Sight.{Nothing_yet, A_frame, A_long_header}
+use Rattle.enip_wire.specs.Stream.{Parsed}
+use Rattle.enip_wire.specs.Stream.Parsed.{Incomplete, WholeFrame, TooLongHeader}
 use Rattle.enip_wire.specs.declared.header.Header.{Header}
 use Rattle.enip_wire.specs.declared.item_list.CpfFault.{CpfFault}
 use Rattle.enip_client.specs.Frames.{open_service}
@@ -22,7 +22,7 @@ use Rattle.enip_client.specs.declared.fault.ClientFault.TheVariants as faults
 use Rattle.enip_client.specs.declared.state.Awaited.{Awaited}
 use Rattle.enip_client.specs.declared.state.Awaited.TheVariants as awaited
 use Rattle.enip_client.specs.declared.state.Awaiting.{Awaiting}
-use Rattle.enip_client.specs.declared.state.Link.TheVariants.{Open}
+use Rattle.enip_client.specs.declared.state.ConnectionState.TheVariants.{Open}
 use Rattle.enip_client.specs.declared.state.Registration.TheVariants as registrations
 use Rattle.enip_client.specs.declared.state.State.{State}
 use Rattle.enip_client.specs.State.{is_registered, session_in, is_open}
@@ -30,25 +30,25 @@ use Rattle.enip_client.specs.State.{is_registered, session_in, is_open}
 -- What is heard: nothing; the session is registered; the connection is opened; an unconnected reply; a reply that the
 -- connection accepts; an open or a close is refused, with its general status and first additional word; the connection
 -- is closed.
-pub data News : Type 0 where
-  Nothing : News
-  Registered : News
-  Opened : News
-  Replied : (bytes : List ℕ) → News
-  Accepted : (bytes : List ℕ) → News
-  Refused : (status extended : ℕ) → News
-  Closed : News
+pub data HeardEvent : Type 0 where
+  Nothing : HeardEvent
+  Registered : HeardEvent
+  Opened : HeardEvent
+  Replied : (bytes : List ℕ) → HeardEvent
+  Accepted : (bytes : List ℕ) → HeardEvent
+  Refused : (status extended : ℕ) → HeardEvent
+  Closed : HeardEvent
 
-pub record Turned : Type 0 where
+pub record TurnResult : Type 0 where
   pub state : State
-  pub news : News
+  pub heard_event : HeardEvent
 
-abbrev pub tells : State → News → Turned
-tells s news = record { state = s; news = news }
+abbrev pub turned_to : State → HeardEvent → TurnResult
+turned_to s heard_event = record { state = s; heard_event = heard_event }
 
 -- The fault lasts.
-abbrev pub faulted : State → ClientFault → Turned
-faulted s fault = tells (record s { fault = Some fault }) Nothing
+abbrev pub faulted : State → ClientFault → TurnResult
+faulted s fault = turned_to (record s { fault = Some fault }) Nothing
 
 -- What was awaited came.
 abbrev pub answered : State → State
@@ -90,79 +90,79 @@ first_word [] = 0
 first_word (word ∷ words) = word
 
 -- The Connection Manager refuses.
-abbrev pub refuses : State → Reply → Turned
-refuses s reply = tells (answered s) (Refused reply.status (first_word reply.additional))
+abbrev pub refuses : State → Reply → TurnResult
+refuses s reply = turned_to (answered s) (Refused reply.status (first_word reply.additional))
 
 -- The session is that of the reply's header. The reply has 4 bytes of data.
-abbrev pub session_turn : State → Frame → Turned
+abbrev pub session_turn : State → Frame → TurnResult
 session_turn s f =
     if length f.body == 4
-    then tells (record (answered s) { registration = registrations.Registered f.header.session }) Registered
+    then turned_to (record (answered s) { registration = registrations.Registered f.header.session }) Registered
     else faulted s faults.Malformed
 
 -- The O->T ID comes first in the 26 bytes of a connection that was opened.
-abbrev pub opening_turn : State → Option Answer → Turned
+abbrev pub opening_turn : State → Option Answer → TurnResult
 opening_turn s None = faulted s faults.Malformed
 opening_turn s (Some a) =
     if a.reply.status == 0
     then
     if nat_le 26 (length a.reply.data)
-    then tells (record (answered s) { link = Open (number_at 0 4 a.reply.data) }) Opened
+    then turned_to (record (answered s) { connection_state = Open (number_at 0 4 a.reply.data) }) Opened
     else faulted s faults.Malformed
     else refuses s a.reply
 
-abbrev pub reply_turn : State → Option Answer → Turned
+abbrev pub reply_turn : State → Option Answer → TurnResult
 reply_turn s None = faulted s faults.Malformed
-reply_turn s (Some a) = tells (answered s) (Replied a.bytes)
+reply_turn s (Some a) = turned_to (answered s) (Replied a.bytes)
 
-abbrev pub closing_turn : State → Option Answer → Turned
+abbrev pub closing_turn : State → Option Answer → TurnResult
 closing_turn s None = faulted s faults.Malformed
-closing_turn s (Some a) = if a.reply.status == 0 then tells (answered s) Closed else refuses s a.reply
+closing_turn s (Some a) = if a.reply.status == 0 then turned_to (answered s) Closed else refuses s a.reply
 
 -- The shape of each reply that is awaited: 4 bytes of data, or a router's reply to the service that asked.
-abbrev pub shaped : State → Awaited → Frame → Turned
+abbrev pub shaped : State → Awaited → Frame → TurnResult
 shaped s awaited.Session f = session_turn s f
 shaped s awaited.Connection f = opening_turn s (answer_to (manager_service_number (open_service s.wants)) f.body)
 shaped s (awaited.Reply service) f = reply_turn s (answer_to service f.body)
 shaped s awaited.End f = closing_turn s (answer_to (manager_service_number ForwardClose) f.body)
 
 -- An awaited reply: a status that is not 0 lasts as a fault.
-abbrev pub answer_turn : State → Awaited → Frame → Turned
+abbrev pub answer_turn : State → Awaited → Frame → TurnResult
 answer_turn s awaited f =
     if f.header.status == 0 then shaped s awaited f else faulted s (faults.Status f.header.status)
 
 -- The reply that the originator accepts, if any.
-abbrev pub accepted : Option (List ℕ) → News
+abbrev pub accepted : Option (List ℕ) → HeardEvent
 accepted None = Nothing
 accepted (Some bytes) = Accepted bytes
 
 -- An item on the connection with this T->O ID goes to its originator.
-abbrev pub item_turn : State → Result (ℕ × List ℕ) CpfFault → Turned
-item_turn s (Err fault) = tells s Nothing
+abbrev pub item_turn : State → Result (ℕ × List ℕ) CpfFault → TurnResult
+item_turn s (Err fault) = turned_to s Nothing
 item_turn s (Ok (id, item)) =
     if id == s.wants.t_to_o_id
-    then tells (record s { originator = after_item s.originator item }) (accepted (accepted_reply s.originator item))
-    else tells s Nothing
+    then turned_to (record s { originator = after_item s.originator item }) (accepted (accepted_reply s.originator item))
+    else turned_to s Nothing
 
 -- A SendUnitData without a status, to the session of an open connection.
 abbrev pub is_for_connection : State → Header → Bool
 is_for_connection s h =
-    (h.command == command_number SendUnitData) && (h.status == 0) && is_open s.link
+    (h.command == command_number SendUnitData) && (h.status == 0) && is_open s.connection_state
     && is_registered s.registration && (h.session == session_in s.registration)
 
 -- What is not awaited is ignored.
-abbrev pub other_turn : State → Frame → Turned
-other_turn s f = if is_for_connection s f.header then item_turn s (unit_body_of f.body) else tells s Nothing
+abbrev pub other_turn : State → Frame → TurnResult
+other_turn s f = if is_for_connection s f.header then item_turn s (unit_body_of f.body) else turned_to s Nothing
 
-abbrev pub hears_awaiting : State → Frame → Option Awaiting → Turned
+abbrev pub hears_awaiting : State → Frame → Option Awaiting → TurnResult
 hears_awaiting s f None = other_turn s f
 hears_awaiting s f (Some w) = if is_answer w f.header then answer_turn s w.awaited f else other_turn s f
 
 -- The client's turn at a whole frame, and at what it sees of its bytes.
-abbrev pub hears : State → Frame → Turned
+abbrev pub hears : State → Frame → TurnResult
 hears s f = hears_awaiting s f s.awaiting
 
-abbrev pub hears_sight : State → Sight → Turned
-hears_sight s Nothing_yet = tells s Nothing
-hears_sight s (A_frame f) = hears s f
-hears_sight s (A_long_header h) = faulted s faults.TooLong
+abbrev pub hears_parsed : State → Parsed → TurnResult
+hears_parsed s Incomplete = turned_to s Nothing
+hears_parsed s (WholeFrame f) = hears s f
+hears_parsed s (TooLongHeader h) = faulted s faults.TooLong

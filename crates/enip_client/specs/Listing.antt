@@ -1,8 +1,8 @@
 -- One list asked of a device: what is written, what is read of the answer, and what is answered.
 use Rattle.std.specs.Prelude.{ℕ, ◌-◌, ◌^◌, ◌≡◌, ◌<◌, List, ◌++◌, length, Option, Result, Ok, Err}
 use Rattle.std.specs.Io.KnownBytes.{Appends, Consumes, IsAtEnd}
-use Rattle.enip_wire.specs.Frames.{frame, Stops}
-use Rattle.enip_wire.specs.Stream.{IsFresh, sight_of}
+use Rattle.enip_wire.specs.Frames.{frame, IsComplete}
+use Rattle.enip_wire.specs.Stream.{IsAtMostOneFrame, parsed}
 use Rattle.enip_client.specs.declared.fault.AskFault.{AskFault}
 use Rattle.enip_client.specs.declared.fault.AskFault.TheVariants as ask_faults
 use Rattle.enip_client.specs.declared.fault.ClientFault.{ClientFault}
@@ -13,8 +13,8 @@ use Rattle.enip_client.specs.Lists.{Entry, list_frame, answer_in}
 -- Of the bytes that were read these are the first that are a whole frame, or a header that is too long. What follows
 -- them is of the last read, which gave at most 4,096 bytes.
 pub record Gathers (before after : Option (List ℕ)) (bytes : List ℕ) : Type 0 where
-  pub fresh : IsFresh bytes
-  pub stops : Stops bytes
+  pub fresh : IsAtMostOneFrame bytes
+  pub stops : IsComplete bytes
   pub rest : List ℕ
   pub few : length rest < 4096
   pub consumed : Consumes before after (bytes ++ rest)
@@ -22,7 +22,7 @@ pub record Gathers (before after : Option (List ℕ)) (bytes : List ℕ) : Type 
 -- All that was read is no whole frame yet, and no header that is too long.
 pub record Waits (before after : Option (List ℕ)) : Type 0 where
   pub bytes : List ℕ
-  pub partial : Stops bytes → ⊥
+  pub partial : IsComplete bytes → ⊥
   pub consumed : Consumes before after bytes
 
 -- What was gathered, by what is answered.
@@ -34,27 +34,27 @@ IsGathered before after reads bytes (Err ask_faults.Spent) = Waits before after 
 IsGathered before after reads bytes (Err other) = ⊥
 
 -- The bytes that are left to the reader and how many reads it made, and those that the writer has.
-pub record Sides : Type 0 where
+pub record ListState : Type 0 where
   pub left : Option (List ℕ)
   pub reads : ℕ
   pub written : Option (List ℕ)
 
-abbrev pub sides : Option (List ℕ) → ℕ → Option (List ℕ) → Sides
-sides left reads written = record { left = left; reads = reads; written = written }
+abbrev pub list_state : Option (List ℕ) → ℕ → Option (List ℕ) → ListState
+list_state left reads written = record { left = left; reads = reads; written = written }
 
 -- The request was written.
-abbrev pub Requests : ListCommand → Sides → Sides → Type 0
+abbrev pub Requests : ListCommand → ListState → ListState → Type 0
 Requests command old new = Appends old.written new.written (frame (list_frame command))
 
 -- What was gathered answers this.
-pub record Answers (command : ListCommand) (old new : Sides) (answer : Result (List Entry) ClientFault) : Type 0 where
+pub record Answers (command : ListCommand) (old new : ListState) (answer : Result (List Entry) ClientFault) : Type 0 where
   pub requested : Requests command old new
   pub bytes : List ℕ
   pub gathered : Gathers old.left new.left bytes
-  pub is : answer_in command (sight_of bytes) ≡ answer
+  pub is : answer_in command (parsed bytes) ≡ answer
 
 -- What asking for a list does, by what is answered.
-abbrev pub IsListed : ListCommand → Sides → Sides → Result (List Entry) AskFault → Type 0
+abbrev pub IsListed : ListCommand → ListState → ListState → Result (List Entry) AskFault → Type 0
 IsListed command old new (Ok entries) = Answers command old new (Ok entries)
 IsListed command old new (Err (ask_faults.Client fault)) = Answers command old new (Err fault)
 IsListed command old new (Err ask_faults.Read) = Requests command old new × Waits old.left new.left

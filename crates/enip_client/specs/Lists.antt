@@ -9,8 +9,8 @@ use Rattle.cip_bytes.specs.declared.protocol.Command.{Command}
 use Rattle.cip_bytes.specs.declared.protocol.Command.TheVariants as commands
 use Rattle.enip_wire.specs.Frames.{Frame, frame, IsFrame}
 use Rattle.enip_wire.specs.Items.{Item, items, AreItems, items_of}
-use Rattle.enip_wire.specs.Stream.{Sight}
-use Rattle.enip_wire.specs.Stream.Sight.{Nothing_yet, A_frame, A_long_header}
+use Rattle.enip_wire.specs.Stream.{Parsed}
+use Rattle.enip_wire.specs.Stream.Parsed.{Incomplete, WholeFrame, TooLongHeader}
 use Rattle.enip_wire.specs.declared.header.Header.{Header}
 use Rattle.enip_wire.specs.declared.item_list.CpfFault.{CpfFault}
 use Rattle.enip_client.specs.declared.fault.ClientFault.{ClientFault}
@@ -116,10 +116,10 @@ answered_with command f =
     else Err faults.Malformed
 
 -- The entries of the bytes, by what they are.
-abbrev pub answer_in : ListCommand → Sight → Result (List Entry) ClientFault
-answer_in command Nothing_yet = Err faults.Malformed
-answer_in command (A_frame f) = answered_with command f
-answer_in command (A_long_header h) = Err faults.TooLong
+abbrev pub answer_in : ListCommand → Parsed → Result (List Entry) ClientFault
+answer_in command Incomplete = Err faults.Malformed
+answer_in command (WholeFrame f) = answered_with command f
+answer_in command (TooLongHeader h) = Err faults.TooLong
 
 -- The entries that are left.
 abbrev pub entries_left : ListEntries → List Entry

@@ -8,8 +8,8 @@ use Rattle.cip_class3.specs.OriginatorRule.{OriginatorState}
 use Rattle.cip_class3.specs.Calls as originators
 use Rattle.enip_wire.specs.Bodies.{unit_body_of}
 use Rattle.enip_wire.specs.Frames.{Frame}
-use Rattle.enip_wire.specs.Stream.{Sight, joined_of, sight_of}
-use Rattle.enip_wire.specs.Stream.Sight.{Nothing_yet, A_frame, A_long_header}
+use Rattle.enip_wire.specs.Stream.{Parsed, held_and_taken, parsed}
+use Rattle.enip_wire.specs.Stream.Parsed.{Incomplete, WholeFrame, TooLongHeader}
 use Rattle.enip_wire.specs.declared.header.Header.{Header}
 use Rattle.enip_wire.specs.declared.item_list.CpfFault.{CpfFault}
 use Rattle.enip_client.specs.declared.fault.ClientFault.{ClientFault}
@@ -21,8 +21,8 @@ use Rattle.enip_client.specs.Frames.{item_frame}
 use Rattle.enip_client.specs.Calls.{Lent, registers, opens, asks, submits, resends, closes, unregisters}
 use Rattle.enip_client.specs.Calls.{after_giving_up}
 use Rattle.enip_client.specs.Calls.{after_lending, is_connected}
-use Rattle.enip_client.specs.Hears.{News, hears, faulted, is_for_connection}
-use Rattle.enip_client.specs.Hears.News.{Nothing, Registered, Opened, Replied, Accepted, Refused, Closed}
+use Rattle.enip_client.specs.Hears.{HeardEvent, hears, faulted, is_for_connection}
+use Rattle.enip_client.specs.Hears.HeardEvent.{Nothing, Registered, Opened, Replied, Accepted, Refused, Closed}
 use Rattle.enip_client.specs.Client.{ClientState, fed, with_state}
 
 -- A call that hands in no bytes.
@@ -77,9 +77,9 @@ abbrev pub lent_by_call : ClientState → Call → Option Frame
 lent_by_call c (Act action) = frame_lent c.state action
 lent_by_call c (Feed piece) = None
 
-abbrev pub news_of_call : ClientState → Call → News
-news_of_call c (Act action) = Nothing
-news_of_call c (Feed piece) = (fed c piece).news
+abbrev pub heard_events_of_call : ClientState → Call → HeardEvent
+heard_events_of_call c (Act action) = Nothing
+heard_events_of_call c (Feed piece) = (fed c piece).heard_event
 
 -- The client after calls, one after the other.
 abbrev pub after_calls : ClientState → List Call → ClientState
@@ -96,23 +96,23 @@ frames_lent c [] = []
 frames_lent c (call ∷ calls) = frame_before (lent_by_call c call) (frames_lent (after_call c call) calls)
 
 -- News before more: that nothing was heard is left out.
-abbrev pub news_before : News → List News → List News
-news_before Nothing more = more
-news_before Registered more = Registered ∷ more
-news_before Opened more = Opened ∷ more
-news_before (Replied bytes) more = Replied bytes ∷ more
-news_before (Accepted bytes) more = Accepted bytes ∷ more
-news_before (Refused status extended) more = Refused status extended ∷ more
-news_before Closed more = Closed ∷ more
+abbrev pub heard_events_before : HeardEvent → List HeardEvent → List HeardEvent
+heard_events_before Nothing more = more
+heard_events_before Registered more = Registered ∷ more
+heard_events_before Opened more = Opened ∷ more
+heard_events_before (Replied bytes) more = Replied bytes ∷ more
+heard_events_before (Accepted bytes) more = Accepted bytes ∷ more
+heard_events_before (Refused status extended) more = Refused status extended ∷ more
+heard_events_before Closed more = Closed ∷ more
 
-abbrev pub heard_in : List News → List News
+abbrev pub heard_in : List HeardEvent → List HeardEvent
 heard_in [] = []
-heard_in (news ∷ more) = news_before news (heard_in more)
+heard_in (heard_event ∷ more) = heard_events_before heard_event (heard_in more)
 
 -- What calls hear.
-abbrev pub news_of_calls : ClientState → List Call → List News
-news_of_calls c [] = []
-news_of_calls c (call ∷ calls) = news_before (news_of_call c call) (news_of_calls (after_call c call) calls)
+abbrev pub heard_events_of_calls : ClientState → List Call → List HeardEvent
+heard_events_of_calls c [] = []
+heard_events_of_calls c (call ∷ calls) = heard_events_before (heard_events_of_call c call) (heard_events_of_calls (after_call c call) calls)
 
 -- What happens to a client: a call without bytes, a whole frame, or a header that is too long.
 pub data Event : Type 0 where
@@ -131,10 +131,10 @@ lent_by_event s (Acted action) = frame_lent s action
 lent_by_event s (Framed f) = None
 lent_by_event s (Long header) = None
 
-abbrev pub news_of_event : State → Event → News
-news_of_event s (Acted action) = Nothing
-news_of_event s (Framed f) = (hears s f).news
-news_of_event s (Long header) = Nothing
+abbrev pub heard_events_of_event : State → Event → HeardEvent
+heard_events_of_event s (Acted action) = Nothing
+heard_events_of_event s (Framed f) = (hears s f).heard_event
+heard_events_of_event s (Long header) = Nothing
 
 -- The same of events, one after the other.
 abbrev pub after_events : State → List Event → State
@@ -145,19 +145,19 @@ abbrev pub lent_by_events : State → List Event → List Frame
 lent_by_events s [] = []
 lent_by_events s (event ∷ events) = frame_before (lent_by_event s event) (lent_by_events (after_event s event) events)
 
-abbrev pub news_of_events : State → List Event → List News
-news_of_events s [] = []
-news_of_events s (event ∷ events) = news_before (news_of_event s event) (news_of_events (after_event s event) events)
+abbrev pub heard_events_of_events : State → List Event → List HeardEvent
+heard_events_of_events s [] = []
+heard_events_of_events s (event ∷ events) = heard_events_before (heard_events_of_event s event) (heard_events_of_events (after_event s event) events)
 
 -- What a sight of the bytes is to the client.
-abbrev pub events_of_sight : Sight → List Event
-events_of_sight Nothing_yet = []
-events_of_sight (A_frame f) = Framed f ∷ []
-events_of_sight (A_long_header header) = Long header ∷ []
+abbrev pub events_of_parsed : Parsed → List Event
+events_of_parsed Incomplete = []
+events_of_parsed (WholeFrame f) = Framed f ∷ []
+events_of_parsed (TooLongHeader header) = Long header ∷ []
 
 -- Where a fault lasts a piece is nothing.
 abbrev pub events_of_piece : List ℕ → List ℕ → Option ClientFault → List Event
-events_of_piece held piece None = events_of_sight (sight_of (joined_of held piece))
+events_of_piece held piece None = events_of_parsed (parsed (held_and_taken held piece))
 events_of_piece held piece (Some fault) = []
 
 -- The events that a call stands for.
@@ -193,16 +193,16 @@ IsOfBytes (Feed piece) = AreBytes piece
 
 -- The pieces of a stream are fed, each again and again until all of it is taken; where a fault lasts, what is left is
 -- dropped. This is heard, and this is the client at the end.
-pub data Pours : ClientState → List (List ℕ) → List News → ClientState → Type 0 where
-  Ended : {c : ClientState} → Pours c [] [] c
-  Taken : {c last : ClientState} {pieces : List (List ℕ)} {news : List News}
-      → Pours c pieces news last → Pours c ([] ∷ pieces) news last
-  Went_on : {c last : ClientState} {b : ℕ} {bs : List ℕ} {pieces : List (List ℕ)} {news : List News}
+pub data FeedsPieces : ClientState → List (List ℕ) → List HeardEvent → ClientState → Type 0 where
+  Ended : {c : ClientState} → FeedsPieces c [] [] c
+  Taken : {c last : ClientState} {pieces : List (List ℕ)} {heard_event : List HeardEvent}
+      → FeedsPieces c pieces heard_event last → FeedsPieces c ([] ∷ pieces) heard_event last
+  Continued : {c last : ClientState} {b : ℕ} {bs : List ℕ} {pieces : List (List ℕ)} {heard_event : List HeardEvent}
       → c.state.fault ≡ None
-      → Pours (fed c (b ∷ bs)).client (drop (fed c (b ∷ bs)).taken (b ∷ bs) ∷ pieces) news last
-      → Pours c ((b ∷ bs) ∷ pieces) ((fed c (b ∷ bs)).news ∷ news) last
+      → FeedsPieces (fed c (b ∷ bs)).client (drop (fed c (b ∷ bs)).taken (b ∷ bs) ∷ pieces) heard_event last
+      → FeedsPieces c ((b ∷ bs) ∷ pieces) ((fed c (b ∷ bs)).heard_event ∷ heard_event) last
   Dropped : {c : ClientState} {fault : ClientFault} {b : ℕ} {bs : List ℕ} {pieces : List (List ℕ)}
-      → c.state.fault ≡ Some fault → Pours c ((b ∷ bs) ∷ pieces) [] c
+      → c.state.fault ≡ Some fault → FeedsPieces c ((b ∷ bs) ∷ pieces) [] c
 
 -- What a call awaits once its frame is lent.
 abbrev pub awaited_by : Action → Option Awaited
@@ -236,14 +236,14 @@ CountFrom n (context ∷ contexts) = (context ≡ le 8 (n % 2 ^ 64)) × CountFro
 -- What can be seen of a client and its replies: a frame was lent whose reply is awaited, or such a reply was heard.
 pub data Seen : Type 0 where
   Asked : (what : Awaited) → Seen
-  Answered : (news : News) → Seen
+  Answered : (heard_event : HeardEvent) → Seen
 
 abbrev pub asked_before : Option Awaited → Option Frame → List Seen → List Seen
 asked_before None lent more = more
 asked_before (Some what) None more = more
 asked_before (Some what) (Some f) more = Asked what ∷ more
 
-abbrev pub answered_before : News → List Seen → List Seen
+abbrev pub answered_before : HeardEvent → List Seen → List Seen
 answered_before Nothing more = more
 answered_before Registered more = Answered Registered ∷ more
 answered_before Opened more = Answered Opened ∷ more
@@ -258,25 +258,25 @@ seen_of_calls c [] = []
 seen_of_calls c (Act action ∷ calls) =
     asked_before (awaited_by action) (frame_lent c.state action) (seen_of_calls (after_call c (Act action)) calls)
 seen_of_calls c (Feed piece ∷ calls) =
-    answered_before (fed c piece).news (seen_of_calls (after_call c (Feed piece)) calls)
+    answered_before (fed c piece).heard_event (seen_of_calls (after_call c (Feed piece)) calls)
 
 -- The news is a reply to what was awaited: to a request of this service, one with its service and bit 7.
-abbrev pub IsReplyTo : Awaited → News → Type 0
+abbrev pub IsReplyTo : Awaited → HeardEvent → Type 0
 IsReplyTo awaited.Session Registered = ⊤
 IsReplyTo awaited.Connection Opened = ⊤
 IsReplyTo awaited.Connection (Refused status extended) = ⊤
 IsReplyTo (awaited.Reply service) (Replied bytes) = slice_index bytes 0 ≡ reply_service service
 IsReplyTo awaited.End Closed = ⊤
 IsReplyTo awaited.End (Refused status extended) = ⊤
-IsReplyTo what news = ⊥
+IsReplyTo what heard_event = ⊥
 
 -- Each reply follows its own request, with no other between: none is heard unasked or twice, and nothing is asked
 -- while a reply is awaited.
 abbrev pub AnsweredOnce : List Seen → Type 0
 AnsweredOnce [] = ⊤
-AnsweredOnce (Answered news ∷ seen) = ⊥
+AnsweredOnce (Answered heard_event ∷ seen) = ⊥
 AnsweredOnce (Asked what ∷ []) = ⊤
-AnsweredOnce (Asked what ∷ Answered news ∷ seen) = IsReplyTo what news × AnsweredOnce seen
+AnsweredOnce (Asked what ∷ Answered heard_event ∷ seen) = IsReplyTo what heard_event × AnsweredOnce seen
 AnsweredOnce (Asked what ∷ Asked more ∷ seen) = ⊥
 
 -- The item that a body has for the client's connection.
@@ -350,7 +350,7 @@ abbrev pub requested_before : Option Frame → List ℕ → List Exchange → Li
 requested_before None request more = more
 requested_before (Some f) request more = Requested request ∷ more
 
-abbrev pub heard_before : News → List Exchange → List Exchange
+abbrev pub heard_before : HeardEvent → List Exchange → List Exchange
 heard_before Nothing more = more
 heard_before Registered more = more
 heard_before Opened more = more
@@ -366,7 +366,7 @@ exchanges c (Act (Submit request) ∷ calls) =
     requested_before (frame_lent c.state (Submit request)) request
     (exchanges (after_call c (Act (Submit request))) calls)
 exchanges c (Act action ∷ calls) = exchanges (after_call c (Act action)) calls
-exchanges c (Feed piece ∷ calls) = heard_before (fed c piece).news (exchanges (after_call c (Feed piece)) calls)
+exchanges c (Feed piece ∷ calls) = heard_before (fed c piece).heard_event (exchanges (after_call c (Feed piece)) calls)
 
 -- The reply is to the service of the request, whose bit 7 it has.
 abbrev pub IsReplyOf : List ℕ → List ℕ → Type 0

@@ -4,8 +4,8 @@ use Rattle.cip_class3.specs.OriginatorRule.{originator_at_opening}
 use Rattle.enip_client.specs.declared.state.State.{State}
 use Rattle.enip_client.specs.declared.state.Registration.{Registration}
 use Rattle.enip_client.specs.declared.state.Registration.TheVariants.{NotRegistered, Registered, Unregistered}
-use Rattle.enip_client.specs.declared.state.Link.{Link}
-use Rattle.enip_client.specs.declared.state.Link.TheVariants.{NotOpened, Open, Closed}
+use Rattle.enip_client.specs.declared.state.ConnectionState.{ConnectionState}
+use Rattle.enip_client.specs.declared.state.ConnectionState.TheVariants.{NotOpened, Open, Closed}
 use Rattle.enip_client.specs.declared.wants.Wants.{Wants}
 
 -- The client that was just made: not registered, no connection, nothing awaited, counted or at fault.
@@ -14,7 +14,7 @@ new_state wants = record {
   wants = wants;
   registration = NotRegistered;
   awaiting = None;
-  link = NotOpened;
+  connection_state = NotOpened;
   originator = originator_at_opening wants.first_count wants.o_to_t_size wants.t_to_o_size;
   frames = 0;
   fault = None;
@@ -36,24 +36,24 @@ session_in NotRegistered = 0
 session_in (Registered session) = session
 session_in Unregistered = 0
 
-abbrev pub is_not_opened : Link → Bool
+abbrev pub is_not_opened : ConnectionState → Bool
 is_not_opened NotOpened = true
 is_not_opened (Open o_to_t_id) = false
 is_not_opened Closed = false
 
-abbrev pub is_open : Link → Bool
+abbrev pub is_open : ConnectionState → Bool
 is_open NotOpened = false
 is_open (Open o_to_t_id) = true
 is_open Closed = false
 
 -- The connection's O->T ID; 0 where none is open.
-abbrev pub o_to_t_id_in : Link → ℕ
+abbrev pub o_to_t_id_in : ConnectionState → ℕ
 o_to_t_id_in NotOpened = 0
 o_to_t_id_in (Open o_to_t_id) = o_to_t_id
 o_to_t_id_in Closed = 0
 
 -- A connection that is open is over; else nothing changes.
-abbrev pub ended : Link → Link
+abbrev pub ended : ConnectionState → ConnectionState
 ended NotOpened = NotOpened
 ended (Open o_to_t_id) = Closed
 ended Closed = Closed

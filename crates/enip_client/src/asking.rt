@@ -4,11 +4,11 @@
 ghost use Rattle.std.specs.Prelude.{◌≡◌, ◌+◌, ◌<◌, ◌≤◌, length, true, None, IfOk, List};
 ghost use Rattle.enip_wire.specs.Frames.{Frame};
 ghost use Rattle.enip_client.specs.Asking.{IsAsked, IsRefused, IsPartial, ends, is_awaiting, read_faults, write_faults};
-ghost use Rattle.enip_client.specs.AskSteps.{stand_of, IsHealthy, IsHeardPiece, IsRead};
+ghost use Rattle.enip_client.specs.AskSteps.{ask_phase_of, IsHealthy, IsPieceFed, IsRead};
 
 use crate::client::Client;
 use crate::fault::AskFault;
-use crate::step::{Asked, Step, hear_once, send};
+use crate::step::{Asked, Step, advance, send};
 use cip_objects::ReplyBuf;
 use enip_wire::{Sink, Source};
 
@@ -52,7 +52,7 @@ pub fn ask<R: Source, W: Sink>(
     let mut buffer = [0; LONGEST_READ];
     while step.awaits() {
         let size = read(reader, &mut buffer)?;
-        step = hear_piece(client, asked, step, &buffer[..size], writer, reply)?;
+        step = feed_piece(client, asked, step, &buffer[..size], writer, reply)?;
     }
     Ok(())
 }
@@ -90,7 +90,7 @@ pub(crate) fn read<R: Source>(
 /// # Errors
 ///
 /// `Client`, `Submit` or `Write`. The rest is not fed then.
-fn hear_piece<W: Sink>(
+fn feed_piece<W: Sink>(
     client: &mut Client,
     asked: Asked<'_>,
     step: Step,
@@ -99,9 +99,9 @@ fn hear_piece<W: Sink>(
     reply: &mut ReplyBuf,
 ) -> Result<Step, AskFault>
     requires healthy { client.old.state.fault ≡ None }
-    requires awaiting { is_awaiting (stand_of step) ≡ true }
+    requires awaiting { is_awaiting (ask_phase_of step) ≡ true }
     requires failures { W.failures writer.old < u64.MAX }
-    ensures heard { IsPartial client.old.held → (sent : List Frame) → IsHeardPiece asked.entry step piece.now
+    ensures heard { IsPartial client.old.held → (sent : List Frame) → IsPieceFed asked.entry step piece.now
         (record { client = client.old; written = W.written writer.old; reply = reply.old.items })
         (record { client = client.new; written = W.written writer.new; reply = reply.new.items }) result sent }
     ensures healthy { IsHealthy client.new.state result }
@@ -111,7 +111,7 @@ fn hear_piece<W: Sink>(
     let mut step = step;
     let mut heard = 0;
     while heard < piece.len() && step.awaits() {
-        let progress = hear_once(client, asked, step, &piece[heard..], writer, reply)?;
+        let progress = advance(client, asked, step, &piece[heard..], writer, reply)?;
         heard += progress.taken;
         step = progress.step;
     }

@@ -4,18 +4,18 @@ ghost use Rattle.std.specs.Prelude.{◌≡◌, ◌<◌, ◌≤◌, length, IfOk,
 ghost use Rattle.std.specs.Option.{option_map};
 ghost use Rattle.std.specs.Borrow.{sem};
 ghost use Rattle.std.specs.Io.BufRead.{Rests};
-ghost use Rattle.cip_bytes.specs.declared.protocol.TheConstants.{LARGEST_SIZE};
+ghost use Rattle.cip_bytes.specs.declared.protocol.TheConstants.{LARGEST_CONNECTION_SIZE};
 ghost use Rattle.cip_bytes.specs.Numbers.{AreBytes};
-ghost use Rattle.enip_wire.specs.Frames.{frame, IsTooLong, Stops};
-ghost use Rattle.enip_wire.specs.Stream.{sight_of, joined_of, taken_of, left_of, cleared};
-ghost use Rattle.enip_client.specs.Client.{client_in, fed, news_at, IsWithin, frame_bytes, IsListening, IsTold};
-ghost use Rattle.enip_client.specs.Hears.{hears_sight};
+ghost use Rattle.enip_wire.specs.Frames.{frame, IsTooLong, IsComplete};
+ghost use Rattle.enip_wire.specs.Stream.{parsed, held_and_taken, bytes_taken, held_after_next, cleared};
+ghost use Rattle.enip_client.specs.Client.{client_in, fed, heard_event_at, IsWithin, frame_bytes, IsListening, IsPieceOutcome};
+ghost use Rattle.enip_client.specs.Hears.{hears_parsed};
 ghost use Rattle.enip_client.specs.Calls.{bytes_in, bytes_lent, after_lending};
 
 use crate::fault::{ClientFault, SubmitFault};
 use crate::hearing::{Found, Hearing};
 use crate::sending::{LONGEST_SENT, Sent};
-use crate::state::{Link, Registration, State};
+use crate::state::{ConnectionState, Registration, State};
 use crate::wants::Wants;
 use cip_class3::{Originator, Stage};
 use enip_wire::{FrameReader, Held};
@@ -25,15 +25,15 @@ use std::marker::Model;
 /// What a piece told: how many of its bytes were taken, whether a frame lay whole in it, and what was found in the
 /// frame.
 #[derive(Clone, Copy)]
-struct Told {
+struct PieceOutcome {
     taken: usize,
     in_place: bool,
     found: Found,
 }
 
-impl Told {
+impl PieceOutcome {
     /// Where a fault lasts no byte is taken.
-    const NOTHING: Told = Told {
+    const NOTHING: PieceOutcome = PieceOutcome {
         taken: 0,
         in_place: false,
         found: Found::Nothing,
@@ -60,7 +60,7 @@ impl Model for Client {
 }
 
 impl Client {
-    ghost use Rattle.enip_client.specs.Client.{new_client, with_state, news_in, IsBetween};
+    ghost use Rattle.enip_client.specs.Client.{new_client, with_state, heard_event_in, IsBetween};
     ghost use Rattle.enip_client.specs.Calls.{registers, opens, asks, submits, closes, unregisters, resends};
     ghost use Rattle.enip_client.specs.Calls.{gives_up, after_giving_up, stage_in};
     ghost use Rattle.enip_client.specs.State.{is_registered};
@@ -73,9 +73,9 @@ impl Client {
     /// `ClientFault::Memory` where memory is refused.
     pub fn new(alloc: Global, wants: &Wants) -> Result<Client, ClientFault>
         requires o_to_t_from { 4 ≤ wants.now.o_to_t_size }
-        requires o_to_t_to { wants.now.o_to_t_size ≤ LARGEST_SIZE }
+        requires o_to_t_to { wants.now.o_to_t_size ≤ LARGEST_CONNECTION_SIZE }
         requires t_to_o_from { 10 ≤ wants.now.t_to_o_size }
-        requires t_to_o_to { wants.now.t_to_o_size ≤ LARGEST_SIZE }
+        requires t_to_o_to { wants.now.t_to_o_size ≤ LARGEST_CONNECTION_SIZE }
         ensures made { IfOk result (λ client. client ≡ new_client wants.now) }
         ensures memory { IfErr result (λ fault. fault ≡ ClientFault.Memory) }
     {
@@ -95,7 +95,7 @@ impl Client {
                 wants: *wants,
                 registration: Registration::NotRegistered,
                 awaiting: None,
-                link: Link::NotOpened,
+                connection_state: ConnectionState::NotOpened,
                 originator,
                 frames: 0,
                 fault: None,
@@ -228,8 +228,8 @@ impl Client {
     pub fn stage(&self) -> Option<Stage>
         ensures { result ≡ stage_in self.now.state }
     {
-        match self.state.link {
-            Link::Open(_) => Some(self.state.originator.stage()),
+        match self.state.connection_state {
+            ConnectionState::Open(_) => Some(self.state.originator.stage()),
             _ => None,
         }
     }
@@ -254,48 +254,48 @@ impl Client {
     pub fn feed<'a>(&'a mut self, piece: &'a [u8]) -> Hearing<'a>
         ensures* after { sem 𝓛 (Rests the_row self.entry (λ new. new ≡ (fed self.old piece.now).client)) }
         ensures taken { result.taken ≡ (fed self.old piece.now).taken }
-        ensures heard { news_in result.heard ≡ (fed self.old piece.now).news }
+        ensures heard { heard_event_in result.heard ≡ (fed self.old piece.now).heard_event }
         ensures within { result.taken ≤ length piece.now }
         ensures progress { 0 < length piece.now → self.old.state.fault ≡ None → 0 < result.taken }
     {
-        let told = hear(&mut self.state, &mut self.reader, piece);
-        if told.in_place {
+        let outcome = process(&mut self.state, &mut self.reader, piece);
+        if outcome.in_place {
             return Hearing {
-                taken: told.taken,
-                heard: told.found.heard(&piece[..told.taken]),
+                taken: outcome.taken,
+                heard: outcome.found.heard(&piece[..outcome.taken]),
             };
         }
         Hearing {
-            taken: told.taken,
-            heard: told.found.heard(self.reader.bytes()),
+            taken: outcome.taken,
+            heard: outcome.found.heard(self.reader.bytes()),
         }
     }
 }
 
 /// Takes bytes of a piece up to the end of one frame, and hears the frame, unless a fault lasts.
-fn hear(state: &mut State, reader: &mut FrameReader, piece: &[u8]) -> Told
+fn process(state: &mut State, reader: &mut FrameReader, piece: &[u8]) -> PieceOutcome
     requires listening { IsListening state.old reader.old }
     requires bytes { AreBytes reader.old }
     ensures bytes { AreBytes reader.new }
-    ensures told { IsTold state.new reader.new result piece.now (fed (client_in state.old reader.old) piece.now) }
+    ensures outcome { IsPieceOutcome state.new reader.new result piece.now (fed (client_in state.old reader.old) piece.now) }
     ensures progress { 0 < length piece.now → state.old.fault ≡ None → 0 < result.taken }
 {
     if state.fault.is_some() {
-        return Told::NOTHING;
+        return PieceOutcome::NOTHING;
     }
-    drop_heard(reader);
-    hear_next(state, reader, piece)
+    drop_processed(reader);
+    process_next(state, reader, piece)
 }
 
 /// Takes bytes of a piece up to the end of one frame, and hears the frame.
-fn hear_next(state: &mut State, reader: &mut FrameReader, piece: &[u8]) -> Told
-    requires { Stops reader.old → ⊥ }
-    ensures state { state.new ≡ (hears_sight state.old (sight_of (joined_of reader.old piece.now))).state }
-    ensures reader { reader.new ≡ left_of reader.old piece.now }
-    ensures taken { result.taken ≡ taken_of reader.old piece.now }
+fn process_next(state: &mut State, reader: &mut FrameReader, piece: &[u8]) -> PieceOutcome
+    requires { IsComplete reader.old → ⊥ }
+    ensures state { state.new ≡ (hears_parsed state.old (parsed (held_and_taken reader.old piece.now))).state }
+    ensures reader { reader.new ≡ held_after_next reader.old piece.now }
+    ensures taken { result.taken ≡ bytes_taken reader.old piece.now }
     ensures part { result.taken ≤ length piece.now }
-    ensures news { news_at (frame_bytes result.in_place result.taken piece.now reader.new) result.found
-        ≡ (hears_sight state.old (sight_of (joined_of reader.old piece.now))).news }
+    ensures heard_event { heard_event_at (frame_bytes result.in_place result.taken piece.now reader.new) result.found
+        ≡ (hears_parsed state.old (parsed (held_and_taken reader.old piece.now))).heard_event }
     ensures within { IsWithin (length (frame_bytes result.in_place result.taken piece.now reader.new)) result.found }
     ensures progress { 0 < length piece.now → 0 < result.taken }
 {
@@ -303,10 +303,10 @@ fn hear_next(state: &mut State, reader: &mut FrameReader, piece: &[u8]) -> Told
     let (taken, held) = reader.next(piece);
     let found = match held {
         Held::More => Found::Nothing,
-        Held::Frame(frame) => state.hear(frame),
+        Held::Frame(frame) => state.process(frame),
         Held::TooLong(_) => state.fail(ClientFault::TooLong),
     };
-    Told {
+    PieceOutcome {
         taken,
         in_place,
         found,
@@ -314,10 +314,10 @@ fn hear_next(state: &mut State, reader: &mut FrameReader, piece: &[u8]) -> Told
 }
 
 /// Drops a whole frame, which was heard.
-fn drop_heard(reader: &mut FrameReader)
+fn drop_processed(reader: &mut FrameReader)
     requires { IsTooLong reader.old → ⊥ }
-    ensures cleared { reader.new ≡ cleared (sight_of reader.old) reader.old }
-    ensures waits { Stops reader.new → ⊥ }
+    ensures cleared { reader.new ≡ cleared (parsed reader.old) reader.old }
+    ensures waits { IsComplete reader.new → ⊥ }
 {
     if let Held::Frame(_) = reader.state() {
         reader.clear();

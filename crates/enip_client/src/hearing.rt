@@ -5,7 +5,7 @@ ghost use Rattle.std.specs.Prelude.{◌≡◌, length, IfSome};
 ghost use Rattle.std.specs.Option.{option_map};
 ghost use Rattle.cip_message.specs.Reply.{view};
 ghost use Rattle.enip_wire.specs.Stream.{frame_of};
-ghost use Rattle.enip_client.specs.Client.{news_in, news_at, IsWithin, IsHeard, StandsAt, answer_of};
+ghost use Rattle.enip_client.specs.Client.{heard_event_in, heard_event_at, IsWithin, IsHeard, LiesAt, answer_of};
 ghost use Rattle.cip_bytes.specs.Protocol.{manager_service_number};
 ghost use Rattle.enip_client.specs.Frames.{open_service};
 ghost use Rattle.enip_client.specs.Hears.{hears, is_for_connection, is_answer, command_awaited, answer_turn, session_turn};
@@ -14,7 +14,7 @@ ghost use Rattle.enip_client.specs.Hears.{answer_to, first_word};
 
 use crate::fault::ClientFault;
 use crate::sending::open_service;
-use crate::state::{Awaited, Awaiting, Link, Registration, State};
+use crate::state::{Awaited, Awaiting, ConnectionState, Registration, State};
 use byteorder::{ByteOrder, LittleEndian};
 use cip_bytes::protocol::{Command, ManagerService};
 use cip_class3::Came;
@@ -65,7 +65,7 @@ impl Found {
     /// What was heard, lent from the bytes of the frame.
     pub(crate) fn heard(self, frame: &[u8]) -> Heard<'_>
         requires { IsWithin (length frame.now) self }
-        ensures { news_in result ≡ news_at frame.now self }
+        ensures { heard_event_in result ≡ heard_event_at frame.now self }
     {
         match self {
             Found::Nothing => Heard::Nothing,
@@ -124,19 +124,19 @@ impl Awaiting {
 
 impl State {
     /// Hears a whole frame.
-    pub(crate) fn hear(&mut self, frame: FrameView<'_>) -> Found
+    pub(crate) fn process(&mut self, frame: FrameView<'_>) -> Found
         ensures { IsHeard (frame_of frame.entry) self.new result (hears self.old (frame_of frame.entry)) }
     {
         match self.awaiting {
             Some(awaiting) if awaiting.is_answer(&frame.header) => {
-                self.hear_answer(awaiting.awaited, frame)
+                self.process_answer(awaiting.awaited, frame)
             }
-            _ => self.hear_item(frame),
+            _ => self.process_item(frame),
         }
     }
 
     /// Hears an awaited reply.
-    fn hear_answer(&mut self, awaited: Awaited, frame: FrameView<'_>) -> Found
+    fn process_answer(&mut self, awaited: Awaited, frame: FrameView<'_>) -> Found
         ensures { IsHeard (frame_of frame.entry) self.new result (answer_turn self.old awaited (frame_of frame.entry)) }
     {
         // a status that is not 0 refuses (encapsulation status)
@@ -144,15 +144,15 @@ impl State {
             return self.fail(ClientFault::Status(frame.header.status));
         }
         match awaited {
-            Awaited::Session => self.hear_session(frame),
-            Awaited::Connection => self.hear_opening(frame),
-            Awaited::Reply(service) => self.hear_reply(service, frame),
-            Awaited::End => self.hear_closing(frame),
+            Awaited::Session => self.process_register_reply(frame),
+            Awaited::Connection => self.process_open_reply(frame),
+            Awaited::Reply(service) => self.process_unconnected_reply(service, frame),
+            Awaited::End => self.process_close_reply(frame),
         }
     }
 
     /// Hears the reply to RegisterSession.
-    fn hear_session(&mut self, frame: FrameView<'_>) -> Found
+    fn process_register_reply(&mut self, frame: FrameView<'_>) -> Found
         ensures { IsHeard (frame_of frame.entry) self.new result (session_turn self.old (frame_of frame.entry)) }
     {
         // protocol version and flags (RegisterSession)
@@ -165,7 +165,7 @@ impl State {
     }
 
     /// Hears the reply to Forward_Open or Large_Forward_Open.
-    fn hear_opening(&mut self, frame: FrameView<'_>) -> Found
+    fn process_open_reply(&mut self, frame: FrameView<'_>) -> Found
         ensures { IsHeard (frame_of frame.entry) self.new result
             (opening_turn self.old
             (answer_to (manager_service_number (open_service self.old.wants)) (frame_of frame.entry).body)) }
@@ -183,12 +183,12 @@ impl State {
         }
         self.awaiting = None;
         // the O->T ID comes first (Forward_Open, success)
-        self.link = Link::Open(LittleEndian::read_u32(reply.data));
+        self.connection_state = ConnectionState::Open(LittleEndian::read_u32(reply.data));
         Found::Opened
     }
 
     /// Hears the reply to an unconnected request of this service.
-    fn hear_reply(&mut self, service: u8, frame: FrameView<'_>) -> Found
+    fn process_unconnected_reply(&mut self, service: u8, frame: FrameView<'_>) -> Found
         ensures { IsHeard (frame_of frame.entry) self.new result
             (reply_turn self.old (answer_to service (frame_of frame.entry).body)) }
     {
@@ -203,7 +203,7 @@ impl State {
     }
 
     /// Hears the reply to Forward_Close.
-    fn hear_closing(&mut self, frame: FrameView<'_>) -> Found
+    fn process_close_reply(&mut self, frame: FrameView<'_>) -> Found
         ensures { IsHeard (frame_of frame.entry) self.new result
             (closing_turn self.old
             (answer_to (manager_service_number ManagerService.ForwardClose) (frame_of frame.entry).body)) }
@@ -222,7 +222,7 @@ impl State {
     }
 
     /// Hears what is not awaited: an item of the connection, or nothing.
-    fn hear_item(&mut self, frame: FrameView<'_>) -> Found
+    fn process_item(&mut self, frame: FrameView<'_>) -> Found
         ensures { IsHeard (frame_of frame.entry) self.new result (other_turn self.old (frame_of frame.entry)) }
     {
         if !self.is_for_connection(&frame.header) {
@@ -248,8 +248,10 @@ impl State {
     fn is_for_connection(&self, header: &Header) -> bool
         ensures { result ≡ is_for_connection self.now header.now }
     {
-        let (Link::Open(_), Registration::Registered(session)) = (self.link, self.registration)
-        else {
+        let (ConnectionState::Open(_), Registration::Registered(session)) = (
+            self.connection_state,
+            self.registration,
+        ) else {
             return false;
         };
         header.command == Command::SendUnitData.number()
@@ -279,7 +281,7 @@ impl State {
 /// The reply that the data of a SendRRData have to a request of this service.
 fn answer_to(service: u8, body: &[u8]) -> Option<Answer<'_>>
     ensures answer { option_map answer_of result ≡ answer_to service body.now }
-    ensures stands { IfSome result (λ answer. StandsAt 16 answer.bytes.now body.now) }
+    ensures stands { IfSome result (λ answer. LiesAt 16 answer.bytes.now body.now) }
 {
     let Ok(bytes) = rr_body(body) else {
         return None;

@@ -15,7 +15,7 @@ use byteorder::{BigEndian, ByteOrder, LittleEndian};
 const BEFORE_NAME: usize = 32;
 
 /// How many bytes an identity has beside its name: what stands before it, its length, and the state.
-const BESIDE_NAME: usize = BEFORE_NAME + 2;
+const SIZE_WITHOUT_NAME: usize = BEFORE_NAME + 2;
 
 /// What a device says of itself, lent from an item of ListIdentity. (Volume 2, ListIdentity; Volume 1, Identity.)
 #[derive(Clone, Copy, Debug, PartialEq, Eq)]
@@ -66,11 +66,11 @@ impl<'a> IdentityView<'a> {
 fn identity_at(bytes: &[u8]) -> Option<IdentityView<'_>>
     ensures { option_map identity_in result ≡ identity_of bytes.now }
 {
-    if bytes.len() < BESIDE_NAME {
+    if bytes.len() < SIZE_WITHOUT_NAME {
         return None;
     }
     // the name is counted in its first byte (SHORT_STRING), and nothing follows the state
-    if bytes.len() != BESIDE_NAME + bytes[BEFORE_NAME] as usize {
+    if bytes.len() != SIZE_WITHOUT_NAME + bytes[BEFORE_NAME] as usize {
         return None;
     }
     Some(fields_at(bytes))

@@ -9,12 +9,12 @@ ghost use Rattle.enip_client.specs.declared.fault.ClientFault.{ClientFault};
 ghost use Rattle.enip_client.specs.declared.fault.SubmitFault.{SubmitFault};
 ghost use Rattle.enip_client.specs.declared.wants.Wants.{Wants};
 ghost use Rattle.enip_client.specs.Calls.{registers, opens, asks, submits, closes, unregisters, resends, gives_up};
-ghost use Rattle.enip_client.specs.Hears.{News};
+ghost use Rattle.enip_client.specs.Hears.{HeardEvent};
 ghost use Rattle.enip_client.specs.Client.{ClientState, new_client, fed, fed_unless};
 ghost use Rattle.enip_client.specs.Runs.{Call, Event, after_calls, after_events, frames_lent, lent_by_events};
-ghost use Rattle.enip_client.specs.Runs.{news_of_calls, news_of_events, events_of_calls, events_of_call, after_call};
-ghost use Rattle.enip_client.specs.Runs.{news_of_call, lent_by_call, frame_before, news_before, heard_in};
-ghost use Rattle.enip_client.specs.Runs.{taken_by_calls, frames_of_events, IsOfBytes, Pours, contexts_lent, CountFrom};
+ghost use Rattle.enip_client.specs.Runs.{heard_events_of_calls, heard_events_of_events, events_of_calls, events_of_call, after_call};
+ghost use Rattle.enip_client.specs.Runs.{heard_events_of_call, lent_by_call, frame_before, heard_events_before, heard_in};
+ghost use Rattle.enip_client.specs.Runs.{taken_by_calls, frames_of_events, IsOfBytes, FeedsPieces, contexts_lent, CountFrom};
 ghost use Rattle.enip_client.specs.Runs.{seen_of_calls, AnsweredOnce, originator_calls, originator_after};
 ghost use Rattle.enip_client.specs.Runs.{frames_submitted, ItemsFrom, exchanges, RepliedOnce};
 
@@ -26,11 +26,11 @@ pub fn answers_of_events()
     ensures lent { (c : ClientState) (calls : List Call) →
         frames_lent c calls ≡ lent_by_events c.state (events_of_calls c calls) }
     ensures heard { (c : ClientState) (calls : List Call) →
-        news_of_calls c calls ≡ news_of_events c.state (events_of_calls c calls) }
+        heard_events_of_calls c calls ≡ heard_events_of_events c.state (events_of_calls c calls) }
     ensures each { (c : ClientState) (call : Call) →
         ((after_call c call).state ≡ after_events c.state (events_of_call c call))
         × (frame_before (lent_by_call c call) [] ≡ lent_by_events c.state (events_of_call c call))
-        × (news_before (news_of_call c call) [] ≡ news_of_events c.state (events_of_call c call)) }
+        × (heard_events_before (heard_events_of_call c call) [] ≡ heard_events_of_events c.state (events_of_call c call)) }
 {}
 
 /// From a new client on, whatever calls come between, what is taken of the stream are the frames that are heard, and
@@ -45,18 +45,18 @@ pub fn frames_of_the_stream()
 /// again and again until all of it is taken or a fault lasts, tell the same news in the same order and leave the same
 /// client. Every list of pieces can be fed so.
 pub fn cuts_change_nothing()
-    ensures news { (wants : Wants) (calls : List Call) (pieces others : List (List ℕ)) (news told : List News)
+    ensures heard_event { (wants : Wants) (calls : List Call) (pieces others : List (List ℕ)) (heard_event outcome : List HeardEvent)
         (last end : ClientState) → concat pieces ≡ concat others →
-        Pours (after_calls (new_client wants) calls) pieces news last →
-        Pours (after_calls (new_client wants) calls) others told end →
-        heard_in news ≡ heard_in told }
-    ensures client { (wants : Wants) (calls : List Call) (pieces others : List (List ℕ)) (news told : List News)
+        FeedsPieces (after_calls (new_client wants) calls) pieces heard_event last →
+        FeedsPieces (after_calls (new_client wants) calls) others outcome end →
+        heard_in heard_event ≡ heard_in outcome }
+    ensures client { (wants : Wants) (calls : List Call) (pieces others : List (List ℕ)) (heard_event outcome : List HeardEvent)
         (last end : ClientState) → concat pieces ≡ concat others →
-        Pours (after_calls (new_client wants) calls) pieces news last →
-        Pours (after_calls (new_client wants) calls) others told end →
+        FeedsPieces (after_calls (new_client wants) calls) pieces heard_event last →
+        FeedsPieces (after_calls (new_client wants) calls) others outcome end →
         last ≡ end }
     ensures some { (wants : Wants) (calls : List Call) (pieces : List (List ℕ)) →
-        (news : List News) × ((last : ClientState) × Pours (after_calls (new_client wants) calls) pieces news last) }
+        (heard_event : List HeardEvent) × ((last : ClientState) × FeedsPieces (after_calls (new_client wants) calls) pieces heard_event last) }
 {}
 
 /// No context comes twice in 2^64 frames: the frames that `register`, `open`, `unconnected` and `close` lend have 1, 2,
@@ -99,7 +99,7 @@ pub fn faults_last()
     ensures lent { (c : ClientState) (fault : ClientFault) (calls : List Call) → c.state.fault ≡ Some fault →
         frames_lent c calls ≡ [] }
     ensures heard { (c : ClientState) (fault : ClientFault) (calls : List Call) → c.state.fault ≡ Some fault →
-        news_of_calls c calls ≡ [] }
+        heard_events_of_calls c calls ≡ [] }
     ensures taken { (c : ClientState) (fault : ClientFault) (piece : List ℕ) → c.state.fault ≡ Some fault →
         (fed c piece).taken ≡ 0 }
     ensures answered { (c : ClientState) (fault : ClientFault) (request : List ℕ) → c.state.fault ≡ Some fault →

@@ -12,8 +12,8 @@ use crate::fault::{ClientFault, SubmitFault};
 use crate::sending::{
     Sent, close_request, open_request, write_item, write_register, write_request, write_unregister,
 };
-use crate::state::{Awaited, Link, Registration, State};
-use cip_bytes::protocol::{SMALLEST_REQUEST, UNCONNECTED_ROOM};
+use crate::state::{Awaited, ConnectionState, Registration, State};
+use cip_bytes::protocol::{SMALLEST_REQUEST, UNCONNECTED_LIMIT};
 
 impl State {
     /// Writes the RegisterSession to send.
@@ -35,7 +35,8 @@ impl State {
         ensures bytes { bytes_written result sent.new.items ≡ bytes_lent (opens self.old) }
     {
         // one connection of one client (ours)
-        let possible = self.is_ready() && matches!(self.link, Link::NotOpened);
+        let possible = self.is_ready()
+            && matches!(self.connection_state, ConnectionState::NotOpened);
         self.allow(possible)?;
         let request = open_request(&self.wants);
         self.write_awaited_request(Awaited::Connection, request.as_slice(), sent);
@@ -50,7 +51,7 @@ impl State {
         self.allow(self.is_ready())?;
         // a service and a path size at least, the room of a target, and bit 7 marks a reply (message router)
         if request.len() < SMALLEST_REQUEST
-            || request.len() > UNCONNECTED_ROOM
+            || request.len() > UNCONNECTED_LIMIT
             || request[0] >= 0x80
         {
             return Err(ClientFault::Request);
@@ -101,7 +102,7 @@ impl State {
     {
         let possible = self.is_open() && self.is_free();
         self.allow(possible)?;
-        self.link = Link::Closed;
+        self.connection_state = ConnectionState::Closed;
         let request = close_request(&self.wants);
         self.write_awaited_request(Awaited::End, request.as_slice(), sent);
         Ok(())
@@ -118,14 +119,14 @@ impl State {
         self.registration = Registration::Unregistered;
         // a session's connections end with it (UnRegisterSession)
         if self.is_open() {
-            self.link = Link::Closed;
+            self.connection_state = ConnectionState::Closed;
         }
         Ok(())
     }
 
     /// Writes a request to the message router, whose reply is awaited.
     fn write_awaited_request(&mut self, awaited: Awaited, request: &[u8], sent: &mut Sent)
-        requires { length request.now ≤ UNCONNECTED_ROOM }
+        requires { length request.now ≤ UNCONNECTED_LIMIT }
         ensures state { self.new ≡ (asking self.old awaited request.now).state }
         ensures bytes { sent.new.items ≡ frame (asking self.old awaited request.now).frame }
     {

@@ -1,10 +1,10 @@
 //! One list asked of a device, over a reader and a writer.
 
 ghost use Rattle.std.specs.Prelude.{◌≡◌, ◌+◌, ◌<◌};
-ghost use Rattle.cip_bytes.specs.Reading.{seen_by};
+ghost use Rattle.cip_bytes.specs.Reading.{map_ok};
 ghost use Rattle.enip_client.specs.Asking.{read_faults, write_faults};
 ghost use Rattle.enip_client.specs.Lists.{entries_left};
-ghost use Rattle.enip_client.specs.Listing.{IsListed, IsGathered, sides};
+ghost use Rattle.enip_client.specs.Listing.{IsListed, IsGathered, list_state};
 
 use crate::asking::{LONGEST_READ, read};
 use crate::fault::AskFault;
@@ -30,8 +30,8 @@ pub fn ask_list<'a, R: Source, W: Sink>(
     requires read_failures { R.failures reader.old < u64.MAX }
     requires write_failures { W.failures writer.old < u64.MAX }
     ensures listed { IsListed command
-        (sides (R.left reader.old) (R.reads reader.old) (W.written writer.old))
-        (sides (R.left reader.new) (R.reads reader.new) (W.written writer.new)) (seen_by entries_left result) }
+        (list_state (R.left reader.old) (R.reads reader.old) (W.written writer.old))
+        (list_state (R.left reader.new) (R.reads reader.new) (W.written writer.new)) (map_ok entries_left result) }
     ensures read_failures { R.failures reader.new ≡ R.failures reader.old + read_faults result }
     ensures write_failures { W.failures writer.new ≡ W.failures writer.old + write_faults result }
 {

@@ -3,10 +3,10 @@
 ghost use Rattle.std.specs.Prelude.{◌≡◌, ◌↔◌, List, Ok};
 ghost use Rattle.std.specs.List.{list_all};
 ghost use Rattle.std.specs.Option.{option_map};
-ghost use Rattle.cip_bytes.specs.Reading.{seen_by};
+ghost use Rattle.cip_bytes.specs.Reading.{map_ok};
 ghost use Rattle.enip_wire.specs.Frames.{frame};
 ghost use Rattle.enip_wire.specs.Items.{item_of};
-ghost use Rattle.enip_wire.specs.Stream.{frame_of, sight_of};
+ghost use Rattle.enip_wire.specs.Stream.{frame_of, parsed};
 ghost use Rattle.enip_client.specs.Lists.{Entry, IsAnswer, list_command, item_kind, list_frame, entry_shown, entry_of};
 ghost use Rattle.enip_client.specs.Lists.{entry_in, entries_left, is_sound, is_reply_to, answered_with, answer_in};
 
@@ -16,7 +16,7 @@ use crate::sending::{Sent, begin_frame};
 use crate::service::ServiceView;
 use byteorder::{ByteOrder, LittleEndian};
 use cip_bytes::protocol::Command;
-use enip_wire::{FrameView, Header, Held, ItemView, Items, cpf_items, see};
+use enip_wire::{FrameView, Header, Held, ItemView, Items, cpf_items, parse_frame};
 
 /// A list that a device gives of itself, without a session. (Volume 2, encapsulation commands.)
 #[derive(Clone, Copy, Debug, PartialEq, Eq)]
@@ -140,17 +140,17 @@ pub fn write_list(command: ListCommand, sent: &mut Sent)
 pub fn read_list(command: ListCommand, bytes: &[u8]) -> Result<ListEntries<'_>, ClientFault>
     // What is read is spelled so, and what is spelled so is read.
     ensures spelled { (entries : List Entry) →
-        (seen_by entries_left result ≡ Ok entries) ↔ IsAnswer command bytes.now entries }
-    ensures exact { seen_by entries_left result ≡ answer_in command (sight_of bytes.now) }
+        (map_ok entries_left result ≡ Ok entries) ↔ IsAnswer command bytes.now entries }
+    ensures exact { map_ok entries_left result ≡ answer_in command (parsed bytes.now) }
 {
     list_in(command, bytes)
 }
 
 /// The entries of a whole frame, as a computation.
 fn list_in(command: ListCommand, bytes: &[u8]) -> Result<ListEntries<'_>, ClientFault>
-    ensures { seen_by entries_left result ≡ answer_in command (sight_of bytes.now) }
+    ensures { map_ok entries_left result ≡ answer_in command (parsed bytes.now) }
 {
-    match see(bytes) {
+    match parse_frame(bytes) {
         Held::Frame(frame) => list_by(command, frame),
         Held::TooLong(_) => Err(ClientFault::TooLong),
         Held::More => Err(ClientFault::Malformed),
@@ -159,7 +159,7 @@ fn list_in(command: ListCommand, bytes: &[u8]) -> Result<ListEntries<'_>, Client
 
 /// The entries of a frame.
 fn list_by(command: ListCommand, frame: FrameView<'_>) -> Result<ListEntries<'_>, ClientFault>
-    ensures { seen_by entries_left result ≡ answered_with command (frame_of frame.entry) }
+    ensures { map_ok entries_left result ≡ answered_with command (frame_of frame.entry) }
 {
     if !command.is_replied(&frame.header) {
         return Err(ClientFault::Malformed);

@@ -14,8 +14,8 @@ ghost use Rattle.enip_client.specs.Frames.{asked_by, message_router};
 use crate::wants::Wants;
 use arrayvec::ArrayVec;
 use cip_bytes::protocol::{
-    CONNECTION_MANAGER, Command, LARGEST_SIZE, LARGEST_SMALL_SIZE, MESSAGE_ROUTER, ManagerService,
-    UNCONNECTED_ROOM,
+    CONNECTION_MANAGER, Command, LARGEST_CONNECTION_SIZE, LARGEST_FORWARD_OPEN_SIZE,
+    MESSAGE_ROUTER, ManagerService, UNCONNECTED_LIMIT,
 };
 use cip_message::{CloseRequest, LargeParameters, OpenRequest, Parameters, Transport};
 use enip_wire::{Header, write_rr_body, write_unit_body};
@@ -28,7 +28,7 @@ const UNCONNECTED_HEAD: usize = 16;
 const CONNECTED_HEAD: usize = 20;
 
 /// The most data of a frame that is sent, in bytes.
-const LONGEST_DATA: usize = CONNECTED_HEAD + LARGEST_SIZE;
+const LONGEST_DATA: usize = CONNECTED_HEAD + LARGEST_CONNECTION_SIZE;
 
 /// The longest frame that is sent, in bytes: a header, and an item of the largest connection.
 pub const LONGEST_SENT: usize = Header::SIZE + LONGEST_DATA;
@@ -104,7 +104,7 @@ pub(crate) fn write_unregister(session: u32, sent: &mut Sent)
 /// `session` is the handle that the answer to a RegisterSession gave. `number` is the context, its least byte first:
 /// the answer repeats it, and is known by it. `request` is one to the message router, of at most 504 bytes.
 pub fn write_request(session: u32, number: u64, request: &[u8], sent: &mut Sent)
-    requires { length request.now ≤ UNCONNECTED_ROOM }
+    requires { length request.now ≤ UNCONNECTED_LIMIT }
     ensures { sent.new.items ≡ frame (request_frame session number request.now) }
 {
     let size = UNCONNECTED_HEAD + request.len();
@@ -114,7 +114,7 @@ pub fn write_request(session: u32, number: u64, request: &[u8], sent: &mut Sent)
 
 /// Writes a SendUnitData with an item of the connection that has this O->T ID.
 pub(crate) fn write_item(session: u32, o_to_t_id: u32, item: &[u8], sent: &mut Sent)
-    requires { length item.now ≤ LARGEST_SIZE }
+    requires { length item.now ≤ LARGEST_CONNECTION_SIZE }
     ensures { sent.new.items ≡ frame (item_frame session o_to_t_id item.now) }
 {
     begin_frame(
@@ -207,7 +207,7 @@ fn asked<P>(wants: &Wants, o_to_t_parameters: P, t_to_o_parameters: P) -> OpenRe
 fn is_large(wants: &Wants) -> bool
     ensures { result ≡ is_large wants.now }
 {
-    wants.o_to_t_size > LARGEST_SMALL_SIZE || wants.t_to_o_size > LARGEST_SMALL_SIZE
+    wants.o_to_t_size > LARGEST_FORWARD_OPEN_SIZE || wants.t_to_o_size > LARGEST_FORWARD_OPEN_SIZE
 }
 
 /// A request to close the connection.

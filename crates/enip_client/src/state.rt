@@ -38,7 +38,7 @@ pub(crate) enum Registration {
 
 /// The client's connection.
 #[derive(Clone, Copy)]
-pub(crate) enum Link {
+pub(crate) enum ConnectionState {
     /// None was opened yet.
     NotOpened,
     /// It is open, with this O->T connection ID.
@@ -73,7 +73,7 @@ pub(crate) struct State {
     pub(crate) wants: Wants,
     pub(crate) registration: Registration,
     pub(crate) awaiting: Option<Awaiting>,
-    pub(crate) link: Link,
+    pub(crate) connection_state: ConnectionState,
     /// The originator's end of the connection. It is idle until the connection is open.
     pub(crate) originator: Originator,
     /// How many frames were counted for contexts, modulo 2^64.
@@ -99,9 +99,9 @@ impl State {
 
     /// Whether the connection is open.
     pub(crate) fn is_open(&self) -> bool
-        ensures { result ≡ is_open self.now.link }
+        ensures { result ≡ is_open self.now.connection_state }
     {
-        matches!(self.link, Link::Open(_))
+        matches!(self.connection_state, ConnectionState::Open(_))
     }
 
     /// Whether the connection is open, and no fault lasts.
@@ -123,10 +123,10 @@ impl State {
 
     /// The open connection's O->T ID, or 0.
     pub(crate) fn o_to_t_id(&self) -> u32
-        ensures { result ≡ o_to_t_id_in self.now.link }
+        ensures { result ≡ o_to_t_id_in self.now.connection_state }
     {
-        match self.link {
-            Link::Open(id) => id,
+        match self.connection_state {
+            ConnectionState::Open(id) => id,
             _ => 0,
         }
     }

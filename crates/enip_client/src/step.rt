@@ -2,12 +2,12 @@
 
 ghost use Rattle.std.specs.Prelude.{◌≡◌, ◌+◌, ◌<◌, ◌≤◌, length, true, None, IfOk, MatchResult};
 ghost use Rattle.std.specs.Io.KnownBytes.{Appends};
-ghost use Rattle.enip_wire.specs.Stream.{taken_of};
+ghost use Rattle.enip_wire.specs.Stream.{bytes_taken};
 ghost use Rattle.enip_client.specs.Calls.{after_lending};
-ghost use Rattle.enip_client.specs.Client.{with_state, news_in};
+ghost use Rattle.enip_client.specs.Client.{with_state, heard_event_in};
 ghost use Rattle.enip_client.specs.Asking.{is_awaiting, read_faults, write_faults};
-ghost use Rattle.enip_client.specs.AskSteps.{stand_of, step_after, called, next_of, reply_after, IsSaid, FailsWithin};
-ghost use Rattle.enip_client.specs.AskSteps.{step_in, IsHeardOnce, IsHealthy, kept, fits};
+ghost use Rattle.enip_client.specs.AskSteps.{ask_phase_of, step_after, called, next_of, reply_after, IsPerformed, FailsWithin};
+ghost use Rattle.enip_client.specs.AskSteps.{step_in, IsAdvanced, IsHealthy, kept, fits};
 
 use crate::client::Client;
 use crate::fault::{AskFault, ClientFault};
@@ -28,7 +28,7 @@ pub(crate) enum Step {
 impl Step {
     /// Whether a reply is awaited.
     pub(crate) fn awaits(self) -> bool
-        ensures { result ≡ is_awaiting (stand_of self) }
+        ensures { result ≡ is_awaiting (ask_phase_of self) }
     {
         !matches!(self, Step::Completed)
     }
@@ -76,7 +76,7 @@ pub(crate) struct Progress {
 /// # Errors
 ///
 /// `Client`, `Submit` or `Write`.
-pub(crate) fn hear_once<W: Sink>(
+pub(crate) fn advance<W: Sink>(
     client: &mut Client,
     asked: Asked<'_>,
     step: Step,
@@ -85,15 +85,15 @@ pub(crate) fn hear_once<W: Sink>(
     reply: &mut ReplyBuf,
 ) -> Result<Progress, AskFault>
     requires healthy { client.old.state.fault ≡ None }
-    requires awaiting { is_awaiting (stand_of step) ≡ true }
+    requires awaiting { is_awaiting (ask_phase_of step) ≡ true }
     requires failures { W.failures writer.old < u64.MAX }
-    ensures heard { IsHeardOnce asked.entry step piece.now
+    ensures heard { IsAdvanced asked.entry step piece.now
         (record { client = client.old; written = W.written writer.old; reply = reply.old.items })
         (record { client = client.new; written = W.written writer.new; reply = reply.new.items }) (step_in result) }
-    ensures taken { IfOk result (λ progress. progress.taken ≡ taken_of client.old.held piece.now) }
+    ensures taken { IfOk result (λ progress. progress.taken ≡ bytes_taken client.old.held piece.now) }
     ensures within { IfOk result (λ progress. progress.taken ≤ length piece.now) }
     ensures some { IfOk result (λ progress. 0 < length piece.now → 0 < progress.taken) }
-    ensures some_fed { 0 < length piece.now → 0 < taken_of client.old.held piece.now }
+    ensures some_fed { 0 < length piece.now → 0 < bytes_taken client.old.held piece.now }
     ensures healthy { IsHealthy client.new.state (step_in result) }
     ensures not_read { read_faults result ≡ 0 }
     ensures failures { W.failures writer.new ≡ W.failures writer.old + write_faults result }
@@ -107,7 +107,7 @@ pub(crate) fn hear_once<W: Sink>(
     match next {
         None => Ok(Progress { taken, step }),
         Some(call) => {
-            say(client, asked, call, writer)?;
+            perform(client, asked, call, writer)?;
             Ok(Progress {
                 taken,
                 step: call.step(),
@@ -127,9 +127,9 @@ fn next_call(
     heard: Heard<'_>,
     reply: &mut ReplyBuf,
 ) -> Result<Option<Call>, AskFault>
-    ensures next { result ≡ next_of step connected (news_in heard.entry) }
+    ensures next { result ≡ next_of step connected (heard_event_in heard.entry) }
     ensures not_read { read_faults result ≡ 0 }
-    ensures reply { reply.new.items ≡ reply_after step (news_in heard.entry) reply.old.items }
+    ensures reply { reply.new.items ≡ reply_after step (heard_event_in heard.entry) reply.old.items }
 {
     match (step, heard) {
         (Step::Registering, Heard::Registered) if connected => Ok(Some(Call::Open)),
@@ -171,7 +171,7 @@ fn keep(bytes: &[u8], reply: &mut ReplyBuf) -> Result<(), AskFault>
 /// # Errors
 ///
 /// `Client` or `Submit` where the call was refused, else `Write`.
-fn say<W: Sink>(
+fn perform<W: Sink>(
     client: &mut Client,
     asked: Asked<'_>,
     call: Call,
@@ -181,7 +181,7 @@ fn say<W: Sink>(
     ensures state { client.new ≡ with_state client.old (after_lending client.old.state
         (called call client.old.state asked.entry.request.now asked.entry.connected)) }
     ensures not_read { read_faults result ≡ 0 }
-    ensures said { IsSaid (called call client.old.state asked.entry.request.now asked.entry.connected)
+    ensures performed { IsPerformed (called call client.old.state asked.entry.request.now asked.entry.connected)
         (W.written writer.old) (W.written writer.new) result }
     ensures failures { W.failures writer.new ≡ W.failures writer.old + write_faults result }
 {

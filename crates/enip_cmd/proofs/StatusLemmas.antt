@@ -1,15 +1,15 @@
 use Rattle.std.proofs.Common.{◌≡◌, ℕ, List, inl, inr, Result, Ok, Err, IfErr, refl, arith}
 use Rattle.std.specs.Result.{IsErr, IsErrAnd}
 use Rattle.enip_adapter.specs.Calls.{AdapterState}
-use Rattle.enip_config.specs.declared.fault.Fault.{Fault as ConfigurationFault}
-use Rattle.enip_config.specs.declared.fault.Fault.TheVariants as unread
-use Rattle.enip_config.specs.declared.fault.Refusal.{Refusal}
+use Rattle.enip_config.specs.declared.fault.LoadFault.{LoadFault as ConfigurationFault}
+use Rattle.enip_config.specs.declared.fault.LoadFault.TheVariants as unread
+use Rattle.enip_config.specs.declared.fault.ConfigurationRefusal.{ConfigurationRefusal}
 use Rattle.enip_config.specs.Configured.{IsAccepted, IsAdapterOf}
-use Rattle.enip_config.specs.Told.{IsRefused, IsFaultOf as IsUnread}
-use Rattle.enip_commands.specs.declared.fault.Fault.{Fault as TextFault}
-use Rattle.enip_commands.specs.declared.fault.Fault.TheVariants as texts
-use Rattle.enip_replay.specs.declared.replaying.ReplayStop.{ReplayStop}
-use Rattle.enip_replay.specs.declared.replaying.ReplayStop.TheVariants as stops
+use Rattle.enip_config.specs.Documents.{IsRefused, IsFaultOf as IsUnread}
+use Rattle.enip_commands.specs.declared.fault.ProgramFault.{ProgramFault as TextFault}
+use Rattle.enip_commands.specs.declared.fault.ProgramFault.TheVariants as texts
+use Rattle.enip_replay.specs.declared.replaying.ReplayFailure.{ReplayFailure}
+use Rattle.enip_replay.specs.declared.replaying.ReplayFailure.TheVariants as stops
 use Rattle.enip_replay.specs.Replay.{IsStopOf}
 use Rattle.enip_cmd.specs.declared.fault.Fault.{Fault}
 use Rattle.enip_cmd.specs.declared.fault.Fault.TheVariants.{Configuration as Refused, Setup, Run, Value, Asking}
@@ -58,7 +58,7 @@ line_refused text (Run texts.Device) so four = absurd (omega (arith, four))
 line_refused text (Run texts.Memory) so four = absurd (omega (arith, four))
 
 -- The status 3 is that of a configuration.
-pub configuration_refused : (text : List ℕ) (fault : Fault) → IsFaultOf text fault → exit_status fault ≡ 3 → (refusal : Refusal) × IsRefused text refusal
+pub configuration_refused : (text : List ℕ) (fault : Fault) → IsFaultOf text fault → exit_status fault ≡ 3 → (refusal : ConfigurationRefusal) × IsRefused text refusal
 configuration_refused text (Refused refusal) so three = (refusal, so)
 configuration_refused text Setup so three = absurd so
 configuration_refused text Value so three = absurd so
@@ -80,12 +80,12 @@ pub replay_unread : {T : Type 0} (text : List ℕ) (refused : ConfigurationFault
 replay_unread text refused (Ok x) gives so = tt
 replay_unread text refused (Err f) gives so = rw gives.1 (of_fault text (fault_of_configuration refused) (of_unread text refused so))
 
-of_replay : (text : List ℕ) (adapter : AdapterState) (stop : ReplayStop) → IsAdapterOf text adapter → IsAccepted text → IsStopOf adapter stop
+of_replay : (text : List ℕ) (adapter : AdapterState) (stop : ReplayFailure) → IsAdapterOf text adapter → IsAccepted text → IsStopOf adapter stop
     → IsReplayFaultOf text (fault_of_replay stop)
 of_replay text adapter stops.Setup told taken so = (adapter, (told, so))
 of_replay text adapter (stops.Program ended) told taken so = of_run text ended taken
 
-pub replay_ends : {T : Type 0} (text : List ℕ) (adapter : AdapterState) (stop : ReplayStop) (r : Result T Fault)
+pub replay_ends : {T : Type 0} (text : List ℕ) (adapter : AdapterState) (stop : ReplayFailure) (r : Result T Fault)
     → IsErr r × IsErrAnd r (λ f. f ≡ fault_of_replay stop) → IsAdapterOf text adapter → IsAccepted text → IsStopOf adapter stop
     → IfErr r (IsReplayFaultOf text)
 replay_ends text adapter stop (Ok x) gives told taken so = tt
@@ -106,7 +106,7 @@ replay_line_refused text (Asking stop) so four = absurd so
 replay_line_refused text (Run ended) so four = line_refused text (Run ended) so four
 
 pub replay_configuration_refused : (text : List ℕ) (fault : Fault) → IsReplayFaultOf text fault → exit_status fault ≡ 3
-    → (refusal : Refusal) × IsRefused text refusal
+    → (refusal : ConfigurationRefusal) × IsRefused text refusal
 replay_configuration_refused text (Refused check) so three = configuration_refused text (Refused check) so three
 replay_configuration_refused text Setup so three = absurd (omega (arith, three))
 replay_configuration_refused text Value so three = absurd so

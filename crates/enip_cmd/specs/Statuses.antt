@@ -1,15 +1,15 @@
 -- How the program ends, by its configuration.
 use Rattle.std.specs.Prelude.{◌≡◌, ◌⊎◌, ℕ, List, ⊤}
 use Rattle.enip_adapter.specs.Calls.{AdapterState}
-use Rattle.enip_config.specs.declared.fault.Fault.{Fault as ConfigurationFault}
-use Rattle.enip_config.specs.declared.fault.Fault.TheVariants as unread
+use Rattle.enip_config.specs.declared.fault.LoadFault.{LoadFault as ConfigurationFault}
+use Rattle.enip_config.specs.declared.fault.LoadFault.TheVariants as unread
 use Rattle.enip_config.specs.Configured.{IsAccepted, IsAdapterOf}
-use Rattle.enip_config.specs.Told.{IsRefused}
-use Rattle.enip_commands.specs.declared.fault.Fault.TheVariants as texts
-use Rattle.enip_replay.specs.declared.replaying.ReplayStop.{ReplayStop}
-use Rattle.enip_replay.specs.declared.replaying.ReplayStop.TheVariants as stops
+use Rattle.enip_config.specs.Documents.{IsRefused}
+use Rattle.enip_commands.specs.declared.fault.ProgramFault.TheVariants as texts
+use Rattle.enip_replay.specs.declared.replaying.ReplayFailure.{ReplayFailure}
+use Rattle.enip_replay.specs.declared.replaying.ReplayFailure.TheVariants as stops
 use Rattle.enip_replay.specs.Replay.{IsOpeningRefused as refuses_opening}
-use Rattle.enip_commands.specs.Statuses.{exit_status as run_status, asking_stop_status}
+use Rattle.enip_commands.specs.Statuses.{exit_status as run_status, request_failure_status}
 use Rattle.enip_cmd.specs.declared.fault.Fault.{Fault}
 use Rattle.enip_cmd.specs.declared.fault.Fault.TheVariants.{Configuration as Refused, Setup, Run, Value, Asking}
 
@@ -19,7 +19,7 @@ exit_status (Refused check) = 3
 exit_status Setup = 6
 exit_status Value = 2
 exit_status (Run fault) = run_status fault
-exit_status (Asking stop) = asking_stop_status stop
+exit_status (Asking stop) = request_failure_status stop
 
 -- The exit statuses of `enip answer`, once its words are read.
 abbrev pub IsStatus : ℕ → Type 0
@@ -35,7 +35,7 @@ fault_of_configuration (unread.Refused refusal) = Refused refusal
 fault_of_configuration unread.Memory = Run texts.Memory
 
 -- Why a replay ends, as the program tells it.
-abbrev pub fault_of_replay : ReplayStop → Fault
+abbrev pub fault_of_replay : ReplayFailure → Fault
 fault_of_replay stops.Setup = Setup
 fault_of_replay (stops.Program fault) = Run fault
 

@@ -1,9 +1,9 @@
 //! `enip answer`: lines of pieces in, the adapter's answers out.
 
 ghost use Rattle.std.specs.Prelude.{◌≡◌, IfOk, IfErr};
-ghost use Rattle.enip_config.specs.declared.fault.Refusal.{Refusal};
+ghost use Rattle.enip_config.specs.declared.fault.ConfigurationRefusal.{ConfigurationRefusal};
 ghost use Rattle.enip_config.specs.Configured.{IsAccepted};
-ghost use Rattle.enip_config.specs.Told.{IsRefused};
+ghost use Rattle.enip_config.specs.Documents.{IsRefused};
 ghost use Rattle.enip_cmd.specs.Statuses.{IsStatus, IsFaultOf};
 
 use crate::fault::Fault;
@@ -25,7 +25,7 @@ pub fn answer<R: Read + Drop, W: Write + Drop, E: Write + Drop>(
     ensures status { IsStatus result }
     ensures accepted { result ≡ 0 → IsAccepted config.now }
     ensures line { result ≡ 4 → IsAccepted config.now }
-    ensures refused { result ≡ 3 → (refusal : Refusal) × IsRefused config.now refusal }
+    ensures refused { result ≡ 3 → (refusal : ConfigurationRefusal) × IsRefused config.now refusal }
 {
     answer_bytes(alloc, config.as_bytes(), input, output, errors)
 }
@@ -41,7 +41,7 @@ pub fn answer_bytes<R: Read + Drop, W: Write + Drop, E: Write + Drop>(
     ensures status { IsStatus result }
     ensures accepted { result ≡ 0 → IsAccepted config.now }
     ensures line { result ≡ 4 → IsAccepted config.now }
-    ensures refused { result ≡ 3 → (refusal : Refusal) × IsRefused config.now refusal }
+    ensures refused { result ≡ 3 → (refusal : ConfigurationRefusal) × IsRefused config.now refusal }
 {
     let mut errors = errors;
     match run(alloc, config, input, output) {

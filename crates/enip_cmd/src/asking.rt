@@ -7,12 +7,12 @@ use crate::place::{Patience, Place};
 use crate::reason::{Ending, Reason, tell};
 use crate::refused::{RefusedWord, type_of};
 use crate::socket::{SocketSink, SocketSource};
+use cip_bytes::StatusText;
 use cip_message::Path;
 use cip_values::{ValueFault, ValueType};
-use cip_bytes::StatusText;
 use clap::ArgMatches;
 use enip_client::ClientFault;
-use enip_commands::{AskingStop, Question, Replied, Style, TypedQuestion, ask_over};
+use enip_commands::{DeviceRequest, ReplyOutcome, RequestFailure, Style, TypedRequest, ask_over};
 use std::alloc::Global;
 use std::time::Instant;
 
@@ -70,22 +70,22 @@ impl<'a: 'm, 'm> Asked<'a, 'm> {
     pub(crate) fn request(self, alloc: Global) -> Result<Vec<u8>, Ending<'a>> {
         match self.content {
             Content::Digits(digits) => {
-                let question = Question {
+                let question = DeviceRequest {
                     service: self.service,
                     path: self.path,
                     digits,
                 };
                 match question.request(alloc) {
                     Ok(request) => Ok(request),
-                    Err(AskingStop::Hex) => Err(Ending::new(
-                        Fault::Asking(AskingStop::Hex),
+                    Err(RequestFailure::Hex) => Err(Ending::new(
+                        Fault::Asking(RequestFailure::Hex),
                         Reason::Hex(digits),
                     )),
                     Err(stop) => Err(ending_of(stop, self.address, None)),
                 }
             }
             Content::Values(value_type, words) => {
-                let question = TypedQuestion {
+                let question = TypedRequest {
                     service: self.service,
                     path: self.path,
                     value_type,
@@ -145,8 +145,8 @@ pub(crate) fn run_asking<'a>(rt: &HostRuntime, asked: Asked<'a, '_>) -> Result<u
 }
 
 /// Says on standard error what the status means with which a device refused.
-pub(crate) fn tell_refusal(rt: &HostRuntime, replied: Replied) {
-    if let Replied::Refused(status, extended) = replied {
+pub(crate) fn tell_refusal(rt: &HostRuntime, replied: ReplyOutcome) {
+    if let ReplyOutcome::Refused(status, extended) = replied {
         tell(rt, &Reason::Refused(StatusText { status, extended }));
     }
 }
@@ -156,7 +156,7 @@ fn ask_address<'a>(
     rt: &HostRuntime,
     asked: Asked<'a, '_>,
     request: &[u8],
-) -> Result<Replied, Ending<'a>> {
+) -> Result<ReplyOutcome, Ending<'a>> {
     let place = Place::of(asked.address)?;
     let start = Instant::now(rt).map_err(|error| Ending::of_device("the clock", error))?;
     let stream = place.dial(rt, asked.patience)?;
@@ -187,17 +187,17 @@ fn ask_address<'a>(
 
 /// How the program ends where no reply of an address was told. `device` is why a device failed, where one did.
 pub(crate) fn ending_of<'a>(
-    stop: AskingStop,
+    stop: RequestFailure,
     address: &'a str,
     device: Option<Reason<'a>>,
 ) -> Ending<'a> {
     let reason = match stop {
-        AskingStop::Hex => Reason::Failed(address),
-        AskingStop::Session(status) => Reason::Session(status),
-        AskingStop::Client(fault) => reason_of_client(fault),
-        AskingStop::Shape(value_type, fault) => Reason::Shape(value_type, fault),
-        AskingStop::Program(enip_commands::Fault::Memory) => Reason::Memory,
-        AskingStop::Program(_) => device.unwrap_or(Reason::Failed(address)),
+        RequestFailure::Hex => Reason::Failed(address),
+        RequestFailure::Session(status) => Reason::Session(status),
+        RequestFailure::Client(fault) => reason_of_client(fault),
+        RequestFailure::Shape(value_type, fault) => Reason::Shape(value_type, fault),
+        RequestFailure::Program(enip_commands::ProgramFault::Memory) => Reason::Memory,
+        RequestFailure::Program(_) => device.unwrap_or(Reason::Failed(address)),
     };
     Ending::new(Fault::Asking(stop), reason)
 }

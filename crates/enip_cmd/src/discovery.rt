@@ -2,7 +2,7 @@
 
 use crate::readiness::Readiness;
 use crate::watch::Watch;
-use enip_adapter::DiscoveryRoom;
+use enip_adapter::DiscoveryBuffer;
 use enip_server::Peers;
 use mio::net::UdpSocket;
 use std::alloc::{AllocError, Global};
@@ -18,7 +18,7 @@ pub(crate) struct Discovery {
     /// The datagram that came.
     block: Vec<u8>,
     /// What answers it.
-    room: DiscoveryRoom,
+    room: DiscoveryBuffer,
 }
 
 impl Discovery {
@@ -32,7 +32,7 @@ impl Discovery {
             socket,
             readiness: Readiness::Ready,
             block: Vec::from_elem(alloc, 0, ROOM)?,
-            room: DiscoveryRoom::new(),
+            room: DiscoveryBuffer::new(),
         })
     }
 

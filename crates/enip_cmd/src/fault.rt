@@ -3,9 +3,9 @@
 ghost use Rattle.std.specs.Prelude.{◌≡◌};
 ghost use Rattle.enip_cmd.specs.Statuses.{exit_status};
 
-use enip_config::Refusal;
-use enip_commands::AskingStop;
-use enip_replay::ReplayStop;
+use enip_commands::RequestFailure;
+use enip_config::ConfigurationRefusal;
+use enip_replay::ReplayFailure;
 use std::alloc::AllocError;
 use std::io;
 use thiserror::Error;
@@ -15,19 +15,19 @@ use thiserror::Error;
 pub enum Fault {
     /// The configuration is refused.
     #[error("configuration {}", .0.number())]
-    Configuration(Refusal),
+    Configuration(ConfigurationRefusal),
     /// The client of a replay could not open its connection, or the second session could not begin.
     #[error("setup")]
     Setup,
     /// A line of the input is refused, or a device or memory failed.
     #[error("{0}")]
-    Run(enip_commands::Fault),
+    Run(enip_commands::ProgramFault),
     /// A word is no value of the type of a request's data.
     #[error("value")]
     Value,
     /// A device that was asked gave no reply.
     #[error("{0}")]
-    Asking(AskingStop),
+    Asking(RequestFailure),
 }
 
 impl Fault {
@@ -38,31 +38,31 @@ impl Fault {
         match self {
             Fault::Value => 2,
             Fault::Configuration(_) => 3,
-            Fault::Setup => ReplayStop::Setup.exit_status(),
+            Fault::Setup => ReplayFailure::Setup.exit_status(),
             Fault::Run(fault) => fault.exit_status(),
             Fault::Asking(stop) => stop.exit_status(),
         }
     }
 }
 
-impl From<enip_commands::Fault> for Fault {
+impl From<enip_commands::ProgramFault> for Fault {
     ghost use Rattle.enip_cmd.specs.declared.fault.Fault.TheVariants.{Run};
 
     ghost from_gives = { λ ended fault. fault ≡ Run ended };
 
-    fn from(ended: enip_commands::Fault) -> Fault {
+    fn from(ended: enip_commands::ProgramFault) -> Fault {
         Fault::Run(ended)
     }
 }
 
 impl From<AllocError> for Fault {
-    ghost use Rattle.enip_commands.specs.declared.fault.Fault.TheVariants.{Memory};
+    ghost use Rattle.enip_commands.specs.declared.fault.ProgramFault.TheVariants.{Memory};
     ghost use Rattle.enip_cmd.specs.declared.fault.Fault.TheVariants.{Run};
 
     ghost from_gives = { λ _ fault. fault ≡ Run Memory };
 
     fn from(_error: AllocError) -> Fault {
-        Fault::Run(enip_commands::Fault::Memory)
+        Fault::Run(enip_commands::ProgramFault::Memory)
     }
 }
 
@@ -74,32 +74,32 @@ impl From<io::Error> for Fault {
     ghost from_gives = { λ error fault. fault ≡ Run (fault_of_kind (error_kind error)) };
 
     fn from(error: io::Error) -> Fault {
-        Fault::Run(enip_commands::Fault::from(error))
+        Fault::Run(enip_commands::ProgramFault::from(error))
     }
 }
 
-impl From<enip_config::Fault> for Fault {
+impl From<enip_config::LoadFault> for Fault {
     ghost use Rattle.enip_cmd.specs.Statuses.{fault_of_configuration};
 
     ghost from_gives = { λ refused fault. fault ≡ fault_of_configuration refused };
 
-    fn from(refused: enip_config::Fault) -> Fault {
+    fn from(refused: enip_config::LoadFault) -> Fault {
         match refused {
-            enip_config::Fault::Refused(refusal) => Fault::Configuration(refusal),
-            enip_config::Fault::Memory => Fault::Run(enip_commands::Fault::Memory),
+            enip_config::LoadFault::Refused(refusal) => Fault::Configuration(refusal),
+            enip_config::LoadFault::Memory => Fault::Run(enip_commands::ProgramFault::Memory),
         }
     }
 }
 
-impl From<ReplayStop> for Fault {
+impl From<ReplayFailure> for Fault {
     ghost use Rattle.enip_cmd.specs.Statuses.{fault_of_replay};
 
     ghost from_gives = { λ stop fault. fault ≡ fault_of_replay stop };
 
-    fn from(stop: ReplayStop) -> Fault {
+    fn from(stop: ReplayFailure) -> Fault {
         match stop {
-            ReplayStop::Setup => Fault::Setup,
-            ReplayStop::Program(fault) => Fault::Run(fault),
+            ReplayFailure::Setup => Fault::Setup,
+            ReplayFailure::Program(fault) => Fault::Run(fault),
         }
     }
 }

@@ -3,7 +3,7 @@
 use crate::served::{Asked, Status};
 use crate::watch::Watch;
 use crate::watched_wire::WatchedWire;
-use enip_wire::{Held, see};
+use enip_wire::{Held, parse_frame};
 use mio::net::TcpStream;
 use std::alloc::Global;
 use std::fmt::Display;
@@ -56,7 +56,10 @@ impl<'a, R: Eprint + Clock> Watch for &'a Journal<'a, R> {
     }
 
     fn answered(&self, sender: SocketAddr, datagram: &[u8], answer: &[u8]) {
-        if let (Held::Frame(asked), Held::Frame(answer)) = (see(datagram), see(answer)) {
+        if let (Held::Frame(asked), Held::Frame(answer)) = (
+            parse_frame(datagram),
+            parse_frame(answer),
+        ) {
             let (asked, status) = (Asked::of(asked), Status::of(answer));
             self.tell(sender, &format_args!("datagram {asked}: {status}"));
         }

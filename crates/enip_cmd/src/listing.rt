@@ -9,7 +9,9 @@ use crate::place::{Patience, Place};
 use crate::reason::{Ending, Reason};
 use crate::socket::{SocketSink, SocketSource};
 use enip_client::{ListCommand, Sent, write_list};
-use enip_commands::{AskingStop, identities_over, list_over, print_device_objects, print_devices};
+use enip_commands::{
+    RequestFailure, identities_over, list_over, print_device_objects, print_devices,
+};
 use std::io::{ErrorKind, Write};
 use std::net::UdpSocket;
 use std::time::Instant;
@@ -62,10 +64,10 @@ pub(crate) fn run_list<'a>(
 }
 
 /// How the program ends where no list was told. `device` is why a device failed, where one did.
-fn ending_of<'a>(stop: AskingStop, device: Reason<'a>) -> Ending<'a> {
+fn ending_of<'a>(stop: RequestFailure, device: Reason<'a>) -> Ending<'a> {
     let reason = match stop {
-        AskingStop::Client(fault) => reason_of_client(fault),
-        AskingStop::Program(enip_commands::Fault::Memory) => Reason::Memory,
+        RequestFailure::Client(fault) => reason_of_client(fault),
+        RequestFailure::Program(enip_commands::ProgramFault::Memory) => Reason::Memory,
         _ => device,
     };
     Ending::new(Fault::Asking(stop), reason)
@@ -105,9 +107,9 @@ pub(crate) fn run_discovery<'a>(
 }
 
 /// How the program ends where its output failed.
-fn ending_of_output<'a>(fault: enip_commands::Fault) -> Ending<'a> {
+fn ending_of_output<'a>(fault: enip_commands::ProgramFault) -> Ending<'a> {
     match fault {
-        enip_commands::Fault::Memory => Ending::of_memory(),
+        enip_commands::ProgramFault::Memory => Ending::of_memory(),
         _ => Ending::of_reason(Reason::Failed(OUTPUT)),
     }
 }

@@ -31,9 +31,9 @@ use asking::{Asked, run_asking};
 use checking::print_device;
 use clap::ArgMatches;
 use clap::error::ErrorKind;
-use enip_client::ListCommand;
-use enip_server::NO_LIMIT;
 use enip_cli::{PROGRAM, Word, program, words};
+use enip_client::ListCommand;
+use enip_server::NO_IDLE_TIMEOUT;
 use journal::Journal;
 use listing::{run_discovery, run_list};
 use mio::net::UdpSocket;
@@ -48,7 +48,7 @@ use std::net::TcpListener;
 use std::process::ExitCode;
 use std::time::Instant;
 use watch::Unwatched;
-use watching::{Watched, run_watching};
+use watching::{ConnectionInfo, run_watching};
 
 /// The exit status where the words are refused.
 const WORDS_REFUSED: u8 = 2;
@@ -144,7 +144,7 @@ fn run_show<'a>(rt: &HostRuntime) -> Result<u8, Ending<'a>> {
     let shown = enip_commands::show_frames(rt.alloc(), &mut input, &mut output);
     match shown {
         Ok(()) => Ok(0),
-        Err(enip_commands::Fault::Memory) => Err(Ending::of_memory()),
+        Err(enip_commands::ProgramFault::Memory) => Err(Ending::of_memory()),
         Err(_) => {
             let device = output.reason(OUTPUT).or(input.reason(INPUT));
             Err(Ending::of_reason(device.unwrap_or(Reason::Failed(INPUT))))
@@ -209,7 +209,7 @@ fn run_client<'a>(
 ) -> Result<u8, Ending<'a>> {
     match asked_of(service, matches) {
         Ok((asked, None)) => run_asking(rt, asked),
-        Ok((asked, Some(watched))) => run_watching(rt, asked, watched),
+        Ok((asked, Some(connection_info))) => run_watching(rt, asked, connection_info),
         Err(refused) => Ok(refuse(rt, refused)),
     }
 }
@@ -218,10 +218,10 @@ fn run_client<'a>(
 fn asked_of<'a, 'm>(
     service: Option<u8>,
     matches: &'m ArgMatches<'a>,
-) -> Result<(Asked<'a, 'm>, Option<Watched>), RefusedWord<'a>> {
+) -> Result<(Asked<'a, 'm>, Option<ConnectionInfo>), RefusedWord<'a>> {
     let patience = Patience::of(matches.get_str("timeout").unwrap_or(""))?;
-    let watched = Watched::of(matches)?;
-    Ok((Asked::of(service, matches, patience)?, watched))
+    let connection_info = ConnectionInfo::of(matches)?;
+    Ok((Asked::of(service, matches, patience)?, connection_info))
 }
 
 /// Says why a word is refused, and gives the exit status.
@@ -241,13 +241,16 @@ fn run_serve<'a>(
     let Some(seconds) = matches.get_one("idle") else {
         return Ok(WORDS_REFUSED);
     };
-    let silence = silence_of(seconds);
+    let idle_timeout = silence_of(seconds);
     let config = Named::read(rt.alloc(), words, matches, "CONFIG")?;
     let adapter = config.adapter(rt.alloc())?;
     let place = Place::of(matches.get_str("ADDRESS").unwrap_or(""))?;
     let sockets = bind_at(rt, place, matches.get_flag("discovery"))?;
     print_listening(rt, &sockets).map_err(|error| Ending::of_device(ERRORS, error))?;
-    let serving = Serving { count, silence };
+    let serving = Serving {
+        count,
+        idle_timeout,
+    };
     let served = if matches.get_flag("log") {
         let start = Instant::now(rt).map_err(|error| Ending::of_device("the clock", error))?;
         let journal = Journal::new(rt, rt.alloc(), start);
@@ -257,7 +260,7 @@ fn run_serve<'a>(
     };
     match served {
         Ok(()) => Ok(0),
-        Err(enip_commands::Fault::Memory) => Err(Ending::of_memory()),
+        Err(enip_commands::ProgramFault::Memory) => Err(Ending::of_memory()),
         Err(_) => Err(Ending::of_reason(Reason::Failed(place.word()))),
     }
 }
@@ -274,7 +277,7 @@ fn silence_of(seconds: u16) -> u64
     ensures no_limit { seconds ≡ 0 → result ≡ 2 ^ 64 - 1 }
 {
     match seconds {
-        0 => NO_LIMIT,
+        0 => NO_IDLE_TIMEOUT,
         _ => u64::from(seconds) * SECOND,
     }
 }

@@ -4,8 +4,8 @@ use crate::fault::Fault;
 use crate::reason::{Ending, Reason};
 use clap::ArgMatches;
 use enip_adapter::Adapter;
-use enip_config::{Configuration, adapter_from, explain};
 use enip_cli::{Word, read_file};
+use enip_config::{Configuration, adapter_from, explain};
 use std::alloc::Global;
 
 /// A file that a word names.
@@ -51,8 +51,8 @@ impl<'a> Named<'a> {
     }
 
     /// How a command ends to which the file is no configuration.
-    fn refused(&self, alloc: Global, fault: enip_config::Fault) -> Ending<'a> {
-        if let enip_config::Fault::Memory = fault {
+    fn refused(&self, alloc: Global, fault: enip_config::LoadFault) -> Ending<'a> {
+        if let enip_config::LoadFault::Memory = fault {
             return Ending::of_memory();
         }
         Ending::new(Fault::from(fault), self.explanation(alloc))
@@ -79,8 +79,10 @@ pub(crate) fn ending_of_run<'a>(
     let reason = match fault {
         Fault::Configuration(_) => config.explanation(alloc),
         Fault::Setup => Reason::Setup(config.name()),
-        Fault::Run(enip_commands::Fault::Line(number, why)) => Reason::Line(lines, number, why),
-        Fault::Run(enip_commands::Fault::Memory) => Reason::Memory,
+        Fault::Run(enip_commands::ProgramFault::Line(number, why)) => Reason::Line(
+            lines, number, why,
+        ),
+        Fault::Run(enip_commands::ProgramFault::Memory) => Reason::Memory,
         _ => device.unwrap_or(Reason::Failed(lines)),
     };
     Ending::new(fault, reason)

@@ -1,10 +1,10 @@
 //! Why a command ends early, in words for who runs it. They stand in front of the line that goes with the exit status.
 
 use crate::fault::Fault;
-use cip_values::{ValueFault, ValueType};
 use cip_bytes::StatusText;
-use enip_config::Explanation;
+use cip_values::{ValueFault, ValueType};
 use enip_commands::LineFault;
+use enip_config::Explanation;
 use std::fmt;
 use std::io::{self, ErrorKind};
 use thiserror::Error;
@@ -123,12 +123,15 @@ impl<'a> Ending<'a> {
 
     /// The end where a device failed for this reason.
     pub(crate) fn of_reason(reason: Reason<'a>) -> Ending<'a> {
-        Ending::new(Fault::Run(enip_commands::Fault::Device), reason)
+        Ending::new(Fault::Run(enip_commands::ProgramFault::Device), reason)
     }
 
     /// The end where memory was refused.
     pub(crate) fn of_memory() -> Ending<'a> {
-        Ending::new(Fault::Run(enip_commands::Fault::Memory), Reason::Memory)
+        Ending::new(
+            Fault::Run(enip_commands::ProgramFault::Memory),
+            Reason::Memory,
+        )
     }
 
     /// Why.

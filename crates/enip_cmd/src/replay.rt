@@ -1,9 +1,9 @@
 //! `enip replay`: a client and an adapter side by side, moved by the lines of a script.
 
 ghost use Rattle.std.specs.Prelude.{◌≡◌, IfOk, IfErr};
-ghost use Rattle.enip_config.specs.declared.fault.Refusal.{Refusal};
+ghost use Rattle.enip_config.specs.declared.fault.ConfigurationRefusal.{ConfigurationRefusal};
 ghost use Rattle.enip_config.specs.Configured.{IsAccepted};
-ghost use Rattle.enip_config.specs.Told.{IsRefused};
+ghost use Rattle.enip_config.specs.Documents.{IsRefused};
 ghost use Rattle.enip_cmd.specs.Statuses.{IsOpeningRefused, IsReplayFaultOf, IsReplayStatus};
 
 use crate::fault::Fault;
@@ -26,7 +26,7 @@ pub fn replay<W: Write + Drop, E: Write + Drop>(
     ensures status { IsReplayStatus result }
     ensures accepted { result ≡ 0 → IsAccepted config.now }
     ensures line { result ≡ 4 → IsAccepted config.now }
-    ensures refused { result ≡ 3 → (refusal : Refusal) × IsRefused config.now refusal }
+    ensures refused { result ≡ 3 → (refusal : ConfigurationRefusal) × IsRefused config.now refusal }
     ensures setup { result ≡ 6 → IsOpeningRefused config.now }
 {
     replay_bytes(alloc, config.as_bytes(), script.as_bytes(), output, errors)
@@ -43,7 +43,7 @@ pub fn replay_bytes<W: Write + Drop, E: Write + Drop>(
     ensures status { IsReplayStatus result }
     ensures accepted { result ≡ 0 → IsAccepted config.now }
     ensures line { result ≡ 4 → IsAccepted config.now }
-    ensures refused { result ≡ 3 → (refusal : Refusal) × IsRefused config.now refusal }
+    ensures refused { result ≡ 3 → (refusal : ConfigurationRefusal) × IsRefused config.now refusal }
     ensures setup { result ≡ 6 → IsOpeningRefused config.now }
 {
     let mut errors = errors;

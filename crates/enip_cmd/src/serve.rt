@@ -10,8 +10,8 @@ use crate::discovery::Discovery;
 use crate::door::Door;
 use crate::watch::Watch;
 use enip_adapter::Adapter;
+use enip_commands::ProgramFault;
 use enip_server::{Peers, RoundEnd};
-use enip_commands::Fault;
 use mio::net::{TcpListener, TcpStream, UdpSocket};
 use mio::{Events, Interest, Poll, Token};
 use std::alloc::Global;
@@ -45,7 +45,7 @@ pub(crate) struct Serving {
     /// How many connections are taken.
     pub(crate) count: u64,
     /// How long a peer may be silent, in microseconds.
-    pub(crate) silence: u64,
+    pub(crate) idle_timeout: u64,
 }
 
 /// Serves the connections that come, until so many as are taken were taken and are over. One that fails ends alone.
@@ -56,7 +56,7 @@ pub(crate) fn serve_connections<R: Clock + Net, W: Watch + Drop>(
     adapter: Adapter,
     serving: Serving,
     watch: W,
-) -> Result<(), Fault>
+) -> Result<(), ProgramFault>
     ensures { IfErr result IsOfDevices }
 {
     let mut server = Server::new(rt, alloc, adapter, serving, watch)?;
@@ -64,7 +64,7 @@ pub(crate) fn serve_connections<R: Clock + Net, W: Watch + Drop>(
 }
 
 /// The microseconds since a start.
-fn moment<C: Clock>(clock: &C, start: Instant) -> Result<u64, Fault>
+fn moment<C: Clock>(clock: &C, start: Instant) -> Result<u64, ProgramFault>
     ensures { IfErr result IsOfDevices }
 {
     let elapsed = start.elapsed(clock)?;
@@ -97,7 +97,7 @@ struct System {
 
 impl System {
     /// The system, which reports no socket yet.
-    fn new<R: Clock + Net>(rt: &R, alloc: Global) -> Result<System, Fault>
+    fn new<R: Clock + Net>(rt: &R, alloc: Global) -> Result<System, ProgramFault>
         ensures { IfErr result IsOfDevices }
     {
         let start = Instant::now(rt)?;
@@ -141,11 +141,11 @@ impl<W: Watch + Drop> Server<W> {
         adapter: Adapter,
         serving: Serving,
         watch: W,
-    ) -> Result<Server<W>, Fault>
+    ) -> Result<Server<W>, ProgramFault>
         ensures { IfErr result IsOfDevices }
     {
         let system = System::new(rt, alloc)?;
-        let peers = Peers::new(alloc, adapter, serving.silence)?;
+        let peers = Peers::new(alloc, adapter, serving.idle_timeout)?;
         let last = RoundEnd {
             ended: 0,
             ready: false,
@@ -166,7 +166,7 @@ impl<W: Watch + Drop> Server<W> {
     }
 
     /// Opens the sockets of the device, which the system reports from now on.
-    fn open(&mut self, alloc: Global, sockets: Sockets) -> Result<(), Fault>
+    fn open(&mut self, alloc: Global, sockets: Sockets) -> Result<(), ProgramFault>
         ensures { IfErr result IsOfDevices }
     {
         let Sockets {
@@ -181,7 +181,7 @@ impl<W: Watch + Drop> Server<W> {
     }
 
     /// Takes the connections that come to a listener.
-    fn listen(&mut self, mut listener: TcpListener) -> Result<(), Fault>
+    fn listen(&mut self, mut listener: TcpListener) -> Result<(), ProgramFault>
         ensures { IfErr result IsOfDevices }
     {
         let registry = self.system.poll.registry();
@@ -191,7 +191,7 @@ impl<W: Watch + Drop> Server<W> {
     }
 
     /// Answers the datagrams that come to a socket.
-    fn hear(&mut self, alloc: Global, mut socket: UdpSocket) -> Result<(), Fault>
+    fn hear(&mut self, alloc: Global, mut socket: UdpSocket) -> Result<(), ProgramFault>
         ensures { IfErr result IsOfDevices }
     {
         let registry = self.system.poll.registry();
@@ -201,7 +201,12 @@ impl<W: Watch + Drop> Server<W> {
     }
 
     /// Opens the sockets, and goes round until so many connections as are taken were taken and are over.
-    fn run<C: Clock>(&mut self, clock: &C, alloc: Global, sockets: Sockets) -> Result<(), Fault>
+    fn run<C: Clock>(
+        &mut self,
+        clock: &C,
+        alloc: Global,
+        sockets: Sockets,
+    ) -> Result<(), ProgramFault>
         ensures { IfErr result IsOfDevices }
     {
         self.open(alloc, sockets)?;
@@ -225,7 +230,7 @@ impl<W: Watch + Drop> Server<W> {
     }
 
     /// Waits until a socket may be ready or something is to be done without one. `now` is the moment of the last round.
-    fn wait(&mut self, now: u64) -> Result<(), Fault>
+    fn wait(&mut self, now: u64) -> Result<(), ProgramFault>
         ensures { IfErr result IsOfDevices }
     {
         let timeout = self.timeout(now);
@@ -244,7 +249,7 @@ impl<W: Watch + Drop> Server<W> {
                 }
                 place => {
                     let ends = event.is_read_closed() || event.is_error();
-                    self.peers.wake(place, ends);
+                    self.peers.mark_ready(place, ends);
                 }
             }
         }
@@ -339,7 +344,7 @@ impl<W: Watch + Drop> Server<W> {
         let Some(wire) = self.watch.wire(stream) else {
             return false;
         };
-        if self.peers.come(now, wire).is_err() {
+        if self.peers.add(now, wire).is_err() {
             return false;
         }
         self.last.ready = true;

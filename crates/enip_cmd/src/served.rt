@@ -1,8 +1,8 @@
 //! What a frame asks and what answers it, in the words of a log.
 
+use cip_bytes::StatusText;
 use cip_bytes::protocol::{Command, EncapsulationStatus, ManagerService};
 use cip_message::{Path, ReplyView, RequestView, read_path};
-use cip_bytes::StatusText;
 use enip_wire::{FrameView, Header, rr_body, unit_body};
 use std::fmt;
 

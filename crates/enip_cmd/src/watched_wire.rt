@@ -5,7 +5,7 @@ ghost use Rattle.std.specs.Prelude.{None};
 use crate::journal::Journal;
 use crate::served::{Asked, Status};
 use crate::wire::TcpWire;
-use enip_server::{Came, Wire};
+use enip_server::{ReadOutcome, Wire};
 use enip_wire::{FrameReader, FrameView, Held};
 use mio::net::TcpStream;
 use std::alloc::Global;
@@ -155,13 +155,13 @@ impl<R: Eprint + Clock> Wire for WatchedWire<'_, R> {
 
     ghost written = { λ _. None };
 
-    ghost tally = { λ w. w.wire.tally };
+    ghost counts = { λ w. w.wire.counts };
 
-    fn read(&mut self, into: &mut [u8]) -> Came {
+    fn read(&mut self, into: &mut [u8]) -> ReadOutcome {
         self.frames.finish(self.journal, self.address);
         // another read follows this one's frames, at which those that were not answered are told
         let came = self.wire.read_on(into);
-        if let Came::Bytes(size) = came {
+        if let ReadOutcome::Bytes(size) = came {
             self.frames.hear(&into[..size]);
         }
         came

@@ -7,7 +7,7 @@ use crate::reason::{Ending, Reason, tell};
 use crate::refused::{RefusedWord, seconds_of};
 use crate::socket::{SocketSink, SocketSource};
 use clap::ArgMatches;
-use enip_commands::{AskingStop, Readings, Replied, Session, print_reading};
+use enip_commands::{DeviceSession, Readings, ReplyOutcome, RequestFailure, print_reading};
 use std::rt::Clock;
 use std::thread;
 use std::time::{Duration, Instant};
@@ -26,7 +26,7 @@ const PAUSE: u64 = 5;
 
 /// How often a device is asked, and what is printed.
 #[derive(Clone, Copy)]
-pub(crate) struct Watched {
+pub(crate) struct ConnectionInfo {
     /// How long after a reply the next request is sent.
     every: Duration,
     /// How many replies are taken.
@@ -35,13 +35,15 @@ pub(crate) struct Watched {
     all: bool,
 }
 
-impl Watched {
+impl ConnectionInfo {
     /// What the words say, where they say that a device is asked again and again.
-    pub(crate) fn of<'a>(matches: &ArgMatches<'a>) -> Result<Option<Watched>, RefusedWord<'a>> {
+    pub(crate) fn of<'a>(
+        matches: &ArgMatches<'a>,
+    ) -> Result<Option<ConnectionInfo>, RefusedWord<'a>> {
         let Some(word) = matches.get_str("every") else {
             return Ok(None);
         };
-        Ok(Some(Watched {
+        Ok(Some(ConnectionInfo {
             every: seconds_of("every", word)?,
             // without an end, where it is not said: more than can come
             count: matches.get_one::<u32>("count").map_or(u64::MAX, u64::from),
@@ -70,37 +72,37 @@ impl From<std::alloc::AllocError> for Parting<'_> {
 struct Watching<'a, 'm, 'r> {
     rt: &'r HostRuntime,
     asked: Asked<'a, 'm>,
-    watched: Watched,
+    connection_info: ConnectionInfo,
     request: &'r [u8],
     start: Instant,
     readings: Readings,
     /// How many replies were taken.
     taken: u64,
     /// What the last one was.
-    replied: Replied,
+    replied: ReplyOutcome,
 }
 
 /// Asks a device again and again, prints its replies, and gives the exit status of the program.
 pub(crate) fn run_watching<'a>(
     rt: &HostRuntime,
     asked: Asked<'a, '_>,
-    watched: Watched,
+    connection_info: ConnectionInfo,
 ) -> Result<u8, Ending<'a>> {
     let request = asked.request(rt.alloc())?;
     let mut watching = Watching {
         rt,
         asked,
-        watched,
+        connection_info,
         request: request.as_slice(),
         start: Instant::now(rt).map_err(|error| Ending::of_device(CLOCK, error))?,
         readings: Readings::new(rt.alloc()),
         taken: 0,
-        replied: Replied::Done,
+        replied: ReplyOutcome::Done,
     };
     for _ in 0..u64::MAX {
         match watching.visit() {
-            Ok(()) if watching.taken >= watched.count => break,
-            Ok(()) => thread::sleep(rt, watched.every),
+            Ok(()) if watching.taken >= connection_info.count => break,
+            Ok(()) => thread::sleep(rt, connection_info.every),
             Err(Parting::Gone(reason)) => {
                 tell(rt, &reason);
                 thread::sleep(
@@ -123,7 +125,7 @@ impl<'a> Watching<'a, '_, '_> {
             .map_err(parting_of)?;
         let mut source = SocketSource::new(&stream, self.rt, self.start);
         let mut sink = SocketSink::new(&stream);
-        let begun = Session::begin(
+        let begun = DeviceSession::begin(
             self.rt.alloc(),
             &mut source,
             &mut sink,
@@ -138,12 +140,12 @@ impl<'a> Watching<'a, '_, '_> {
                 Ok(reply) => self.take(reply)?,
                 Err(stop) => return Err(self.parting(stop, &source, &sink)),
             }
-            if self.taken >= self.watched.count
-                || self.watched.every > Duration::from_secs(LONGEST_SILENCE)
+            if self.taken >= self.connection_info.count
+                || self.connection_info.every > Duration::from_secs(LONGEST_SILENCE)
             {
                 break;
             }
-            thread::sleep(self.rt, self.watched.every);
+            thread::sleep(self.rt, self.connection_info.every);
         }
         let _ = session.end(&mut source, &mut sink);
         Ok(())
@@ -152,8 +154,8 @@ impl<'a> Watching<'a, '_, '_> {
     /// Takes a reply, and prints it where it is to be.
     fn take(&mut self, reply: &[u8]) -> Result<(), Parting<'a>> {
         self.taken = self.taken.saturating_add(1);
-        let is_news = self.readings.is_news(reply)?;
-        if !is_news && !self.watched.all {
+        let is_changed = self.readings.is_changed(reply)?;
+        if !is_changed && !self.connection_info.all {
             return Ok(());
         }
         let elapsed = self
@@ -171,7 +173,7 @@ impl<'a> Watching<'a, '_, '_> {
         );
         match printed {
             Ok(replied) => {
-                if is_news {
+                if is_changed {
                     tell_refusal(self.rt, replied);
                 }
                 self.replied = replied;
@@ -188,7 +190,7 @@ impl<'a> Watching<'a, '_, '_> {
     /// What follows where a session fails.
     fn parting<C: Clock>(
         &self,
-        stop: AskingStop,
+        stop: RequestFailure,
         source: &SocketSource<'_, C>,
         sink: &SocketSink<'_>,
     ) -> Parting<'a> {

@@ -5,7 +5,7 @@ ghost use Rattle.enip_cmd.specs.Reads.{IsShortWhereAll};
 ghost use Rattle.enip_server.specs.Wires.{IsRead, after_read};
 
 use crate::retried::{read_some, write_some};
-use enip_server::{Came, Tally, Wire};
+use enip_server::{ReadOutcome, Wire, WireCounts};
 use enip_wire::Header;
 use mio::net::TcpStream;
 use std::io::ErrorKind;
@@ -15,7 +15,7 @@ use std::net::Shutdown;
 #[derive(Drop)]
 pub(crate) struct TcpWire {
     stream: TcpStream,
-    tally: Tally,
+    counts: WireCounts,
 }
 
 impl TcpWire {
@@ -23,21 +23,21 @@ impl TcpWire {
     pub(crate) fn new(stream: TcpStream) -> TcpWire {
         TcpWire {
             stream,
-            tally: Tally::new(),
+            counts: WireCounts::new(),
         }
     }
 
     /// As `read`, but never told that it took all, so that another read follows once what came is served.
-    pub(crate) fn read_on(&mut self, into: &mut [u8]) -> Came
+    pub(crate) fn read_on(&mut self, into: &mut [u8]) -> ReadOutcome
         requires { 0 < length into.old }
         ensures read { IsRead None None result into.new }
-        ensures tally { self.new.tally ≡ after_read result self.old.tally }
+        ensures counts { self.new.counts ≡ after_read result self.old.counts }
     {
         let came = match read_now(&mut self.stream, into) {
-            Came::All(size) => Came::Bytes(size),
+            ReadOutcome::Drained(size) => ReadOutcome::Bytes(size),
             came => came,
         };
-        self.tally.add_read(came);
+        self.counts.add_read(came);
         came
     }
 }
@@ -47,17 +47,17 @@ impl Wire for TcpWire {
 
     ghost written = { λ _. None };
 
-    ghost tally = { λ wire. wire.tally };
+    ghost counts = { λ wire. wire.counts };
 
-    fn read(&mut self, into: &mut [u8]) -> Came {
+    fn read(&mut self, into: &mut [u8]) -> ReadOutcome {
         let came = read_now(&mut self.stream, into);
-        self.tally.add_read(came);
+        self.counts.add_read(came);
         came
     }
 
     fn write(&mut self, from: &[u8]) -> Option<usize> {
         let taken = write_now(&mut self.stream, from);
-        self.tally.add_write(taken);
+        self.counts.add_write(taken);
         taken
     }
 
@@ -68,17 +68,17 @@ impl Wire for TcpWire {
 
 /// Reads what has come. A read that did not fill its room took all of it, and the system reports what comes next. One
 /// that is shorter than a header is not relied on for that: another read follows, once in a frame at most.
-fn read_now(stream: &mut TcpStream, into: &mut [u8]) -> Came
+fn read_now(stream: &mut TcpStream, into: &mut [u8]) -> ReadOutcome
     requires { 0 < length into.old }
     ensures read { IsRead None None result into.new }
     ensures short { IsShortWhereAll (length into.new) result }
 {
     match read_some(stream, into) {
-        Ok(0) => Came::End,
-        Ok(size) if size < into.len() && size >= Header::SIZE => Came::All(size),
-        Ok(size) => Came::Bytes(size),
-        Err(error) if error.kind() == ErrorKind::WouldBlock => Came::Later,
-        Err(_) => Came::Failed,
+        Ok(0) => ReadOutcome::End,
+        Ok(size) if size < into.len() && size >= Header::SIZE => ReadOutcome::Drained(size),
+        Ok(size) => ReadOutcome::Bytes(size),
+        Err(error) if error.kind() == ErrorKind::WouldBlock => ReadOutcome::WouldBlock,
+        Err(_) => ReadOutcome::Failed,
     }
 }
 

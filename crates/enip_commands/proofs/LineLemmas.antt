@@ -2,11 +2,11 @@ use Rattle.std.proofs.Common.{◌≡◌, ℕ, ◌+◌, ◌*◌, ◌<◌, ◌≤�
 use Rattle.std.specs.Str.Parse.{digits_value_after}
 use Rattle.std.specs.Char.{digit_value}
 use Rattle.std.proofs.lemmas.List.{drop_more}
-use Rattle.enip_commands.specs.declared.number.Number.{Number}
+use Rattle.enip_commands.specs.declared.peer_number.PeerNumber.{PeerNumber}
 use Rattle.enip_commands.specs.Lines.{digit, spells_bytes, IsRefusedLine}
 
 -- A piece that spells no byte is refused.
-pub piece_refused : (text : List ℕ) (number : Number) (piece : List ℕ) → text ≡ digit number ∷ 32 ∷ piece → spells_bytes piece ≡ false → IsRefusedLine text
+pub piece_refused : (text : List ℕ) (number : PeerNumber) (piece : List ℕ) → text ≡ digit number ∷ 32 ∷ piece → spells_bytes piece ≡ false → IsRefusedLine text
 piece_refused text number piece says none = inr (number, (piece, (says, none)))
 
 after_least : (n : ℕ) (ds : List ℕ) → n ≤ digits_value_after 10 n ds

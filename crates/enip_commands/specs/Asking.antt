@@ -6,25 +6,25 @@ use Rattle.cip_message.specs.Reply.{Reply, reply_of}
 use Rattle.enip_client.specs.declared.fault.AskFault.{AskFault}
 use Rattle.enip_client.specs.declared.fault.AskFault.TheVariants as ask
 use Rattle.enip_client.specs.declared.fault.ClientFault.TheVariants as client
-use Rattle.enip_commands.specs.declared.asking.Question.{Question}
-use Rattle.enip_commands.specs.declared.asking.Replied.{Replied}
-use Rattle.enip_commands.specs.declared.asking.Replied.TheVariants.{Done, Refused}
-use Rattle.enip_commands.specs.declared.asking.AskingStop.{AskingStop}
-use Rattle.enip_commands.specs.declared.asking.AskingStop.TheVariants.{Hex, Session, Client, Shape, Program}
-use Rattle.enip_commands.specs.declared.fault.Fault.TheVariants.{Device, Memory}
+use Rattle.enip_commands.specs.declared.asking.DeviceRequest.{DeviceRequest}
+use Rattle.enip_commands.specs.declared.asking.ReplyOutcome.{ReplyOutcome}
+use Rattle.enip_commands.specs.declared.asking.ReplyOutcome.TheVariants.{Done, Refused}
+use Rattle.enip_commands.specs.declared.asking.RequestFailure.{RequestFailure}
+use Rattle.enip_commands.specs.declared.asking.RequestFailure.TheVariants.{Hex, Session, Client, Shape, Program}
+use Rattle.enip_commands.specs.declared.fault.ProgramFault.TheVariants.{Device, Memory}
 use Rattle.enip_commands.specs.declared.style.Style.{Style}
 use Rattle.enip_commands.specs.Digits.{bytes_spelled}
 use Rattle.enip_commands.specs.Statuses.{IsOfDevices}
 use Rattle.enip_commands.specs.Styles.{IsUnprinted}
 
 -- The bytes that ask this: service, the shortest path, and the data that the digits spell.
-abbrev pub IsRequested : Question → List ℕ → Type 0
+abbrev pub IsRequested : DeviceRequest → List ℕ → Type 0
 IsRequested q bytes = (given : List ℕ)
     × (bytes_spelled q.digits.now ≡ Some given)
     × (bytes ≡ request (record { service = q.service; path = short q.path; «data» = given }))
 
 -- Why an exchange was not completed, as the program tells it.
-abbrev pub stop_of : AskFault → AskingStop
+abbrev pub stop_of : AskFault → RequestFailure
 stop_of ask.Read = Program Device
 stop_of ask.Write = Program Device
 stop_of ask.Ended = Program Device
@@ -34,12 +34,12 @@ stop_of (ask.Client fault) = Client fault
 stop_of (ask.Submit why) = Client client.Request
 
 -- A device or memory failed.
-abbrev pub IsOfDevice : AskingStop → Type 0
+abbrev pub IsOfDevice : RequestFailure → Type 0
 IsOfDevice (Program fault) = IsOfDevices fault
 IsOfDevice _ = ⊥
 
 -- The exchange failed, a device or memory did.
-abbrev pub IsOfExchange : AskingStop → Type 0
+abbrev pub IsOfExchange : RequestFailure → Type 0
 IsOfExchange Hex = ⊥
 IsOfExchange (Session status) = ⊤
 IsOfExchange (Client fault) = ⊤
@@ -47,18 +47,18 @@ IsOfExchange (Shape value_type fault) = ⊤
 IsOfExchange (Program fault) = IsOfDevices fault
 
 -- What is told of a reply: general status 0 is success, another is told with the first additional word, or 0.
-abbrev pub told_of : Reply → Replied
+abbrev pub told_of : Reply → ReplyOutcome
 told_of a = if a.status == 0 then Done else Refused a.status (unwrap_or (slice_get a.additional 0) 0)
 
 -- These bytes are a reply, of which this is told.
-abbrev pub IsReplyTold : List ℕ → Replied → Type 0
-IsReplyTold bytes replied = (a : Reply) × (reply_of bytes ≡ Ok a) × (replied ≡ told_of a)
+abbrev pub IsReplyPrinted : List ℕ → ReplyOutcome → Type 0
+IsReplyPrinted bytes replied = (a : Reply) × (reply_of bytes ≡ Ok a) × (replied ≡ told_of a)
 
 -- These bytes are no reply, or one whose data are no values of the style's type, or else a device or memory failed.
-abbrev pub IsUntold : Style → List ℕ → AskingStop → Type 0
-IsUntold style bytes Hex = ⊥
-IsUntold style bytes (Session status) = ⊥
-IsUntold style bytes (Client fault) = (fault ≡ client.Malformed) × ((a : Reply) → reply_of bytes ≡ Ok a → ⊥)
-IsUntold style bytes (Shape value_type fault) =
+abbrev pub IsNotPrinted : Style → List ℕ → RequestFailure → Type 0
+IsNotPrinted style bytes Hex = ⊥
+IsNotPrinted style bytes (Session status) = ⊥
+IsNotPrinted style bytes (Client fault) = (fault ≡ client.Malformed) × ((a : Reply) → reply_of bytes ≡ Ok a → ⊥)
+IsNotPrinted style bytes (Shape value_type fault) =
     (a : Reply) × (reply_of bytes ≡ Ok a) × IsUnprinted style a.«data» (Shape value_type fault)
-IsUntold style bytes (Program fault) = IsOfDevices fault
+IsNotPrinted style bytes (Program fault) = IsOfDevices fault

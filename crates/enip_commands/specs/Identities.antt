@@ -4,7 +4,7 @@ use Rattle.std.specs.List.{flat_map}
 use Rattle.std.specs.Io.KnownBytes.{Appends}
 use Rattle.serde_json.specs.Written.{compact_text}
 use Rattle.enip_commands.specs.Json.{identity_data}
-use Rattle.enip_wire.specs.Stream.{sight_of}
+use Rattle.enip_wire.specs.Stream.{parsed}
 use Rattle.enip_client.specs.Lists.{Entry, A_service, An_identity, answer_in}
 use Rattle.enip_client.specs.Listing.{Sides, IsListed}
 use Rattle.enip_client.specs.declared.fault.AskFault.TheVariants as ask
@@ -12,8 +12,8 @@ use Rattle.enip_client.specs.declared.fault.ClientFault.{ClientFault}
 use Rattle.enip_client.specs.declared.lists.ListCommand.TheVariants as lists
 use Rattle.enip_commands.specs.Lines.{with_newline}
 use Rattle.enip_commands.specs.Statuses.{IsOfDevices}
-use Rattle.enip_commands.specs.declared.asking.AskingStop.{AskingStop}
-use Rattle.enip_commands.specs.declared.asking.AskingStop.TheVariants.{Hex, Session, Client, Shape, Program}
+use Rattle.enip_commands.specs.declared.asking.RequestFailure.{RequestFailure}
+use Rattle.enip_commands.specs.declared.asking.RequestFailure.TheVariants.{Hex, Session, Client, Shape, Program}
 
 -- The line of an entry. A service has none.
 abbrev pub object_line : Entry → List ℕ
@@ -29,15 +29,15 @@ objects_in (Ok entries) = object_lines entries
 objects_in (Err fault) = []
 
 abbrev pub datagram_objects : List ℕ → List ℕ
-datagram_objects datagram = objects_in (answer_in lists.Identity (sight_of datagram))
+datagram_objects datagram = objects_in (answer_in lists.Identity (parsed datagram))
 
 -- The device's identities were printed, or its answer is of another shape, or else a device or memory failed.
-abbrev pub AreIdentitiesTold : Sides → Sides → Option (List ℕ) → Option (List ℕ)
-    → Result (Unit {0}) AskingStop → Type 0
-AreIdentitiesTold old new before after (Ok done) =
+abbrev pub AreIdentitiesPrinted : Sides → Sides → Option (List ℕ) → Option (List ℕ)
+    → Result (Unit {0}) RequestFailure → Type 0
+AreIdentitiesPrinted old new before after (Ok done) =
     (entries : List Entry) × IsListed lists.Identity old new (Ok entries) × Appends before after (object_lines entries)
-AreIdentitiesTold old new before after (Err Hex) = ⊥
-AreIdentitiesTold old new before after (Err (Session status)) = ⊥
-AreIdentitiesTold old new before after (Err (Client fault)) = IsListed lists.Identity old new (Err (ask.Client fault))
-AreIdentitiesTold old new before after (Err (Shape value_type fault)) = ⊥
-AreIdentitiesTold old new before after (Err (Program fault)) = IsOfDevices fault
+AreIdentitiesPrinted old new before after (Err Hex) = ⊥
+AreIdentitiesPrinted old new before after (Err (Session status)) = ⊥
+AreIdentitiesPrinted old new before after (Err (Client fault)) = IsListed lists.Identity old new (Err (ask.Client fault))
+AreIdentitiesPrinted old new before after (Err (Shape value_type fault)) = ⊥
+AreIdentitiesPrinted old new before after (Err (Program fault)) = IsOfDevices fault

@@ -45,8 +45,8 @@ abbrev pub data_told : List ℕ → Data
 data_told bytes = object (member (codes "data") (string (encode_lower bytes)) (member (codes "status") (count 0) no_members))
 
 -- a refusal: the general status, and the first additional word or 0
-abbrev pub refusal_told : ℕ → ℕ → Data
-refusal_told status extended =
+abbrev pub refusal_json : ℕ → ℕ → Data
+refusal_json status extended =
     object (member (codes "extended") (count extended) (member (codes "status") (count status) no_members))
 
 -- an integer
@@ -55,35 +55,35 @@ integer (pos n) = number (unsigned n)
 integer (negsuc n) = number (negative (negsuc n))
 
 -- What a value is as data. Of a REAL it is not said which number, or which text where JSON has no such number.
-abbrev pub IsTold : Value → Data → Type 0
-IsTold (Truth truth) d = d ≡ boolean truth
-IsTold (Signed z) d = d ≡ integer z
-IsTold (Unsigned n) d = d ≡ count n
-IsTold (Bits n) d = d ≡ count n
-IsTold (Real bits) d = depth d ≡ 0
-IsTold (Text bytes) d = d ≡ string (latin bytes)
+abbrev pub IsJsonOf : Value → Data → Type 0
+IsJsonOf (Truth truth) d = d ≡ boolean truth
+IsJsonOf (Signed z) d = d ≡ integer z
+IsJsonOf (Unsigned n) d = d ≡ count n
+IsJsonOf (Bits n) d = d ≡ count n
+IsJsonOf (Real bits) d = depth d ≡ 0
+IsJsonOf (Text bytes) d = d ≡ string (latin bytes)
 
 -- values are told one by one, in their order
-abbrev pub EachTold : List Value → Items → Type 0
-EachTold [] no_items = ⊤
-EachTold (value ∷ values) (item d ds) = IsTold value d × EachTold values ds
-EachTold values items = ⊥
+abbrev pub EachJsonOf : List Value → Items → Type 0
+EachJsonOf [] no_items = ⊤
+EachJsonOf (value ∷ values) (item d ds) = IsJsonOf value d × EachJsonOf values ds
+EachJsonOf values items = ⊥
 
-abbrev pub AreTold : List Value → Data → Type 0
-AreTold values (array items) = EachTold values items
-AreTold values other = ⊥
+abbrev pub AreJsonOf : List Value → Data → Type 0
+AreJsonOf values (array items) = EachJsonOf values items
+AreJsonOf values other = ⊥
 
 -- A reply, by the digits of its data, their type and the values that they are.
-abbrev pub values_told : List ℕ → ValueType → Data → Data
-values_told bytes value_type list =
+abbrev pub values_json : List ℕ → ValueType → Data → Data
+values_json bytes value_type list =
     object (member (codes "data") (string (encode_lower bytes))
     (member (codes "status") (count 0)
     (member (codes "type") (string (type_name_of value_type))
     (member (codes "values") list no_members))))
 
-abbrev pub AreValuesTold : List ℕ → ValueType → List Value → Data → Type 0
-AreValuesTold bytes value_type values d = (list : Data) × AreTold values list × (d ≡ values_told bytes value_type list)
+abbrev pub AreValuesJson : List ℕ → ValueType → List Value → Data → Type 0
+AreValuesJson bytes value_type values d = (list : Data) × AreJsonOf values list × (d ≡ values_json bytes value_type list)
 
 -- The line is read as that.
 abbrev pub IsValuesLine : List ℕ → ValueType → List Value → List ℕ → Type 0
-IsValuesLine bytes value_type values line = (d : Data) × AreValuesTold bytes value_type values d × (read line ≡ Some d)
+IsValuesLine bytes value_type values line = (d : Data) × AreValuesJson bytes value_type values d × (read line ≡ Some d)

@@ -4,15 +4,15 @@ use Rattle.std.specs.Prelude.{take, nat_lt, ◌-◌, ◌==◌, ◌&&◌, if◌th
 use Rattle.std.specs.Option.{option_map_or}
 use Rattle.std.specs.Str.Parse.{IsNumeral, digits_value}
 use Rattle.enip_commands.specs.Digits.{bytes_spelled}
-use Rattle.enip_commands.specs.declared.number.Number.{Number}
+use Rattle.enip_commands.specs.declared.peer_number.PeerNumber.{PeerNumber}
 use Rattle.enip_commands.specs.declared.lines.Line.{Line}
 use Rattle.enip_commands.specs.declared.lines.Line.TheVariants.{Nothing, Piece, End, Now}
 
 -- The index of a peer among the nine, from 0, and its digit.
-abbrev pub index_of : Number → ℕ
+abbrev pub index_of : PeerNumber → ℕ
 index_of number = number.index
 
-abbrev pub digit : Number → ℕ
+abbrev pub digit : PeerNumber → ℕ
 digit number = 49 + index_of number
 
 -- A line is empty, or a remark.
@@ -35,7 +35,7 @@ spells_bytes text = option_map_or (λ bytes. nat_lt 0 (length bytes)) (bytes_spe
 abbrev pub IsRefusedLine : List ℕ → Type 0
 IsRefusedLine text =
     ((line : Line) → Says text line → ⊥)
-    ⊎ ((number : Number) × ((piece : List ℕ) × ((text ≡ digit number ∷ 32 ∷ piece) × (spells_bytes piece ≡ false))))
+    ⊎ ((number : PeerNumber) × ((piece : List ℕ) × ((text ≡ digit number ∷ 32 ∷ piece) × (spells_bytes piece ≡ false))))
 
 -- A line and the newline behind it.
 abbrev pub with_newline : List ℕ → List ℕ

@@ -6,7 +6,7 @@ use Rattle.std.specs.List.{flat_map}
 use Rattle.std.specs.Io.KnownBytes.{Appends}
 use Rattle.byteorder.specs.Endian.{big_bytes}
 use Rattle.hex.specs.Hex.{encode_lower}
-use Rattle.enip_wire.specs.Stream.{sight_of}
+use Rattle.enip_wire.specs.Stream.{parsed}
 use Rattle.enip_client.specs.Identity.{Identity}
 use Rattle.enip_client.specs.Service.{Service}
 use Rattle.enip_client.specs.Lists.{Entry, A_service, An_identity, answer_in}
@@ -17,8 +17,8 @@ use Rattle.enip_client.specs.declared.lists.ListCommand.{ListCommand}
 use Rattle.enip_client.specs.declared.lists.ListCommand.TheVariants as lists
 use Rattle.enip_commands.specs.Lines.{with_newline}
 use Rattle.enip_commands.specs.Statuses.{IsOfDevices}
-use Rattle.enip_commands.specs.declared.asking.AskingStop.{AskingStop}
-use Rattle.enip_commands.specs.declared.asking.AskingStop.TheVariants.{Hex, Session, Client, Shape, Program}
+use Rattle.enip_commands.specs.declared.asking.RequestFailure.{RequestFailure}
+use Rattle.enip_commands.specs.declared.asking.RequestFailure.TheVariants.{Hex, Session, Client, Shape, Program}
 
 -- Two and four bytes of a number, in digits.
 abbrev pub hex_word : ℕ → List ℕ
@@ -96,21 +96,21 @@ devices_in (Ok entries) = flat_map device_line entries
 devices_in (Err fault) = []
 
 abbrev pub datagram_text : List ℕ → List ℕ
-datagram_text datagram = devices_in (answer_in lists.Identity (sight_of datagram))
+datagram_text datagram = devices_in (answer_in lists.Identity (parsed datagram))
 
 -- The device's answer was printed, or is of another shape, or else a device or memory failed.
-abbrev pub IsListTold : ListCommand → Sides → Sides → Option (List ℕ) → Option (List ℕ)
-    → Result (Unit {0}) AskingStop → Type 0
-IsListTold command old new before after (Ok done) =
+abbrev pub IsListPrinted : ListCommand → Sides → Sides → Option (List ℕ) → Option (List ℕ)
+    → Result (Unit {0}) RequestFailure → Type 0
+IsListPrinted command old new before after (Ok done) =
     (entries : List Entry) × IsListed command old new (Ok entries) × Appends before after (list_text entries)
-IsListTold command old new before after (Err Hex) = ⊥
-IsListTold command old new before after (Err (Session status)) = ⊥
-IsListTold command old new before after (Err (Client fault)) = IsListed command old new (Err (ask.Client fault))
-IsListTold command old new before after (Err (Shape value_type fault)) = ⊥
-IsListTold command old new before after (Err (Program fault)) = IsOfDevices fault
+IsListPrinted command old new before after (Err Hex) = ⊥
+IsListPrinted command old new before after (Err (Session status)) = ⊥
+IsListPrinted command old new before after (Err (Client fault)) = IsListed command old new (Err (ask.Client fault))
+IsListPrinted command old new before after (Err (Shape value_type fault)) = ⊥
+IsListPrinted command old new before after (Err (Program fault)) = IsOfDevices fault
 
 -- The same of who asks, wherever the answer is printed.
-abbrev pub IsListAsked : ListCommand → Sides → Sides → Result (Unit {0}) AskingStop → Type 0
+abbrev pub IsListAsked : ListCommand → Sides → Sides → Result (Unit {0}) RequestFailure → Type 0
 IsListAsked command old new (Ok done) = (entries : List Entry) × IsListed command old new (Ok entries)
 IsListAsked command old new (Err Hex) = ⊥
 IsListAsked command old new (Err (Session status)) = ⊥

@@ -2,60 +2,60 @@
 use Rattle.std.specs.Prelude.{◌≡◌, ℕ, List, ⊤, Result, Ok, Err}
 use Rattle.std.specs.declared.io.ErrorKind.{ErrorKind}
 use Rattle.std.specs.declared.io.ErrorKind.TheVariants.{OutOfMemory}
-use Rattle.enip_commands.specs.declared.fault.Fault.{Fault}
-use Rattle.enip_commands.specs.declared.fault.Fault.TheVariants.{Line, Device, Memory}
-use Rattle.enip_commands.specs.declared.asking.Replied.{Replied}
-use Rattle.enip_commands.specs.declared.asking.Replied.TheVariants as replied
-use Rattle.enip_commands.specs.declared.asking.AskingStop.{AskingStop}
-use Rattle.enip_commands.specs.declared.asking.AskingStop.TheVariants as asking
-use Rattle.enip_commands.specs.declared.showing.ShowingStop.{ShowingStop}
-use Rattle.enip_commands.specs.declared.showing.ShowingStop.TheVariants.{Program}
+use Rattle.enip_commands.specs.declared.fault.ProgramFault.{ProgramFault}
+use Rattle.enip_commands.specs.declared.fault.ProgramFault.TheVariants.{Line, Device, Memory}
+use Rattle.enip_commands.specs.declared.asking.ReplyOutcome.{ReplyOutcome}
+use Rattle.enip_commands.specs.declared.asking.ReplyOutcome.TheVariants as replied
+use Rattle.enip_commands.specs.declared.asking.RequestFailure.{RequestFailure}
+use Rattle.enip_commands.specs.declared.asking.RequestFailure.TheVariants as asking
+use Rattle.enip_commands.specs.declared.showing.ShowFailure.{ShowFailure}
+use Rattle.enip_commands.specs.declared.showing.ShowFailure.TheVariants.{Program}
 
 -- The exit status of a program that ends so.
-abbrev pub exit_status : Fault → ℕ
+abbrev pub exit_status : ProgramFault → ℕ
 exit_status (Line number why) = 4
 exit_status Device = 5
 exit_status Memory = 5
 
 -- The exit status of a program that told a reply, and of one that told none.
-abbrev pub replied_status : Replied → ℕ
+abbrev pub replied_status : ReplyOutcome → ℕ
 replied_status replied.Done = 0
 replied_status (replied.Refused status extended) = 6
 
-abbrev pub asking_stop_status : AskingStop → ℕ
-asking_stop_status asking.Hex = 2
-asking_stop_status (asking.Session status) = 7
-asking_stop_status (asking.Client fault) = 7
-asking_stop_status (asking.Shape value_type fault) = 7
-asking_stop_status (asking.Program fault) = exit_status fault
+abbrev pub request_failure_status : RequestFailure → ℕ
+request_failure_status asking.Hex = 2
+request_failure_status (asking.Session status) = 7
+request_failure_status (asking.Client fault) = 7
+request_failure_status (asking.Shape value_type fault) = 7
+request_failure_status (asking.Program fault) = exit_status fault
 
 -- The exit status of a program that asked: that of what was told, or of why nothing was.
-abbrev pub asking_status : Result Replied AskingStop → ℕ
+abbrev pub asking_status : Result ReplyOutcome RequestFailure → ℕ
 asking_status (Ok replied) = replied_status replied
-asking_status (Err stop) = asking_stop_status stop
+asking_status (Err stop) = request_failure_status stop
 
 -- A device or memory failed.
-abbrev pub IsOfDevices : Fault → Type 0
+abbrev pub IsOfDevices : ProgramFault → Type 0
 IsOfDevices Device = ⊤
 IsOfDevices Memory = ⊤
 IsOfDevices _ = ⊥
 
 -- This line is refused, which is so only where it may be, or else a device or memory failed.
-abbrev pub EndsAt : Type 0 → ℕ → Fault → Type 0
+abbrev pub EndsAt : Type 0 → ℕ → ProgramFault → Type 0
 EndsAt refused number (Line n why) = (n ≡ number) × refused
 EndsAt refused number fault = IsOfDevices fault
 
 -- The same, of a line of some number and text.
-abbrev pub EndsBy : (ℕ → List ℕ → Type 0) → Fault → Type 0
+abbrev pub EndsBy : (ℕ → List ℕ → Type 0) → ProgramFault → Type 0
 EndsBy refuses (Line number why) = (text : List ℕ) × refuses number text
 EndsBy refuses fault = IsOfDevices fault
 
 -- What a stream that fails is to the program: want of memory, or a device that failed.
-abbrev pub fault_of_kind : ErrorKind → Fault
+abbrev pub fault_of_kind : ErrorKind → ProgramFault
 fault_of_kind OutOfMemory = Memory
 fault_of_kind kind = Device
 
 -- A line is shown no further, or else a device or memory failed.
-abbrev pub IsStopOfDevices : ShowingStop → Type 0
+abbrev pub IsStopOfDevices : ShowFailure → Type 0
 IsStopOfDevices (Program fault) = IsOfDevices fault
 IsStopOfDevices _ = ⊤

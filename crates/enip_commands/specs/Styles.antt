@@ -3,34 +3,34 @@ use Rattle.std.specs.Prelude.{◌≡◌, ◌≢◌, ℕ, List, map, Some}
 use Rattle.cip_message.specs.PathWriting.{short}
 use Rattle.cip_message.specs.Request.{request}
 use Rattle.cip_values.specs.Values.{IsUnreadable}
-use Rattle.cip_values.specs.Words.{AreWritten}
+use Rattle.cip_values.specs.Parsing.{AreWritten}
 use Rattle.cip_values.specs.declared.element.ValueType.{ValueType}
 use Rattle.cip_values.specs.declared.fault.ValueFault.TheVariants as faults
 use Rattle.enip_commands.specs.Statuses.{IsOfDevices}
-use Rattle.enip_commands.specs.declared.asking.AskingStop.{AskingStop}
-use Rattle.enip_commands.specs.declared.asking.AskingStop.TheVariants.{Hex, Session, Client, Shape, Program}
+use Rattle.enip_commands.specs.declared.asking.RequestFailure.{RequestFailure}
+use Rattle.enip_commands.specs.declared.asking.RequestFailure.TheVariants.{Hex, Session, Client, Shape, Program}
 use Rattle.enip_commands.specs.declared.style.Style.{Style}
-use Rattle.enip_commands.specs.declared.typed.TypedQuestion.{TypedQuestion}
+use Rattle.enip_commands.specs.declared.typed.TypedRequest.{TypedRequest}
 
 -- The bytes that ask this: service, the shortest path, and the bytes of the values that the words tell.
-abbrev pub IsTypedRequest : TypedQuestion → List ℕ → Type 0
+abbrev pub IsTypedRequest : TypedRequest → List ℕ → Type 0
 IsTypedRequest q bytes = (given : List ℕ)
     × AreWritten q.value_type (map (λ word. word.now) q.words.now) given
     × (bytes ≡ request (record { service = q.service; path = short q.path; «data» = given }))
 
 -- These data are no values of the type, or memory failed.
-abbrev pub IsOfValues : ValueType → List ℕ → AskingStop → Type 0
+abbrev pub IsOfValues : ValueType → List ℕ → RequestFailure → Type 0
 IsOfValues value_type bytes Hex = ⊥
 IsOfValues value_type bytes (Session status) = ⊥
 IsOfValues value_type bytes (Client fault) = ⊥
-IsOfValues value_type bytes (Shape told fault) =
-    (told ≡ value_type) × (fault ≢ faults.Memory) × IsUnreadable value_type bytes fault
+IsOfValues value_type bytes (Shape rendered fault) =
+    (rendered ≡ value_type) × (fault ≢ faults.Memory) × IsUnreadable value_type bytes fault
 IsOfValues value_type bytes (Program fault) = IsOfDevices fault
 
 -- The style has a type, and these data are no values of it, or else a device or memory failed.
-abbrev pub IsUnprinted : Style → List ℕ → AskingStop → Type 0
+abbrev pub IsUnprinted : Style → List ℕ → RequestFailure → Type 0
 IsUnprinted style bytes Hex = ⊥
 IsUnprinted style bytes (Session status) = ⊥
 IsUnprinted style bytes (Client fault) = ⊥
-IsUnprinted style bytes (Shape told fault) = (style.value_type ≡ Some told) × IsOfValues told bytes (Shape told fault)
+IsUnprinted style bytes (Shape rendered fault) = (style.value_type ≡ Some rendered) × IsOfValues rendered bytes (Shape rendered fault)
 IsUnprinted style bytes (Program fault) = IsOfDevices fault

@@ -6,11 +6,11 @@ ghost use Rattle.enip_commands.specs.Lines.{spells_bytes, IsRefusedLine};
 ghost use Rattle.enip_commands.specs.Statuses.{IsOfDevices, EndsBy};
 
 use crate::digits::decode;
-use crate::fault::Fault;
+use crate::fault::ProgramFault;
 use crate::input_lines::{TakeLines, read_lines};
 use crate::line_fault::LineFault;
 use crate::lines::Line;
-use crate::number::Number;
+use crate::peer_number::PeerNumber;
 use enip_adapter::{Adapter, Full, LONGEST_ANSWER, Peer};
 use std::alloc::Global;
 use std::io::{BufWriter, Read, Write};
@@ -34,16 +34,16 @@ pub fn answer<R: Read + Drop, W: Write + Drop>(
     adapter: Adapter,
     input: R,
     output: W,
-) -> Result<(), Fault>
+) -> Result<(), ProgramFault>
     ensures { IfErr result (EndsBy (λ _ text. IsRefusedLine text)) }
 {
-    let mut desk = Desk::new(alloc, adapter, output)?;
+    let mut desk = Answerer::new(alloc, adapter, output)?;
     read_lines(alloc, input, &mut desk)
 }
 
 /// Who has one of the nine numbers of an input.
 #[derive(Clone, Copy)]
-enum Seat {
+enum PeerEntry {
     /// No peer.
     Free,
     /// A peer.
@@ -54,24 +54,24 @@ enum Seat {
 
 /// The adapter, who is at it, and where its answers go.
 #[derive(Drop)]
-struct Desk<W: Write + Drop> {
+struct Answerer<W: Write + Drop> {
     adapter: Adapter,
     now: u64,
-    seats: [Seat; 9],
+    peers: [PeerEntry; 9],
     output: BufWriter<W>,
     digits: Vec<u8>,
     piece: Vec<u8>,
     text: [u8; LONGEST_TEXT],
 }
 
-impl<W: Write + Drop> Desk<W> {
-    fn new(alloc: Global, adapter: Adapter, output: W) -> Result<Desk<W>, Fault>
+impl<W: Write + Drop> Answerer<W> {
+    fn new(alloc: Global, adapter: Adapter, output: W) -> Result<Answerer<W>, ProgramFault>
         ensures { IfErr result IsOfDevices }
     {
-        Ok(Desk {
+        Ok(Answerer {
             adapter,
             now: 0,
-            seats: [Seat::Free; 9],
+            peers: [PeerEntry::Free; 9],
             output: BufWriter::with_capacity(alloc, OUTPUT_BUFFER, output)?,
             digits: Vec::new(alloc),
             piece: Vec::new(alloc),
@@ -80,18 +80,18 @@ impl<W: Write + Drop> Desk<W> {
     }
 
     /// Ends the peer of a number, if there is one.
-    fn end(&mut self, number: Number) {
-        let seat = self.seats[number.index()];
-        match seat {
-            Seat::Free => {}
-            Seat::Taken(peer) | Seat::Closed(peer) => self.adapter.end(peer),
+    fn end(&mut self, number: PeerNumber) {
+        let entry = self.peers[number.index()];
+        match entry {
+            PeerEntry::Free => {}
+            PeerEntry::Taken(peer) | PeerEntry::Closed(peer) => self.adapter.end(peer),
         }
-        self.seats[number.index()] = Seat::Free;
+        self.peers[number.index()] = PeerEntry::Free;
     }
 
     /// Takes the piece that digits spell, and says whether it has a byte or more.
-    fn take_piece(&mut self, digits: &[u8]) -> Result<bool, Fault>
-        ensures said { IfOk result (λ some. some ≡ spells_bytes digits.now) }
+    fn take_piece(&mut self, digits: &[u8]) -> Result<bool, ProgramFault>
+        ensures is_run { IfOk result (λ some. some ≡ spells_bytes digits.now) }
         ensures piece { IfOk result (λ some. some ≡ true → bytes_spelled digits.now ≡ Some self.new.piece.items) }
         ensures refused { IfErr result IsOfDevices }
     {
@@ -99,8 +99,8 @@ impl<W: Write + Drop> Desk<W> {
     }
 
     /// Runs a line, and says whether it is one that can be run.
-    fn run_line(&mut self, text: &[u8]) -> Result<bool, Fault>
-        ensures said { IfOk result (λ runs. runs ≡ false → IsRefusedLine text.now) }
+    fn run_line(&mut self, text: &[u8]) -> Result<bool, ProgramFault>
+        ensures is_run { IfOk result (λ runs. runs ≡ false → IsRefusedLine text.now) }
         ensures refused { IfErr result IsOfDevices }
     {
         match Line::read(text) {
@@ -119,19 +119,19 @@ impl<W: Write + Drop> Desk<W> {
     }
 
     /// Feeds the piece to the peer of a number, who begins where there is none.
-    fn feed(&mut self, number: Number) -> Result<(), Fault>
+    fn feed(&mut self, number: PeerNumber) -> Result<(), ProgramFault>
         ensures { IfErr result IsOfDevices }
     {
-        let seat = self.seats[number.index()];
-        let peer = match seat {
-            Seat::Closed(_) => return Ok(()),
-            Seat::Taken(peer) => peer,
-            Seat::Free => match self.adapter.begin() {
+        let entry = self.peers[number.index()];
+        let peer = match entry {
+            PeerEntry::Closed(_) => return Ok(()),
+            PeerEntry::Taken(peer) => peer,
+            PeerEntry::Free => match self.adapter.begin() {
                 Ok(peer) => peer,
                 Err(full) => return print_full(&mut self.output, number, full),
             },
         };
-        self.seats[number.index()] = Seat::Taken(peer);
+        self.peers[number.index()] = PeerEntry::Taken(peer);
         let mut rest = self.piece.as_slice();
         // Each turn takes a byte or more, or closes.
         for _ in 0..self.piece.len() {
@@ -143,7 +143,7 @@ impl<W: Write + Drop> Desk<W> {
                 print_answer(&mut self.output, &mut self.text, number, frame)?;
             }
             if fed.close {
-                self.seats[number.index()] = Seat::Closed(peer);
+                self.peers[number.index()] = PeerEntry::Closed(peer);
                 return print_closed(&mut self.output, number);
             }
             rest = &rest[fed.taken..];
@@ -152,18 +152,18 @@ impl<W: Write + Drop> Desk<W> {
     }
 }
 
-impl<W: Write + Drop> TakeLines for Desk<W> {
+impl<W: Write + Drop> TakeLines for Answerer<W> {
     ghost refuses = { λ _ text. IsRefusedLine text };
 
-    fn take_line(&mut self, text: &[u8], number: u64) -> Result<(), Fault> {
+    fn take_line(&mut self, text: &[u8], number: u64) -> Result<(), ProgramFault> {
         if self.run_line(text)? {
             Ok(())
         } else {
-            Err(Fault::Line(number, LineFault::of_input(text)))
+            Err(ProgramFault::Line(number, LineFault::of_input(text)))
         }
     }
 
-    fn send(&mut self) -> Result<(), Fault> {
+    fn send(&mut self) -> Result<(), ProgramFault> {
         self.output.flush()?;
         Ok(())
     }
@@ -173,9 +173,9 @@ impl<W: Write + Drop> TakeLines for Desk<W> {
 fn print_answer<W: Write>(
     output: &mut W,
     text: &mut [u8; LONGEST_TEXT],
-    number: Number,
+    number: PeerNumber,
     frame: &[u8],
-) -> Result<(), Fault>
+) -> Result<(), ProgramFault>
     requires { length frame.now ≤ LONGEST_ANSWER }
     ensures { IfErr result IsOfDevices }
 {
@@ -188,7 +188,7 @@ fn print_answer<W: Write>(
 }
 
 /// Prints that a peer is closed: `P closed`.
-fn print_closed<W: Write>(output: &mut W, number: Number) -> Result<(), Fault>
+fn print_closed<W: Write>(output: &mut W, number: PeerNumber) -> Result<(), ProgramFault>
     ensures { IfErr result IsOfDevices }
 {
     output.write_all(&[number.digit()])?;
@@ -197,7 +197,7 @@ fn print_closed<W: Write>(output: &mut W, number: Number) -> Result<(), Fault>
 }
 
 /// Prints that a peer could not begin: `P full N`.
-fn print_full<W: Write>(output: &mut W, number: Number, full: Full) -> Result<(), Fault>
+fn print_full<W: Write>(output: &mut W, number: PeerNumber, full: Full) -> Result<(), ProgramFault>
     ensures { IfErr result IsOfDevices }
 {
     output.write_all(&[number.digit()])?;

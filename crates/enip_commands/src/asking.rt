@@ -3,12 +3,12 @@
 ghost use Rattle.std.specs.Prelude.{◌≡◌, ◌<◌, None, IfOk, IfErr};
 ghost use Rattle.cip_message.specs.PathWriting.{short};
 ghost use Rattle.cip_message.specs.Request.{request};
-ghost use Rattle.enip_commands.specs.Asking.{IsRequested, IsReplyTold, IsUntold, IsOfDevice, IsOfExchange};
+ghost use Rattle.enip_commands.specs.Asking.{IsRequested, IsReplyPrinted, IsNotPrinted, IsOfDevice, IsOfExchange};
 ghost use Rattle.enip_commands.specs.Digits.{bytes_spelled};
-ghost use Rattle.enip_commands.specs.Statuses.{asking_status, replied_status, asking_stop_status};
+ghost use Rattle.enip_commands.specs.Statuses.{asking_status, replied_status, request_failure_status};
 
 use crate::digits::decode;
-use crate::fault::Fault;
+use crate::fault::ProgramFault;
 use crate::json::refusal_line;
 use crate::style::{Style, data_object, print_data};
 use arrayvec::ArrayVec;
@@ -39,7 +39,7 @@ const LONGEST_PATH: usize = 18;
 
 /// A request to a device.
 #[derive(Clone, Copy, Debug)]
-pub struct Question<'a> {
+pub struct DeviceRequest<'a> {
     /// The service.
     pub service: u8,
     /// The object.
@@ -48,20 +48,20 @@ pub struct Question<'a> {
     pub digits: &'a str,
 }
 
-impl Question<'_> {
+impl DeviceRequest<'_> {
     /// The bytes of the request.
     ///
     /// # Errors
     ///
     /// `Hex` where the digits spell no bytes, else `Program` for want of memory.
-    pub fn request(&self, alloc: Global) -> Result<Vec<u8>, AskingStop>
+    pub fn request(&self, alloc: Global) -> Result<Vec<u8>, RequestFailure>
         ensures made { IfOk result (λ request. IsRequested self.now request.items) }
-        ensures hex { result ≡ Err AskingStop.Hex → bytes_spelled self.now.digits.now ≡ None }
+        ensures hex { result ≡ Err RequestFailure.Hex → bytes_spelled self.now.digits.now ≡ None }
     {
         let mut digits = Vec::new(alloc);
         let mut data = Vec::new(alloc);
         if !decode(self.digits.as_bytes(), &mut digits, &mut data)? {
-            return Err(AskingStop::Hex);
+            return Err(RequestFailure::Hex);
         }
         Ok(spell_request(alloc, self.service, self.path, data.as_slice())?)
     }
@@ -98,28 +98,28 @@ fn path_bytes(path: Path) -> ArrayVec<u8, LONGEST_PATH>
 
 /// How a reply was told.
 #[derive(Clone, Copy, Debug, PartialEq, Eq)]
-pub enum Replied {
+pub enum ReplyOutcome {
     /// The request was done.
     Done,
     /// It was refused: the general status, and the first additional word or 0.
     Refused(u8, u16),
 }
 
-impl Replied {
+impl ReplyOutcome {
     /// The exit status of the program.
     pub fn exit_status(self) -> u8
         ensures { result ≡ replied_status self }
     {
         match self {
-            Replied::Done => 0,
-            Replied::Refused(..) => 6,
+            ReplyOutcome::Done => 0,
+            ReplyOutcome::Refused(..) => 6,
         }
     }
 }
 
 /// Why no reply is told. Its text goes to standard error.
 #[derive(Clone, Copy, Debug, PartialEq, Eq, Error)]
-pub enum AskingStop {
+pub enum RequestFailure {
     /// The data of the request are no hexadecimal digits.
     #[error("hex")]
     Hex,
@@ -134,67 +134,67 @@ pub enum AskingStop {
     Shape(ValueType, ValueFault<'static>),
     /// The program itself failed.
     #[error("{0}")]
-    Program(Fault),
+    Program(ProgramFault),
 }
 
-impl AskingStop {
+impl RequestFailure {
     /// The exit status of the program.
     pub fn exit_status(self) -> u8
-        ensures { result ≡ asking_stop_status self }
+        ensures { result ≡ request_failure_status self }
     {
         match self {
-            AskingStop::Hex => 2,
-            AskingStop::Session(_) | AskingStop::Client(_) | AskingStop::Shape(..) => 7,
-            AskingStop::Program(fault) => fault.exit_status(),
+            RequestFailure::Hex => 2,
+            RequestFailure::Session(_) | RequestFailure::Client(_) | RequestFailure::Shape(..) => 7,
+            RequestFailure::Program(fault) => fault.exit_status(),
         }
     }
 }
 
-impl From<Fault> for AskingStop {
-    ghost use Rattle.enip_commands.specs.declared.asking.AskingStop.TheVariants.{Program};
+impl From<ProgramFault> for RequestFailure {
+    ghost use Rattle.enip_commands.specs.declared.asking.RequestFailure.TheVariants.{Program};
 
     ghost from_gives = { λ fault stop. stop ≡ Program fault };
 
-    fn from(fault: Fault) -> AskingStop {
-        AskingStop::Program(fault)
+    fn from(fault: ProgramFault) -> RequestFailure {
+        RequestFailure::Program(fault)
     }
 }
 
-impl From<AllocError> for AskingStop {
-    ghost use Rattle.enip_commands.specs.declared.asking.AskingStop.TheVariants.{Program};
-    ghost use Rattle.enip_commands.specs.declared.fault.Fault.TheVariants.{Memory};
+impl From<AllocError> for RequestFailure {
+    ghost use Rattle.enip_commands.specs.declared.asking.RequestFailure.TheVariants.{Program};
+    ghost use Rattle.enip_commands.specs.declared.fault.ProgramFault.TheVariants.{Memory};
 
     ghost from_gives = { λ _ stop. stop ≡ Program Memory };
 
-    fn from(_error: AllocError) -> AskingStop {
-        AskingStop::Program(Fault::Memory)
+    fn from(_error: AllocError) -> RequestFailure {
+        RequestFailure::Program(ProgramFault::Memory)
     }
 }
 
-impl From<io::Error> for AskingStop {
+impl From<io::Error> for RequestFailure {
     ghost use Rattle.enip_commands.specs.Asking.{IsOfDevice};
 
     ghost from_gives = { λ _ stop. IsOfDevice stop };
 
-    fn from(error: io::Error) -> AskingStop {
-        AskingStop::Program(Fault::from(error))
+    fn from(error: io::Error) -> RequestFailure {
+        RequestFailure::Program(ProgramFault::from(error))
     }
 }
 
-impl From<AskFault> for AskingStop {
+impl From<AskFault> for RequestFailure {
     ghost use Rattle.enip_commands.specs.Asking.{stop_of};
 
     ghost from_gives = { λ fault stop. stop ≡ stop_of fault };
 
-    fn from(fault: AskFault) -> AskingStop {
+    fn from(fault: AskFault) -> RequestFailure {
         match fault {
             AskFault::Read | AskFault::Write | AskFault::Ended | AskFault::Spent => {
-                AskingStop::Program(Fault::Device)
+                RequestFailure::Program(ProgramFault::Device)
             }
-            AskFault::Client(ClientFault::Memory) => AskingStop::Program(Fault::Memory),
-            AskFault::Client(fault) => AskingStop::Client(fault),
+            AskFault::Client(ClientFault::Memory) => RequestFailure::Program(ProgramFault::Memory),
+            AskFault::Client(fault) => RequestFailure::Client(fault),
             // the connection takes no such request (ours)
-            AskFault::Submit(_) => AskingStop::Client(ClientFault::Request),
+            AskFault::Submit(_) => RequestFailure::Client(ClientFault::Request),
         }
     }
 }
@@ -215,7 +215,7 @@ pub fn ask_over<R: Source, W: Sink, O: Write + Drop>(
     connected: bool,
     style: Style,
     output: O,
-) -> Result<Replied, AskingStop>
+) -> Result<ReplyOutcome, RequestFailure>
     requires reads { R.failures reader.old < u64.MAX }
     requires writes { W.failures writer.old < u64.MAX }
     ensures { IfErr result IsOfExchange }
@@ -238,29 +238,29 @@ fn ask_once<R: Source, W: Sink>(
     request: &[u8],
     connected: bool,
     reply: &mut ReplyBuf,
-) -> Result<(), AskingStop>
+) -> Result<(), RequestFailure>
     requires reads { R.failures reader.old < u64.MAX }
     requires writes { W.failures writer.old < u64.MAX }
     ensures { IfErr result IsOfExchange }
 {
     let mut client = match Client::new(alloc, &WANTS) {
         Ok(client) => client,
-        Err(fault) => return Err(AskingStop::from(AskFault::Client(fault))),
+        Err(fault) => return Err(RequestFailure::from(AskFault::Client(fault))),
     };
     let asked = ask(&mut client, reader, writer, request, connected, reply);
-    stop_where_refused(asked, client.is_registered())
+    session_refusal(asked, client.is_registered())
 }
 
 /// Why an exchange was not completed. A status is that of the session where it is not registered.
-fn stop_where_refused(asked: Result<(), AskFault>, is_registered: bool) -> Result<(), AskingStop>
+fn session_refusal(asked: Result<(), AskFault>, is_registered: bool) -> Result<(), RequestFailure>
     ensures { IfErr result IsOfExchange }
 {
     match asked {
         Ok(()) => Ok(()),
         Err(AskFault::Client(ClientFault::Status(status))) if !is_registered => {
-            Err(AskingStop::Session(status))
+            Err(RequestFailure::Session(status))
         }
-        Err(fault) => Err(AskingStop::from(fault)),
+        Err(fault) => Err(RequestFailure::from(fault)),
     }
 }
 
@@ -269,15 +269,15 @@ fn print_asked<O: Write>(
     alloc: Global,
     output: &mut O,
     style: Style,
-    asked: Result<(), AskingStop>,
+    asked: Result<(), RequestFailure>,
     reply: &[u8],
-) -> Result<Replied, AskingStop>
+) -> Result<ReplyOutcome, RequestFailure>
     requires { IfErr asked IsOfExchange }
     ensures { IfErr result IsOfExchange }
 {
     let replied = match asked {
         Ok(()) => print_reply(alloc, output, style, reply)?,
-        Err(AskingStop::Client(ClientFault::Refused(status, extended))) => {
+        Err(RequestFailure::Client(ClientFault::Refused(status, extended))) => {
             print_refusal(alloc, output, style, status, extended)?
         }
         Err(stop) => return Err(stop),
@@ -292,9 +292,9 @@ pub(crate) fn print_reply<O: Write>(
     output: &mut O,
     style: Style,
     bytes: &[u8],
-) -> Result<Replied, AskingStop>
-    ensures told { IfOk result (IsReplyTold bytes.now) }
-    ensures untold { IfErr result (IsUntold style bytes.now) }
+) -> Result<ReplyOutcome, RequestFailure>
+    ensures rendered { IfOk result (IsReplyPrinted bytes.now) }
+    ensures not_printed { IfErr result (IsNotPrinted style bytes.now) }
 {
     if style.is_json {
         let line = reply_object(alloc, style, bytes)?;
@@ -302,7 +302,7 @@ pub(crate) fn print_reply<O: Write>(
         return Ok(line.replied);
     }
     let Ok(reply) = ReplyView::read(bytes) else {
-        return Err(AskingStop::Client(ClientFault::Malformed));
+        return Err(RequestFailure::Client(ClientFault::Malformed));
     };
     // general status 0 is success (message router)
     if reply.status != 0 {
@@ -310,13 +310,13 @@ pub(crate) fn print_reply<O: Write>(
         return print_refused(output, reply.status, extended);
     }
     print_data(alloc, output, style, reply.data)?;
-    Ok(Replied::Done)
+    Ok(ReplyOutcome::Done)
 }
 
 /// The object of a reply, and how the reply was told by it.
 #[derive(Drop)]
 pub(crate) struct ReplyObject {
-    pub(crate) replied: Replied,
+    pub(crate) replied: ReplyOutcome,
     pub(crate) text: String,
 }
 
@@ -325,22 +325,22 @@ pub(crate) fn reply_object(
     alloc: Global,
     style: Style,
     bytes: &[u8],
-) -> Result<ReplyObject, AskingStop>
-    ensures told { IfOk result (λ told. IsReplyTold bytes.now told.replied) }
-    ensures untold { IfErr result (IsUntold style bytes.now) }
+) -> Result<ReplyObject, RequestFailure>
+    ensures rendered { IfOk result (λ rendered. IsReplyPrinted bytes.now rendered.replied) }
+    ensures not_printed { IfErr result (IsNotPrinted style bytes.now) }
 {
     let Ok(reply) = ReplyView::read(bytes) else {
-        return Err(AskingStop::Client(ClientFault::Malformed));
+        return Err(RequestFailure::Client(ClientFault::Malformed));
     };
     if reply.status != 0 {
         let extended = reply.additional_word(0).unwrap_or(0);
         return Ok(ReplyObject {
-            replied: Replied::Refused(reply.status, extended),
+            replied: ReplyOutcome::Refused(reply.status, extended),
             text: refusal_line(alloc, reply.status, extended)?,
         });
     }
     Ok(ReplyObject {
-        replied: Replied::Done,
+        replied: ReplyOutcome::Done,
         text: data_object(alloc, style, reply.data)?,
     })
 }
@@ -352,36 +352,43 @@ fn print_refusal<O: Write>(
     style: Style,
     status: u8,
     extended: u16,
-) -> Result<Replied, AskingStop>
-    ensures told { IfOk result (λ replied. replied ≡ Replied.Refused status extended) }
-    ensures untold { IfErr result IsOfDevice }
+) -> Result<ReplyOutcome, RequestFailure>
+    ensures rendered { IfOk result (λ replied. replied ≡ ReplyOutcome.Refused status extended) }
+    ensures not_printed { IfErr result IsOfDevice }
 {
     if style.is_json {
         writeln!(output, "{}", refusal_line(alloc, status, extended)?)?;
-        return Ok(Replied::Refused(status, extended));
+        return Ok(ReplyOutcome::Refused(status, extended));
     }
     print_refused(output, status, extended)
 }
 
 /// Prints that a request was refused: `refused 0xGG`, with ` 0xEEEE` where the first additional word is not 0.
-fn print_refused<O: Write>(output: &mut O, status: u8, extended: u16) -> Result<Replied, AskingStop>
-    ensures told { IfOk result (λ replied. replied ≡ Replied.Refused status extended) }
-    ensures untold { IfErr result IsOfDevice }
+fn print_refused<O: Write>(
+    output: &mut O,
+    status: u8,
+    extended: u16,
+) -> Result<ReplyOutcome, RequestFailure>
+    ensures rendered { IfOk result (λ replied. replied ≡ ReplyOutcome.Refused status extended) }
+    ensures not_printed { IfErr result IsOfDevice }
 {
     write!(output, "refused {status:#04x}")?;
     if extended != 0 {
         write!(output, " {extended:#06x}")?;
     }
     output.write_all(b"\n")?;
-    Ok(Replied::Refused(status, extended))
+    Ok(ReplyOutcome::Refused(status, extended))
 }
 
 /// The exit status of the program, with a line on `errors` where no reply was told.
-pub fn end_asking<E: Write + Drop>(told: Result<Replied, AskingStop>, errors: E) -> u8
-    ensures { result ≡ asking_status told }
+pub fn report_outcome<E: Write + Drop>(
+    rendered: Result<ReplyOutcome, RequestFailure>,
+    errors: E,
+) -> u8
+    ensures { result ≡ asking_status rendered }
 {
     let mut errors = errors;
-    match told {
+    match rendered {
         Ok(replied) => replied.exit_status(),
         Err(stop) => {
             let _ = writeln!(errors, "{stop}");

@@ -6,7 +6,7 @@ ghost use Rattle.hex.specs.Hex.{decode_of};
 ghost use Rattle.enip_commands.specs.Digits.{without_spaces, bytes_spelled};
 ghost use Rattle.enip_commands.specs.Statuses.{IsOfDevices};
 
-use crate::fault::Fault;
+use crate::fault::ProgramFault;
 use std::io::{self, Write};
 use std::{fmt, str};
 
@@ -15,7 +15,7 @@ const BLOCK: usize = 128;
 
 /// Reads hexadecimal digits, with spaces or without, and says whether they spell bytes, perhaps none.
 /// `digits` is room for the digits without their spaces.
-pub fn decode(text: &[u8], digits: &mut Vec<u8>, bytes: &mut Vec<u8>) -> Result<bool, Fault>
+pub fn decode(text: &[u8], digits: &mut Vec<u8>, bytes: &mut Vec<u8>) -> Result<bool, ProgramFault>
     ensures read { IfOk result (λ spelled. spelled ≡ is_some (bytes_spelled text.now)) }
     ensures bytes { IfOk result (λ spelled. spelled ≡ true → bytes_spelled text.now ≡ Some bytes.new.items) }
     ensures refused { IfErr result IsOfDevices }
@@ -28,7 +28,7 @@ pub fn decode(text: &[u8], digits: &mut Vec<u8>, bytes: &mut Vec<u8>) -> Result<
 }
 
 /// Copies a text without its spaces.
-fn copy_digits(text: &[u8], digits: &mut Vec<u8>) -> Result<(), Fault>
+fn copy_digits(text: &[u8], digits: &mut Vec<u8>) -> Result<(), ProgramFault>
     ensures copied { OnOk result (digits.new.items ≡ without_spaces text.now) }
     ensures refused { IfErr result IsOfDevices }
 {
@@ -42,7 +42,7 @@ fn copy_digits(text: &[u8], digits: &mut Vec<u8>) -> Result<(), Fault>
 }
 
 /// Reads hexadecimal digits, and says whether they spell bytes, perhaps none.
-fn decode_digits(digits: &[u8], bytes: &mut Vec<u8>) -> Result<bool, Fault>
+fn decode_digits(digits: &[u8], bytes: &mut Vec<u8>) -> Result<bool, ProgramFault>
     ensures read { IfOk result (λ spelled. spelled ≡ is_some (result_ok (decode_of digits.now))) }
     ensures bytes { IfOk result (λ spelled. spelled ≡ true → result_ok (decode_of digits.now) ≡ Some bytes.new.items) }
     ensures refused { IfErr result IsOfDevices }

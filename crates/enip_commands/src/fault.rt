@@ -10,7 +10,7 @@ use thiserror::Error;
 
 /// Why a command ends early. Its text goes to standard error.
 #[derive(Clone, Copy, Debug, PartialEq, Eq, Error)]
-pub enum Fault {
+pub enum ProgramFault {
     /// A line of the input is refused, by its number from 1, and why. The lines before it were run.
     #[error("line {0}")]
     Line(u64, LineFault),
@@ -22,48 +22,48 @@ pub enum Fault {
     Memory,
 }
 
-impl Fault {
+impl ProgramFault {
     /// The exit status of a program that ends so.
     pub fn exit_status(self) -> u8
         ensures { result ≡ exit_status self }
     {
         match self {
-            Fault::Line(..) => 4,
-            Fault::Device | Fault::Memory => 5,
+            ProgramFault::Line(..) => 4,
+            ProgramFault::Device | ProgramFault::Memory => 5,
         }
     }
 }
 
-impl From<AllocError> for Fault {
-    ghost use Rattle.enip_commands.specs.declared.fault.Fault.TheVariants.{Memory};
+impl From<AllocError> for ProgramFault {
+    ghost use Rattle.enip_commands.specs.declared.fault.ProgramFault.TheVariants.{Memory};
 
     ghost from_gives = { λ _ fault. fault ≡ Memory };
 
-    fn from(_error: AllocError) -> Fault {
-        Fault::Memory
+    fn from(_error: AllocError) -> ProgramFault {
+        ProgramFault::Memory
     }
 }
 
-impl<T: Drop> From<AllocFailed<T>> for Fault {
-    ghost use Rattle.enip_commands.specs.declared.fault.Fault.TheVariants.{Memory};
+impl<T: Drop> From<AllocFailed<T>> for ProgramFault {
+    ghost use Rattle.enip_commands.specs.declared.fault.ProgramFault.TheVariants.{Memory};
 
     ghost from_gives = { λ _ fault. fault ≡ Memory };
 
-    fn from(_error: AllocFailed<T>) -> Fault {
-        Fault::Memory
+    fn from(_error: AllocFailed<T>) -> ProgramFault {
+        ProgramFault::Memory
     }
 }
 
-impl From<io::Error> for Fault {
+impl From<io::Error> for ProgramFault {
     ghost use Rattle.std.specs.IoError.{error_kind};
     ghost use Rattle.enip_commands.specs.Statuses.{IsOfDevices, fault_of_kind};
 
     ghost from_gives = { λ error fault. IsOfDevices fault × (fault ≡ fault_of_kind (error_kind error)) };
 
-    fn from(error: io::Error) -> Fault {
+    fn from(error: io::Error) -> ProgramFault {
         match error.kind() {
-            io::ErrorKind::OutOfMemory => Fault::Memory,
-            _ => Fault::Device,
+            io::ErrorKind::OutOfMemory => ProgramFault::Memory,
+            _ => ProgramFault::Device,
         }
     }
 }

@@ -5,11 +5,11 @@ ghost use Rattle.std.specs.Io.KnownBytes.{Appends};
 ghost use Rattle.enip_client.specs.Listing.{sides};
 ghost use Rattle.enip_client.specs.Lists.{entries_left, entry_shown};
 ghost use Rattle.enip_commands.specs.Asking.{IsOfExchange};
-ghost use Rattle.enip_commands.specs.Identities.{AreIdentitiesTold, object_line, object_lines, datagram_objects};
+ghost use Rattle.enip_commands.specs.Identities.{AreIdentitiesPrinted, object_line, object_lines, datagram_objects};
 ghost use Rattle.enip_commands.specs.Statuses.{IsOfDevices};
 
-use crate::asking::AskingStop;
-use crate::fault::Fault;
+use crate::asking::RequestFailure;
+use crate::fault::ProgramFault;
 use crate::json::identity_line;
 use enip_client::{ListCommand, ListEntries, ListEntry, ask_list, read_list};
 use enip_wire::{FrameReader, Sink, Source};
@@ -27,7 +27,7 @@ pub fn identities_over<R: Source, W: Sink, O: Write + Drop>(
     reader: &mut R,
     writer: &mut W,
     output: O,
-) -> Result<(), AskingStop>
+) -> Result<(), RequestFailure>
     requires reads { R.failures reader.old < u64.MAX }
     requires writes { W.failures writer.old < u64.MAX }
     ensures { IfErr result IsOfExchange }
@@ -46,10 +46,10 @@ fn print_identities<R: Source, W: Sink, O: Write>(
     reader: &mut R,
     writer: &mut W,
     output: &mut O,
-) -> Result<(), AskingStop>
+) -> Result<(), RequestFailure>
     requires reads { R.failures reader.old < u64.MAX }
     requires writes { W.failures writer.old < u64.MAX }
-    ensures { AreIdentitiesTold
+    ensures { AreIdentitiesPrinted
         (sides (R.left reader.old) (R.reads reader.old) (W.written writer.old))
         (sides (R.left reader.new) (R.reads reader.new) (W.written writer.new))
         (O.contents output.old) (O.contents output.new) result }
@@ -69,7 +69,7 @@ pub fn print_device_objects<O: Write>(
     alloc: Global,
     output: &mut O,
     datagram: &[u8],
-) -> Result<(), Fault>
+) -> Result<(), ProgramFault>
     ensures printed { OnOk result (Appends (O.contents output.old) (O.contents output.new)
         (datagram_objects datagram.now)) }
     ensures refused { IfErr result IsOfDevices }
@@ -85,7 +85,7 @@ fn print_objects<O: Write>(
     alloc: Global,
     output: &mut O,
     entries: ListEntries<'_>,
-) -> Result<(), Fault>
+) -> Result<(), ProgramFault>
     ensures printed { OnOk result (Appends (O.contents output.old) (O.contents output.new)
         (object_lines (entries_left entries.entry))) }
     ensures refused { IfErr result IsOfDevices }
@@ -97,7 +97,11 @@ fn print_objects<O: Write>(
 }
 
 /// Prints the object of an identity. A service has none.
-fn print_object<O: Write>(alloc: Global, output: &mut O, entry: ListEntry<'_>) -> Result<(), Fault>
+fn print_object<O: Write>(
+    alloc: Global,
+    output: &mut O,
+    entry: ListEntry<'_>,
+) -> Result<(), ProgramFault>
     ensures printed { OnOk result (Appends (O.contents output.old) (O.contents output.new)
         (object_line (entry_shown entry.entry))) }
     ensures refused { IfErr result IsOfDevices }

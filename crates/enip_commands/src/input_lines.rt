@@ -4,7 +4,7 @@ ghost use Rattle.std.specs.Prelude.{ℕ, List, ◌≡◌, IfErr};
 ghost use Rattle.enip_commands.specs.Lines.{without_return};
 ghost use Rattle.enip_commands.specs.Statuses.{IsOfDevices, EndsAt, EndsBy};
 
-use crate::fault::Fault;
+use crate::fault::ProgramFault;
 use memchr::memchr;
 use std::alloc::Global;
 use std::io::Read;
@@ -18,11 +18,11 @@ pub trait TakeLines {
     ghost refuses: { ℕ → List ℕ → Type 0 };
 
     /// Takes a line, without its end, and its number from 1. A line's fault is this line's.
-    fn take_line(&mut self, text: &[u8], number: u64) -> Result<(), Fault>
+    fn take_line(&mut self, text: &[u8], number: u64) -> Result<(), ProgramFault>
         ensures { IfErr result (EndsAt (refuses number text.now) number) };
 
     /// Makes what was answered go out. More of the input is read only then.
-    fn send(&mut self) -> Result<(), Fault>
+    fn send(&mut self) -> Result<(), ProgramFault>
         ensures { IfErr result IsOfDevices };
 }
 
@@ -32,7 +32,7 @@ pub fn read_lines<R: Read + Drop, T: TakeLines>(
     alloc: Global,
     input: R,
     taker: &mut T,
-) -> Result<(), Fault>
+) -> Result<(), ProgramFault>
     ensures { IfErr result (EndsBy T.refuses) }
 {
     let taken = take_lines(alloc, input, taker);
@@ -45,7 +45,7 @@ fn take_lines<R: Read + Drop, T: TakeLines>(
     alloc: Global,
     input: R,
     taker: &mut T,
-) -> Result<(), Fault>
+) -> Result<(), ProgramFault>
     ensures { IfErr result (EndsBy T.refuses) }
 {
     let mut input = input;
@@ -60,7 +60,7 @@ fn take_chunks<R: Read, T: TakeLines>(
     chunk: &mut [u8],
     line: &mut Vec<u8>,
     taker: &mut T,
-) -> Result<(), Fault>
+) -> Result<(), ProgramFault>
     ensures { IfErr result (EndsBy T.refuses) }
 {
     let mut number = 1;
@@ -73,7 +73,7 @@ fn take_chunks<R: Read, T: TakeLines>(
         taker.send()?;
     }
     if !line.is_empty() {
-        hand_on(taker, line.as_slice(), number)?;
+        pass_on(taker, line.as_slice(), number)?;
     }
     Ok(())
 }
@@ -85,7 +85,7 @@ fn take_chunk<T: TakeLines>(
     chunk: &[u8],
     line: &mut Vec<u8>,
     number: u64,
-) -> Result<u64, Fault>
+) -> Result<u64, ProgramFault>
     ensures { IfErr result (EndsBy T.refuses) }
 {
     let mut number = number;
@@ -94,10 +94,10 @@ fn take_chunk<T: TakeLines>(
         let (head, tail) = rest.split_at(end);
         rest = &tail[1..];
         if line.is_empty() {
-            hand_on(taker, head, number)?;
+            pass_on(taker, head, number)?;
         } else {
             line.extend_from_slice(head)?;
-            hand_on(taker, line.as_slice(), number)?;
+            pass_on(taker, line.as_slice(), number)?;
             line.clear();
         }
         number = number.saturating_add(1);
@@ -107,7 +107,7 @@ fn take_chunk<T: TakeLines>(
 }
 
 /// Hands on a line.
-fn hand_on<T: TakeLines>(taker: &mut T, line: &[u8], number: u64) -> Result<(), Fault>
+fn pass_on<T: TakeLines>(taker: &mut T, line: &[u8], number: u64) -> Result<(), ProgramFault>
     ensures { IfErr result (EndsBy T.refuses) }
 {
     taker.take_line(without_return(line), number)

@@ -6,7 +6,7 @@ ghost use Rattle.std.specs.Str.Parse.{IsNumeral, digits_value};
 ghost use Rattle.enip_commands.specs.Lines.{Says};
 ghost use Rattle.enip_commands.specs.declared.lines.Line.{Line};
 
-use crate::number::Number;
+use crate::peer_number::PeerNumber;
 
 /// A line of the input.
 #[derive(Clone, Copy, Debug, PartialEq, Eq)]
@@ -14,9 +14,9 @@ pub enum Line<'a> {
     /// An empty line or a remark.
     Nothing,
     /// A piece of a peer's stream, as the text of its hexadecimal digits, perhaps with spaces.
-    Piece(Number, &'a [u8]),
+    Piece(PeerNumber, &'a [u8]),
     /// The end of a peer.
-    End(Number),
+    End(PeerNumber),
     /// The moment of the pieces that follow.
     Now(u64),
 }
@@ -29,9 +29,9 @@ impl<'a> Line<'a> {
     {
         match text {
             [] | [b'#', ..] => Some(Line::Nothing),
-            [b'e', b'n', b'd', b' ', digit] => Some(Line::End(Number::of(*digit)?)),
+            [b'e', b'n', b'd', b' ', digit] => Some(Line::End(PeerNumber::of(*digit)?)),
             [b'n', b'o', b'w', b' ', digits @ ..] => Some(Line::Now(decimal(digits)?)),
-            [digit, b' ', piece @ ..] => Some(Line::Piece(Number::of(*digit)?, piece)),
+            [digit, b' ', piece @ ..] => Some(Line::Piece(PeerNumber::of(*digit)?, piece)),
             _ => None,
         }
     }

@@ -4,12 +4,12 @@ ghost use Rattle.std.specs.Prelude.{◌≡◌, ◌<◌, IfErr, OnOk, Some};
 ghost use Rattle.std.specs.Io.KnownBytes.{Appends};
 ghost use Rattle.enip_client.specs.Listing.{sides};
 ghost use Rattle.enip_client.specs.Lists.{entries_left, entry_shown};
-ghost use Rattle.enip_commands.specs.Listing.{IsListAsked, IsListTold, list_text, device_line, datagram_text};
+ghost use Rattle.enip_commands.specs.Listing.{IsListAsked, IsListPrinted, list_text, device_line, datagram_text};
 ghost use Rattle.enip_commands.specs.Statuses.{IsOfDevices};
 
-use crate::asking::AskingStop;
+use crate::asking::RequestFailure;
 use crate::digits::Digits;
-use crate::fault::Fault;
+use crate::fault::ProgramFault;
 use enip_client::{
     IdentityView, ListCommand, ListEntries, ListEntry, ServiceView, ask_list, read_list,
 };
@@ -207,7 +207,7 @@ pub fn list_over<R: Source, W: Sink, O: Write + Drop>(
     writer: &mut W,
     command: ListCommand,
     output: O,
-) -> Result<(), AskingStop>
+) -> Result<(), RequestFailure>
     requires reads { R.failures reader.old < u64.MAX }
     requires writes { W.failures writer.old < u64.MAX }
     ensures { IsListAsked command
@@ -228,10 +228,10 @@ fn print_list<R: Source, W: Sink, O: Write>(
     reader: &mut R,
     writer: &mut W,
     output: &mut O,
-) -> Result<(), AskingStop>
+) -> Result<(), RequestFailure>
     requires reads { R.failures reader.old < u64.MAX }
     requires writes { W.failures writer.old < u64.MAX }
-    ensures { IsListTold command
+    ensures { IsListPrinted command
         (sides (R.left reader.old) (R.reads reader.old) (W.written writer.old))
         (sides (R.left reader.new) (R.reads reader.new) (W.written writer.new))
         (O.contents output.old) (O.contents output.new) result }
@@ -242,7 +242,7 @@ fn print_list<R: Source, W: Sink, O: Write>(
 }
 
 /// Prints the entries of a list, several divided by an empty line.
-fn print_entries<O: Write>(output: &mut O, entries: ListEntries<'_>) -> Result<(), Fault>
+fn print_entries<O: Write>(output: &mut O, entries: ListEntries<'_>) -> Result<(), ProgramFault>
     ensures printed { OnOk result (Appends (O.contents output.old) (O.contents output.new)
         (list_text (entries_left entries.entry))) }
     ensures refused { IfErr result IsOfDevices }
@@ -264,7 +264,7 @@ fn print_entries<O: Write>(output: &mut O, entries: ListEntries<'_>) -> Result<(
 /// # Errors
 ///
 /// `Device` or `Memory` where the output failed.
-pub fn print_devices<O: Write>(output: &mut O, datagram: &[u8]) -> Result<(), Fault>
+pub fn print_devices<O: Write>(output: &mut O, datagram: &[u8]) -> Result<(), ProgramFault>
     ensures printed { OnOk result (Appends (O.contents output.old) (O.contents output.new)
         (datagram_text datagram.now)) }
     ensures refused { IfErr result IsOfDevices }
@@ -279,7 +279,7 @@ pub fn print_devices<O: Write>(output: &mut O, datagram: &[u8]) -> Result<(), Fa
 }
 
 /// Prints the line of a device. A service has none.
-fn print_device<O: Write>(output: &mut O, entry: ListEntry<'_>) -> Result<(), Fault>
+fn print_device<O: Write>(output: &mut O, entry: ListEntry<'_>) -> Result<(), ProgramFault>
     ensures printed { OnOk result (Appends (O.contents output.old) (O.contents output.new)
         (device_line (entry_shown entry.entry))) }
     ensures refused { IfErr result IsOfDevices }

@@ -1,10 +1,10 @@
 //! Readings of an attribute that is asked for again and again.
 
 ghost use Rattle.std.specs.Prelude.{◌≡◌, ◌↔◌, false, OnOk, IfOk, IfErr, Some};
-ghost use Rattle.enip_commands.specs.Asking.{IsReplyTold, IsUntold};
+ghost use Rattle.enip_commands.specs.Asking.{IsReplyPrinted, IsNotPrinted};
 
-use crate::asking::{AskingStop, Replied, print_reply, reply_object};
-use crate::fault::Fault;
+use crate::asking::{ReplyOutcome, RequestFailure, print_reply, reply_object};
+use crate::fault::ProgramFault;
 use crate::json::timed_line;
 use crate::style::Style;
 use std::alloc::{AllocError, Global};
@@ -48,8 +48,8 @@ impl Readings {
     /// # Errors
     ///
     /// `AllocError` where memory is refused.
-    pub fn is_news(&mut self, reply: &[u8]) -> Result<bool, AllocError>
-        ensures told { IfOk result (λ news. (news ≡ false) ↔ (self.old ≡ Some reply.now)) }
+    pub fn is_changed(&mut self, reply: &[u8]) -> Result<bool, AllocError>
+        ensures rendered { IfOk result (λ changed. (changed ≡ false) ↔ (self.old ≡ Some reply.now)) }
         ensures kept { OnOk result (self.new ≡ Some reply.now) }
     {
         if !self.is_first && self.last.as_slice() == reply {
@@ -75,11 +75,11 @@ pub fn print_reading<O: Write + Drop>(
     style: Style,
     moment: u64,
     reply: &[u8],
-) -> Result<Replied, AskingStop>
-    ensures told { IfOk result (IsReplyTold reply.now) }
-    ensures untold { IfErr result (IsUntold style reply.now) }
+) -> Result<ReplyOutcome, RequestFailure>
+    ensures rendered { IfOk result (IsReplyPrinted reply.now) }
+    ensures not_printed { IfErr result (IsNotPrinted style reply.now) }
 {
-    let mut output = BufWriter::new(alloc, output).map_err(Fault::from)?;
+    let mut output = BufWriter::new(alloc, output).map_err(ProgramFault::from)?;
     print_timed(alloc, &mut output, style, moment, reply)
 }
 
@@ -90,9 +90,9 @@ fn print_timed<O: Write>(
     style: Style,
     moment: u64,
     reply: &[u8],
-) -> Result<Replied, AskingStop>
-    ensures told { IfOk result (IsReplyTold reply.now) }
-    ensures untold { IfErr result (IsUntold style reply.now) }
+) -> Result<ReplyOutcome, RequestFailure>
+    ensures rendered { IfOk result (IsReplyPrinted reply.now) }
+    ensures not_printed { IfErr result (IsNotPrinted style reply.now) }
 {
     let replied = if style.is_json {
         print_timed_object(alloc, output, style, moment, reply)?
@@ -112,9 +112,9 @@ fn print_timed_object<O: Write>(
     style: Style,
     moment: u64,
     reply: &[u8],
-) -> Result<Replied, AskingStop>
-    ensures told { IfOk result (IsReplyTold reply.now) }
-    ensures untold { IfErr result (IsUntold style reply.now) }
+) -> Result<ReplyOutcome, RequestFailure>
+    ensures rendered { IfOk result (IsReplyPrinted reply.now) }
+    ensures not_printed { IfErr result (IsNotPrinted style reply.now) }
 {
     let object = reply_object(alloc, style, reply)?;
     let line = timed_line(alloc, moment, object.text.as_str())?;

@@ -3,7 +3,7 @@
 ghost use Rattle.std.specs.Prelude.{◌≡◌, ◌≤◌, length, IfOk, IfErr};
 ghost use Rattle.enip_commands.specs.Asking.{IsOfExchange};
 
-use crate::asking::{AskingStop, WANTS};
+use crate::asking::{RequestFailure, WANTS};
 use cip_objects::{REPLY_LIMIT, ReplyBuf};
 use enip_client::{AskFault, Client, ClientFault, Heard, Wants};
 use enip_wire::{Sink, Source, write_all};
@@ -14,20 +14,20 @@ const LONGEST_READ: usize = 4_096;
 
 /// What is asked of the connection: as for one request, and that it lasts 512 packet intervals without a request.
 /// (Volume 1, connection timeout multiplier.)
-const LASTING: Wants = Wants {
+const LONG_LIVED: Wants = Wants {
     timeout_multiplier: 7,
     ..WANTS
 };
 
 /// A session with a device.
 #[derive(Drop)]
-pub struct Session {
+pub struct DeviceSession {
     client: Client,
     connected: bool,
     reply: ReplyBuf,
 }
 
-impl Session {
+impl DeviceSession {
     /// Begins a session over a reader and a writer, and opens a connection where that is asked for.
     ///
     /// # Errors
@@ -39,14 +39,14 @@ impl Session {
         reader: &mut R,
         writer: &mut W,
         connected: bool,
-    ) -> Result<Session, AskingStop>
+    ) -> Result<DeviceSession, RequestFailure>
         ensures { IfErr result IsOfExchange }
     {
-        let client = match Client::new(alloc, &LASTING) {
+        let client = match Client::new(alloc, &LONG_LIVED) {
             Ok(client) => client,
-            Err(fault) => return Err(AskingStop::from(AskFault::Client(fault))),
+            Err(fault) => return Err(RequestFailure::from(AskFault::Client(fault))),
         };
-        let mut session = Session {
+        let mut session = DeviceSession {
             client,
             connected,
             reply: ReplyBuf::new(),
@@ -54,9 +54,9 @@ impl Session {
         match session.register(reader, writer) {
             Ok(()) => {}
             Err(AskFault::Client(ClientFault::Status(status))) => {
-                return Err(AskingStop::Session(status));
+                return Err(RequestFailure::Session(status));
             }
-            Err(fault) => return Err(AskingStop::from(fault)),
+            Err(fault) => return Err(RequestFailure::from(fault)),
         }
         if connected {
             session.open(reader, writer)?;
@@ -75,11 +75,11 @@ impl Session {
         reader: &mut R,
         writer: &mut W,
         request: &[u8],
-    ) -> Result<&[u8], AskingStop>
+    ) -> Result<&[u8], RequestFailure>
         ensures { IfErr result IsOfExchange }
     {
         self.send_request(writer, request)?;
-        hear(&mut self.client, reader, &mut self.reply)?;
+        await_reply(&mut self.client, reader, &mut self.reply)?;
         Ok(self.reply.as_slice())
     }
 
@@ -87,18 +87,18 @@ impl Session {
     ///
     /// # Errors
     ///
-    /// As of [`Session::ask`].
+    /// As of [`DeviceSession::ask`].
     pub fn end<R: Source, W: Sink>(
         &mut self,
         reader: &mut R,
         writer: &mut W,
-    ) -> Result<(), AskingStop>
+    ) -> Result<(), RequestFailure>
         ensures { IfErr result IsOfExchange }
     {
         if self.connected {
             let frame = self.client.close().map_err(AskFault::Client)?;
             send(writer, frame)?;
-            hear(&mut self.client, reader, &mut self.reply)?;
+            await_reply(&mut self.client, reader, &mut self.reply)?;
         }
         let frame = self.client.unregister().map_err(AskFault::Client)?;
         send(writer, frame)?;
@@ -113,14 +113,14 @@ impl Session {
     ) -> Result<(), AskFault> {
         let frame = self.client.register()?;
         send(writer, frame)?;
-        hear(&mut self.client, reader, &mut self.reply)
+        await_reply(&mut self.client, reader, &mut self.reply)
     }
 
     /// Opens the connection.
     fn open<R: Source, W: Sink>(&mut self, reader: &mut R, writer: &mut W) -> Result<(), AskFault> {
         let frame = self.client.open()?;
         send(writer, frame)?;
-        hear(&mut self.client, reader, &mut self.reply)
+        await_reply(&mut self.client, reader, &mut self.reply)
     }
 
     /// Sends a request, on the connection or not.
@@ -155,7 +155,7 @@ fn send<W: Sink>(writer: &mut W, frame: &[u8]) -> Result<(), AskFault> {
 /// # Errors
 ///
 /// `Read`, `Ended` or `Spent`; `Client` with the client's fault, or with why an open or a close was refused.
-fn hear<R: Source>(
+fn await_reply<R: Source>(
     client: &mut Client,
     reader: &mut R,
     reply: &mut ReplyBuf,
@@ -163,7 +163,7 @@ fn hear<R: Source>(
     let mut buffer = [0; LONGEST_READ];
     for _ in 0..u64::MAX {
         let size = read(reader, &mut buffer)?;
-        if hear_piece(client, &buffer[..size], reply)? {
+        if feed_piece(client, &buffer[..size], reply)? {
             return Ok(());
         }
     }
@@ -195,7 +195,7 @@ fn read<R: Source>(reader: &mut R, into: &mut [u8; LONGEST_READ]) -> Result<usiz
 /// # Errors
 ///
 /// `Client`.
-fn hear_piece(client: &mut Client, piece: &[u8], reply: &mut ReplyBuf) -> Result<bool, AskFault> {
+fn feed_piece(client: &mut Client, piece: &[u8], reply: &mut ReplyBuf) -> Result<bool, AskFault> {
     let mut is_heard = false;
     let mut rest = piece;
     for _ in 0..piece.len() {

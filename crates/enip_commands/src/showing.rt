@@ -6,7 +6,7 @@ ghost use Rattle.std.specs.Prelude.{◌≡◌, ◌⊎◌, IfErr};
 ghost use Rattle.enip_commands.specs.Statuses.{IsOfDevices, IsStopOfDevices};
 
 use crate::digits::{decode, print_digits};
-use crate::fault::Fault;
+use crate::fault::ProgramFault;
 use crate::input_lines::{TakeLines, read_lines};
 use cip_bytes::protocol::Command;
 use cip_message::{PathFault, ReplyFault, ReplyView, RequestFault, RequestView, read_path};
@@ -49,7 +49,7 @@ pub fn show_frames<R: Read + Drop, W: Write + Drop>(
     alloc: Global,
     input: R,
     output: W,
-) -> Result<(), Fault>
+) -> Result<(), ProgramFault>
     ensures { IfErr result IsOfDevices }
 {
     let mut printer = Printer {
@@ -63,7 +63,7 @@ pub fn show_frames<R: Read + Drop, W: Write + Drop>(
 
 /// Why a line is shown no further.
 #[derive(Clone, Copy, Debug, PartialEq, Eq, Error)]
-enum ShowingStop {
+enum ShowFailure {
     /// It is not hexadecimal.
     #[error("hex")]
     Hex,
@@ -84,56 +84,56 @@ enum ShowingStop {
     Reply(ReplyFault),
     /// The program itself failed.
     #[error("{0}")]
-    Program(Fault),
+    Program(ProgramFault),
 }
 
-impl From<Fault> for ShowingStop {
-    ghost use Rattle.enip_commands.specs.declared.showing.ShowingStop.TheVariants.{Program};
+impl From<ProgramFault> for ShowFailure {
+    ghost use Rattle.enip_commands.specs.declared.showing.ShowFailure.TheVariants.{Program};
 
     ghost from_gives = { λ fault stop. stop ≡ Program fault };
 
-    fn from(fault: Fault) -> ShowingStop {
-        ShowingStop::Program(fault)
+    fn from(fault: ProgramFault) -> ShowFailure {
+        ShowFailure::Program(fault)
     }
 }
 
-impl From<io::Error> for ShowingStop {
+impl From<io::Error> for ShowFailure {
     ghost from_gives = { λ _ stop. IsStopOfDevices stop };
 
-    fn from(error: io::Error) -> ShowingStop {
-        ShowingStop::Program(Fault::from(error))
+    fn from(error: io::Error) -> ShowFailure {
+        ShowFailure::Program(ProgramFault::from(error))
     }
 }
 
-impl From<CpfFault> for ShowingStop {
+impl From<CpfFault> for ShowFailure {
     ghost from_gives = { λ _ stop. IsStopOfDevices stop };
 
-    fn from(fault: CpfFault) -> ShowingStop {
-        ShowingStop::Cpf(fault)
+    fn from(fault: CpfFault) -> ShowFailure {
+        ShowFailure::Cpf(fault)
     }
 }
 
-impl From<RequestFault> for ShowingStop {
+impl From<RequestFault> for ShowFailure {
     ghost from_gives = { λ _ stop. IsStopOfDevices stop };
 
-    fn from(fault: RequestFault) -> ShowingStop {
-        ShowingStop::Request(fault)
+    fn from(fault: RequestFault) -> ShowFailure {
+        ShowFailure::Request(fault)
     }
 }
 
-impl From<PathFault> for ShowingStop {
+impl From<PathFault> for ShowFailure {
     ghost from_gives = { λ _ stop. IsStopOfDevices stop };
 
-    fn from(fault: PathFault) -> ShowingStop {
-        ShowingStop::Path(fault)
+    fn from(fault: PathFault) -> ShowFailure {
+        ShowFailure::Path(fault)
     }
 }
 
-impl From<ReplyFault> for ShowingStop {
+impl From<ReplyFault> for ShowFailure {
     ghost from_gives = { λ _ stop. IsStopOfDevices stop };
 
-    fn from(fault: ReplyFault) -> ShowingStop {
-        ShowingStop::Reply(fault)
+    fn from(fault: ReplyFault) -> ShowFailure {
+        ShowFailure::Reply(fault)
     }
 }
 
@@ -148,27 +148,27 @@ struct Printer<W: Write + Drop> {
 
 impl<W: Write + Drop> Printer<W> {
     /// Shows a line up to its first fault.
-    fn show_line(&mut self, text: &[u8]) -> Result<(), ShowingStop>
+    fn show_line(&mut self, text: &[u8]) -> Result<(), ShowFailure>
         ensures { IfErr result IsStopOfDevices }
     {
         if !decode(text, &mut self.digits, &mut self.bytes)? {
-            return Err(ShowingStop::Hex);
+            return Err(ShowFailure::Hex);
         }
         self.reader.clear();
         let taken = self.reader.push(self.bytes.as_slice());
         match self.reader.state() {
             Held::Frame(frame) if taken == self.bytes.len() => show_frame(&mut self.output, frame),
-            _ => Err(ShowingStop::Header),
+            _ => Err(ShowFailure::Header),
         }
     }
 
     /// Shows a line, and its first fault.
-    fn print_line(&mut self, text: &[u8]) -> Result<(), Fault>
+    fn print_line(&mut self, text: &[u8]) -> Result<(), ProgramFault>
         ensures { IfErr result IsOfDevices }
     {
         match self.show_line(text) {
             Ok(()) => Ok(()),
-            Err(ShowingStop::Program(fault)) => Err(fault),
+            Err(ShowFailure::Program(fault)) => Err(fault),
             Err(stop) => {
                 writeln!(self.output, "fault {stop}")?;
                 Ok(())
@@ -180,18 +180,18 @@ impl<W: Write + Drop> Printer<W> {
 impl<W: Write + Drop> TakeLines for Printer<W> {
     ghost refuses = { λ _ _. ⊥ };
 
-    fn take_line(&mut self, text: &[u8], _number: u64) -> Result<(), Fault> {
+    fn take_line(&mut self, text: &[u8], _number: u64) -> Result<(), ProgramFault> {
         self.print_line(text)
     }
 
-    fn send(&mut self) -> Result<(), Fault> {
+    fn send(&mut self) -> Result<(), ProgramFault> {
         self.output.flush()?;
         Ok(())
     }
 }
 
 /// Shows a frame: its header, and what it carries of the router's messages.
-fn show_frame<W: Write>(output: &mut W, frame: FrameView<'_>) -> Result<(), ShowingStop>
+fn show_frame<W: Write>(output: &mut W, frame: FrameView<'_>) -> Result<(), ShowFailure>
     ensures { IfErr result IsStopOfDevices }
 {
     print_header(output, &frame.header)?;
@@ -222,7 +222,7 @@ fn print_header<W: Write>(output: &mut W, header: &Header) -> io::Result<()> {
 }
 
 /// Prints the type and the length of each item of a body, which is known to have its items.
-fn print_items<W: Write>(output: &mut W, body: &[u8]) -> Result<(), ShowingStop>
+fn print_items<W: Write>(output: &mut W, body: &[u8]) -> Result<(), ShowFailure>
     ensures { IfErr result IsStopOfDevices }
 {
     let Some(items) = body.get(BEFORE_ITEMS..) else {
@@ -241,18 +241,18 @@ fn print_items<W: Write>(output: &mut W, body: &[u8]) -> Result<(), ShowingStop>
 
 /// Shows the data of a connected item: the sequence count, and the message behind it. (Volume 1, transport
 /// class 3.)
-fn show_counted<W: Write>(output: &mut W, item: &[u8]) -> Result<(), ShowingStop>
+fn show_counted<W: Write>(output: &mut W, item: &[u8]) -> Result<(), ShowFailure>
     ensures { IfErr result IsStopOfDevices }
 {
     let [low, high, message @ ..] = item else {
-        return Err(ShowingStop::from(RequestFault::Short));
+        return Err(ShowFailure::from(RequestFault::Short));
     };
     writeln!(output, "count {}", u16::from_le_bytes([*low, *high]))?;
     show_message(output, message)
 }
 
 /// Shows a message of the router: a reply where bit 7 of its first byte is set, else a request.
-fn show_message<W: Write>(output: &mut W, message: &[u8]) -> Result<(), ShowingStop>
+fn show_message<W: Write>(output: &mut W, message: &[u8]) -> Result<(), ShowFailure>
     ensures { IfErr result IsStopOfDevices }
 {
     match message {
@@ -262,7 +262,7 @@ fn show_message<W: Write>(output: &mut W, message: &[u8]) -> Result<(), ShowingS
 }
 
 /// Shows a request and where it goes.
-fn show_request<W: Write>(output: &mut W, message: &[u8]) -> Result<(), ShowingStop>
+fn show_request<W: Write>(output: &mut W, message: &[u8]) -> Result<(), ShowFailure>
     ensures { IfErr result IsStopOfDevices }
 {
     let request = RequestView::read(message)?;
@@ -282,7 +282,7 @@ fn show_request<W: Write>(output: &mut W, message: &[u8]) -> Result<(), ShowingS
 }
 
 /// Shows a reply, whose additional status words are printed as numbers of four digits.
-fn show_reply<W: Write>(output: &mut W, message: &[u8]) -> Result<(), ShowingStop>
+fn show_reply<W: Write>(output: &mut W, message: &[u8]) -> Result<(), ShowFailure>
     ensures { IfErr result IsStopOfDevices }
 {
     let reply = ReplyView::read(message)?;

@@ -5,9 +5,9 @@ ghost use Rattle.cip_values.specs.Values.{value_in, AreBytesOf};
 ghost use Rattle.enip_commands.specs.Styles.{IsUnprinted, IsOfValues};
 ghost use Rattle.enip_commands.specs.Statuses.{IsOfDevices};
 
-use crate::asking::AskingStop;
+use crate::asking::RequestFailure;
 use crate::digits::print_digits;
-use crate::fault::Fault;
+use crate::fault::ProgramFault;
 use crate::json::{data_line, values_line};
 use cip_values::{Value, ValueFault, ValueType, ValuesText, read_values};
 use std::alloc::Global;
@@ -38,7 +38,7 @@ pub(crate) fn print_data<O: Write>(
     output: &mut O,
     style: Style,
     bytes: &[u8],
-) -> Result<(), AskingStop>
+) -> Result<(), RequestFailure>
     ensures { IfErr result (IsUnprinted style bytes.now) }
 {
     match style.value_type {
@@ -56,7 +56,11 @@ pub(crate) fn print_data<O: Write>(
 /// # Errors
 ///
 /// `Shape` where they are no values of the type, `Program` where memory was refused.
-pub(crate) fn data_object(alloc: Global, style: Style, bytes: &[u8]) -> Result<String, AskingStop>
+pub(crate) fn data_object(
+    alloc: Global,
+    style: Style,
+    bytes: &[u8],
+) -> Result<String, RequestFailure>
     ensures { IfErr result (IsUnprinted style bytes.now) }
 {
     match style.value_type {
@@ -77,14 +81,14 @@ fn values_of(
     alloc: Global,
     value_type: ValueType,
     bytes: &[u8],
-) -> Result<Vec<Value<'_>>, AskingStop>
+) -> Result<Vec<Value<'_>>, RequestFailure>
     ensures read { IfOk result (λ values. AreBytesOf value_type bytes.now (map value_in values.items)) }
     ensures refused { IfErr result (IsOfValues value_type bytes.now) }
 {
     match read_values(alloc, value_type, bytes) {
         Ok(values) => Ok(values),
-        Err(ValueFault::Memory) => Err(AskingStop::Program(Fault::Memory)),
-        Err(fault) => Err(AskingStop::Shape(value_type, fault)),
+        Err(ValueFault::Memory) => Err(RequestFailure::Program(ProgramFault::Memory)),
+        Err(fault) => Err(RequestFailure::Shape(value_type, fault)),
     }
 }
 
@@ -93,7 +97,7 @@ fn print_values<O: Write>(
     output: &mut O,
     value_type: ValueType,
     values: &[Value<'_>],
-) -> Result<(), Fault>
+) -> Result<(), ProgramFault>
     ensures { IfErr result IsOfDevices }
 {
     writeln!(output, "{}", ValuesText { value_type, values })?;
@@ -101,7 +105,7 @@ fn print_values<O: Write>(
 }
 
 /// Prints hexadecimal digits on a line, `ok` where there are none.
-fn print_plain<O: Write>(output: &mut O, bytes: &[u8]) -> Result<(), Fault>
+fn print_plain<O: Write>(output: &mut O, bytes: &[u8]) -> Result<(), ProgramFault>
     ensures { IfErr result IsOfDevices }
 {
     if bytes.is_empty() {

@@ -1,7 +1,7 @@
 //! Requests whose data are told as values of the standard's elementary types.
 
 ghost use Rattle.std.specs.Prelude.{length, IfOk, IfErr};
-ghost use Rattle.cip_values.specs.Words.{AreMistold};
+ghost use Rattle.cip_values.specs.Parsing.{AreMistold};
 ghost use Rattle.enip_commands.specs.Styles.{IsTypedRequest};
 
 use crate::asking::spell_request;
@@ -11,7 +11,7 @@ use std::alloc::Global;
 
 /// A request to a device whose data are told as values.
 #[derive(Clone, Copy, Debug)]
-pub struct TypedQuestion<'a, 'b> {
+pub struct TypedRequest<'a, 'b> {
     /// The service.
     pub service: u8,
     /// The object.
@@ -22,7 +22,7 @@ pub struct TypedQuestion<'a, 'b> {
     pub words: &'b [&'a str],
 }
 
-impl<'a> TypedQuestion<'a, '_> {
+impl<'a> TypedRequest<'a, '_> {
     /// The bytes of the request.
     ///
     /// # Errors

@@ -7,34 +7,34 @@ use Rattle.cip_objects.specs.declared.config.ConfigFault.TheVariants.{Name, Size
 use Rattle.cip_objects.specs.Configuration.{fault_of}
 use Rattle.enip_config.specs.declared.configuration.Configuration.{Configuration}
 use Rattle.enip_config.specs.Keys.{KeyRow, row, number_in, number_by, number_of, table_with, read_or}
-use Rattle.enip_config.specs.declared.fault.Fault.{Fault}
+use Rattle.enip_config.specs.declared.fault.LoadFault.{LoadFault}
 use Rattle.enip_config.specs.Refusals.{fault_of_objects}
-use Rattle.enip_config.specs.Told.{number_in as held, IsKnown, IsTold, HasValues, IsFaultOf, IsInRange, IsBad, IsUnread}
+use Rattle.enip_config.specs.Documents.{number_in as held, IsKnown, IsDescribed, HasValues, IsFaultOf, IsInRange, IsBad, IsUnread}
 use Rattle.enip_config.specs.declared.key.NumberKey.{NumberKey}
 use Rattle.enip_config.specs.declared.key.NumberKey.TheVariants.{Vendor, DeviceType, ProductCode, Major, Minor, Serial, Status, State, Port, Peers, Connections, FirstHandle, FirstId, CounterValue, CounterLimit}
 
 -- What the objects refuse of a configuration that is read.
-pub refused_by_objects : (bytes : List ℕ) (told : Members) (c : Configuration) (check : ConfigFault)
-    → IsKnown bytes told → HasValues told c → fault_of c.objects ≡ Some check
+pub refused_by_objects : (bytes : List ℕ) (described : Members) (c : Configuration) (check : ConfigFault)
+    → IsKnown bytes described → HasValues described c → fault_of c.objects ≡ Some check
     → IsFaultOf bytes (fault_of_objects check)
-refused_by_objects bytes told c Name known values fails = (told, (c, (known, (values, rw fails refl))))
-refused_by_objects bytes told c Size known values fails = (told, (c, (known, (values, rw fails refl))))
-refused_by_objects bytes told c WrongMembers known values fails = (told, (c, (known, (values, rw fails refl))))
-refused_by_objects bytes told c DoubleInstance known values fails = (told, (c, (known, (values, rw fails refl))))
-refused_by_objects bytes told c Limit known values fails = (told, (c, (known, (values, rw fails refl))))
-refused_by_objects bytes told c Memory known values fails = tt
+refused_by_objects bytes described c Name known values fails = (described, (c, (known, (values, rw fails refl))))
+refused_by_objects bytes described c Size known values fails = (described, (c, (known, (values, rw fails refl))))
+refused_by_objects bytes described c WrongMembers known values fails = (described, (c, (known, (values, rw fails refl))))
+refused_by_objects bytes described c DoubleInstance known values fails = (described, (c, (known, (values, rw fails refl))))
+refused_by_objects bytes described c Limit known values fails = (described, (c, (known, (values, rw fails refl))))
+refused_by_objects bytes described c Memory known values fails = tt
 
 -- A number that is not read.
-pub unread_number : (key : NumberKey) (told : Members) (fault : Fault) → IsBad (number_of key told) fault → IsUnread told fault
-unread_number key told fault bad = rw bad.0 (refl, inl (key, bad.1))
+pub unread_number : (key : NumberKey) (described : Members) (fault : LoadFault) → IsBad (number_of key described) fault → IsUnread described fault
+unread_number key described fault bad = rw bad.0 (refl, inl (key, bad.1))
 
-pub unread_table : (key : NumberKey) (told : Members) (fault : Fault) → IsBad (table_with key told) fault → IsUnread told fault
-unread_table key told fault bad = unread_number key told fault (bad.0, rw bad.1 refl)
+pub unread_table : (key : NumberKey) (described : Members) (fault : LoadFault) → IsBad (table_with key described) fault → IsUnread described fault
+unread_table key described fault bad = unread_number key described fault (bad.0, rw bad.1 refl)
 
-pub unread_in : {A : Type 0} (key : NumberKey) (told table : Members) (r : KeyRow) (read : Result A Fault) → table_with key told ≡ Some table
-    → r ≡ row key → IfErr read (IsBad (number_by r table)) → IfErr read (IsUnread told)
-unread_in key told table r (Ok n) found same bad = tt
-unread_in key told table r (Err fault) found same bad = unread_number key told fault (bad.0, rw found (rw (sym same) bad.1))
+pub unread_in : {A : Type 0} (key : NumberKey) (described table : Members) (r : KeyRow) (read : Result A LoadFault) → table_with key described ≡ Some table
+    → r ≡ row key → IfErr read (IsBad (number_by r table)) → IfErr read (IsUnread described)
+unread_in key described table r (Ok n) found same bad = tt
+unread_in key described table r (Err fault) found same bad = unread_number key described fault (bad.0, rw found (rw (sym same) bad.1))
 
 -- A number that is read is in its range.
 in_numbers : (least greatest : ℕ) (d : Data) (n : ℕ) → number_in least greatest d ≡ Some n → (least ≤ n) × (n ≤ greatest)
@@ -71,14 +71,14 @@ default_within FirstId = (search arith, search arith)
 default_within CounterValue = search arith
 default_within CounterLimit = search arith
 
-pub all_in_range : (told : Members) (c : Configuration) → HasValues told c → IsInRange c
-all_in_range told c values key = in_found (row key) (table_with key told) (held c key) (default_within key) (values.numbers key)
+pub all_in_range : (described : Members) (c : Configuration) → HasValues described c → IsInRange c
+all_in_range described c values key = in_found (row key) (table_with key described) (held c key) (default_within key) (values.numbers key)
 
 -- The objects take what is read: only memory may fail.
-pub objects_fail : {T U : Type 0} (text : List ℕ) (told : Configuration) (r : Result T ConfigFault) (check : ConfigFault) (returned : Result U Fault)
-    → IsTold text told → (fault_of told.objects ≡ None → IfErr r (λ f. f ≡ Memory))
+pub objects_fail : {T U : Type 0} (text : List ℕ) (described : Configuration) (r : Result T ConfigFault) (check : ConfigFault) (returned : Result U LoadFault)
+    → IsDescribed text described → (fault_of described.objects ≡ None → IfErr r (λ f. f ≡ Memory))
     → r ≡ Err check → IsErr returned × IsErrAnd returned (λ f. f ≡ fault_of_objects check) → IfErr returned (IsFaultOf text)
-objects_fail text told r check (Ok x) read allowed is gives = tt
-objects_fail text told r check (Err fault) read allowed is gives =
+objects_fail text described r check (Ok x) read allowed is gives = tt
+objects_fail text described r check (Err fault) read allowed is gives =
     let none : check ≡ Memory = subst (λ s. IfErr s (λ f. f ≡ Memory)) is (allowed read.taken) in
     rw (gives.1, none) tt

@@ -7,9 +7,9 @@ use Rattle.enip_config.specs.Known.{has_unknown_key}
 use Rattle.enip_config.specs.Keys.{number_of, assemblies_of, address_of}
 
 -- the limit of a counter, its value by default, and a counter that is no table
-pub limit-told : option_and_then (number_of CounterLimit) (parse_document (codes "[counter]\nlimit = 100\n")) ≡ Some 100
+pub limit-described : option_and_then (number_of CounterLimit) (parse_document (codes "[counter]\nlimit = 100\n")) ≡ Some 100
 unfolding toml_on_literals
-limit-told = refl
+limit-described = refl
 
 pub value-missing : option_and_then (number_of CounterValue) (parse_document (codes "[counter]\nlimit = 100\n")) ≡ Some 0
 unfolding toml_on_literals
@@ -24,10 +24,10 @@ unfolding toml_on_literals
 counter-no-table = refl
 
 -- an assembly that is settable, of three members
-pub assembly-told : option_and_then assemblies_of (parse_document (codes "[[assembly]]\ninstance = 100\nsettable = true\nmembers = [1, 2, 1]\n"))
+pub assembly-described : option_and_then assemblies_of (parse_document (codes "[[assembly]]\ninstance = 100\nsettable = true\nmembers = [1, 2, 1]\n"))
     ≡ Some ((100, (true, 1 ∷ 2 ∷ 1 ∷ [])) ∷ [])
 unfolding toml_on_literals
-assembly-told = refl
+assembly-described = refl
 
 -- an address of three numbers, and one of four
 pub address-short : option_and_then address_of (parse_document (codes "address = [127, 0, 0]\n")) ≡ None

@@ -46,7 +46,7 @@ pub each-none : {A : Type 0} (read : Data → Option A) (vs : List Value) (i : �
 each-none read vs i v done all inside at unread before = sym before ∙ rw (each-drop read vs i v inside at, unread) refl
 
 -- What is found is a table.
-pub told_table : (found : Option (Bor Value)) (told : Option Data) (at : Bor Value) (members : BTreeMap (String Global) Value)
-    → option_map (λ v. view v.now) found ≡ told → found ≡ Some at → at.now ≡ Table members
-    → told ≡ Some (table (table_view members))
-told_table found told at members seen is holds = sym seen ∙ rw (is, holds) (ap Some (view-Table members))
+pub told_table : (found : Option (Bor Value)) (described : Option Data) (at : Bor Value) (members : BTreeMap (String Global) Value)
+    → option_map (λ v. view v.now) found ≡ described → found ≡ Some at → at.now ≡ Table members
+    → described ≡ Some (table (table_view members))
+told_table found described at members seen is holds = sym seen ∙ rw (is, holds) (ap Some (view-Table members))

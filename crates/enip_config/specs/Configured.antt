@@ -6,7 +6,7 @@ use Rattle.enip_adapter.specs.declared.shared.Listen.{Listen}
 use Rattle.enip_adapter.specs.Adapter.{new_adapter}
 use Rattle.enip_adapter.specs.Calls.{AdapterState}
 use Rattle.enip_config.specs.declared.configuration.Configuration.{Configuration}
-use Rattle.enip_config.specs.Told.{IsTold}
+use Rattle.enip_config.specs.Documents.{IsDescribed}
 
 -- What ListIdentity shows of where it listens.
 abbrev pub listen_of : Configuration → Listen
@@ -24,9 +24,9 @@ limits_of c = record {
 -- The adapter that has just been made as a text tells it.
 abbrev pub IsAdapterOf : List ℕ → AdapterState → Type 0
 IsAdapterOf text adapter =
-    (c : Configuration) × (IsTold text c
+    (c : Configuration) × (IsDescribed text c
     × (adapter ≡ new_adapter (contents_of_config c.objects) (listen_of c) (limits_of c)))
 
 -- The text is a configuration, which the objects take.
 abbrev pub IsAccepted : List ℕ → Type 0
-IsAccepted text = (told : Configuration) × IsTold text told
+IsAccepted text = (described : Configuration) × IsDescribed text described

@@ -67,7 +67,7 @@ read_or default read (Some value) = read value
 
 -- The number of a key in a table.
 abbrev pub number_by : KeyRow → Members → Option ℕ
-number_by key told = read_or key.default (number_in key.least key.greatest) (get_member key.name told)
+number_by key described = read_or key.default (number_in key.least key.greatest) (get_member key.name described)
 
 -- A table that is left out has no key.
 abbrev pub members_found : Option (Bor (BTreeMap (String Global) Value)) → Members
@@ -76,21 +76,21 @@ members_found (Some found) = table_view found.now
 
 -- The table `counter`.
 abbrev pub counter_table : Members → Option Members
-counter_table told = read_or (Some no_members) as_table (get_member (codes "counter") told)
+counter_table described = read_or (Some no_members) as_table (get_member (codes "counter") described)
 
 -- The table in which a key stands.
 abbrev pub table_with : NumberKey → Members → Option Members
-table_with CounterValue told = counter_table told
-table_with CounterLimit told = counter_table told
-table_with key told = Some told
+table_with CounterValue described = counter_table described
+table_with CounterLimit described = counter_table described
+table_with key described = Some described
 
 -- The number of a key; None where it is missing, of another type or out of its range.
 abbrev pub number_of : NumberKey → Members → Option ℕ
-number_of key told = option_and_then (number_by (row key)) (table_with key told)
+number_of key described = option_and_then (number_by (row key)) (table_with key described)
 
 -- The product's name.
 abbrev pub name_of : Members → Option (List ℕ)
-name_of told = read_or None as_str (get_member (codes "name") told)
+name_of described = read_or None as_str (get_member (codes "name") described)
 
 -- What each value of an array is read as.
 abbrev pub each : {A : Type 0} → (Data → Option A) → Items → Option (List A)
@@ -104,7 +104,7 @@ address_in (array (item a (item b (item c (item d no_items))))) =
 address_in _ = None
 
 abbrev pub address_of : Members → Option (List ℕ)
-address_of told = read_or (Some (0 ∷ 0 ∷ 0 ∷ 0 ∷ [])) address_in (get_member (codes "address") told)
+address_of described = read_or (Some (0 ∷ 0 ∷ 0 ∷ 0 ∷ [])) address_in (get_member (codes "address") described)
 
 -- The sizes of an assembly's members.
 abbrev pub sizes_in : Data → Option (List ℕ)
@@ -112,11 +112,11 @@ sizes_in (array values) = each (number_in 0 0xffff) values
 sizes_in _ = None
 
 abbrev pub sizes_of : Members → Option (List ℕ)
-sizes_of told = read_or None sizes_in (get_member (codes "members") told)
+sizes_of described = read_or None sizes_in (get_member (codes "members") described)
 
 -- Whether an assembly's data can be set.
 abbrev pub settable_of : Members → Option Bool
-settable_of told = read_or (Some false) as_bool (get_member (codes "settable") told)
+settable_of described = read_or (Some false) as_bool (get_member (codes "settable") described)
 
 -- Two things that are read.
 abbrev pub both : {A B : Type 0} → Option A → Option B → Option (A × B)
@@ -125,7 +125,7 @@ both (Some a) second = option_map (λ b. (a, b)) second
 
 -- An assembly's instance, whether it is settable, and the sizes of its members.
 abbrev pub assembly_in : Data → Option (ℕ × (Bool × List ℕ))
-assembly_in (table told) = both (number_by instance_row told) (both (settable_of told) (sizes_of told))
+assembly_in (table described) = both (number_by instance_row described) (both (settable_of described) (sizes_of described))
 assembly_in _ = None
 
 -- Assemblies, in the text's order.
@@ -134,4 +134,4 @@ assemblies_in (array values) = each assembly_in values
 assemblies_in _ = None
 
 abbrev pub assemblies_of : Members → Option (List (ℕ × (Bool × List ℕ)))
-assemblies_of told = read_or (Some []) assemblies_in (get_member (codes "assembly") told)
+assemblies_of described = read_or (Some []) assemblies_in (get_member (codes "assembly") described)

@@ -34,7 +34,7 @@ are_other_keys known (member key value more) = (not (is_among known key) || has_
 
 -- The same, of a value; what is no table has no known key.
 abbrev pub has_other_keys : List (List ℕ) → Data → Bool
-has_other_keys known (table told) = are_other_keys known told
+has_other_keys known (table described) = are_other_keys known described
 has_other_keys known value = has_key value
 
 -- The same, of the values of an array.

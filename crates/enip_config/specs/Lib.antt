@@ -1,6 +1,6 @@
 pub mod Keys
 pub mod Known
 pub mod Refusals
-pub mod Told
+pub mod Documents
 pub mod Configured
 pub mod Explained

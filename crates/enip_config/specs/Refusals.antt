@@ -3,13 +3,13 @@ use Rattle.std.specs.Prelude.{ℕ}
 use Rattle.cip_objects.specs.declared.config.ConfigFault.{ConfigFault}
 use Rattle.cip_objects.specs.declared.config.ConfigFault.TheVariants.{Name, Size, Members, DoubleInstance, Limit}
 use Rattle.cip_objects.specs.declared.config.ConfigFault.TheVariants.{Memory as NoMemory}
-use Rattle.enip_config.specs.declared.fault.Fault.{Fault}
-use Rattle.enip_config.specs.declared.fault.Fault.TheVariants.{Refused, Memory}
-use Rattle.enip_config.specs.declared.fault.Refusal.{Refusal}
-use Rattle.enip_config.specs.declared.fault.Refusal.TheVariants as refused
+use Rattle.enip_config.specs.declared.fault.LoadFault.{LoadFault}
+use Rattle.enip_config.specs.declared.fault.LoadFault.TheVariants.{Refused, Memory}
+use Rattle.enip_config.specs.declared.fault.ConfigurationRefusal.{ConfigurationRefusal}
+use Rattle.enip_config.specs.declared.fault.ConfigurationRefusal.TheVariants as refused
 
 -- The number that is printed.
-abbrev pub refusal_number : Refusal → ℕ
+abbrev pub refusal_number : ConfigurationRefusal → ℕ
 refusal_number refused.Name = 1
 refusal_number refused.Size = 2
 refusal_number refused.Members = 3
@@ -20,7 +20,7 @@ refusal_number refused.BadValue = 8
 refusal_number refused.UnknownKey = 9
 
 -- What the objects refuse.
-abbrev pub fault_of_objects : ConfigFault → Fault
+abbrev pub fault_of_objects : ConfigFault → LoadFault
 fault_of_objects Name = Refused refused.Name
 fault_of_objects Size = Refused refused.Size
 fault_of_objects Members = Refused refused.Members

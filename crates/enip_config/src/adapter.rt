@@ -4,10 +4,10 @@
 ghost use Rattle.std.specs.Prelude.{◌≡◌, IfOk, IfErr};
 ghost use Rattle.enip_adapter.specs.Adapter.{new_adapter};
 ghost use Rattle.enip_config.specs.Configured.{IsAccepted, IsAdapterOf, limits_of, listen_of};
-ghost use Rattle.enip_config.specs.Told.{IsFaultOf, IsInRange};
+ghost use Rattle.enip_config.specs.Documents.{IsFaultOf, IsInRange};
 
 use crate::configuration::Configuration;
-use crate::fault::Fault;
+use crate::fault::LoadFault;
 use cip_objects::Objects;
 use enip_adapter::{Adapter, Limits, Listen};
 use std::alloc::{AllocError, Global};
@@ -16,9 +16,9 @@ use std::alloc::{AllocError, Global};
 ///
 /// # Errors
 ///
-/// `Fault::Refused` where `Configuration::from_bytes` refuses the configuration, by the first check that fails.
-/// `Fault::Memory` where there is no memory.
-pub fn adapter_from(alloc: Global, config: &[u8]) -> Result<Adapter, Fault>
+/// `LoadFault::Refused` where `Configuration::from_bytes` refuses the configuration, by the first check that fails.
+/// `LoadFault::Memory` where there is no memory.
+pub fn adapter_from(alloc: Global, config: &[u8]) -> Result<Adapter, LoadFault>
     ensures made { IfOk result (IsAdapterOf config.now) }
     ensures accepted { IfOk result (λ _. IsAccepted config.now) }
     ensures refused { IfErr result (IsFaultOf config.now) }

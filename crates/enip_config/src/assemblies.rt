@@ -4,9 +4,9 @@ ghost use Rattle.std.specs.Prelude.{◌≡◌, IfOk, IfErr, Some, map};
 ghost use Rattle.toml.specs.View.{view, items_view, table_view};
 ghost use Rattle.enip_config.specs.Keys.{each, number_in, settable_of, sizes_of, assembly_in};
 ghost use Rattle.enip_config.specs.Keys.{assemblies_of};
-ghost use Rattle.enip_config.specs.Told.{IsBad, IsBadOrMemory, IsUnread, assembly_seen};
+ghost use Rattle.enip_config.specs.Documents.{IsBad, IsBadOrMemory, IsUnread, assembly_seen};
 
-use crate::fault::Fault;
+use crate::fault::LoadFault;
 use crate::key::INSTANCE;
 use crate::values::{BAD_VALUE, number_by, number_in, value_of};
 use crate::width::Width;
@@ -15,7 +15,7 @@ use std::alloc::Global;
 use toml::{Table, Value};
 
 /// The assemblies, in the text's order.
-pub(crate) fn assemblies_of(alloc: Global, text: &Table) -> Result<Vec<AssemblyConfig>, Fault>
+pub(crate) fn assemblies_of(alloc: Global, text: &Table) -> Result<Vec<AssemblyConfig>, LoadFault>
     ensures read { IfOk result (λ assemblies. assemblies_of (table_view text.now)
         ≡ Some (map assembly_seen assemblies.items)) }
     ensures refused { IfErr result (IsUnread (table_view text.now)) }
@@ -28,7 +28,7 @@ pub(crate) fn assemblies_of(alloc: Global, text: &Table) -> Result<Vec<AssemblyC
 }
 
 /// An assembly of each value.
-fn each_assembly(alloc: Global, values: &[Value]) -> Result<Vec<AssemblyConfig>, Fault>
+fn each_assembly(alloc: Global, values: &[Value]) -> Result<Vec<AssemblyConfig>, LoadFault>
     ensures read { IfOk result (λ assemblies. each assembly_in (items_view values.now)
         ≡ Some (map assembly_seen assemblies.items)) }
     ensures refused { IfErr result (IsBadOrMemory (each assembly_in (items_view values.now))) }
@@ -41,7 +41,7 @@ fn each_assembly(alloc: Global, values: &[Value]) -> Result<Vec<AssemblyConfig>,
 }
 
 /// One assembly.
-fn assembly_of(alloc: Global, value: &Value) -> Result<AssemblyConfig, Fault>
+fn assembly_of(alloc: Global, value: &Value) -> Result<AssemblyConfig, LoadFault>
     ensures read { IfOk result (λ assembly. assembly_in (view value.now) ≡ Some (assembly_seen assembly)) }
     ensures refused { IfErr result (IsBadOrMemory (assembly_in (view value.now))) }
 {
@@ -56,7 +56,7 @@ fn assembly_of(alloc: Global, value: &Value) -> Result<AssemblyConfig, Fault>
 }
 
 /// Whether an assembly's data can be set.
-fn settable_of(table: &Table) -> Result<bool, Fault>
+fn settable_of(table: &Table) -> Result<bool, LoadFault>
     ensures read { IfOk result (λ settable. settable_of (table_view table.now) ≡ Some settable) }
     ensures refused { IfErr result (IsBad (settable_of (table_view table.now))) }
 {
@@ -67,7 +67,7 @@ fn settable_of(table: &Table) -> Result<bool, Fault>
 }
 
 /// The sizes of an assembly's members.
-fn sizes_of(alloc: Global, table: &Table) -> Result<Vec<u16>, Fault>
+fn sizes_of(alloc: Global, table: &Table) -> Result<Vec<u16>, LoadFault>
     ensures read { IfOk result (λ sizes. sizes_of (table_view table.now) ≡ Some sizes.items) }
     ensures refused { IfErr result (IsBadOrMemory (sizes_of (table_view table.now))) }
 {
@@ -78,7 +78,7 @@ fn sizes_of(alloc: Global, table: &Table) -> Result<Vec<u16>, Fault>
 }
 
 /// A size of each value.
-fn each_size(alloc: Global, values: &[Value]) -> Result<Vec<u16>, Fault>
+fn each_size(alloc: Global, values: &[Value]) -> Result<Vec<u16>, LoadFault>
     ensures read { IfOk result (λ sizes. each (number_in 0 0xffff) (items_view values.now) ≡ Some sizes.items) }
     ensures refused { IfErr result (IsBadOrMemory (each (number_in 0 0xffff) (items_view values.now))) }
 {

@@ -4,10 +4,10 @@
 ghost use Rattle.std.specs.Prelude.{◌≡◌, IfOk, IfErr, None};
 ghost use Rattle.toml.specs.View.{table_view};
 ghost use Rattle.cip_objects.specs.Configuration.{fault_of};
-ghost use Rattle.enip_config.specs.Told.{IsTold, IsFaultOf, IsInRange, IsUnread, HasValues};
+ghost use Rattle.enip_config.specs.Documents.{IsDescribed, IsFaultOf, IsInRange, IsUnread, HasValues};
 
 use crate::assemblies::assemblies_of;
-use crate::fault::{Fault, Refusal};
+use crate::fault::{ConfigurationRefusal, LoadFault};
 use crate::key::NumberKey;
 use crate::known::has_unknown_key;
 use crate::values::{address_of, name_of, number};
@@ -39,31 +39,31 @@ impl Configuration {
     ///
     /// # Errors
     ///
-    /// `Fault::Refused` by the first check that fails: `NotToml` (7), `UnknownKey` (9) where any key is unknown,
+    /// `LoadFault::Refused` by the first check that fails: `NotToml` (7), `UnknownKey` (9) where any key is unknown,
     /// `BadValue` (8) where a key is missing, or its value is of another type or out of its range, and then what the
-    /// objects refuse (1 to 5). `Fault::Memory` where there is no memory.
-    pub fn from_bytes(alloc: Global, bytes: &[u8]) -> Result<Configuration, Fault>
-        ensures read { IfOk result (IsTold bytes.now) }
+    /// objects refuse (1 to 5). `LoadFault::Memory` where there is no memory.
+    pub fn from_bytes(alloc: Global, bytes: &[u8]) -> Result<Configuration, LoadFault>
+        ensures read { IfOk result (IsDescribed bytes.now) }
         ensures in_range { IfOk result IsInRange }
         ensures refused { IfErr result (IsFaultOf bytes.now) }
     {
         let table = match toml::table_from_slice(alloc, bytes) {
             Ok(table) => table,
-            Err(error) if error.is_memory() => return Err(Fault::Memory),
-            Err(_) => return Err(Fault::Refused(Refusal::NotToml)),
+            Err(error) if error.is_memory() => return Err(LoadFault::Memory),
+            Err(_) => return Err(LoadFault::Refused(ConfigurationRefusal::NotToml)),
         };
         if has_unknown_key(&table) {
-            return Err(Fault::Refused(Refusal::UnknownKey));
+            return Err(LoadFault::Refused(ConfigurationRefusal::UnknownKey));
         }
         let configuration = Configuration::from_table(alloc, &table)?;
         match configuration.objects.fault() {
-            Some(check) => Err(Fault::from(check)),
+            Some(check) => Err(LoadFault::from(check)),
             None => Ok(configuration),
         }
     }
 
     /// The configuration that a table tells, each of whose keys is known.
-    pub(crate) fn from_table(alloc: Global, text: &Table) -> Result<Configuration, Fault>
+    pub(crate) fn from_table(alloc: Global, text: &Table) -> Result<Configuration, LoadFault>
         ensures read { IfOk result (HasValues (table_view text.now)) }
         ensures refused { IfErr result (IsUnread (table_view text.now)) }
     {

@@ -2,13 +2,13 @@
 
 ghost use Rattle.std.specs.Prelude.{◌≡◌, IfOk, IfSome};
 ghost use Rattle.enip_config.specs.Explained.{refusal_of};
-ghost use Rattle.enip_config.specs.Told.{IsRefused};
+ghost use Rattle.enip_config.specs.Documents.{IsRefused};
 
 use crate::configuration::Configuration;
-use crate::fault::{Fault, Refusal};
-use crate::wrong_objects::wrong_objects;
-use crate::wrong_text::{no_toml, unknown_key};
-use crate::wrong_value::bad_value;
+use crate::fault::{ConfigurationRefusal, LoadFault};
+use crate::object_problems::object_problem;
+use crate::text_problems::{no_toml, unknown_key};
+use crate::value_problems::bad_value;
 use std::alloc::{AllocError, Global};
 use std::fmt;
 use thiserror::Error;
@@ -22,14 +22,14 @@ const MOST_READ: usize = 1 << 20;
 /// and what is wrong there.
 #[derive(Debug, Drop)]
 pub struct Explanation {
-    refusal: Refusal,
+    refusal: ConfigurationRefusal,
     line: Option<usize>,
-    wrong: Wrong,
+    problem: Problem,
 }
 
 impl Explanation {
     /// The check that refuses the configuration.
-    pub fn refusal(&self) -> Refusal
+    pub fn refusal(&self) -> ConfigurationRefusal
         ensures { result ≡ refusal_of self.now }
     {
         self.refusal
@@ -41,13 +41,13 @@ impl fmt::Display for Explanation {
         if let Some(line) = self.line {
             write!(f, "line {line}: ")?;
         }
-        write!(f, "{}", self.wrong)
+        write!(f, "{}", self.problem)
     }
 }
 
 /// What is wrong.
 #[derive(Debug, Drop, Error)]
-pub(crate) enum Wrong {
+pub(crate) enum Problem {
     #[error("{}", .0.message())]
     NoToml(toml::de::Error),
     #[error("{0} is no key")]
@@ -82,24 +82,24 @@ pub(crate) enum Wrong {
 
 /// Where something stands in a configuration: in the text, its table `counter`, or one of its tables `assembly`, from 0.
 #[derive(Clone, Copy)]
-pub(crate) enum Spot<'a> {
+pub(crate) enum Location<'a> {
     Text(&'a str),
     Counter(&'a str),
     Assembly(usize),
     InAssembly(usize, &'a str),
 }
 
-impl Spot<'_> {
+impl Location<'_> {
     /// Whether it stands in a text.
     fn is_in(self, text: &Table) -> bool {
         match self {
-            Spot::Text(key) => text.get(key).is_some(),
-            Spot::Counter(key) => text
+            Location::Text(key) => text.get(key).is_some(),
+            Location::Counter(key) => text
                 .get("counter")
-                .is_some_and(|told| told.get(key).is_some()),
-            Spot::Assembly(place) => assembly_at(text, place).is_some(),
-            Spot::InAssembly(place, key) => {
-                assembly_at(text, place).is_some_and(|told| told.get(key).is_some())
+                .is_some_and(|described| described.get(key).is_some()),
+            Location::Assembly(place) => assembly_at(text, place).is_some(),
+            Location::InAssembly(place, key) => {
+                assembly_at(text, place).is_some_and(|described| described.get(key).is_some())
             }
         }
     }
@@ -120,44 +120,44 @@ pub(crate) fn assembly_at(text: &Table, place: usize) -> Option<&Value> {
 ///
 /// `AllocError` where memory is refused.
 pub fn explain(alloc: Global, bytes: &[u8]) -> Result<Option<Explanation>, AllocError>
-    ensures { IfOk result (λ told. IfSome told (λ explanation. IsRefused bytes.now (refusal_of explanation))) }
+    ensures { IfOk result (λ described. IfSome described (λ explanation. IsRefused bytes.now (refusal_of explanation))) }
 {
     let refusal = match Configuration::from_bytes(alloc, bytes) {
         Ok(_) => return Ok(None),
-        Err(Fault::Memory) => return Err(AllocError),
-        Err(Fault::Refused(refusal)) => refusal,
+        Err(LoadFault::Memory) => return Err(AllocError),
+        Err(LoadFault::Refused(refusal)) => refusal,
     };
-    let Some((line, wrong)) = wrong_in(alloc, bytes)? else {
+    let Some((line, problem)) = problem_in(alloc, bytes)? else {
         return Ok(None);
     };
     Ok(Some(Explanation {
         refusal,
         line,
-        wrong,
+        problem,
     }))
 }
 
 /// What is first found to be wrong, and its line.
-fn wrong_in(alloc: Global, bytes: &[u8]) -> Result<Option<(Option<usize>, Wrong)>, AllocError> {
+fn problem_in(alloc: Global, bytes: &[u8]) -> Result<Option<(Option<usize>, Problem)>, AllocError> {
     let text = match toml::table_from_slice(alloc, bytes) {
         Ok(text) => text,
         Err(error) if error.is_memory() => return Err(AllocError),
         Err(error) => return Ok(Some(no_toml(bytes, error))),
     };
-    if let Some((spot, wrong)) = unknown_key(alloc, &text)? {
-        return Ok(Some((line_of(alloc, bytes, spot), wrong)));
+    if let Some((spot, problem)) = unknown_key(alloc, &text)? {
+        return Ok(Some((line_of(alloc, bytes, spot), problem)));
     }
-    if let Some((spot, wrong)) = bad_value(&text) {
-        return Ok(Some((line_of(alloc, bytes, spot), wrong)));
+    if let Some((spot, problem)) = bad_value(&text) {
+        return Ok(Some((line_of(alloc, bytes, spot), problem)));
     }
-    match wrong_objects(alloc, &text)? {
-        Some((spot, wrong)) => Ok(Some((line_of(alloc, bytes, spot), wrong))),
+    match object_problem(alloc, &text)? {
+        Some((spot, problem)) => Ok(Some((line_of(alloc, bytes, spot), problem))),
         None => Ok(None),
     }
 }
 
 /// The line, from 1, with which something stands in a configuration: the first lines that are a text in which it stands.
-fn line_of(alloc: Global, bytes: &[u8], spot: Spot<'_>) -> Option<usize> {
+fn line_of(alloc: Global, bytes: &[u8], spot: Location<'_>) -> Option<usize> {
     let mut number: usize = 1;
     let mut read: usize = 0;
     for end in 1..bytes.len() + 1 {
@@ -177,7 +177,7 @@ fn line_of(alloc: Global, bytes: &[u8], spot: Spot<'_>) -> Option<usize> {
 }
 
 /// Whether bytes are a text in which something stands.
-fn is_in_text(alloc: Global, bytes: &[u8], spot: Spot<'_>) -> bool {
+fn is_in_text(alloc: Global, bytes: &[u8], spot: Location<'_>) -> bool {
     match toml::table_from_slice(alloc, bytes) {
         Ok(text) => spot.is_in(&text),
         Err(_) => false,

@@ -9,7 +9,7 @@ use thiserror::Error;
 
 /// Why a configuration is refused, each with the number by which it is printed (ours).
 #[derive(Clone, Copy, Debug, PartialEq, Eq)]
-pub enum Refusal {
+pub enum ConfigurationRefusal {
     /// The product's name is over 32 bytes, or has a byte outside 0x20 to 0x7e.
     Name = 1,
     /// There are over 16 assemblies, or one has 0 or over 3,900 bytes.
@@ -28,7 +28,7 @@ pub enum Refusal {
     UnknownKey = 9,
 }
 
-impl Refusal {
+impl ConfigurationRefusal {
     /// The number that is printed.
     pub fn number(self) -> u8
         ensures { result ≡ refusal_number self }
@@ -39,49 +39,49 @@ impl Refusal {
 
 /// Why a configuration is not read.
 #[derive(Clone, Copy, Debug, PartialEq, Eq, Error)]
-pub enum Fault {
+pub enum LoadFault {
     /// It is refused.
     #[error("configuration {}", .0.number())]
-    Refused(Refusal),
+    Refused(ConfigurationRefusal),
     /// There was no memory.
     #[error("memory")]
     Memory,
 }
 
-impl From<AllocError> for Fault {
-    ghost use Rattle.enip_config.specs.declared.fault.Fault.TheVariants.{Memory};
+impl From<AllocError> for LoadFault {
+    ghost use Rattle.enip_config.specs.declared.fault.LoadFault.TheVariants.{Memory};
 
     ghost from_gives = { λ _ fault. fault ≡ Memory };
 
-    fn from(_error: AllocError) -> Fault {
-        Fault::Memory
+    fn from(_error: AllocError) -> LoadFault {
+        LoadFault::Memory
     }
 }
 
-impl<T: Drop> From<AllocFailed<T>> for Fault {
-    ghost use Rattle.enip_config.specs.declared.fault.Fault.TheVariants.{Memory};
+impl<T: Drop> From<AllocFailed<T>> for LoadFault {
+    ghost use Rattle.enip_config.specs.declared.fault.LoadFault.TheVariants.{Memory};
 
     ghost from_gives = { λ _ fault. fault ≡ Memory };
 
-    fn from(_error: AllocFailed<T>) -> Fault {
-        Fault::Memory
+    fn from(_error: AllocFailed<T>) -> LoadFault {
+        LoadFault::Memory
     }
 }
 
 /// What the objects refuse.
-impl From<ConfigFault> for Fault {
+impl From<ConfigFault> for LoadFault {
     ghost use Rattle.enip_config.specs.Refusals.{fault_of_objects};
 
     ghost from_gives = { λ refused fault. fault ≡ fault_of_objects refused };
 
-    fn from(refused: ConfigFault) -> Fault {
+    fn from(refused: ConfigFault) -> LoadFault {
         match refused {
-            ConfigFault::Name => Fault::Refused(Refusal::Name),
-            ConfigFault::Size => Fault::Refused(Refusal::Size),
-            ConfigFault::Members => Fault::Refused(Refusal::Members),
-            ConfigFault::DoubleInstance => Fault::Refused(Refusal::DoubleInstance),
-            ConfigFault::Limit => Fault::Refused(Refusal::Limit),
-            ConfigFault::Memory => Fault::Memory,
+            ConfigFault::Name => LoadFault::Refused(ConfigurationRefusal::Name),
+            ConfigFault::Size => LoadFault::Refused(ConfigurationRefusal::Size),
+            ConfigFault::Members => LoadFault::Refused(ConfigurationRefusal::Members),
+            ConfigFault::DoubleInstance => LoadFault::Refused(ConfigurationRefusal::DoubleInstance),
+            ConfigFault::Limit => LoadFault::Refused(ConfigurationRefusal::Limit),
+            ConfigFault::Memory => LoadFault::Memory,
         }
     }
 }

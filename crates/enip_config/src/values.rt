@@ -6,15 +6,15 @@ ghost use Rattle.toml.specs.View.{view, items_view, table_view};
 ghost use Rattle.enip_config.specs.Keys.{row, row_seen, number_by, number_of, table_with, counter_table, members_found};
 ghost use Rattle.enip_config.specs.Keys.{name_of};
 ghost use Rattle.enip_config.specs.Keys.{number_in, address_in, address_of};
-ghost use Rattle.enip_config.specs.Told.{IsBad, IsUnread};
+ghost use Rattle.enip_config.specs.Documents.{IsBad, IsUnread};
 
-use crate::fault::{Fault, Refusal};
+use crate::fault::{ConfigurationRefusal, LoadFault};
 use crate::key::{NumberKey, Row};
 use crate::width::Width;
 use toml::{Table, Value};
 
 /// A key is missing, or its value is of another type or out of its range.
-pub(crate) const BAD_VALUE: Fault = Fault::Refused(Refusal::BadValue);
+pub(crate) const BAD_VALUE: LoadFault = LoadFault::Refused(ConfigurationRefusal::BadValue);
 
 /// The value of a key.
 pub(crate) fn value_of<'a>(table: &'a Table, key: &str) -> Option<&'a Value>
@@ -24,7 +24,7 @@ pub(crate) fn value_of<'a>(table: &'a Table, key: &str) -> Option<&'a Value>
 }
 
 /// The number that a value is, within a range.
-pub(crate) fn number_in(value: &Value, least: u32, greatest: u32) -> Result<u32, Fault>
+pub(crate) fn number_in(value: &Value, least: u32, greatest: u32) -> Result<u32, LoadFault>
     ensures read { IfOk result (λ n. number_in least greatest (view value.now) ≡ Some n) }
     ensures refused { IfErr result (IsBad (number_in least greatest (view value.now))) }
     ensures to { IfOk result (λ n. n ≤ greatest) }
@@ -39,7 +39,7 @@ pub(crate) fn number_in(value: &Value, least: u32, greatest: u32) -> Result<u32,
 }
 
 /// The number of a key in a table.
-pub(crate) fn number_by<N: Width>(table: &Table, key: Row) -> Result<N, Fault>
+pub(crate) fn number_by<N: Width>(table: &Table, key: Row) -> Result<N, LoadFault>
     requires fits { key.greatest ≤ N.most }
     requires default { IfSome key.default (λ n. n ≤ N.most) }
     ensures read { IfOk result (λ n. number_by (row_seen key) (table_view table.now) ≡ Some (N.number n)) }
@@ -52,7 +52,7 @@ pub(crate) fn number_by<N: Width>(table: &Table, key: Row) -> Result<N, Fault>
 }
 
 /// The number of a key that is left out.
-fn default_of<N: Width>(key: Row) -> Result<N, Fault>
+fn default_of<N: Width>(key: Row) -> Result<N, LoadFault>
     requires default { IfSome key.default (λ n. n ≤ N.most) }
     ensures read { IfOk result (λ n. key.default ≡ Some (N.number n)) }
     ensures refused { IfErr result (IsBad key.default) }
@@ -65,7 +65,7 @@ fn default_of<N: Width>(key: Row) -> Result<N, Fault>
 
 /// The number of a key.
 #[tactic(auto, using(crate::proofs::Refused::unread_table, crate::proofs::Refused::unread_in))]
-pub(crate) fn number<N: Width>(text: &Table, key: NumberKey) -> Result<N, Fault>
+pub(crate) fn number<N: Width>(text: &Table, key: NumberKey) -> Result<N, LoadFault>
     requires fits { (row key).greatest ≤ N.most }
     requires default { IfSome (row key).default (λ n. n ≤ N.most) }
     ensures read { IfOk result (λ n. number_of key (table_view text.now) ≡ Some (N.number n)) }
@@ -78,7 +78,7 @@ pub(crate) fn number<N: Width>(text: &Table, key: NumberKey) -> Result<N, Fault>
 }
 
 /// The table in which a key stands, `None` where it is left out.
-fn table_with(text: &Table, key: NumberKey) -> Result<Option<&Table>, Fault>
+fn table_with(text: &Table, key: NumberKey) -> Result<Option<&Table>, LoadFault>
     ensures read { IfOk result (λ found. table_with key (table_view text.now) ≡ Some (members_found found)) }
     ensures refused { IfErr result (IsBad (table_with key (table_view text.now))) }
 {
@@ -89,7 +89,7 @@ fn table_with(text: &Table, key: NumberKey) -> Result<Option<&Table>, Fault>
 }
 
 /// The table `counter`, `None` where it is left out.
-fn counter_table(text: &Table) -> Result<Option<&Table>, Fault>
+fn counter_table(text: &Table) -> Result<Option<&Table>, LoadFault>
     ensures read { IfOk result (λ found. counter_table (table_view text.now) ≡ Some (members_found found)) }
     ensures refused { IfErr result (IsBad (counter_table (table_view text.now))) }
 {
@@ -100,7 +100,7 @@ fn counter_table(text: &Table) -> Result<Option<&Table>, Fault>
 }
 
 /// The product's name.
-pub(crate) fn name_of(text: &Table) -> Result<String, Fault>
+pub(crate) fn name_of(text: &Table) -> Result<String, LoadFault>
     ensures read { IfOk result (λ name. name_of (table_view text.now) ≡ Some (string_bytes name)) }
     ensures refused { IfErr result (IsUnread (table_view text.now)) }
 {
@@ -111,7 +111,7 @@ pub(crate) fn name_of(text: &Table) -> Result<String, Fault>
 }
 
 /// The address that ListIdentity shows.
-pub(crate) fn address_of(text: &Table) -> Result<[u8; 4], Fault>
+pub(crate) fn address_of(text: &Table) -> Result<[u8; 4], LoadFault>
     ensures read { IfOk result (λ address. address_of (table_view text.now) ≡ Some address) }
     ensures refused { IfErr result (IsUnread (table_view text.now)) }
 {
@@ -123,7 +123,7 @@ pub(crate) fn address_of(text: &Table) -> Result<[u8; 4], Fault>
 }
 
 /// A byte of each of four values.
-fn four_bytes(values: &[Value]) -> Result<[u8; 4], Fault>
+fn four_bytes(values: &[Value]) -> Result<[u8; 4], LoadFault>
     ensures read { IfOk result (λ address. address_in (array (items_view values.now)) ≡ Some address) }
     ensures refused { IfErr result (IsBad (address_in (array (items_view values.now)))) }
 {
@@ -134,7 +134,7 @@ fn four_bytes(values: &[Value]) -> Result<[u8; 4], Fault>
 }
 
 /// The byte that a value is.
-fn byte(value: &Value) -> Result<u8, Fault>
+fn byte(value: &Value) -> Result<u8, LoadFault>
     ensures read { IfOk result (λ n. number_in 0 0xff (view value.now) ≡ Some n) }
     ensures refused { IfErr result (IsBad (number_in 0 0xff (view value.now))) }
 {

@@ -8,8 +8,8 @@ use Rattle.enip_replay.specs.declared.rungs.Field.{Field}
 use Rattle.enip_replay.specs.declared.rungs.Field.TheVariants as fields
 use Rattle.enip_replay.specs.declared.rungs.Note.{Note}
 use Rattle.enip_replay.specs.declared.rungs.Rung.{Rung}
-use Rattle.enip_replay.specs.declared.rungs.Way.{Way}
-use Rattle.enip_replay.specs.declared.rungs.Way.TheVariants as ways
+use Rattle.enip_replay.specs.declared.rungs.Direction.{Direction}
+use Rattle.enip_replay.specs.declared.rungs.Direction.TheVariants as ways
 
 -- A request or a reply in digits, the end of one of more than ten bytes left out.
 abbrev pub message_text : List ℕ → List ℕ
@@ -34,10 +34,10 @@ abbrev pub head_of : List ℕ → Bool → List ℕ
 head_of head arrives = if arrives then head else codes "x"
 
 -- An arrow: its head stands where it points, a cross where it was lost.
-abbrev pub arrow_by : Way → Arrow → List ℕ
-arrow_by ways.There a =
+abbrev pub arrow_by : Direction → Arrow → List ℕ
+arrow_by ways.ToAdapter a =
     (codes "-" ++ item_text a) ++ replicate (room_behind a - 6) 45 ++ head_of (codes ">") a.arrives
-arrow_by ways.Back a = head_of (codes "<") a.arrives ++ item_text a ++ replicate (room_behind a - 5) 45
+arrow_by ways.ToClient a = head_of (codes "<") a.arrives ++ item_text a ++ replicate (room_behind a - 5) 45
 
 abbrev pub arrow_text : Arrow → List ℕ
 arrow_text a = arrow_by a.way a

@@ -8,7 +8,7 @@ use Rattle.cip_class3.specs.declared.originator.Stage.TheVariants as stages
 use Rattle.cip_bytes.specs.declared.protocol.TheConstants.{COUNTER}
 use Rattle.cip_objects.specs.Contents.{Contents, bytes_at, udint_at}
 use Rattle.enip_bench.specs.Events.{Event, Submit, Resend, Reach, Back, Other, Shut, GiveUp}
-use Rattle.enip_bench.specs.Telling.{Telling, Sends, Refuses, Resends, Reaches, Accepts, Ignores, Impossible, Done}
+use Rattle.enip_bench.specs.EventResults.{EventResult, Sends, Refuses, Resends, Reaches, Accepts, Ignores, Impossible, Done}
 
 -- the words of an event's line, a request's digits left out
 abbrev pub words : Event → List ℕ
@@ -21,9 +21,9 @@ words Shut = codes "shut"
 words GiveUp = codes "giveup"
 
 -- what is printed of an event that was done, and of which no more is to tell
-abbrev pub done_words : Event → List ℕ
-done_words (Other request) = codes " done"
-done_words event = []
+abbrev pub done_text : Event → List ℕ
+done_text (Other request) = codes " done"
+done_text event = []
 
 -- a position behind this word, or that there is none
 abbrev pub position_words : List ℕ → Option ℕ → List ℕ
@@ -31,19 +31,19 @@ position_words word None = codes " none"
 position_words word (Some position) = word ++ decimal position
 
 -- what is printed behind an event's words of what became of it
-abbrev pub told_words : Event → Telling → List ℕ
-told_words event (Sends number position) = codes " " ++ decimal number ++ codes " sent " ++ decimal position
-told_words event (Refuses why) = codes " refused " ++ decimal (refused_number why)
-told_words event (Resends position) = position_words (codes " ") position
-told_words event (Reaches position) = position_words (codes " back ") position
-told_words event (Accepts reply) = codes " accepted " ++ encode_lower reply
-told_words event Ignores = codes " ignored"
-told_words event Impossible = codes " impossible"
-told_words event Done = done_words event
+abbrev pub step_text : Event → EventResult → List ℕ
+step_text event (Sends number position) = codes " " ++ decimal number ++ codes " sent " ++ decimal position
+step_text event (Refuses why) = codes " refused " ++ decimal (refused_number why)
+step_text event (Resends position) = position_words (codes " ") position
+step_text event (Reaches position) = position_words (codes " back ") position
+step_text event (Accepts reply) = codes " accepted " ++ encode_lower reply
+step_text event Ignores = codes " ignored"
+step_text event Impossible = codes " impossible"
+step_text event Done = done_text event
 
 -- the line of an event and of what became of it
-abbrev pub outcome : Event → Telling → List ℕ
-outcome event telling = words event ++ told_words event telling
+abbrev pub outcome : Event → EventResult → List ℕ
+outcome event event_result = words event ++ step_text event event_result
 
 -- an attribute of the counter, 0 where it is no number of four bytes
 abbrev pub counter_number : Contents → ℕ → ℕ
@@ -60,7 +60,7 @@ abbrev pub assembly_line : ℕ → List ℕ → List ℕ
 assembly_line instance bytes = codes "assembly " ++ decimal instance ++ codes " " ++ encode_lower bytes
 
 -- the line of where the client stands
-abbrev pub standing_line : Stage → List ℕ
-standing_line stages.Idle = codes "client idle"
-standing_line stages.Waiting = codes "client waiting"
-standing_line stages.GivenUp = codes "client given up"
+abbrev pub final_line : Stage → List ℕ
+final_line stages.Idle = codes "client idle"
+final_line stages.Waiting = codes "client waiting"
+final_line stages.GivenUp = codes "client given up"

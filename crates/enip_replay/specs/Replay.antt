@@ -8,21 +8,21 @@ use Rattle.enip_adapter.specs.Calls.{AdapterState}
 use Rattle.enip_bench.specs.CountingOpening.{ARefusal, opening_between}
 use Rattle.enip_bench.specs.CountingWorld.{CountingWorld, counting_step, counting_seen}
 use Rattle.enip_bench.specs.Events.{Event}
-use Rattle.enip_bench.specs.Telling.{telling}
+use Rattle.enip_bench.specs.EventResults.{event_result}
 use Rattle.enip_bench.specs.declared.bench.BenchFault.{BenchFault}
 use Rattle.enip_bench.specs.declared.bench.BenchFault.TheVariants as benches
 use Rattle.enip_client.specs.Client.{new_client}
-use Rattle.enip_replay.specs.Outcome.{outcome, counter_number, counter_line, assembly_line, standing_line}
+use Rattle.enip_replay.specs.Outcome.{outcome, counter_number, counter_line, assembly_line, final_line}
 use Rattle.enip_replay.specs.Script.{Means, IsRefusedLine, is_skipped}
 use Rattle.enip_commands.specs.Lines.{with_newline}
 use Rattle.enip_commands.specs.Statuses.{EndsBy, IsOfDevices, exit_status}
 use Rattle.enip_commands.specs.declared.asking.TheConstants.{WANTS}
-use Rattle.enip_commands.specs.declared.fault.Fault.TheVariants.{Memory}
-use Rattle.enip_replay.specs.declared.replaying.ReplayStop.{ReplayStop}
-use Rattle.enip_replay.specs.declared.replaying.ReplayStop.TheVariants as stops
+use Rattle.enip_commands.specs.declared.fault.ProgramFault.TheVariants.{Memory}
+use Rattle.enip_replay.specs.declared.replaying.ReplayFailure.{ReplayFailure}
+use Rattle.enip_replay.specs.declared.replaying.ReplayFailure.TheVariants as stops
 
 -- Why no bench is made, as the program tells it.
-abbrev pub stop_of : BenchFault → ReplayStop
+abbrev pub stop_of : BenchFault → ReplayFailure
 stop_of benches.Memory = stops.Program Memory
 stop_of benches.Setup = stops.Setup
 
@@ -35,24 +35,24 @@ abbrev pub IsOpeningRefused : AdapterState → Type 0
 IsOpeningRefused adapter = opening_between adapter (new_client WANTS) ≡ Err ARefusal
 
 -- Why a replay ends: the opening is refused, or a line that may be, or else a device or memory failed.
-abbrev pub IsStopOf : AdapterState → ReplayStop → Type 0
+abbrev pub IsStopOf : AdapterState → ReplayFailure → Type 0
 IsStopOf adapter stops.Setup = IsOpeningRefused adapter
 IsStopOf adapter (stops.Program fault) = EndsBy (λ _ text. IsRefusedLine text) fault
 
 -- The exit status of a replay that ends early.
-abbrev pub replay_stop_status : ReplayStop → ℕ
-replay_stop_status stops.Setup = 6
-replay_stop_status (stops.Program fault) = exit_status fault
+abbrev pub replay_failure_status : ReplayFailure → ℕ
+replay_failure_status stops.Setup = 6
+replay_failure_status (stops.Program fault) = exit_status fault
 
 -- A device or memory failed.
-abbrev pub IsStopOfDevices : ReplayStop → Type 0
+abbrev pub IsStopOfDevices : ReplayFailure → Type 0
 IsStopOfDevices stops.Setup = ⊥
 IsStopOfDevices (stops.Program fault) = IsOfDevices fault
 
 -- An event was done, and the line of what became of it was printed.
 pub record IsDone (event : Event) (old new : CountingWorld) (before after : Option (List ℕ)) : Type 0 where
   pub world : new ≡ counting_step old event
-  pub printed : Appends before after (with_newline (outcome event (telling old event)))
+  pub printed : Appends before after (with_newline (outcome event (event_result old event)))
 
 -- A line was run: it is skipped, and nothing was done or printed, or the event that it means was done.
 pub data IsRun (text : List ℕ) (old new : CountingWorld) (before after : Option (List ℕ)) : Type 0 where
@@ -78,4 +78,4 @@ objects_printed contents =
 
 -- What is printed at the end: the objects, and where the client stands.
 abbrev pub ending : CountingWorld → List ℕ
-ending world = objects_printed (counting_seen world).router ++ with_newline (standing_line (counting_seen world).stage)
+ending world = objects_printed (counting_seen world).router ++ with_newline (final_line (counting_seen world).stage)

@@ -33,7 +33,7 @@ abbrev pub BeginsOtherwise : List ℕ → List ℕ → Type 0
 BeginsOtherwise word text = (rest : List ℕ) → text ≡ word ++ rest → ⊥
 
 -- a line that is none of the three words that stand alone
-pub record IsNoWord (text : List ℕ) : Type 0 where
+pub record IsNotAKeyword (text : List ℕ) : Type 0 where
   pub no_resend : text ≡ codes "resend" → ⊥
   pub no_shut : text ≡ codes "shut" → ⊥
   pub no_giveup : text ≡ codes "giveup" → ⊥

@@ -14,15 +14,15 @@ ghost use Rattle.enip_replay.specs.Replay.{IsStopOf};
 ghost use Rattle.enip_replay.specs.Script.{IsRefusedLine};
 ghost use Rattle.enip_commands.specs.Statuses.{EndsBy, IsOfDevices};
 
-use crate::outcome::{Outcome, Standing};
-use crate::replaying::{ReplayStop, bench_of, print_objects};
-use crate::rungs::{Arrow, Field, Note, Rung, Way};
+use crate::outcome::{FinalState, Outcome};
+use crate::replaying::{ReplayFailure, bench_of, print_objects};
+use crate::rungs::{Arrow, Direction, Field, Note, Rung};
 use crate::script::{event_of, is_skipped, line_fault};
 use byteorder::{ByteOrder, LittleEndian};
 use cip_bytes::protocol::SEQUENCE_COUNT_SIZE;
 use enip_adapter::Adapter;
 use enip_bench::{Bench, Event, Frames, Step};
-use enip_commands::{Fault, TakeLines, WANTS, read_lines};
+use enip_commands::{ProgramFault, TakeLines, WANTS, read_lines};
 use enip_wire::{Header, unit_body};
 use std::alloc::Global;
 use std::io::{BufWriter, Write};
@@ -51,7 +51,7 @@ pub fn draw_replay<W: Write + Drop>(
     adapter: Adapter,
     script: &[u8],
     output: W,
-) -> Result<(), ReplayStop>
+) -> Result<(), ReplayFailure>
     requires { IsNewAdapter adapter }
     ensures { IfErr result (IsStopOf adapter) }
 {
@@ -66,26 +66,26 @@ fn draw_script<W: Write + Drop>(
     bench: Bench,
     script: &[u8],
     output: W,
-) -> Result<(), Fault>
+) -> Result<(), ProgramFault>
     ensures { IfErr result (EndsBy (λ _ text. IsRefusedLine text)) }
 {
     let mut output = BufWriter::new(alloc, output)?;
-    let mut climber = Climber {
+    let mut climber = LadderWriter {
         alloc,
         bench,
         ladder: Ladder::new(alloc),
         digits: Vec::new(alloc),
     };
-    climb(alloc, script, &mut climber, &mut output)
+    draw_events(alloc, script, &mut climber, &mut output)
 }
 
 /// Runs the lines of a script, and draws what became of them.
-fn climb<W: Write>(
+fn draw_events<W: Write>(
     alloc: Global,
     script: &[u8],
-    climber: &mut Climber,
+    climber: &mut LadderWriter,
     output: &mut W,
-) -> Result<(), Fault>
+) -> Result<(), ProgramFault>
     ensures { IfErr result (EndsBy (λ _ text. IsRefusedLine text)) }
 {
     let ran = read_lines(alloc, script, climber);
@@ -99,7 +99,7 @@ fn climb<W: Write>(
 
 /// What happened, as it is drawn.
 #[derive(Drop)]
-enum Happened {
+enum LadderEvent {
     /// The request of a number was submitted or sent again, at a position.
     Sent {
         words: &'static str,
@@ -119,7 +119,7 @@ enum Happened {
     /// Something that moves no frame, at the client or at the adapter.
     Aside {
         words: String,
-        way: Way,
+        way: Direction,
     },
 }
 
@@ -132,7 +132,7 @@ struct Ladder {
     sent: Vec<(usize, bool)>,
     /// Whether each frame that was sent back reached the client, by position.
     heard: Vec<bool>,
-    happened: Vec<Happened>,
+    happened: Vec<LadderEvent>,
 }
 
 impl Ladder {
@@ -147,11 +147,11 @@ impl Ladder {
     }
 
     /// Puts what happened behind the rest.
-    fn put(&mut self, event: Event, happened: Happened) -> Result<(), Fault>
+    fn put(&mut self, event: Event, happened: LadderEvent) -> Result<(), ProgramFault>
         ensures { IfErr result IsOfDevices }
     {
         self.mark(&happened)?;
-        if let Happened::Sent { .. } = &happened {
+        if let LadderEvent::Sent { .. } = &happened {
             self.keep(event)?;
         }
         self.happened.push(happened)?;
@@ -159,12 +159,12 @@ impl Ladder {
     }
 
     /// Marks the frames that were sent or have arrived.
-    fn mark(&mut self, happened: &Happened) -> Result<(), Fault>
+    fn mark(&mut self, happened: &LadderEvent) -> Result<(), ProgramFault>
         ensures { IfErr result IsOfDevices }
     {
         match happened {
-            Happened::Sent { number, .. } => self.sent.push((*number, false))?,
-            Happened::Reached { position, back } => {
+            LadderEvent::Sent { number, .. } => self.sent.push((*number, false))?,
+            LadderEvent::Reached { position, back } => {
                 if let Some(sent) = self.sent.get_mut(*position) {
                     sent.1 = true;
                 }
@@ -172,18 +172,18 @@ impl Ladder {
                     self.heard.push(false)?;
                 }
             }
-            Happened::Heard { position, .. } => {
+            LadderEvent::Heard { position, .. } => {
                 if let Some(heard) = self.heard.get_mut(*position) {
                     *heard = true;
                 }
             }
-            Happened::Aside { .. } => {}
+            LadderEvent::Aside { .. } => {}
         }
         Ok(())
     }
 
     /// Keeps the request that was submitted, if one was.
-    fn keep(&mut self, event: Event) -> Result<(), Fault>
+    fn keep(&mut self, event: Event) -> Result<(), ProgramFault>
         ensures { IfErr result IsOfDevices }
     {
         if let Event::Submit(request) = event {
@@ -206,7 +206,7 @@ impl Ladder {
     fn request_at(&self, position: usize, arrives: bool) -> Field<'_> {
         let number = self.number_at(position);
         Field::Arrow(Arrow {
-            way: Way::There,
+            way: Direction::ToAdapter,
             arrives,
             // counts go from the first on, and begin anew at 65,536 (transport class 3)
             count: WANTS.first_count.wrapping_add((number % COUNTS) as u16),
@@ -254,7 +254,7 @@ impl Drawn {
 /// The lines of a ladder.
 impl Ladder {
     /// Draws all that happened. `back` are the frames that were sent back.
-    fn draw<'a, W: Write>(&'a self, back: &'a Frames, output: &mut W) -> Result<(), Fault>
+    fn draw<'a, W: Write>(&'a self, back: &'a Frames, output: &mut W) -> Result<(), ProgramFault>
         ensures { IfErr result IsOfDevices }
     {
         writeln!(output, "{HEAD}")?;
@@ -271,15 +271,15 @@ impl Ladder {
     /// Draws one thing that happened.
     fn draw_one<'a, W: Write>(
         &'a self,
-        happened: &'a Happened,
+        happened: &'a LadderEvent,
         back: &'a Frames,
         drawn: &mut Drawn,
         output: &mut W,
-    ) -> Result<(), Fault>
+    ) -> Result<(), ProgramFault>
         ensures { IfErr result IsOfDevices }
     {
         match happened {
-            Happened::Sent {
+            LadderEvent::Sent {
                 words,
                 number,
                 position,
@@ -287,11 +287,11 @@ impl Ladder {
                 drawn.submitted = *number;
                 draw_rung(self.sent(words, *number, *position), output)
             }
-            Happened::Reached {
+            LadderEvent::Reached {
                 position,
                 back: None,
             } => draw_rung(self.reached(*position, "no connection", None), output),
-            Happened::Reached {
+            LadderEvent::Reached {
                 position,
                 back: Some(answer),
             } => {
@@ -300,11 +300,11 @@ impl Ladder {
                 draw_rung(self.reached(*position, words, Some(number)), output)?;
                 draw_rung(self.answered(back, *answer), output)
             }
-            Happened::Heard { position, accepted } => {
+            LadderEvent::Heard { position, accepted } => {
                 let number = accepted.then_some(drawn.submitted);
                 draw_rung(heard(back, *position, number), output)
             }
-            Happened::Aside { words, way } => draw_rung(aside(words, *way), output),
+            LadderEvent::Aside { words, way } => draw_rung(aside(words, *way), output),
         }
     }
 
@@ -348,7 +348,7 @@ impl Ladder {
 }
 
 /// Draws a rung.
-fn draw_rung<W: Write>(rung: Rung<'_>, output: &mut W) -> Result<(), Fault>
+fn draw_rung<W: Write>(rung: Rung<'_>, output: &mut W) -> Result<(), ProgramFault>
     ensures { IfErr result IsOfDevices }
 {
     writeln!(output, "{rung}")?;
@@ -359,7 +359,7 @@ fn draw_rung<W: Write>(rung: Rung<'_>, output: &mut W) -> Result<(), Fault>
 fn reply_at(back: &Frames, position: usize, arrives: bool) -> Field<'_> {
     let (count, message) = item_of(back.get(position).unwrap_or(&[]));
     Field::Arrow(Arrow {
-        way: Way::Back,
+        way: Direction::ToClient,
         arrives,
         count,
         message,
@@ -383,10 +383,10 @@ fn heard(back: &Frames, position: usize, number: Option<usize>) -> Rung<'_> {
 }
 
 /// Something moves no frame, at the end from which this way leads.
-fn aside(words: &str, way: Way) -> Rung<'_> {
+fn aside(words: &str, way: Direction) -> Rung<'_> {
     let (near, far) = match way {
-        Way::There => (Field::Words(words), Field::Blank),
-        Way::Back => (Field::Blank, Field::Words(words)),
+        Direction::ToAdapter => (Field::Words(words), Field::Blank),
+        Direction::ToClient => (Field::Blank, Field::Words(words)),
     };
     Rung {
         client: Note::BLANK,
@@ -399,16 +399,16 @@ fn aside(words: &str, way: Way) -> Rung<'_> {
 
 /// Both ends, and what happened to them.
 #[derive(Drop)]
-struct Climber {
+struct LadderWriter {
     alloc: Global,
     bench: Bench,
     ladder: Ladder,
     digits: Vec<u8>,
 }
 
-impl Climber {
+impl LadderWriter {
     /// Does an event, and keeps what became of it.
-    fn run_event(&mut self, event: Event) -> Result<(), Fault>
+    fn run_event(&mut self, event: Event) -> Result<(), ProgramFault>
         ensures { IfErr result IsOfDevices }
     {
         let last = self.ladder.last_number();
@@ -417,19 +417,19 @@ impl Climber {
     }
 
     /// Draws what happened.
-    fn draw<W: Write>(&self, output: &mut W) -> Result<(), Fault>
+    fn draw<W: Write>(&self, output: &mut W) -> Result<(), ProgramFault>
         ensures { IfErr result IsOfDevices }
     {
         self.ladder.draw(self.bench.seen().back, output)
     }
 
     /// Prints where both ends stand.
-    fn end<W: Write>(&self, output: &mut W) -> Result<(), Fault>
+    fn end<W: Write>(&self, output: &mut W) -> Result<(), ProgramFault>
         ensures { IfErr result IsOfDevices }
     {
         let seen = self.bench.seen();
         print_objects(output, seen.objects)?;
-        writeln!(output, "{}", Standing(seen.stage))?;
+        writeln!(output, "{}", FinalState(seen.stage))?;
         writeln!(output, "{SAME}")?;
         Ok(())
     }
@@ -441,33 +441,33 @@ fn what_happened(
     event: &Event,
     step: Step<'_>,
     last: usize,
-) -> Result<Happened, Fault>
+) -> Result<LadderEvent, ProgramFault>
     ensures { IfErr result IsOfDevices }
 {
     Ok(match (event, step) {
-        (_, Step::Sent(number, position)) => Happened::Sent {
+        (_, Step::Sent(number, position)) => LadderEvent::Sent {
             words: "submit",
             number: number as usize,
             position,
         },
-        (_, Step::Resent(Some(position))) => Happened::Sent {
+        (_, Step::Resent(Some(position))) => LadderEvent::Sent {
             words: "resend",
             number: last,
             position,
         },
-        (Event::Reach(position), Step::Reached(back)) => Happened::Reached {
+        (Event::Reach(position), Step::Reached(back)) => LadderEvent::Reached {
             position: *position,
             back,
         },
-        (Event::Back(position), Step::Accepted(_)) => Happened::Heard {
+        (Event::Back(position), Step::Accepted(_)) => LadderEvent::Heard {
             position: *position,
             accepted: true,
         },
-        (Event::Back(position), Step::Ignored) => Happened::Heard {
+        (Event::Back(position), Step::Ignored) => LadderEvent::Heard {
             position: *position,
             accepted: false,
         },
-        _ => Happened::Aside {
+        _ => LadderEvent::Aside {
             words: format!(in alloc; "{}", Outcome { event, step })?,
             way: end_of(event),
         },
@@ -475,27 +475,27 @@ fn what_happened(
 }
 
 /// The way that leads from the end at which an event happens.
-fn end_of(event: &Event) -> Way {
+fn end_of(event: &Event) -> Direction {
     match event {
-        Event::Reach(_) | Event::Other(_) | Event::Shut => Way::Back,
-        _ => Way::There,
+        Event::Reach(_) | Event::Other(_) | Event::Shut => Direction::ToClient,
+        _ => Direction::ToAdapter,
     }
 }
 
-impl TakeLines for Climber {
+impl TakeLines for LadderWriter {
     ghost refuses = { λ _ text. IsRefusedLine text };
 
-    fn take_line(&mut self, text: &[u8], number: u64) -> Result<(), Fault> {
+    fn take_line(&mut self, text: &[u8], number: u64) -> Result<(), ProgramFault> {
         if is_skipped(text) {
             return Ok(());
         }
         let Some(event) = event_of(self.alloc, text, &mut self.digits)? else {
-            return Err(Fault::Line(number, line_fault(text)));
+            return Err(ProgramFault::Line(number, line_fault(text)));
         };
         self.run_event(event)
     }
 
-    fn send(&mut self) -> Result<(), Fault> {
+    fn send(&mut self) -> Result<(), ProgramFault> {
         Ok(())
     }
 }

@@ -42,10 +42,10 @@ pub(crate) struct Outcome<'a, 'b> {
 }
 
 impl fmt::Display for Outcome<'_, '_> {
-    ghost use Rattle.enip_bench.specs.Stored.{event_in, telling_in};
+    ghost use Rattle.enip_bench.specs.Stored.{event_in, event_result_in};
     ghost use Rattle.enip_replay.specs.Outcome.{outcome};
 
-    ghost output = { λ o. Some (outcome (event_in o.event.now) (telling_in o.step)) };
+    ghost output = { λ o. Some (outcome (event_in o.event.now) (event_result_in o.step)) };
 
     fn fmt<W: fmt::Write>(&self, f: &mut fmt::Formatter<W>) -> fmt::Result {
         write!(f, "{}", Words(self.event))?;
@@ -133,12 +133,12 @@ impl fmt::Display for AssemblyData<'_> {
 
 /// Where the client stands.
 #[derive(Clone, Copy)]
-pub(crate) struct Standing(pub(crate) Stage);
+pub(crate) struct FinalState(pub(crate) Stage);
 
-impl fmt::Display for Standing {
-    ghost use Rattle.enip_replay.specs.Outcome.{standing_line};
+impl fmt::Display for FinalState {
+    ghost use Rattle.enip_replay.specs.Outcome.{final_line};
 
-    ghost output = { λ s. Some (standing_line s.0) };
+    ghost output = { λ s. Some (final_line s.0) };
 
     fn fmt<W: fmt::Write>(&self, f: &mut fmt::Formatter<W>) -> fmt::Result {
         f.write_str(match self.0 {

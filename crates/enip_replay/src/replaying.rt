@@ -8,16 +8,16 @@ ghost use Rattle.enip_bench.specs.Stored.{event_in};
 ghost use Rattle.enip_replay.specs.Replay.{IsOpeningOf, IsStopOf, IsDone, IsRun, ending};
 ghost use Rattle.enip_replay.specs.Replay.{objects_printed, assembly_printed, assemblies_printed};
 ghost use Rattle.enip_replay.specs.Script.{IsRefusedLine};
-ghost use Rattle.enip_commands.specs.Statuses.{EndsBy, IsOfDevices, replay_stop_status};
+ghost use Rattle.enip_commands.specs.Statuses.{EndsBy, IsOfDevices, replay_failure_status};
 
-use crate::outcome::{AssemblyData, Counter, Outcome, Standing};
+use crate::outcome::{AssemblyData, Counter, FinalState, Outcome};
 use crate::script::{event_of, is_skipped, line_fault};
 use cip_bytes::protocol::ASSEMBLY;
 use cip_objects::{Objects, ReplyBuf};
 use enip_adapter::Adapter;
 use enip_bench::{Bench, BenchFault, Event};
 use enip_client::Client;
-use enip_commands::{Fault, TakeLines, WANTS, read_lines};
+use enip_commands::{ProgramFault, TakeLines, WANTS, read_lines};
 use std::alloc::Global;
 use std::io::{self, BufWriter, Write};
 use thiserror::Error;
@@ -43,7 +43,7 @@ pub fn replay<W: Write + Drop>(
     adapter: Adapter,
     script: &[u8],
     output: W,
-) -> Result<(), ReplayStop>
+) -> Result<(), ReplayFailure>
     requires { IsNewAdapter adapter }
     ensures { IfErr result (IsStopOf adapter) }
 {
@@ -53,7 +53,12 @@ pub fn replay<W: Write + Drop>(
 }
 
 /// Runs the lines of a script at a bench, and prints where both ends stand.
-fn play<W: Write + Drop>(alloc: Global, bench: Bench, script: &[u8], output: W) -> Result<(), Fault>
+fn play<W: Write + Drop>(
+    alloc: Global,
+    bench: Bench,
+    script: &[u8],
+    output: W,
+) -> Result<(), ProgramFault>
     ensures { IfErr result (EndsBy (λ _ text. IsRefusedLine text)) }
 {
     let output = BufWriter::new(alloc, output)?;
@@ -69,68 +74,68 @@ fn play<W: Write + Drop>(alloc: Global, bench: Bench, script: &[u8], output: W) 
 
 /// Why a replay ends early. Its text goes to standard error.
 #[derive(Clone, Copy, Debug, PartialEq, Eq, Error)]
-pub enum ReplayStop {
+pub enum ReplayFailure {
     /// The client could not open its connection, or the second session could not begin.
     #[error("setup")]
     Setup,
     /// The program itself failed.
     #[error("{0}")]
-    Program(Fault),
+    Program(ProgramFault),
 }
 
-impl ReplayStop {
+impl ReplayFailure {
     /// The exit status of the program.
     pub fn exit_status(self) -> u8
-        ensures { result ≡ replay_stop_status self }
+        ensures { result ≡ replay_failure_status self }
     {
         match self {
-            ReplayStop::Setup => 6,
-            ReplayStop::Program(fault) => fault.exit_status(),
+            ReplayFailure::Setup => 6,
+            ReplayFailure::Program(fault) => fault.exit_status(),
         }
     }
 }
 
-impl From<Fault> for ReplayStop {
-    ghost use Rattle.enip_replay.specs.declared.replaying.ReplayStop.TheVariants.{Program};
+impl From<ProgramFault> for ReplayFailure {
+    ghost use Rattle.enip_replay.specs.declared.replaying.ReplayFailure.TheVariants.{Program};
 
     ghost from_gives = { λ fault stop. stop ≡ Program fault };
 
-    fn from(fault: Fault) -> ReplayStop {
-        ReplayStop::Program(fault)
+    fn from(fault: ProgramFault) -> ReplayFailure {
+        ReplayFailure::Program(fault)
     }
 }
 
-impl From<io::Error> for ReplayStop {
+impl From<io::Error> for ReplayFailure {
     ghost use Rattle.enip_replay.specs.Replay.{IsStopOfDevices};
 
     ghost from_gives = { λ _ stop. IsStopOfDevices stop };
 
-    fn from(error: io::Error) -> ReplayStop {
-        ReplayStop::Program(Fault::from(error))
+    fn from(error: io::Error) -> ReplayFailure {
+        ReplayFailure::Program(ProgramFault::from(error))
     }
 }
 
-impl From<BenchFault> for ReplayStop {
+impl From<BenchFault> for ReplayFailure {
     ghost use Rattle.enip_replay.specs.Replay.{stop_of};
 
     ghost from_gives = { λ fault stop. stop ≡ stop_of fault };
 
-    fn from(fault: BenchFault) -> ReplayStop {
+    fn from(fault: BenchFault) -> ReplayFailure {
         match fault {
-            BenchFault::Memory => ReplayStop::Program(Fault::Memory),
-            BenchFault::Setup => ReplayStop::Setup,
+            BenchFault::Memory => ReplayFailure::Program(ProgramFault::Memory),
+            BenchFault::Setup => ReplayFailure::Setup,
         }
     }
 }
 
 /// An adapter and a client with its connection open.
-pub(crate) fn bench_of(alloc: Global, adapter: Adapter) -> Result<Bench, ReplayStop>
+pub(crate) fn bench_of(alloc: Global, adapter: Adapter) -> Result<Bench, ReplayFailure>
     requires { IsNewAdapter adapter }
     ensures made { IfOk result (IsOpeningOf adapter) }
     ensures refused { IfErr result (IsStopOf adapter) }
 {
     let Ok(client) = Client::new(alloc, &WANTS) else {
-        return Err(ReplayStop::Program(Fault::Memory));
+        return Err(ReplayFailure::Program(ProgramFault::Memory));
     };
     Ok(Bench::new(alloc, adapter, client)?)
 }
@@ -146,7 +151,7 @@ struct Player<W: Write + Drop> {
 
 impl<W: Write + Drop> Player<W> {
     /// Runs a line, and says whether it is one that can be run.
-    fn run_line(&mut self, text: &[u8]) -> Result<bool, Fault>
+    fn run_line(&mut self, text: &[u8]) -> Result<bool, ProgramFault>
         ensures run { IfOk result (λ runs. runs ≡ true → IsRun text.now self.old.bench self.new.bench
             (writer_contents W.contents self.old.output) (writer_contents W.contents self.new.output)) }
         ensures line { IfOk result (λ runs. runs ≡ false → IsRefusedLine text.now) }
@@ -163,7 +168,7 @@ impl<W: Write + Drop> Player<W> {
     }
 
     /// Does an event, and tells what became of it.
-    fn run_event(&mut self, event: &Event) -> Result<(), Fault>
+    fn run_event(&mut self, event: &Event) -> Result<(), ProgramFault>
         ensures done { OnOk result (IsDone (event_in event.now) self.old.bench self.new.bench
             (writer_contents W.contents self.old.output) (writer_contents W.contents self.new.output)) }
         ensures refused { IfErr result IsOfDevices }
@@ -174,7 +179,7 @@ impl<W: Write + Drop> Player<W> {
     }
 
     /// Prints where both ends stand, where all lines were run.
-    fn end(&mut self, ran: Result<(), Fault>) -> Result<(), Fault>
+    fn end(&mut self, ran: Result<(), ProgramFault>) -> Result<(), ProgramFault>
         ensures printed { OnOk ran (OnOk result (Appends (writer_contents W.contents self.old.output)
             (writer_contents W.contents self.new.output) (ending self.old.bench))) }
         ensures refused { OnOk ran (IfErr result IsOfDevices) }
@@ -183,7 +188,7 @@ impl<W: Write + Drop> Player<W> {
         ran?;
         let seen = self.bench.seen();
         print_objects(&mut self.output, seen.objects)?;
-        writeln!(self.output, "{}", Standing(seen.stage))?;
+        writeln!(self.output, "{}", FinalState(seen.stage))?;
         self.output.flush()?;
         Ok(())
     }
@@ -192,22 +197,22 @@ impl<W: Write + Drop> Player<W> {
 impl<W: Write + Drop> TakeLines for Player<W> {
     ghost refuses = { λ _ text. IsRefusedLine text };
 
-    fn take_line(&mut self, text: &[u8], number: u64) -> Result<(), Fault> {
+    fn take_line(&mut self, text: &[u8], number: u64) -> Result<(), ProgramFault> {
         if self.run_line(text)? {
             Ok(())
         } else {
-            Err(Fault::Line(number, line_fault(text)))
+            Err(ProgramFault::Line(number, line_fault(text)))
         }
     }
 
-    fn send(&mut self) -> Result<(), Fault> {
+    fn send(&mut self) -> Result<(), ProgramFault> {
         self.output.flush()?;
         Ok(())
     }
 }
 
 /// Prints the counter, and the data of each assembly, by rising instance.
-pub(crate) fn print_objects<W: Write>(output: &mut W, objects: &Objects) -> Result<(), Fault>
+pub(crate) fn print_objects<W: Write>(output: &mut W, objects: &Objects) -> Result<(), ProgramFault>
     ensures printed { OnOk result (Appends (W.contents output.old) (W.contents output.new)
         (objects_printed objects.now)) }
     ensures refused { IfErr result IsOfDevices }
@@ -217,7 +222,7 @@ pub(crate) fn print_objects<W: Write>(output: &mut W, objects: &Objects) -> Resu
 }
 
 /// Prints the data of each assembly, by rising instance.
-fn print_assemblies<W: Write>(output: &mut W, objects: &Objects) -> Result<(), Fault>
+fn print_assemblies<W: Write>(output: &mut W, objects: &Objects) -> Result<(), ProgramFault>
     ensures printed { OnOk result (Appends (W.contents output.old) (W.contents output.new)
         (assemblies_printed objects.now LAST_INSTANCE)) }
     ensures refused { IfErr result IsOfDevices }
@@ -235,7 +240,7 @@ fn print_assembly<W: Write>(
     objects: &Objects,
     instance: u32,
     data: &mut ReplyBuf,
-) -> Result<(), Fault>
+) -> Result<(), ProgramFault>
     ensures printed { OnOk result (Appends (W.contents output.old) (W.contents output.new)
         (assembly_printed objects.now instance)) }
     ensures refused { IfErr result IsOfDevices }

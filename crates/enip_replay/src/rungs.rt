@@ -26,17 +26,17 @@ pub(crate) enum Field<'a> {
 
 /// Where an arrow points.
 #[derive(Clone, Copy)]
-pub(crate) enum Way {
+pub(crate) enum Direction {
     /// From the client to the adapter.
-    There,
+    ToAdapter,
     /// From the adapter to the client.
-    Back,
+    ToClient,
 }
 
 /// An item that is under way.
 #[derive(Clone, Copy)]
 pub(crate) struct Arrow<'a> {
-    pub(crate) way: Way,
+    pub(crate) way: Direction,
     /// Whether it arrives where the arrow points; a cross stands there if not.
     pub(crate) arrives: bool,
     pub(crate) count: u16,
@@ -70,12 +70,12 @@ impl fmt::Display for Arrow<'_> {
         let (count, message) = (self.count, Message(self.message));
         let room = WIDTH.saturating_sub(2 + digits_of(count) + message.width());
         match self.way {
-            Way::There => {
+            Direction::ToAdapter => {
                 write!(f, "--- {count}: {message} ")?;
                 write_dashes(f, room.saturating_sub(6))?;
                 f.write_str(if self.arrives { ">" } else { "x" })
             }
-            Way::Back => {
+            Direction::ToClient => {
                 f.write_str(if self.arrives { "<" } else { "x" })?;
                 write!(f, "-- {count}: {message} ")?;
                 write_dashes(f, room.saturating_sub(5))

@@ -5,11 +5,11 @@ ghost use Rattle.std.specs.Option.{SomeIff};
 ghost use Rattle.std.specs.Str.Parse.{IsNumeral, digits_value};
 ghost use Rattle.enip_bench.specs.Stored.{event_in};
 ghost use Rattle.enip_commands.specs.Digits.{bytes_spelled};
-ghost use Rattle.enip_replay.specs.Script.{Means, IsMeaningless, IsNoWord, BeginsOtherwise, is_skipped};
+ghost use Rattle.enip_replay.specs.Script.{Means, IsMeaningless, IsNotAKeyword, BeginsOtherwise, is_skipped};
 ghost use Rattle.enip_commands.specs.Statuses.{IsOfDevices};
 
 use enip_bench::Event;
-use enip_commands::{Fault, LineFault, decimal, decode};
+use enip_commands::{LineFault, ProgramFault, decimal, decode};
 use std::alloc::Global;
 
 /// Whether a line is empty or a remark.
@@ -29,21 +29,21 @@ pub(crate) fn event_of(
     alloc: Global,
     text: &[u8],
     digits: &mut Vec<u8>,
-) -> Result<Option<Event>, Fault>
+) -> Result<Option<Event>, ProgramFault>
     ensures meant { IfOk result (λ meant. MatchOption meant (IsMeaningless text.now)
         (λ event. Means text.now (event_in event))) }
     ensures refused { IfErr result IsOfDevices }
 {
-    if let Some(request) = behind(b"submit ", text) {
+    if let Some(request) = rest_after(b"submit ", text) {
         return Ok(bytes_of(alloc, request, digits)?.map(Event::Submit));
     }
-    if let Some(request) = behind(b"other ", text) {
+    if let Some(request) = rest_after(b"other ", text) {
         return Ok(bytes_of(alloc, request, digits)?.map(Event::Other));
     }
-    if let Some(position) = behind(b"reach ", text) {
+    if let Some(position) = rest_after(b"reach ", text) {
         return Ok(position_of(position).map(Event::Reach));
     }
-    if let Some(position) = behind(b"back ", text) {
+    if let Some(position) = rest_after(b"back ", text) {
         return Ok(position_of(position).map(Event::Back));
     }
     Ok(event_of_word(text))
@@ -52,7 +52,7 @@ pub(crate) fn event_of(
 /// The event of a line of one word.
 fn event_of_word(text: &[u8]) -> Option<Event>
     ensures meant { IfSome result (λ event. Means text.now (event_in event)) }
-    ensures other { result ≡ None → IsNoWord text.now }
+    ensures other { result ≡ None → IsNotAKeyword text.now }
 {
     match text {
         b"resend" => Some(Event::Resend),
@@ -63,7 +63,7 @@ fn event_of_word(text: &[u8]) -> Option<Event>
 }
 
 /// What stands behind a word.
-fn behind<'a>(word: &[u8], text: &'a [u8]) -> Option<&'a [u8]>
+fn rest_after<'a>(word: &[u8], text: &'a [u8]) -> Option<&'a [u8]>
     ensures { MatchOption result (BeginsOtherwise word.now text.now) (λ rest. text.now ≡ word.now ++ rest.now) }
 {
     text.strip_prefix(word)
@@ -78,7 +78,11 @@ fn position_of(digits: &[u8]) -> Option<usize>
 }
 
 /// The bytes that hexadecimal digits spell, perhaps none, with spaces or without.
-fn bytes_of(alloc: Global, text: &[u8], digits: &mut Vec<u8>) -> Result<Option<Vec<u8>>, Fault>
+fn bytes_of(
+    alloc: Global,
+    text: &[u8],
+    digits: &mut Vec<u8>,
+) -> Result<Option<Vec<u8>>, ProgramFault>
     ensures spelled { IfOk result (λ bytes. option_map (λ b. b.items) bytes ≡ bytes_spelled text.now) }
     ensures refused { IfErr result IsOfDevices }
 {

@@ -3,189 +3,189 @@ use Rattle.std.proofs.Common.{◌≡◌, ◌≢◌, ◌<◌, ◌≤◌, ◌+◌,
 use Rattle.std.proofs.Common.{Bool, true, Option, Some, None, refl, sym, subst, arith}
 use Rattle.std.specs.Prelude.{◌-◌, length, ⊤}
 use Rattle.enip_adapter.specs.Calls.{AdapterState}
-use Rattle.enip_server.specs.declared.line.Line.{Line}
-use Rattle.enip_server.specs.Rounds.{PeersState, new_peers, woken_to, woken_line}
+use Rattle.enip_server.specs.declared.peer_io.PeerIo.{PeerIo}
+use Rattle.enip_server.specs.Rounds.{ServerState, new_peers, marked_ready_in, marked_ready_at}
 
 -- None of these lines is of this peer.
-abbrev pub HasNone : {W : Type 0} → ℕ → List (Option (Line W)) → Type 0
+abbrev pub HasNone : {W : Type 0} → ℕ → List (Option (PeerIo W)) → Type 0
 HasNone peer [] = ⊤
-HasNone peer (None ∷ lines) = HasNone peer lines
-HasNone peer (Some line ∷ lines) = (line.peer ≢ peer) × HasNone peer lines
+HasNone peer (None ∷ slots) = HasNone peer slots
+HasNone peer (Some io ∷ slots) = (io.peer ≢ peer) × HasNone peer slots
 
 -- The peers of these lines differ.
-abbrev pub AreApart : {W : Type 0} → List (Option (Line W)) → Type 0
+abbrev pub AreApart : {W : Type 0} → List (Option (PeerIo W)) → Type 0
 AreApart [] = ⊤
-AreApart (None ∷ lines) = AreApart lines
-AreApart (Some line ∷ lines) = HasNone line.peer lines × AreApart lines
+AreApart (None ∷ slots) = AreApart slots
+AreApart (Some io ∷ slots) = HasNone io.peer slots × AreApart slots
 
 -- The peers of these lines are below a number.
-abbrev pub AreBelow : {W : Type 0} → ℕ → List (Option (Line W)) → Type 0
+abbrev pub AreBelow : {W : Type 0} → ℕ → List (Option (PeerIo W)) → Type 0
 AreBelow n [] = ⊤
-AreBelow n (None ∷ lines) = AreBelow n lines
-AreBelow n (Some line ∷ lines) = (line.peer < n) × AreBelow n lines
+AreBelow n (None ∷ slots) = AreBelow n slots
+AreBelow n (Some io ∷ slots) = (io.peer < n) × AreBelow n slots
 
-pub record AreSound {W : Type 0} (p : PeersState W) : Type 0 where
-  pub apart : AreApart p.lines
-  pub below : AreBelow p.adapter.state.next_handle p.lines
+pub record AreSound {W : Type 0} (p : ServerState W) : Type 0 where
+  pub apart : AreApart p.slots
+  pub below : AreBelow p.adapter.state.next_handle p.slots
 
 -- A place is free, or its peer is the one that was there.
-abbrev pub IsOf : {W : Type 0} → Option (Line W) → Option (Line W) → Type 0
+abbrev pub IsOf : {W : Type 0} → Option (PeerIo W) → Option (PeerIo W) → Type 0
 IsOf None None = ⊤
 IsOf None (Some after) = ⊥
-IsOf (Some line) None = ⊤
-IsOf (Some line) (Some after) = after.peer ≡ line.peer
+IsOf (Some io) None = ⊤
+IsOf (Some io) (Some after) = after.peer ≡ io.peer
 
-abbrev pub AreOf : {W : Type 0} → List (Option (Line W)) → List (Option (Line W)) → Type 0
+abbrev pub AreOf : {W : Type 0} → List (Option (PeerIo W)) → List (Option (PeerIo W)) → Type 0
 AreOf [] [] = ⊤
-AreOf [] (place ∷ places) = ⊥
-AreOf (line ∷ lines) [] = ⊥
-AreOf (line ∷ lines) (place ∷ places) = IsOf line place × AreOf lines places
+AreOf [] (slot ∷ places) = ⊥
+AreOf (io ∷ slots) [] = ⊥
+AreOf (io ∷ slots) (slot ∷ places) = IsOf io slot × AreOf slots places
 
 module _ {W : Type 0} where
   -- the places after the first
-  pub none_tail : (peer : ℕ) (first : Option (Line W)) (lines : List (Option (Line W))) → HasNone peer (first ∷ lines)
-      → HasNone peer lines
-  none_tail peer None lines none = none
-  none_tail peer (Some line) lines none = none.1
+  pub none_tail : (peer : ℕ) (first : Option (PeerIo W)) (slots : List (Option (PeerIo W))) → HasNone peer (first ∷ slots)
+      → HasNone peer slots
+  none_tail peer None slots none = none
+  none_tail peer (Some io) slots none = none.1
 
-  pub apart_tail : (first : Option (Line W)) (lines : List (Option (Line W))) → AreApart (first ∷ lines) → AreApart lines
-  apart_tail None lines apart = apart
-  apart_tail (Some line) lines apart = apart.1
+  pub apart_tail : (first : Option (PeerIo W)) (slots : List (Option (PeerIo W))) → AreApart (first ∷ slots) → AreApart slots
+  apart_tail None slots apart = apart
+  apart_tail (Some io) slots apart = apart.1
 
-  below_tail : (n : ℕ) (first : Option (Line W)) (lines : List (Option (Line W))) → AreBelow n (first ∷ lines)
-      → AreBelow n lines
-  below_tail n None lines below = below
-  below_tail n (Some line) lines below = below.1
+  below_tail : (n : ℕ) (first : Option (PeerIo W)) (slots : List (Option (PeerIo W))) → AreBelow n (first ∷ slots)
+      → AreBelow n slots
+  below_tail n None slots below = below
+  below_tail n (Some io) slots below = below.1
 
   -- a place holds no line of a peer of which there is none
-  pub none_at : (peer : ℕ) (lines : List (Option (Line W))) (place : ℕ) (line : Line W) → HasNone peer lines
-      → slice_get lines place ≡ Some (Some line) → line.peer ≢ peer
-  none_at peer [] place line none there = cc
-  none_at peer (None ∷ lines) zero line none there = cc
-  none_at peer (Some first ∷ lines) zero line none there =
-      let same : first ≡ line = cc in subst (λ (l : Line W). l.peer ≢ peer) same none.0
-  none_at peer (first ∷ lines) (suc place) line none there =
-      none_at peer lines place line (none_tail peer first lines none) there
+  pub none_at : (peer : ℕ) (slots : List (Option (PeerIo W))) (slot : ℕ) (io : PeerIo W) → HasNone peer slots
+      → slice_get slots slot ≡ Some (Some io) → io.peer ≢ peer
+  none_at peer [] slot io none there = cc
+  none_at peer (None ∷ slots) zero io none there = cc
+  none_at peer (Some first ∷ slots) zero io none there =
+      let same : first ≡ io = cc in subst (λ (l : PeerIo W). l.peer ≢ peer) same none.0
+  none_at peer (first ∷ slots) (suc slot) io none there =
+      none_at peer slots slot io (none_tail peer first slots none) there
 
   -- the next number is no peer's
-  none_next : (n : ℕ) (lines : List (Option (Line W))) → AreBelow n lines → HasNone n lines
+  none_next : (n : ℕ) (slots : List (Option (PeerIo W))) → AreBelow n slots → HasNone n slots
   none_next n [] below = tt
-  none_next n (None ∷ lines) below = none_next n lines below
-  none_next n (Some line ∷ lines) below =
-      (λ same. let first : line.peer < n = below.0 in absurd (omega arith), none_next n lines below.1)
+  none_next n (None ∷ slots) below = none_next n slots below
+  none_next n (Some io ∷ slots) below =
+      (λ same. let first : io.peer < n = below.0 in absurd (omega arith), none_next n slots below.1)
 
-  below_more : (n m : ℕ) (lines : List (Option (Line W))) → n ≤ m → AreBelow n lines → AreBelow m lines
+  below_more : (n m : ℕ) (slots : List (Option (PeerIo W))) → n ≤ m → AreBelow n slots → AreBelow m slots
   below_more n m [] more below = tt
-  below_more n m (None ∷ lines) more below = below_more n m lines more below
-  below_more n m (Some line ∷ lines) more below =
-      (let first : line.peer < n = below.0 in omega arith, below_more n m lines more below.1)
+  below_more n m (None ∷ slots) more below = below_more n m slots more below
+  below_more n m (Some io ∷ slots) more below =
+      (let first : io.peer < n = below.0 in omega arith, below_more n m slots more below.1)
 
   -- one peer more
-  none_set : (peer place : ℕ) (line : Line W) (lines : List (Option (Line W))) → line.peer ≢ peer → HasNone peer lines
-      → HasNone peer (slice_set lines place (Some line))
-  none_set peer place line [] differs none = tt
-  none_set peer zero line (first ∷ lines) differs none = (differs, none_tail peer first lines none)
-  none_set peer (suc place) line (None ∷ lines) differs none = none_set peer place line lines differs none
-  none_set peer (suc place) line (Some first ∷ lines) differs none =
-      (none.0, none_set peer place line lines differs none.1)
+  none_set : (peer slot : ℕ) (io : PeerIo W) (slots : List (Option (PeerIo W))) → io.peer ≢ peer → HasNone peer slots
+      → HasNone peer (slice_set slots slot (Some io))
+  none_set peer slot io [] differs none = tt
+  none_set peer zero io (first ∷ slots) differs none = (differs, none_tail peer first slots none)
+  none_set peer (suc slot) io (None ∷ slots) differs none = none_set peer slot io slots differs none
+  none_set peer (suc slot) io (Some first ∷ slots) differs none =
+      (none.0, none_set peer slot io slots differs none.1)
 
-  apart_set : (place : ℕ) (line : Line W) (lines : List (Option (Line W))) → HasNone line.peer lines → AreApart lines
-      → AreApart (slice_set lines place (Some line))
-  apart_set place line [] none apart = tt
-  apart_set zero line (first ∷ lines) none apart =
-      (none_tail line.peer first lines none, apart_tail first lines apart)
-  apart_set (suc place) line (None ∷ lines) none apart = apart_set place line lines none apart
-  apart_set (suc place) line (Some first ∷ lines) none apart = (
-    none_set first.peer place line lines (λ same. none.0 (sym same)) apart.0,
-    apart_set place line lines none.1 apart.1,
+  apart_set : (slot : ℕ) (io : PeerIo W) (slots : List (Option (PeerIo W))) → HasNone io.peer slots → AreApart slots
+      → AreApart (slice_set slots slot (Some io))
+  apart_set slot io [] none apart = tt
+  apart_set zero io (first ∷ slots) none apart =
+      (none_tail io.peer first slots none, apart_tail first slots apart)
+  apart_set (suc slot) io (None ∷ slots) none apart = apart_set slot io slots none apart
+  apart_set (suc slot) io (Some first ∷ slots) none apart = (
+    none_set first.peer slot io slots (λ same. none.0 (sym same)) apart.0,
+    apart_set slot io slots none.1 apart.1,
   )
 
-  below_set : (n place : ℕ) (line : Line W) (lines : List (Option (Line W))) → line.peer < n → AreBelow n lines
-      → AreBelow n (slice_set lines place (Some line))
-  below_set n place line [] less below = tt
-  below_set n zero line (first ∷ lines) less below = (less, below_tail n first lines below)
-  below_set n (suc place) line (None ∷ lines) less below = below_set n place line lines less below
-  below_set n (suc place) line (Some first ∷ lines) less below = (below.0, below_set n place line lines less below.1)
+  below_set : (n slot : ℕ) (io : PeerIo W) (slots : List (Option (PeerIo W))) → io.peer < n → AreBelow n slots
+      → AreBelow n (slice_set slots slot (Some io))
+  below_set n slot io [] less below = tt
+  below_set n zero io (first ∷ slots) less below = (less, below_tail n first slots below)
+  below_set n (suc slot) io (None ∷ slots) less below = below_set n slot io slots less below
+  below_set n (suc slot) io (Some first ∷ slots) less below = (below.0, below_set n slot io slots less below.1)
 
   -- a peer with the next number comes
-  pub sound_come : (p new : PeersState W) (place : ℕ) (line : Line W) → AreSound p
-      → line.peer ≡ p.adapter.state.next_handle → new.lines ≡ slice_set p.lines place (Some line)
+  pub sound_come : (p new : ServerState W) (slot : ℕ) (io : PeerIo W) → AreSound p
+      → io.peer ≡ p.adapter.state.next_handle → new.slots ≡ slice_set p.slots slot (Some io)
       → new.adapter.state.next_handle ≡ p.adapter.state.next_handle + 1 → AreSound new
-  sound_come p new place line sound is lines next = record {
-    apart = subst AreApart (sym lines)
-        (apart_set place line p.lines
-        (subst (λ n. HasNone n p.lines) (sym is) (none_next p.adapter.state.next_handle p.lines sound.below)) sound.apart);
-    below = subst (AreBelow new.adapter.state.next_handle) (sym lines)
-        (below_set new.adapter.state.next_handle place line p.lines (omega arith)
-        (below_more p.adapter.state.next_handle new.adapter.state.next_handle p.lines (omega arith) sound.below));
+  sound_come p new slot io sound is slots next = record {
+    apart = subst AreApart (sym slots)
+        (apart_set slot io p.slots
+        (subst (λ n. HasNone n p.slots) (sym is) (none_next p.adapter.state.next_handle p.slots sound.below)) sound.apart);
+    below = subst (AreBelow new.adapter.state.next_handle) (sym slots)
+        (below_set new.adapter.state.next_handle slot io p.slots (omega arith)
+        (below_more p.adapter.state.next_handle new.adapter.state.next_handle p.slots (omega arith) sound.below));
   }
 
   -- each peer stays or goes
-  none_of : (peer : ℕ) (lines places : List (Option (Line W))) → AreOf lines places → HasNone peer lines
+  none_of : (peer : ℕ) (slots places : List (Option (PeerIo W))) → AreOf slots places → HasNone peer slots
       → HasNone peer places
   none_of peer [] [] of none = tt
-  none_of peer [] (place ∷ places) of none = absurd of
-  none_of peer (line ∷ lines) [] of none = absurd of
-  none_of peer (None ∷ lines) (None ∷ places) of none = none_of peer lines places of.1 none
-  none_of peer (None ∷ lines) (Some after ∷ places) of none = absurd of.0
-  none_of peer (Some line ∷ lines) (None ∷ places) of none = none_of peer lines places of.1 none.1
-  none_of peer (Some line ∷ lines) (Some after ∷ places) of none =
-      (subst (λ n. n ≢ peer) (sym of.0) none.0, none_of peer lines places of.1 none.1)
+  none_of peer [] (slot ∷ places) of none = absurd of
+  none_of peer (io ∷ slots) [] of none = absurd of
+  none_of peer (None ∷ slots) (None ∷ places) of none = none_of peer slots places of.1 none
+  none_of peer (None ∷ slots) (Some after ∷ places) of none = absurd of.0
+  none_of peer (Some io ∷ slots) (None ∷ places) of none = none_of peer slots places of.1 none.1
+  none_of peer (Some io ∷ slots) (Some after ∷ places) of none =
+      (subst (λ n. n ≢ peer) (sym of.0) none.0, none_of peer slots places of.1 none.1)
 
-  apart_of : (lines places : List (Option (Line W))) → AreOf lines places → AreApart lines → AreApart places
+  apart_of : (slots places : List (Option (PeerIo W))) → AreOf slots places → AreApart slots → AreApart places
   apart_of [] [] of apart = tt
-  apart_of [] (place ∷ places) of apart = absurd of
-  apart_of (line ∷ lines) [] of apart = absurd of
-  apart_of (None ∷ lines) (None ∷ places) of apart = apart_of lines places of.1 apart
-  apart_of (None ∷ lines) (Some after ∷ places) of apart = absurd of.0
-  apart_of (Some line ∷ lines) (None ∷ places) of apart = apart_of lines places of.1 apart.1
-  apart_of (Some line ∷ lines) (Some after ∷ places) of apart = (
-    subst (λ n. HasNone n places) (sym of.0) (none_of line.peer lines places of.1 apart.0),
-    apart_of lines places of.1 apart.1,
+  apart_of [] (slot ∷ places) of apart = absurd of
+  apart_of (io ∷ slots) [] of apart = absurd of
+  apart_of (None ∷ slots) (None ∷ places) of apart = apart_of slots places of.1 apart
+  apart_of (None ∷ slots) (Some after ∷ places) of apart = absurd of.0
+  apart_of (Some io ∷ slots) (None ∷ places) of apart = apart_of slots places of.1 apart.1
+  apart_of (Some io ∷ slots) (Some after ∷ places) of apart = (
+    subst (λ n. HasNone n places) (sym of.0) (none_of io.peer slots places of.1 apart.0),
+    apart_of slots places of.1 apart.1,
   )
 
-  below_of : (n : ℕ) (lines places : List (Option (Line W))) → AreOf lines places → AreBelow n lines → AreBelow n places
+  below_of : (n : ℕ) (slots places : List (Option (PeerIo W))) → AreOf slots places → AreBelow n slots → AreBelow n places
   below_of n [] [] of below = tt
-  below_of n [] (place ∷ places) of below = absurd of
-  below_of n (line ∷ lines) [] of below = absurd of
-  below_of n (None ∷ lines) (None ∷ places) of below = below_of n lines places of.1 below
-  below_of n (None ∷ lines) (Some after ∷ places) of below = absurd of.0
-  below_of n (Some line ∷ lines) (None ∷ places) of below = below_of n lines places of.1 below.1
-  below_of n (Some line ∷ lines) (Some after ∷ places) of below =
-      (subst (λ m. m < n) (sym of.0) below.0, below_of n lines places of.1 below.1)
+  below_of n [] (slot ∷ places) of below = absurd of
+  below_of n (io ∷ slots) [] of below = absurd of
+  below_of n (None ∷ slots) (None ∷ places) of below = below_of n slots places of.1 below
+  below_of n (None ∷ slots) (Some after ∷ places) of below = absurd of.0
+  below_of n (Some io ∷ slots) (None ∷ places) of below = below_of n slots places of.1 below.1
+  below_of n (Some io ∷ slots) (Some after ∷ places) of below =
+      (subst (λ m. m < n) (sym of.0) below.0, below_of n slots places of.1 below.1)
 
   -- no peer comes
-  pub sound_of : (p new : PeersState W) → AreSound p → AreOf p.lines new.lines
+  pub sound_of : (p new : ServerState W) → AreSound p → AreOf p.slots new.slots
       → p.adapter.state.next_handle ≤ new.adapter.state.next_handle → AreSound new
   sound_of p new sound of next = record {
-    apart = apart_of p.lines new.lines of sound.apart;
-    below = below_of new.adapter.state.next_handle p.lines new.lines of
-        (below_more p.adapter.state.next_handle new.adapter.state.next_handle p.lines next sound.below);
+    apart = apart_of p.slots new.slots of sound.apart;
+    below = below_of new.adapter.state.next_handle p.slots new.slots of
+        (below_more p.adapter.state.next_handle new.adapter.state.next_handle p.slots next sound.below);
   }
 
-  is_of_itself : (place : Option (Line W)) → IsOf place place
+  is_of_itself : (slot : Option (PeerIo W)) → IsOf slot slot
   is_of_itself None = tt
-  is_of_itself (Some line) = refl
+  is_of_itself (Some io) = refl
 
-  pub are_of_themselves : (lines : List (Option (Line W))) → AreOf lines lines
+  pub are_of_themselves : (slots : List (Option (PeerIo W))) → AreOf slots slots
   are_of_themselves [] = tt
-  are_of_themselves (line ∷ lines) = (is_of_itself line, are_of_themselves lines)
+  are_of_themselves (io ∷ slots) = (is_of_itself io, are_of_themselves slots)
 
-  of_set : (lines : List (Option (Line W))) (place : ℕ) (line after : Line W) → slice_get lines place ≡ Some (Some line)
-      → after.peer ≡ line.peer → AreOf lines (slice_set lines place (Some after))
-  of_set [] place line after there same = tt
-  of_set (first ∷ lines) zero line after there same =
-      let is : first ≡ Some line = cc in
-      (subst (λ o. IsOf o (Some after)) (sym is) same, are_of_themselves lines)
-  of_set (first ∷ lines) (suc place) line after there same =
-      (is_of_itself first, of_set lines place line after there same)
+  of_set : (slots : List (Option (PeerIo W))) (slot : ℕ) (io after : PeerIo W) → slice_get slots slot ≡ Some (Some io)
+      → after.peer ≡ io.peer → AreOf slots (slice_set slots slot (Some after))
+  of_set [] slot io after there same = tt
+  of_set (first ∷ slots) zero io after there same =
+      let is : first ≡ Some io = cc in
+      (subst (λ o. IsOf o (Some after)) (sym is) same, are_of_themselves slots)
+  of_set (first ∷ slots) (suc slot) io after there same =
+      (is_of_itself first, of_set slots slot io after there same)
 
   -- a line is woken
-  pub of_woken : (ends : Bool) (lines : List (Option (Line W))) (place : ℕ) (found : Option (Option (Line W)))
-      → slice_get lines place ≡ found → AreOf lines (woken_line ends lines place found)
-  of_woken ends lines place None is = are_of_themselves lines
-  of_woken ends lines place (Some None) is = are_of_themselves lines
-  of_woken ends lines place (Some (Some line)) is = of_set lines place line (woken_to ends line) is refl
+  pub of_woken : (ends : Bool) (slots : List (Option (PeerIo W))) (slot : ℕ) (found : Option (Option (PeerIo W)))
+      → slice_get slots slot ≡ found → AreOf slots (marked_ready_at ends slots slot found)
+  of_woken ends slots slot None is = are_of_themselves slots
+  of_woken ends slots slot (Some None) is = are_of_themselves slots
+  of_woken ends slots slot (Some (Some io)) is = of_set slots slot io (marked_ready_in ends io) is refl
 
 apart_free : (W : Type 0) (n : ℕ) → AreApart {W = W} (replicate n None)
 apart_free W zero = tt
@@ -196,8 +196,8 @@ below_free W next zero = tt
 below_free W next (suc n) = below_free W next n
 
 -- peers at their beginning
-pub sound_new : {W : Type 0} (adapter : AdapterState) (silence : ℕ) → AreSound {W = W} (new_peers adapter silence)
-sound_new {W} adapter silence = record {
+pub sound_new : {W : Type 0} (adapter : AdapterState) (idle_timeout : ℕ) → AreSound {W = W} (new_peers adapter idle_timeout)
+sound_new {W} adapter idle_timeout = record {
   apart = apart_free W (adapter.state.places - length adapter.state.peers);
   below = below_free W adapter.state.next_handle (adapter.state.places - length adapter.state.peers);
 }

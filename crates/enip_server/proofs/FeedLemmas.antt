@@ -2,20 +2,20 @@
 use Rattle.std.proofs.Common.{◌≡◌, ◌≢◌, ℕ, List, [], ◌∷◌, length, eqb, true, false, Option, Some, None, is_some}
 use Rattle.std.proofs.Common.{refl, sym, subst, true≢false, arith}
 use Rattle.std.proofs.lemmas.Bool.{eqb-true}
-use Rattle.enip_server.specs.declared.line.Turn.{Turn}
-use Rattle.enip_server.specs.declared.line.Turn.TheVariants.{More, Reads, Writes, Over}
-use Rattle.enip_server.specs.Desks.{Desk, IsFlushed, AreFed, fed_once, IsToldBy, IsWaiting}
-use Rattle.enip_server.specs.Desks.AreFed.{Not_yet, Once_more}
+use Rattle.enip_server.specs.declared.peer_io.Turn.{Turn}
+use Rattle.enip_server.specs.declared.peer_io.Turn.TheVariants.{More, UntilReadable, UntilWritable, Finished}
+use Rattle.enip_server.specs.PeerStates.{PeerState, IsFlushed, AreFed, fed_once, FitsBuffers, IsWaiting}
+use Rattle.enip_server.specs.PeerStates.AreFed.{None_fed, One_more_fed}
 
 -- nothing is fed
-pub none_fed : (now peer : ℕ) (d : Desk) → AreFed now peer d d
-none_fed now peer d = Not_yet
+pub none_fed : (now peer : ℕ) (d : PeerState) → AreFed now peer d d
+none_fed now peer d = None_fed
 
 -- one feed more
-pub one_more : (now peer to : ℕ) (old d between new : Desk) → to ≡ peer → AreFed now peer old d → d.outbox ≡ []
+pub one_more : (now peer to : ℕ) (old d between new : PeerState) → to ≡ peer → AreFed now peer old d → d.outbox ≡ []
     → d.closed ≡ None → between ≡ fed_once now to d → IsFlushed between new → AreFed now peer old new
 one_more now peer to old d between new same fed out served is flushed =
-    Once_more fed out served
+    One_more_fed fed out served
     (subst (λ p. IsFlushed (fed_once now p d) new) same (subst (λ x. IsFlushed x new) is flushed))
 
 -- what is not there
@@ -39,8 +39,8 @@ none_left (byte ∷ bytes) is =
     let none : length (byte ∷ bytes) ≡ 0 = eqb-true (length (byte ∷ bytes)) 0 is in absurd (omega (arith, none))
 
 -- a turn that waits
-pub told_waiting : (d : Desk) (turn : Turn) → d.outbox ≢ [] → IsWaiting turn → IsToldBy d turn
+pub told_waiting : (d : PeerState) (turn : Turn) → d.outbox ≢ [] → IsWaiting turn → FitsBuffers d turn
 told_waiting d More waits is = absurd is
-told_waiting d Reads waits is = absurd is
-told_waiting d Writes waits is = waits
-told_waiting d Over waits is = tt
+told_waiting d UntilReadable waits is = absurd is
+told_waiting d UntilWritable waits is = waits
+told_waiting d Finished waits is = tt

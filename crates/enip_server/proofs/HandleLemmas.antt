@@ -2,13 +2,13 @@
 use Rattle.std.proofs.Common.{◌≡◌, ◌≤◌, ◌+◌, ℕ, List, [], ◌∷◌, not, ltb, length, refl, ◌∙◌, arith}
 use Rattle.std.specs.List.{AllByRecursion}
 use Rattle.enip_adapter.specs.Turn.{Turned, after, session_of}
-use Rattle.enip_adapter.specs.Turn.Said.{Begins}
+use Rattle.enip_adapter.specs.Turn.Output.{Begins}
 use Rattle.enip_adapter.specs.Calls.{AdapterState, Call, after_call, call_answer}
 use Rattle.enip_adapter.specs.Calls.Call.{Begins_peer, Feeds, Ends_peer, Ticks}
 use Rattle.enip_adapter.specs.Runs.{after_calls}
 use Rattle.enip_adapter.proofs.EventLemmas.{of_piece}
 use Rattle.enip_adapter.proofs.ListLemmas.{both}
-use Rattle.enip_adapter.proofs.NumberLemmas.{next-sight, next-ended}
+use Rattle.enip_adapter.proofs.NumberLemmas.{next-parsed_frame, next-ended}
 use Rattle.enip_adapter.proofs.PeerLemmas.{at_state}
 
 -- A feed or the end of this peer.
@@ -23,7 +23,7 @@ next_call : (peer : ℕ) (a : AdapterState) (call : Call) → IsAbout peer call
 next_call peer a Begins_peer is = absurd is
 next_call peer a (Feeds now other piece) is =
     of_piece (λ m. (after a.state m.events).next_handle ≡ a.state.next_handle) now other piece a.held
-    (session_of a.state other) refl (λ x n left. next-sight (at_state a.state now) other x)
+    (session_of a.state other) refl (λ x n left. next-parsed_frame (at_state a.state now) other x)
 next_call peer a (Ends_peer other) is = next-ended a.state other (session_of a.state other)
 next_call peer a (Ticks now) is = absurd is
 
@@ -42,10 +42,10 @@ next_begun a =
     (both P (ltb 0xffffffff a.state.next_handle) _ _ (omega arith) (omega arith))
 
 -- a peer that begins is given it, and the next is one more
-pub next_given : (a : AdapterState) (handle : ℕ) → (call_answer a Begins_peer).said ≡ Begins handle
+pub next_given : (a : AdapterState) (handle : ℕ) → (call_answer a Begins_peer).output ≡ Begins handle
     → (handle ≡ a.state.next_handle) × ((after_call a Begins_peer).state.next_handle ≡ a.state.next_handle + 1)
 next_given a handle =
-    let P : Turned → Type 0 = λ t. t.answer.said ≡ Begins handle
+    let P : Turned → Type 0 = λ t. t.answer.output ≡ Begins handle
     → (handle ≡ a.state.next_handle) × (t.state.next_handle ≡ a.state.next_handle + 1) in
     both P (not (ltb (length a.state.peers) a.state.places)) _ _ (λ is. absurd (cc))
     (both P (ltb 0xffffffff a.state.next_handle) _ _ (λ is. absurd (cc)) (λ is. (cc, refl)))

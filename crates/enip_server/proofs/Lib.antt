@@ -2,7 +2,7 @@ pub mod FlushLemmas
 pub mod FeedLemmas
 pub mod TurnLemmas
 pub mod RoundLemmas
-pub mod MoveLemmas
+pub mod TransferLemmas
 pub mod TurnMoves
 pub mod ApartLemmas
 pub mod HandleLemmas

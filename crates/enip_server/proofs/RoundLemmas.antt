@@ -8,79 +8,79 @@ use Rattle.std.specs.List.{list_any}
 use Rattle.enip_adapter.proofs.LookupLemmas.{slice_get-within}
 use Rattle.enip_adapter.specs.Calls.{AdapterState, after_call}
 use Rattle.enip_adapter.specs.Calls.Call.{Ends_peer}
-use Rattle.enip_server.specs.declared.line.Line.{Line}
-use Rattle.enip_server.specs.declared.tally.Tally.{Tally}
+use Rattle.enip_server.specs.declared.peer_io.PeerIo.{PeerIo}
+use Rattle.enip_server.specs.declared.wire_counts.WireCounts.{WireCounts}
 use Rattle.enip_server.specs.declared.peers.Due.{Due}
 use Rattle.enip_server.specs.declared.peers.Peers.{Peers}
-use Rattle.enip_server.specs.Rounds.{PeersState, state_of, new_peers, woken, woken_line}
-use Rattle.enip_server.specs.Rounds.{IsServedLine, IsLeft, IsPlaceServed, ArePlacesServed}
-use Rattle.enip_server.specs.Rounds.{last_moment, is_ready, due_with, due_by, earliest_of}
+use Rattle.enip_server.specs.Rounds.{ServerState, state_of, new_peers, marked_ready, marked_ready_at}
+use Rattle.enip_server.specs.Rounds.{IsServedPeer, IsLeft, IsSlotServed, AreSlotsServed}
+use Rattle.enip_server.specs.Rounds.{timeout_at, is_ready, due_with, due_by, earliest_of}
 
-module _ {W : Type 0} (left written : W → Option (List ℕ)) (tally : W → Tally) (now silence : ℕ) (a : AdapterState) where
+module _ {W : Type 0} (left written : W → Option (List ℕ)) (counts : W → WireCounts) (now idle_timeout : ℕ) (a : AdapterState) where
   -- what became of its peer is what became of the place
-  place_left : (old : Option (Line W)) (line after : Line W) (between b : AdapterState) (goes_on : Bool)
-      (place : Option (Line W)) → old ≡ Some line → IsServedLine left written tally now silence a line between after goes_on
-      → IsLeft between after goes_on b place → IsPlaceServed left written tally now silence a old b place
-  place_left old line after between b goes_on place is served stays =
-      subst (λ o. IsPlaceServed left written tally now silence a o b place) (sym is)
+  place_left : (old : Option (PeerIo W)) (io after : PeerIo W) (between b : AdapterState) (goes_on : Bool)
+      (slot : Option (PeerIo W)) → old ≡ Some io → IsServedPeer left written counts now idle_timeout a io between after goes_on
+      → IsLeft between after goes_on b slot → IsSlotServed left written counts now idle_timeout a old b slot
+  place_left old io after between b goes_on slot is served stays =
+      subst (λ o. IsSlotServed left written counts now idle_timeout a o b slot) (sym is)
       (record { adapter = between; after = after; goes_on = goes_on; served = served; stays = stays })
 
   -- its peer goes on
-  pub place_goes_on : (old : Option (Line W)) (line after : Line W) (between : AdapterState) (goes_on : Bool)
-      → old ≡ Some line → IsServedLine left written tally now silence a line between after goes_on → goes_on ≡ true
-      → IsPlaceServed left written tally now silence a old between (Some after)
-  place_goes_on old line after between goes_on is served stays =
-      place_left old line after between between goes_on (Some after) is served
+  pub place_goes_on : (old : Option (PeerIo W)) (io after : PeerIo W) (between : AdapterState) (goes_on : Bool)
+      → old ≡ Some io → IsServedPeer left written counts now idle_timeout a io between after goes_on → goes_on ≡ true
+      → IsSlotServed left written counts now idle_timeout a old between (Some after)
+  place_goes_on old io after between goes_on is served stays =
+      place_left old io after between between goes_on (Some after) is served
       (subst (λ r. IsLeft between after r between (Some after)) (sym stays) (refl, refl))
 
   -- its peer is ended
-  pub place_ended : (old : Option (Line W)) (line after : Line W) (between b : AdapterState) (goes_on : Bool)
-      → old ≡ Some line → IsServedLine left written tally now silence a line between after goes_on → goes_on ≡ false
-      → b ≡ after_call between (Ends_peer after.peer) → IsPlaceServed left written tally now silence a old b None
-  place_ended old line after between b goes_on is served leaves ends =
-      place_left old line after between b goes_on None is served
+  pub place_ended : (old : Option (PeerIo W)) (io after : PeerIo W) (between b : AdapterState) (goes_on : Bool)
+      → old ≡ Some io → IsServedPeer left written counts now idle_timeout a io between after goes_on → goes_on ≡ false
+      → b ≡ after_call between (Ends_peer after.peer) → IsSlotServed left written counts now idle_timeout a old b None
+  place_ended old io after between b goes_on is served leaves ends =
+      place_left old io after between b goes_on None is served
       (subst (λ r. IsLeft between after r b None) (sym leaves) (ends, refl))
 
   -- one place more
-  pub places_more : (old : List (Option (Line W))) (first : Option (Line W)) (rest : List (Option (Line W)))
-      (between b : AdapterState) (place : Option (Line W)) (places : List (Option (Line W))) → old ≡ first ∷ rest
-      → IsPlaceServed left written tally now silence a first between place
-      → ArePlacesServed left written tally now silence between rest b places
-      → ArePlacesServed left written tally now silence a old b (place ∷ places)
-  places_more old first rest between b place places is served others =
-      subst (λ l. ArePlacesServed left written tally now silence a l b (place ∷ places)) (sym is) (between, served, others)
+  pub places_more : (old : List (Option (PeerIo W))) (first : Option (PeerIo W)) (rest : List (Option (PeerIo W)))
+      (between b : AdapterState) (slot : Option (PeerIo W)) (places : List (Option (PeerIo W))) → old ≡ first ∷ rest
+      → IsSlotServed left written counts now idle_timeout a first between slot
+      → AreSlotsServed left written counts now idle_timeout between rest b places
+      → AreSlotsServed left written counts now idle_timeout a old b (slot ∷ places)
+  places_more old first rest between b slot places is served others =
+      subst (λ l. AreSlotsServed left written counts now idle_timeout a l b (slot ∷ places)) (sym is) (between, served, others)
 
 -- the peers by their parts
-state_by : {W : Type 0} (p : Peers W) (adapter : AdapterState) (silence : ℕ) (lines : List (Option (Line W)))
-    → p.adapter ≡ adapter → p.silence ≡ silence → boxed_slice_items p.lines ≡ lines
-    → state_of p ≡ record { adapter = adapter; silence = silence; lines = lines }
-state_by {W} p adapter silence lines a s l =
-    ap (λ x. let r : PeersState W = record { adapter = x; silence = p.silence; lines = boxed_slice_items p.lines } in r) a
-    ∙ ap (λ x. let r : PeersState W = record { adapter = adapter; silence = x; lines = boxed_slice_items p.lines } in r) s
-    ∙ ap (λ x. let r : PeersState W = record { adapter = adapter; silence = silence; lines = x } in r) l
+state_by : {W : Type 0} (p : Peers W) (adapter : AdapterState) (idle_timeout : ℕ) (slots : List (Option (PeerIo W)))
+    → p.adapter ≡ adapter → p.idle_timeout ≡ idle_timeout → boxed_slice_items p.slots ≡ slots
+    → state_of p ≡ record { adapter = adapter; idle_timeout = idle_timeout; slots = slots }
+state_by {W} p adapter idle_timeout slots a s l =
+    ap (λ x. let r : ServerState W = record { adapter = x; idle_timeout = p.idle_timeout; slots = boxed_slice_items p.slots } in r) a
+    ∙ ap (λ x. let r : ServerState W = record { adapter = adapter; idle_timeout = x; slots = boxed_slice_items p.slots } in r) s
+    ∙ ap (λ x. let r : ServerState W = record { adapter = adapter; idle_timeout = idle_timeout; slots = x } in r) l
 
 -- so many places, all free
-pub all_free : {W : Type 0} (p : Peers W) (adapter : AdapterState) (silence places counter : ℕ)
-    → p.adapter ≡ adapter → p.silence ≡ silence → places ≡ adapter.state.places - length adapter.state.peers
-    → counter ≡ places → boxed_slice_items p.lines ≡ replicate counter None → state_of p ≡ new_peers adapter silence
-all_free p adapter silence places counter a s free all is =
-    state_by p adapter silence _ a s (is ∙ ap (λ n. replicate n None) (all ∙ free))
+pub all_free : {W : Type 0} (p : Peers W) (adapter : AdapterState) (idle_timeout places counter : ℕ)
+    → p.adapter ≡ adapter → p.idle_timeout ≡ idle_timeout → places ≡ adapter.state.places - length adapter.state.peers
+    → counter ≡ places → boxed_slice_items p.slots ≡ replicate counter None → state_of p ≡ new_peers adapter idle_timeout
+all_free p adapter idle_timeout places counter a s free all is =
+    state_by p adapter idle_timeout _ a s (is ∙ ap (λ n. replicate n None) (all ∙ free))
 
-woken_none : {W : Type 0} (ends : Bool) (lines : List (Option (Line W))) (place : ℕ) (o : Option (Option (Line W)))
-    → slice_get lines place ≡ o → o ≡ Some None → woken_line ends lines place o ≡ lines
-woken_none ends lines place o is none = subst (λ x. woken_line ends lines place x ≡ lines) (sym none) refl
+woken_none : {W : Type 0} (ends : Bool) (slots : List (Option (PeerIo W))) (slot : ℕ) (o : Option (Option (PeerIo W)))
+    → slice_get slots slot ≡ o → o ≡ Some None → marked_ready_at ends slots slot o ≡ slots
+woken_none ends slots slot o is none = subst (λ x. marked_ready_at ends slots slot x ≡ slots) (sym none) refl
 
 -- a place that is free stays as it is
-pub woken_free : {W : Type 0} (ends : Bool) (p q : Peers W) (place : ℕ) (found d : Option (Line W)) → q.adapter ≡ p.adapter
-    → q.silence ≡ p.silence → boxed_slice_items q.lines ≡ slice_set (boxed_slice_items p.lines) place found
-    → place < length (boxed_slice_items p.lines) → found ≡ get_or (boxed_slice_items p.lines) place d → found ≡ None
-    → state_of q ≡ record (state_of p) { lines = woken ends (boxed_slice_items p.lines) place }
-woken_free ends p q place found d a s l within is none =
-    state_by q p.adapter p.silence _ a s
-    (l ∙ ap (λ x. slice_set (boxed_slice_items p.lines) place x) is
-    ∙ set-get_or (boxed_slice_items p.lines) place d
-    ∙ sym (woken_none ends (boxed_slice_items p.lines) place _ refl
-    (slice_get-within (boxed_slice_items p.lines) place d within ∙ ap Some (sym is ∙ none))))
+pub woken_free : {W : Type 0} (ends : Bool) (p q : Peers W) (slot : ℕ) (found d : Option (PeerIo W)) → q.adapter ≡ p.adapter
+    → q.idle_timeout ≡ p.idle_timeout → boxed_slice_items q.slots ≡ slice_set (boxed_slice_items p.slots) slot found
+    → slot < length (boxed_slice_items p.slots) → found ≡ get_or (boxed_slice_items p.slots) slot d → found ≡ None
+    → state_of q ≡ record (state_of p) { slots = marked_ready ends (boxed_slice_items p.slots) slot }
+woken_free ends p q slot found d a s l within is none =
+    state_by q p.adapter p.idle_timeout _ a s
+    (l ∙ ap (λ x. slice_set (boxed_slice_items p.slots) slot x) is
+    ∙ set-get_or (boxed_slice_items p.slots) slot d
+    ∙ sym (woken_none ends (boxed_slice_items p.slots) slot _ refl
+    (slice_get-within (boxed_slice_items p.slots) slot d within ∙ ap Some (sym is ∙ none))))
 
 -- ---- when lines are to be served again
 
@@ -92,34 +92,34 @@ or_assoc : (a b c : Bool) → ((a || b) || c) ≡ (a || (b || c))
 or_assoc false b c = refl
 or_assoc true b c = refl
 
-pub due_ready : {W : Type 0} (silence : ℕ) (due : Due) (places : List (Option (Line W)))
-    → (due_by silence due places).ready ≡ (due.ready || list_any is_ready places)
-due_ready silence due [] = sym (or_false due.ready)
-due_ready silence due (None ∷ places) = due_ready silence due places
-due_ready silence due (Some line ∷ places) =
-    due_ready silence (due_with silence due (Some line)) places ∙ or_assoc due.ready line.ready (list_any is_ready places)
+pub due_ready : {W : Type 0} (idle_timeout : ℕ) (due : Due) (places : List (Option (PeerIo W)))
+    → (due_by idle_timeout due places).ready ≡ (due.ready || list_any is_ready places)
+due_ready idle_timeout due [] = sym (or_false due.ready)
+due_ready idle_timeout due (None ∷ places) = due_ready idle_timeout due places
+due_ready idle_timeout due (Some io ∷ places) =
+    due_ready idle_timeout (due_with idle_timeout due (Some io)) places ∙ or_assoc due.ready io.ready (list_any is_ready places)
 
-pub due_moment : {W : Type 0} (silence : ℕ) (due : Due) (places : List (Option (Line W)))
-    → (due_by silence due places).moment ≡ earliest_of silence due.moment places
-due_moment silence due [] = refl
-due_moment silence due (None ∷ places) = due_moment silence due places
-due_moment silence due (Some line ∷ places) = due_moment silence (due_with silence due (Some line)) places
+pub due_moment : {W : Type 0} (idle_timeout : ℕ) (due : Due) (places : List (Option (PeerIo W)))
+    → (due_by idle_timeout due places).moment ≡ earliest_of idle_timeout due.moment places
+due_moment idle_timeout due [] = refl
+due_moment idle_timeout due (None ∷ places) = due_moment idle_timeout due places
+due_moment idle_timeout due (Some io ∷ places) = due_moment idle_timeout (due_with idle_timeout due (Some io)) places
 
 min_assoc : (a b c : ℕ) → min (min a b) c ≡ min a (min b c)
 min_assoc a b c = omega arith
 
-pub earliest_min : {W : Type 0} (silence first second : ℕ) (places : List (Option (Line W)))
-    → earliest_of silence (min first second) places ≡ min first (earliest_of silence second places)
-earliest_min silence first second [] = refl
-earliest_min silence first second (None ∷ places) = earliest_min silence first second places
-earliest_min silence first second (Some line ∷ places) =
-    ap (λ n. earliest_of silence n places) (min_assoc first second (last_moment silence line))
-    ∙ earliest_min silence first (min second (last_moment silence line)) places
+pub earliest_min : {W : Type 0} (idle_timeout first second : ℕ) (places : List (Option (PeerIo W)))
+    → earliest_of idle_timeout (min first second) places ≡ min first (earliest_of idle_timeout second places)
+earliest_min idle_timeout first second [] = refl
+earliest_min idle_timeout first second (None ∷ places) = earliest_min idle_timeout first second places
+earliest_min idle_timeout first second (Some io ∷ places) =
+    ap (λ n. earliest_of idle_timeout n places) (min_assoc first second (timeout_at idle_timeout io))
+    ∙ earliest_min idle_timeout first (min second (timeout_at idle_timeout io)) places
 
 min_least : (n : ℕ) → n < 2 ^ 64 → min n (2 ^ 64 - 1) ≡ n
 min_least n small = omega (arith, small)
 
-pub earliest_after : {W : Type 0} (silence first : ℕ) (places : List (Option (Line W))) → first < 2 ^ 64
-    → min first (earliest_of silence (2 ^ 64 - 1) places) ≡ earliest_of silence first places
-earliest_after silence first places small =
-    sym (earliest_min silence first (2 ^ 64 - 1) places) ∙ ap (λ n. earliest_of silence n places) (min_least first small)
+pub earliest_after : {W : Type 0} (idle_timeout first : ℕ) (places : List (Option (PeerIo W))) → first < 2 ^ 64
+    → min first (earliest_of idle_timeout (2 ^ 64 - 1) places) ≡ earliest_of idle_timeout first places
+earliest_after idle_timeout first places small =
+    sym (earliest_min idle_timeout first (2 ^ 64 - 1) places) ∙ ap (λ n. earliest_of idle_timeout n places) (min_least first small)

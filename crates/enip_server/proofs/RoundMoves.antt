@@ -4,18 +4,18 @@ use Rattle.std.proofs.Common.{ltb, ltb-true, ltb-false, Option, Some, None, refl
 use Rattle.std.specs.List.{AllByRecursion}
 use Rattle.enip_adapter.specs.Calls.{AdapterState, Call, after_call}
 use Rattle.enip_adapter.specs.Calls.Call.{Begins_peer, Feeds, Ends_peer, Ticks}
-use Rattle.enip_adapter.specs.Deeds.{IsFeedOf}
+use Rattle.enip_adapter.specs.AdapterActions.{IsFeedOf}
 use Rattle.enip_adapter.specs.Runs.{after_calls, IsForOther}
-use Rattle.enip_server.specs.declared.line.Line.{Line}
-use Rattle.enip_server.specs.declared.tally.Tally.{Tally}
-use Rattle.enip_server.specs.Desks.{desk_of}
-use Rattle.enip_server.specs.Moves.{GoesOnWith}
-use Rattle.enip_server.specs.Rounds.{PeersState, HasTurn, IsServedLine, IsServedAt, IsLeft, IsPlaceServed}
-use Rattle.enip_server.specs.Rounds.{ArePlacesServed, IsRound, last_moment}
+use Rattle.enip_server.specs.declared.peer_io.PeerIo.{PeerIo}
+use Rattle.enip_server.specs.declared.wire_counts.WireCounts.{WireCounts}
+use Rattle.enip_server.specs.PeerStates.{peer_state_of}
+use Rattle.enip_server.specs.Transfers.{GoesOnWith}
+use Rattle.enip_server.specs.Rounds.{ServerState, TakesTurn, IsServedPeer, IsServedAt, IsLeft, IsSlotServed}
+use Rattle.enip_server.specs.Rounds.{AreSlotsServed, IsRound, timeout_at}
 use Rattle.enip_server.proofs.ApartLemmas.{HasNone, AreApart, AreSound, IsOf, AreOf, none_at, none_tail, apart_tail, sound_of}
 use Rattle.enip_server.proofs.HandleLemmas.{IsAbout, next_calls}
-use Rattle.enip_server.proofs.MoveLemmas.{MovesBy, moves_by_then, moves_by_weaker, moves_not, moves_other, all_join}
-use Rattle.enip_server.proofs.MoveLemmas.{all_weaker, after_calls-append}
+use Rattle.enip_server.proofs.TransferLemmas.{MovesBy, moves_by_then, moves_by_weaker, moves_not, moves_other, all_join}
+use Rattle.enip_server.proofs.TransferLemmas.{all_weaker, after_calls-append}
 use Rattle.enip_server.proofs.TurnMoves.{turn_moves}
 
 about_feed : (now peer : ℕ) (call : Call) → IsFeedOf now peer call → IsAbout peer call
@@ -63,223 +63,223 @@ leads_weaker : (P Q : Call → Type 0) (a b : AdapterState) → ((call : Call) �
     → LeadsBy Q a b
 leads_weaker P Q a b weaker l = record { calls = l.calls; each = all_weaker P Q weaker l.calls l.each; after = l.after }
 
-module _ {W : Type 0} (left written : W → Option (List ℕ)) (tally : W → Tally) (now silence : ℕ) where
+module _ {W : Type 0} (left written : W → Option (List ℕ)) (counts : W → WireCounts) (now idle_timeout : ℕ) where
   -- What a line's turn came to: its peer is the same, and its desk is moved by feeds.
-  record HasMoved (a : AdapterState) (line : Line W) (b : AdapterState) (after : Line W) : Type 0 where
-    peer : after.peer ≡ line.peer
-    moves : MovesBy line.peer (IsFeedOf now line.peer) (desk_of left written tally a line) (desk_of left written tally b after)
+  record HasMoved (a : AdapterState) (io : PeerIo W) (b : AdapterState) (after : PeerIo W) : Type 0 where
+    peer : after.peer ≡ io.peer
+    moves : MovesBy io.peer (IsFeedOf now io.peer) (peer_state_of left written counts a io) (peer_state_of left written counts b after)
 
-  moved_not : (a : AdapterState) (line : Line W) (b : AdapterState) (after : Line W) → b ≡ a → after ≡ line
-      → HasMoved a line b after
-  moved_not a line b after same is =
-      subst (λ x. HasMoved a line x after) (sym same)
-      (subst (λ l. HasMoved a line a l) (sym is)
-      (record { peer = refl; moves = moves_not line.peer (IsFeedOf now line.peer) (desk_of left written tally a line) }))
+  moved_not : (a : AdapterState) (io : PeerIo W) (b : AdapterState) (after : PeerIo W) → b ≡ a → after ≡ io
+      → HasMoved a io b after
+  moved_not a io b after same is =
+      subst (λ x. HasMoved a io x after) (sym same)
+      (subst (λ l. HasMoved a io a l) (sym is)
+      (record { peer = refl; moves = moves_not io.peer (IsFeedOf now io.peer) (peer_state_of left written counts a io) }))
 
-  moved_turn : (a : AdapterState) (line : Line W) (b : AdapterState) (after : Line W) (goes_on : Bool)
-      → HasTurn left written tally now a line b after goes_on → HasMoved a line b after
-  moved_turn a line b after goes_on t = record {
+  moved_turn : (a : AdapterState) (io : PeerIo W) (b : AdapterState) (after : PeerIo W) (goes_on : Bool)
+      → TakesTurn left written counts now a io b after goes_on → HasMoved a io b after
+  moved_turn a io b after goes_on t = record {
     peer = t.peer;
-    moves = turn_moves now line.peer (desk_of left written tally a line) (desk_of left written tally b after) t.turn;
+    moves = turn_moves now io.peer (peer_state_of left written counts a io) (peer_state_of left written counts b after) t.turn;
   }
 
-  moved_ready : (a : AdapterState) (line : Line W) (b : AdapterState) (after : Line W) (goes_on : Bool)
-      → IsServedLine left written tally now silence a line b after goes_on → now < last_moment silence line → (ready : Bool)
-      → line.ready ≡ ready → HasMoved a line b after
-  moved_ready a line b after goes_on s early false is =
-      moved_not a line b after (s.waits early is).0 (s.waits early is).1
-  moved_ready a line b after goes_on s early true is = moved_turn a line b after goes_on (s.ready early is)
+  moved_ready : (a : AdapterState) (io : PeerIo W) (b : AdapterState) (after : PeerIo W) (goes_on : Bool)
+      → IsServedPeer left written counts now idle_timeout a io b after goes_on → now < timeout_at idle_timeout io → (ready : Bool)
+      → io.ready ≡ ready → HasMoved a io b after
+  moved_ready a io b after goes_on s early false is =
+      moved_not a io b after (s.waits early is).0 (s.waits early is).1
+  moved_ready a io b after goes_on s early true is = moved_turn a io b after goes_on (s.ready early is)
 
-  moved_line : (a : AdapterState) (line : Line W) (b : AdapterState) (after : Line W) (goes_on : Bool)
-      → IsServedLine left written tally now silence a line b after goes_on → (early : Bool)
-      → ltb now (last_moment silence line) ≡ early → HasMoved a line b after
-  moved_line a line b after goes_on s true is =
-      moved_ready a line b after goes_on s (ltb-true now (last_moment silence line) is) line.ready refl
-  moved_line a line b after goes_on s false is =
-      let late : last_moment silence line ≤ now = ltb-false now (last_moment silence line) is in
-      moved_not a line b after (s.silent late).0 (s.silent late).1
+  moved_line : (a : AdapterState) (io : PeerIo W) (b : AdapterState) (after : PeerIo W) (goes_on : Bool)
+      → IsServedPeer left written counts now idle_timeout a io b after goes_on → (early : Bool)
+      → ltb now (timeout_at idle_timeout io) ≡ early → HasMoved a io b after
+  moved_line a io b after goes_on s true is =
+      moved_ready a io b after goes_on s (ltb-true now (timeout_at idle_timeout io) is) io.ready refl
+  moved_line a io b after goes_on s false is =
+      let late : timeout_at idle_timeout io ≤ now = ltb-false now (timeout_at idle_timeout io) is in
+      moved_not a io b after (s.silent late).0 (s.silent late).1
 
   -- What became of a place with a line: its peer stays, and its desk is moved by feeds; or it is free, and the calls were
   -- about its peer.
-  data Became (a : AdapterState) (line : Line W) (b : AdapterState) : Option (Line W) → Type 0 where
-    Stays : {after : Line W} → HasMoved a line b after → Became a line b (Some after)
-    Leaves : LeadsBy (IsAbout line.peer) a b → Became a line b None
+  data Became (a : AdapterState) (io : PeerIo W) (b : AdapterState) : Option (PeerIo W) → Type 0 where
+    Stays : {after : PeerIo W} → HasMoved a io b after → Became a io b (Some after)
+    Leaves : LeadsBy (IsAbout io.peer) a b → Became a io b None
 
-  leads_moved : (a : AdapterState) (line : Line W) (b : AdapterState) (after : Line W) → HasMoved a line b after
-      → LeadsBy (IsAbout line.peer) a b
-  leads_moved a line b after m = record {
+  leads_moved : (a : AdapterState) (io : PeerIo W) (b : AdapterState) (after : PeerIo W) → HasMoved a io b after
+      → LeadsBy (IsAbout io.peer) a b
+  leads_moved a io b after m = record {
     calls = m.moves.calls;
-    each = all_weaker (IsFeedOf now line.peer) (IsAbout line.peer) (about_feed now line.peer) m.moves.calls m.moves.each;
+    each = all_weaker (IsFeedOf now io.peer) (IsAbout io.peer) (about_feed now io.peer) m.moves.calls m.moves.each;
     after = m.moves.moves.adapter;
   }
 
-  became_left : (a : AdapterState) (line : Line W) (between : AdapterState) (after : Line W) (goes_on : Bool)
-      (b : AdapterState) (place : Option (Line W)) → HasMoved a line between after → IsLeft between after goes_on b place
-      → Became a line b place
-  became_left a line between after true b place m is =
-      subst (λ o. Became a line b o) (sym is.1) (Stays (subst (λ x. HasMoved a line x after) (sym is.0) m))
-  became_left a line between after false b place m is =
-      let ends : LeadsBy (IsAbout line.peer) between b
+  became_left : (a : AdapterState) (io : PeerIo W) (between : AdapterState) (after : PeerIo W) (goes_on : Bool)
+      (b : AdapterState) (slot : Option (PeerIo W)) → HasMoved a io between after → IsLeft between after goes_on b slot
+      → Became a io b slot
+  became_left a io between after true b slot m is =
+      subst (λ o. Became a io b o) (sym is.1) (Stays (subst (λ x. HasMoved a io x after) (sym is.0) m))
+  became_left a io between after false b slot m is =
+      let ends : LeadsBy (IsAbout io.peer) between b
       = record { calls = Ends_peer after.peer ∷ []; each = (m.peer, tt); after = is.0 } in
-      subst (λ o. Became a line b o) (sym is.1)
-      (Leaves (leads_then (IsAbout line.peer) a between b (leads_moved a line between after m) ends))
+      subst (λ o. Became a io b o) (sym is.1)
+      (Leaves (leads_then (IsAbout io.peer) a between b (leads_moved a io between after m) ends))
 
-  became : (a : AdapterState) (line : Line W) (b : AdapterState) (place : Option (Line W))
-      → IsServedAt left written tally now silence a line b place → Became a line b place
-  became a line b place s =
-      became_left a line s.adapter s.after s.goes_on b place
-      (moved_line a line s.adapter s.after s.goes_on s.served (ltb now (last_moment silence line)) refl) s.stays
+  became : (a : AdapterState) (io : PeerIo W) (b : AdapterState) (slot : Option (PeerIo W))
+      → IsServedAt left written counts now idle_timeout a io b slot → Became a io b slot
+  became a io b slot s =
+      became_left a io s.adapter s.after s.goes_on b slot
+      (moved_line a io s.adapter s.after s.goes_on s.served (ltb now (timeout_at idle_timeout io)) refl) s.stays
 
-  became_leads : (a : AdapterState) (line : Line W) (b : AdapterState) (place : Option (Line W)) → Became a line b place
-      → LeadsBy (IsAbout line.peer) a b
-  became_leads a line b (Some after) (Stays m) = leads_moved a line b after m
-  became_leads a line b None (Leaves l) = l
+  became_leads : (a : AdapterState) (io : PeerIo W) (b : AdapterState) (slot : Option (PeerIo W)) → Became a io b slot
+      → LeadsBy (IsAbout io.peer) a b
+  became_leads a io b (Some after) (Stays m) = leads_moved a io b after m
+  became_leads a io b None (Leaves l) = l
 
-  became_of : (a : AdapterState) (line : Line W) (b : AdapterState) (place : Option (Line W)) → Became a line b place
-      → IsOf (Some line) place
-  became_of a line b (Some after) (Stays m) = m.peer
-  became_of a line b None (Leaves l) = tt
+  became_of : (a : AdapterState) (io : PeerIo W) (b : AdapterState) (slot : Option (PeerIo W)) → Became a io b slot
+      → IsOf (Some io) slot
+  became_of a io b (Some after) (Stays m) = m.peer
+  became_of a io b None (Leaves l) = tt
 
-  became_moves : (a : AdapterState) (line : Line W) (b : AdapterState) (after : Line W) → Became a line b (Some after)
-      → HasMoved a line b after
-  became_moves a line b after (Stays m) = m
+  became_moves : (a : AdapterState) (io : PeerIo W) (b : AdapterState) (after : PeerIo W) → Became a io b (Some after)
+      → HasMoved a io b after
+  became_moves a io b after (Stays m) = m
 
   -- ---- all peers
 
-  place_next : (a : AdapterState) (old : Option (Line W)) (b : AdapterState) (place : Option (Line W))
-      → IsPlaceServed left written tally now silence a old b place
-      → IsOf old place × (b.state.next_handle ≡ a.state.next_handle)
-  place_next a None b place is =
+  place_next : (a : AdapterState) (old : Option (PeerIo W)) (b : AdapterState) (slot : Option (PeerIo W))
+      → IsSlotServed left written counts now idle_timeout a old b slot
+      → IsOf old slot × (b.state.next_handle ≡ a.state.next_handle)
+  place_next a None b slot is =
       (subst (λ o. IsOf None o) (sym is.1) tt, ap (λ x. x.state.next_handle) is.0)
-  place_next a (Some line) b place is =
-      let r : Became a line b place = became a line b place is in
-      let l : LeadsBy (IsAbout line.peer) a b = became_leads a line b place r in (
-        became_of a line b place r,
-        ap (λ x. x.state.next_handle) l.after ∙ next_calls line.peer a l.calls l.each,
+  place_next a (Some io) b slot is =
+      let r : Became a io b slot = became a io b slot is in
+      let l : LeadsBy (IsAbout io.peer) a b = became_leads a io b slot r in (
+        became_of a io b slot r,
+        ap (λ x. x.state.next_handle) l.after ∙ next_calls io.peer a l.calls l.each,
       )
 
-  places_next : (a : AdapterState) (lines : List (Option (Line W))) (b : AdapterState) (places : List (Option (Line W)))
-      → ArePlacesServed left written tally now silence a lines b places
-      → AreOf lines places × (b.state.next_handle ≡ a.state.next_handle)
+  places_next : (a : AdapterState) (slots : List (Option (PeerIo W))) (b : AdapterState) (places : List (Option (PeerIo W)))
+      → AreSlotsServed left written counts now idle_timeout a slots b places
+      → AreOf slots places × (b.state.next_handle ≡ a.state.next_handle)
   places_next a [] b [] is = (tt, ap (λ x. x.state.next_handle) is)
-  places_next a [] b (place ∷ places) is = absurd is
-  places_next a (line ∷ lines) b [] is = absurd is
-  places_next a (line ∷ lines) b (place ∷ places) is =
-      let first : IsOf line place × (is.0.state.next_handle ≡ a.state.next_handle) = place_next a line is.0 place is.1 in
-      let rest : AreOf lines places × (b.state.next_handle ≡ is.0.state.next_handle)
-      = places_next is.0 lines b places is.2 in
+  places_next a [] b (slot ∷ places) is = absurd is
+  places_next a (io ∷ slots) b [] is = absurd is
+  places_next a (io ∷ slots) b (slot ∷ places) is =
+      let first : IsOf io slot × (is.0.state.next_handle ≡ a.state.next_handle) = place_next a io is.0 slot is.1 in
+      let rest : AreOf slots places × (b.state.next_handle ≡ is.0.state.next_handle)
+      = places_next is.0 slots b places is.2 in
       ((first.0, rest.0), rest.1 ∙ first.1)
 
   -- ---- one peer
 
   -- what is done at another place is done for another peer
-  place_for_other : (peer : ℕ) (a : AdapterState) (old : Option (Line W)) (b : AdapterState) (place : Option (Line W))
-      → IsPlaceServed left written tally now silence a old b place
-      → ((line : Line W) → old ≡ Some line → line.peer ≢ peer) → LeadsBy (IsForOther peer) a b
-  place_for_other peer a None b place is differs =
+  place_for_other : (peer : ℕ) (a : AdapterState) (old : Option (PeerIo W)) (b : AdapterState) (slot : Option (PeerIo W))
+      → IsSlotServed left written counts now idle_timeout a old b slot
+      → ((io : PeerIo W) → old ≡ Some io → io.peer ≢ peer) → LeadsBy (IsForOther peer) a b
+  place_for_other peer a None b slot is differs =
       subst (λ x. LeadsBy (IsForOther peer) a x) (sym is.0) (leads_not (IsForOther peer) a)
-  place_for_other peer a (Some line) b place is differs =
-      leads_weaker (IsAbout line.peer) (IsForOther peer) a b (about_other line.peer peer (differs line refl))
-      (became_leads a line b place (became a line b place is))
+  place_for_other peer a (Some io) b slot is differs =
+      leads_weaker (IsAbout io.peer) (IsForOther peer) a b (about_other io.peer peer (differs io refl))
+      (became_leads a io b slot (became a io b slot is))
 
-  none_head : (peer : ℕ) (first : Option (Line W)) (lines : List (Option (Line W))) → HasNone peer (first ∷ lines)
-      → (line : Line W) → first ≡ Some line → line.peer ≢ peer
-  none_head peer None lines none line is = cc
-  none_head peer (Some first) lines none line is =
-      let same : first ≡ line = cc in subst (λ (l : Line W). l.peer ≢ peer) same none.0
+  none_head : (peer : ℕ) (first : Option (PeerIo W)) (slots : List (Option (PeerIo W))) → HasNone peer (first ∷ slots)
+      → (io : PeerIo W) → first ≡ Some io → io.peer ≢ peer
+  none_head peer None slots none io is = cc
+  none_head peer (Some first) slots none io is =
+      let same : first ≡ io = cc in subst (λ (l : PeerIo W). l.peer ≢ peer) same none.0
 
-  places_for_others : (peer : ℕ) (a : AdapterState) (lines : List (Option (Line W))) (b : AdapterState)
-      (places : List (Option (Line W))) → ArePlacesServed left written tally now silence a lines b places → HasNone peer lines
+  places_for_others : (peer : ℕ) (a : AdapterState) (slots : List (Option (PeerIo W))) (b : AdapterState)
+      (places : List (Option (PeerIo W))) → AreSlotsServed left written counts now idle_timeout a slots b places → HasNone peer slots
       → LeadsBy (IsForOther peer) a b
   places_for_others peer a [] b [] is none =
       subst (λ x. LeadsBy (IsForOther peer) a x) (sym is) (leads_not (IsForOther peer) a)
-  places_for_others peer a [] b (place ∷ places) is none = absurd is
-  places_for_others peer a (line ∷ lines) b [] is none = absurd is
-  places_for_others peer a (line ∷ lines) b (place ∷ places) is none =
+  places_for_others peer a [] b (slot ∷ places) is none = absurd is
+  places_for_others peer a (io ∷ slots) b [] is none = absurd is
+  places_for_others peer a (io ∷ slots) b (slot ∷ places) is none =
       leads_then (IsForOther peer) a is.0 b
-      (place_for_other peer a line is.0 place is.1 (none_head peer line lines none))
-      (places_for_others peer is.0 lines b places is.2 (none_tail peer line lines none))
+      (place_for_other peer a io is.0 slot is.1 (none_head peer io slots none))
+      (places_for_others peer is.0 slots b places is.2 (none_tail peer io slots none))
 
   -- calls for other peers leave a line's desk but for the adapter
-  line_stays : (line : Line W) (a b : AdapterState) → LeadsBy (IsForOther line.peer) a b
-      → MovesBy line.peer (GoesOnWith line.peer) (desk_of left written tally a line) (desk_of left written tally b line)
-  line_stays line a b l =
-      moves_by_weaker line.peer (IsForOther line.peer) (GoesOnWith line.peer) (desk_of left written tally a line)
-      (desk_of left written tally b line) (other_goes_on line.peer)
-      (moves_other line.peer (desk_of left written tally a line) b l.calls l.each l.after)
+  line_stays : (io : PeerIo W) (a b : AdapterState) → LeadsBy (IsForOther io.peer) a b
+      → MovesBy io.peer (GoesOnWith io.peer) (peer_state_of left written counts a io) (peer_state_of left written counts b io)
+  line_stays io a b l =
+      moves_by_weaker io.peer (IsForOther io.peer) (GoesOnWith io.peer) (peer_state_of left written counts a io)
+      (peer_state_of left written counts b io) (other_goes_on io.peer)
+      (moves_other io.peer (peer_state_of left written counts a io) b l.calls l.each l.after)
 
-  apart_first : (first : Option (Line W)) (lines : List (Option (Line W))) (line : Line W) → first ≡ Some line
-      → AreApart (first ∷ lines) → HasNone line.peer lines
-  apart_first None lines line is apart = cc
-  apart_first (Some first) lines line is apart =
-      let same : first ≡ line = cc in subst (λ (l : Line W). HasNone l.peer lines) same apart.0
+  apart_first : (first : Option (PeerIo W)) (slots : List (Option (PeerIo W))) (io : PeerIo W) → first ≡ Some io
+      → AreApart (first ∷ slots) → HasNone io.peer slots
+  apart_first None slots io is apart = cc
+  apart_first (Some first) slots io is apart =
+      let same : first ≡ io = cc in subst (λ (l : PeerIo W). HasNone l.peer slots) same apart.0
 
-  apart_before : (first : Option (Line W)) (lines : List (Option (Line W))) (index : ℕ) (line : Line W)
-      → AreApart (first ∷ lines) → slice_get lines index ≡ Some (Some line)
-      → (other : Line W) → first ≡ Some other → other.peer ≢ line.peer
-  apart_before first lines index line apart there other is =
-      let differs : line.peer ≢ other.peer
-      = none_at other.peer lines index line (apart_first first lines other is apart) there in
+  apart_before : (first : Option (PeerIo W)) (slots : List (Option (PeerIo W))) (index : ℕ) (io : PeerIo W)
+      → AreApart (first ∷ slots) → slice_get slots index ≡ Some (Some io)
+      → (other : PeerIo W) → first ≡ Some other → other.peer ≢ io.peer
+  apart_before first slots index io apart there other is =
+      let differs : io.peer ≢ other.peer
+      = none_at other.peer slots index io (apart_first first slots other is apart) there in
       λ same. differs (sym same)
 
   -- the peer of a place that stays
-  place_moves : (a : AdapterState) (old : Option (Line W)) (b : AdapterState) (place : Option (Line W))
-      → IsPlaceServed left written tally now silence a old b place → (line after : Line W) → old ≡ Some line
-      → place ≡ Some after → HasMoved a line b after
-  place_moves a old b place is line after there stays =
-      became_moves a line b after
-      (became a line b (Some after)
-      (subst (λ o. IsPlaceServed left written tally now silence a (Some line) b o) stays
-      (subst (λ o. IsPlaceServed left written tally now silence a o b place) there is)))
+  place_moves : (a : AdapterState) (old : Option (PeerIo W)) (b : AdapterState) (slot : Option (PeerIo W))
+      → IsSlotServed left written counts now idle_timeout a old b slot → (io after : PeerIo W) → old ≡ Some io
+      → slot ≡ Some after → HasMoved a io b after
+  place_moves a old b slot is io after there stays =
+      became_moves a io b after
+      (became a io b (Some after)
+      (subst (λ o. IsSlotServed left written counts now idle_timeout a (Some io) b o) stays
+      (subst (λ o. IsSlotServed left written counts now idle_timeout a o b slot) there is)))
 
-  places_move : (a : AdapterState) (lines : List (Option (Line W))) (b : AdapterState) (places : List (Option (Line W)))
-      → ArePlacesServed left written tally now silence a lines b places → AreApart lines → (index : ℕ) (line after : Line W)
-      → slice_get lines index ≡ Some (Some line) → slice_get places index ≡ Some (Some after)
-      → MovesBy line.peer (GoesOnWith line.peer) (desk_of left written tally a line) (desk_of left written tally b after)
-  places_move a [] b [] is apart index line after there stays = cc
-  places_move a [] b (place ∷ places) is apart index line after there stays = absurd is
-  places_move a (first ∷ lines) b [] is apart index line after there stays = absurd is
-  places_move a (first ∷ lines) b (place ∷ places) is apart zero line after there stays =
-      let old : first ≡ Some line = cc in
-      let new : place ≡ Some after = cc in
-      let m : HasMoved a line is.0 after = place_moves a first is.0 place is.1 line after old new in
-      let none : HasNone line.peer lines = apart_first first lines line old apart in
-      let rest : LeadsBy (IsForOther line.peer) is.0 b = places_for_others line.peer is.0 lines b places is.2 none in
-      moves_by_then line.peer (GoesOnWith line.peer) (desk_of left written tally a line) (desk_of left written tally is.0 after)
-      (desk_of left written tally b after)
-      (moves_by_weaker line.peer (IsFeedOf now line.peer) (GoesOnWith line.peer) (desk_of left written tally a line)
-      (desk_of left written tally is.0 after) (feed_goes_on now line.peer) m.moves)
-      (subst (λ n. MovesBy n (GoesOnWith n) (desk_of left written tally is.0 after) (desk_of left written tally b after)) m.peer
+  places_move : (a : AdapterState) (slots : List (Option (PeerIo W))) (b : AdapterState) (places : List (Option (PeerIo W)))
+      → AreSlotsServed left written counts now idle_timeout a slots b places → AreApart slots → (index : ℕ) (io after : PeerIo W)
+      → slice_get slots index ≡ Some (Some io) → slice_get places index ≡ Some (Some after)
+      → MovesBy io.peer (GoesOnWith io.peer) (peer_state_of left written counts a io) (peer_state_of left written counts b after)
+  places_move a [] b [] is apart index io after there stays = cc
+  places_move a [] b (slot ∷ places) is apart index io after there stays = absurd is
+  places_move a (first ∷ slots) b [] is apart index io after there stays = absurd is
+  places_move a (first ∷ slots) b (slot ∷ places) is apart zero io after there stays =
+      let old : first ≡ Some io = cc in
+      let new : slot ≡ Some after = cc in
+      let m : HasMoved a io is.0 after = place_moves a first is.0 slot is.1 io after old new in
+      let none : HasNone io.peer slots = apart_first first slots io old apart in
+      let rest : LeadsBy (IsForOther io.peer) is.0 b = places_for_others io.peer is.0 slots b places is.2 none in
+      moves_by_then io.peer (GoesOnWith io.peer) (peer_state_of left written counts a io) (peer_state_of left written counts is.0 after)
+      (peer_state_of left written counts b after)
+      (moves_by_weaker io.peer (IsFeedOf now io.peer) (GoesOnWith io.peer) (peer_state_of left written counts a io)
+      (peer_state_of left written counts is.0 after) (feed_goes_on now io.peer) m.moves)
+      (subst (λ n. MovesBy n (GoesOnWith n) (peer_state_of left written counts is.0 after) (peer_state_of left written counts b after)) m.peer
       (line_stays after is.0 b (subst (λ n. LeadsBy (IsForOther n) is.0 b) (sym m.peer) rest)))
-  places_move a (first ∷ lines) b (place ∷ places) is apart (suc index) line after there stays =
-      let before : LeadsBy (IsForOther line.peer) a is.0
-      = place_for_other line.peer a first is.0 place is.1 (apart_before first lines index line apart there) in
-      moves_by_then line.peer (GoesOnWith line.peer) (desk_of left written tally a line) (desk_of left written tally is.0 line)
-      (desk_of left written tally b after) (line_stays line a is.0 before)
-      (places_move is.0 lines b places is.2 (apart_tail first lines apart) index line after there stays)
+  places_move a (first ∷ slots) b (slot ∷ places) is apart (suc index) io after there stays =
+      let before : LeadsBy (IsForOther io.peer) a is.0
+      = place_for_other io.peer a first is.0 slot is.1 (apart_before first slots index io apart there) in
+      moves_by_then io.peer (GoesOnWith io.peer) (peer_state_of left written counts a io) (peer_state_of left written counts is.0 io)
+      (peer_state_of left written counts b after) (line_stays io a is.0 before)
+      (places_move is.0 slots b places is.2 (apart_tail first slots apart) index io after there stays)
 
 ticks : (peer now : ℕ) (a : AdapterState) → LeadsBy (IsForOther peer) a (after_call a (Ticks now))
 ticks peer now a = record { calls = Ticks now ∷ []; each = (tt, tt); after = refl }
 
-module _ {W : Type 0} (left written : W → Option (List ℕ)) (tally : W → Tally) (now : ℕ) (old new : PeersState W)
-    (round : IsRound left written tally now old new) where
+module _ {W : Type 0} (left written : W → Option (List ℕ)) (counts : W → WireCounts) (now : ℕ) (old new : ServerState W)
+    (round : IsRound left written counts now old new) where
   -- the peers stay sound in a round
   pub sound_round : AreSound old → AreSound new
   sound_round sound =
-      let r : AreOf old.lines new.lines × (new.adapter.state.next_handle ≡ old.adapter.state.next_handle)
-      = places_next left written tally now old.silence (after_call old.adapter (Ticks now)) old.lines new.adapter new.lines
+      let r : AreOf old.slots new.slots × (new.adapter.state.next_handle ≡ old.adapter.state.next_handle)
+      = places_next left written counts now old.idle_timeout (after_call old.adapter (Ticks now)) old.slots new.adapter new.slots
       round.places in
       sound_of old new sound r.0 (omega (arith, r.1))
 
   -- a round moves each peer that stays
-  pub round_moves : AreSound old → (place : ℕ) (line after : Line W) → slice_get old.lines place ≡ Some (Some line)
-      → slice_get new.lines place ≡ Some (Some after)
-      → MovesBy line.peer (GoesOnWith line.peer) (desk_of left written tally old.adapter line)
-      (desk_of left written tally new.adapter after)
-  round_moves sound place line after there stays =
-      moves_by_then line.peer (GoesOnWith line.peer) (desk_of left written tally old.adapter line)
-      (desk_of left written tally (after_call old.adapter (Ticks now)) line) (desk_of left written tally new.adapter after)
-      (line_stays left written tally now old.silence line old.adapter (after_call old.adapter (Ticks now))
-      (ticks line.peer now old.adapter))
-      (places_move left written tally now old.silence (after_call old.adapter (Ticks now)) old.lines new.adapter new.lines
-      round.places sound.apart place line after there stays)
+  pub round_moves : AreSound old → (slot : ℕ) (io after : PeerIo W) → slice_get old.slots slot ≡ Some (Some io)
+      → slice_get new.slots slot ≡ Some (Some after)
+      → MovesBy io.peer (GoesOnWith io.peer) (peer_state_of left written counts old.adapter io)
+      (peer_state_of left written counts new.adapter after)
+  round_moves sound slot io after there stays =
+      moves_by_then io.peer (GoesOnWith io.peer) (peer_state_of left written counts old.adapter io)
+      (peer_state_of left written counts (after_call old.adapter (Ticks now)) io) (peer_state_of left written counts new.adapter after)
+      (line_stays left written counts now old.idle_timeout io old.adapter (after_call old.adapter (Ticks now))
+      (ticks io.peer now old.adapter))
+      (places_move left written counts now old.idle_timeout (after_call old.adapter (Ticks now)) old.slots new.adapter new.slots
+      round.places sound.apart slot io after there stays)

@@ -5,16 +5,16 @@ use Rattle.std.specs.Io.KnownBytes.{Appends, Consumes}
 use Rattle.std.specs.List.{AllByRecursion}
 use Rattle.enip_adapter.specs.Calls.{Call}
 use Rattle.enip_adapter.specs.Calls.Call.{Feeds}
-use Rattle.enip_adapter.specs.Deeds.{IsFeedOf}
-use Rattle.enip_server.specs.Desks.{Desk, IsFlushed, AreFed, IsFetched, IsServed, IsThrownAway, IsTurn, fed_once}
-use Rattle.enip_server.specs.Desks.AreFed.{Not_yet, Once_more}
-use Rattle.enip_server.specs.Moves.{Moves}
-use Rattle.enip_server.proofs.MoveLemmas.{MovesBy, moves_by_then, moves_not, moves_fed}
+use Rattle.enip_adapter.specs.AdapterActions.{IsFeedOf}
+use Rattle.enip_server.specs.PeerStates.{PeerState, IsFlushed, AreFed, IsFetched, IsServed, IsDiscarded, IsTurn, fed_once}
+use Rattle.enip_server.specs.PeerStates.AreFed.{None_fed, One_more_fed}
+use Rattle.enip_server.specs.Transfers.{Transfers}
+use Rattle.enip_server.proofs.TransferLemmas.{MovesBy, moves_by_then, moves_not, moves_fed}
 
-flushed_moves : (peer : ℕ) (P : Call → Type 0) (old new : Desk) → IsFlushed old new → MovesBy peer P old new
+flushed_moves : (peer : ℕ) (P : Call → Type 0) (old new : PeerState) → IsFlushed old new → MovesBy peer P old new
 flushed_moves peer P old new f = record {
   calls = [];
-  came = [];
+  received = [];
   gone = f.gone;
   each = tt;
   moves = record {
@@ -29,12 +29,12 @@ flushed_moves peer P old new f = record {
   };
 }
 
-fed_moves : (now peer : ℕ) (old new : Desk) → AreFed now peer old new → MovesBy peer (IsFeedOf now peer) old new
-fed_moves now peer old new Not_yet = moves_not peer (IsFeedOf now peer) old
-fed_moves now peer old new (Once_more {d = d} fed out served flushed) =
+fed_moves : (now peer : ℕ) (old new : PeerState) → AreFed now peer old new → MovesBy peer (IsFeedOf now peer) old new
+fed_moves now peer old new None_fed = moves_not peer (IsFeedOf now peer) old
+fed_moves now peer old new (One_more_fed {d = d} fed out served flushed) =
     let one : MovesBy peer (IsFeedOf now peer) d (fed_once now peer d) = record {
       calls = Feeds now peer d.inbox ∷ [];
-      came = [];
+      received = [];
       gone = [];
       each = ((refl, refl), tt);
       moves = moves_fed now peer d out served;
@@ -43,11 +43,11 @@ fed_moves now peer old new (Once_more {d = d} fed out served flushed) =
     (moves_by_then peer (IsFeedOf now peer) d (fed_once now peer d) new one
     (flushed_moves peer (IsFeedOf now peer) (fed_once now peer d) new flushed))
 
-fetched_moves : (now peer : ℕ) (P : Call → Type 0) (old new : Desk) → IsFetched now old new
+fetched_moves : (now peer : ℕ) (P : Call → Type 0) (old new : PeerState) → IsFetched now old new
     → MovesBy peer P old new
 fetched_moves now peer P old new f = record {
   calls = [];
-  came = f.came;
+  received = f.received;
   gone = [];
   each = tt;
   moves = record {
@@ -55,18 +55,18 @@ fetched_moves now peer P old new f = record {
     read = f.read;
     written = subst (λ written. Appends old.written written []) (sym f.written) (Appends-nil old.written);
     sent = append-nil old.outbox ∙ sym f.outbox;
-    rest = old.inbox ++ f.came;
+    rest = old.inbox ++ f.received;
     taken = refl;
     waits = λ _. sym f.inbox;
     closed = λ shut. (λ none. shut (sym f.closed ∙ none), refl);
   };
 }
 
-thrown_moves : (peer : ℕ) (P : Call → Type 0) (old new : Desk) → old.closed ≢ None → IsThrownAway old new
+thrown_moves : (peer : ℕ) (P : Call → Type 0) (old new : PeerState) → old.closed ≢ None → IsDiscarded old new
     → MovesBy peer P old new
 thrown_moves peer P old new shut t = record {
   calls = [];
-  came = t.came;
+  received = t.received;
   gone = [];
   each = tt;
   moves = record {
@@ -74,7 +74,7 @@ thrown_moves peer P old new shut t = record {
     read = t.read;
     written = subst (λ written. Appends old.written written []) (sym (ap (λ d. d.written) t.same)) (Appends-nil old.written);
     sent = append-nil old.outbox ∙ sym (ap (λ d. d.outbox) t.same);
-    rest = old.inbox ++ t.came;
+    rest = old.inbox ++ t.received;
     taken = refl;
     waits = λ served. absurd (shut (sym (ap (λ d. d.closed) t.same) ∙ served));
     closed = λ _. (λ none. shut (sym (ap (λ d. d.closed) t.same) ∙ none), refl);
@@ -82,7 +82,7 @@ thrown_moves peer P old new shut t = record {
 }
 
 -- what is done where all is out, by whether the adapter closed the peer
-out_moves : (now peer : ℕ) (old new : Desk) (t : IsTurn now peer old new) → t.between.outbox ≡ [] → (closed : Option ℕ)
+out_moves : (now peer : ℕ) (old new : PeerState) (t : IsTurn now peer old new) → t.between.outbox ≡ [] → (closed : Option ℕ)
     → t.between.closed ≡ closed → MovesBy peer (IsFeedOf now peer) t.between new
 out_moves now peer old new t out None served =
     let s : IsServed now peer t.between new = t.served out served in
@@ -90,27 +90,27 @@ out_moves now peer old new t out None served =
     (fetched_moves now peer (IsFeedOf now peer) t.between s.between s.fetched) (fed_moves now peer s.between new s.fed)
 out_moves now peer old new t out (Some last) shut =
     let closed : t.between.closed ≢ None = λ none. cc in
-    thrown_moves peer (IsFeedOf now peer) t.between new closed (t.thrown out closed)
+    thrown_moves peer (IsFeedOf now peer) t.between new closed (t.discarded out closed)
 
 not_out : (n : ℕ) (ns : List ℕ) → (n ∷ ns) ≢ []
 not_out n ns is = cc
 
 -- what is done after what waits is written, by what of it still waits
-rest_moves : (now peer : ℕ) (old new : Desk) (t : IsTurn now peer old new) (outbox : List ℕ) → t.between.outbox ≡ outbox
+rest_moves : (now peer : ℕ) (old new : PeerState) (t : IsTurn now peer old new) (outbox : List ℕ) → t.between.outbox ≡ outbox
     → MovesBy peer (IsFeedOf now peer) t.between new
 rest_moves now peer old new t [] out = out_moves now peer old new t out t.between.closed refl
 rest_moves now peer old new t (n ∷ ns) waits =
     subst (λ d. MovesBy peer (IsFeedOf now peer) t.between d)
     (sym (t.waits (subst (λ xs. xs ≢ []) (sym waits) (not_out n ns)))) (moves_not peer (IsFeedOf now peer) t.between)
 
-pub turn_moves : (now peer : ℕ) (old new : Desk) → IsTurn now peer old new → MovesBy peer (IsFeedOf now peer) old new
+pub turn_moves : (now peer : ℕ) (old new : PeerState) → IsTurn now peer old new → MovesBy peer (IsFeedOf now peer) old new
 turn_moves now peer old new t =
     moves_by_then peer (IsFeedOf now peer) old t.between new
     (flushed_moves peer (IsFeedOf now peer) old t.between t.flushed) (rest_moves now peer old new t t.between.outbox refl)
 
 -- as the law says it
-pub law_turns : (now peer : ℕ) (old new : Desk) → IsTurn now peer old new → (calls : List Call) × (came : List ℕ)
-    × (gone : List ℕ) × AllByRecursion (IsFeedOf now peer) calls × Moves peer calls came gone old new
+pub law_turns : (now peer : ℕ) (old new : PeerState) → IsTurn now peer old new → (calls : List Call) × (received : List ℕ)
+    × (gone : List ℕ) × AllByRecursion (IsFeedOf now peer) calls × Transfers peer calls received gone old new
 law_turns now peer old new t =
     let m : MovesBy peer (IsFeedOf now peer) old new = turn_moves now peer old new t in
-    (m.calls, m.came, m.gone, m.each, m.moves)
+    (m.calls, m.received, m.gone, m.each, m.moves)

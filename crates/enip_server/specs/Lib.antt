@@ -1,6 +1,6 @@
 -- The modules of these definitions.
-pub mod Desks
-pub mod Moves
+pub mod PeerStates
+pub mod Transfers
 pub mod Rounds
 pub mod Runs
 pub mod Wires

@@ -4,19 +4,19 @@
 ghost use Rattle.std.specs.Prelude.{ℕ, List, Option};
 ghost use Rattle.std.specs.List.{AllByRecursion};
 ghost use Rattle.enip_adapter.specs.Calls.{AdapterState, Call};
-ghost use Rattle.enip_adapter.specs.Deeds.{IsFeedOf};
-ghost use Rattle.enip_server.specs.declared.line.Line.{Line};
-ghost use Rattle.enip_server.specs.Desks.{Desk, IsTurn, desk_of};
-ghost use Rattle.enip_server.specs.Moves.{Moves, GoesOnWith};
-ghost use Rattle.enip_server.specs.Rounds.{PeersState, new_peers};
-ghost use Rattle.enip_server.specs.Runs.{IsRun, Lives};
+ghost use Rattle.enip_adapter.specs.AdapterActions.{IsFeedOf};
+ghost use Rattle.enip_server.specs.declared.peer_io.PeerIo.{PeerIo};
+ghost use Rattle.enip_server.specs.PeerStates.{PeerState, IsTurn, peer_state_of};
+ghost use Rattle.enip_server.specs.Transfers.{Transfers, GoesOnWith};
+ghost use Rattle.enip_server.specs.Rounds.{ServerState, new_peers};
+ghost use Rattle.enip_server.specs.Runs.{IsRun, KeepsSlot};
 
 use crate::wire::Wire;
 
 /// A turn makes calls of the adapter that are feeds of this peer at this moment, and loses and mixes up nothing.
-pub fn turns_move()
-    ensures { (now peer : ℕ) (old new : Desk) → IsTurn now peer old new → (calls : List Call) × (came : List ℕ)
-        × (gone : List ℕ) × AllByRecursion (IsFeedOf now peer) calls × Moves peer calls came gone old new }
+pub fn turns_lose_nothing()
+    ensures { (now peer : ℕ) (old new : PeerState) → IsTurn now peer old new → (calls : List Call) × (received : List ℕ)
+        × (gone : List ℕ) × AllByRecursion (IsFeedOf now peer) calls × Transfers peer calls received gone old new }
 {}
 
 /// Whatever calls come, for any number of peers: as long as a peer holds its place, calls of the adapter were made that
@@ -24,10 +24,10 @@ pub fn turns_move()
 /// was read of its wire is what these calls took of it and what waits to be fed, and what these calls answered it is
 /// what was written to its wire and what waits to be written, in this order.
 pub fn peers_are_served_apart<W: Wire>()
-    ensures { (adapter : AdapterState) (silence place peer : ℕ) (first last : PeersState W) (line after : Line W) →
-        IsRun W.left W.written W.tally (new_peers adapter silence) first →
-        Lives W.left W.written W.tally place peer first line last after →
-        (calls : List Call) × (came : List ℕ) × (gone : List ℕ) × AllByRecursion (GoesOnWith peer) calls
-        × Moves peer calls came gone (desk_of W.left W.written W.tally first.adapter line)
-        (desk_of W.left W.written W.tally last.adapter after) }
+    ensures { (adapter : AdapterState) (idle_timeout slot peer : ℕ) (first last : ServerState W) (io after : PeerIo W) →
+        IsRun W.left W.written W.counts (new_peers adapter idle_timeout) first →
+        KeepsSlot W.left W.written W.counts slot peer first io last after →
+        (calls : List Call) × (received : List ℕ) × (gone : List ℕ) × AllByRecursion (GoesOnWith peer) calls
+        × Transfers peer calls received gone (peer_state_of W.left W.written W.counts first.adapter io)
+        (peer_state_of W.left W.written W.counts last.adapter after) }
 {}

@@ -1,7 +1,7 @@
 //! Several peers of an adapter at once (ODVA CIP Networks Library, Volume 2), without sockets and without a clock.
 //!
 //! `Peers` holds an adapter and a line for each of its places: a wire, what was read of it and not fed, and what of an
-//! answer is not out. A `Wire` never waits. `come` begins a peer, `wake` says that its wire may be ready, and `round`
+//! answer is not out. A `Wire` never waits. `add` begins a peer, `mark_ready` says that its wire may be ready, and `round`
 //! gives each peer that may be ready one turn: what waits of an answer is written, and only when all of it is out are
 //! bytes read, at most 4,096, and fed frame by frame, each answer written before the next frame is fed.
 //!
@@ -29,15 +29,15 @@
 //! ```
 #![tactic(auto)]
 
+mod io_buffer;
 pub mod laws;
-mod line;
+mod peer_io;
 mod peers;
-mod store;
-mod tally;
 mod wire;
+mod wire_counts;
 
-pub use line::LINGER;
-pub use peers::{NO_LIMIT, Peers, RoundEnd};
-pub use store::ROOM;
-pub use tally::Tally;
-pub use wire::{Came, Wire};
+pub use io_buffer::IO_BUFFER_SIZE;
+pub use peer_io::LINGER;
+pub use peers::{NO_IDLE_TIMEOUT, Peers, RoundEnd};
+pub use wire::{ReadOutcome, Wire};
+pub use wire_counts::WireCounts;

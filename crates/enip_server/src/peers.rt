@@ -5,18 +5,18 @@ ghost use Rattle.std.specs.Prelude.{◌≡◌, ◌≤◌, length, IfOk, IfSome};
 ghost use Rattle.std.specs.List.{list_any};
 ghost use Rattle.std.specs.Option.{option_map};
 ghost use Rattle.enip_adapter.specs.Discovery.{discovered};
-ghost use Rattle.enip_server.specs.Rounds.{IsPlaceServed, ArePlacesServed, IsRound, has_ended, ended_in};
-ghost use Rattle.enip_server.specs.Rounds.{state_of, new_peers, first_free, IsCome, woken, is_ready, earliest_of, next_moment};
+ghost use Rattle.enip_server.specs.Rounds.{IsSlotServed, AreSlotsServed, IsRound, has_ended, ended_in};
+ghost use Rattle.enip_server.specs.Rounds.{state_of, new_peers, first_free, IsAdded, marked_ready, is_ready, earliest_of, next_moment};
 ghost use Rattle.enip_server.specs.Rounds.{due_with, due_by, moment_or_none};
 
-use crate::line::{Line, Turn};
+use crate::peer_io::{PeerIo, Turn};
 use crate::wire::Wire;
-use enip_adapter::{Adapter, DiscoveryRoom, Full, LONGEST_ANSWER};
+use enip_adapter::{Adapter, DiscoveryBuffer, Full, LONGEST_ANSWER};
 use std::alloc::{AllocError, Global};
 use std::boxed::BoxedSlice;
 
 /// A silence without a limit.
-pub const NO_LIMIT: u64 = u64::MAX;
+pub const NO_IDLE_TIMEOUT: u64 = u64::MAX;
 
 /// What a round came to.
 #[derive(Clone, Copy, Debug, PartialEq, Eq)]
@@ -43,37 +43,37 @@ struct Due {
 pub struct Peers<W> {
     adapter: Adapter,
     /// How long a peer may be silent, in microseconds.
-    silence: u64,
-    lines: BoxedSlice<Option<Line<W>>>,
+    idle_timeout: u64,
+    slots: BoxedSlice<Option<PeerIo<W>>>,
 }
 
 impl<W: Wire + Drop> Peers<W> {
-    /// An adapter's peers, with as many places as it has free. A peer from which no byte comes for `silence`
+    /// An adapter's peers, with as many places as it has free. A peer from which no byte comes for `idle_timeout`
     /// microseconds is ended. All memory is taken here.
     ///
     /// # Errors
     ///
     /// `AllocError` where memory is refused.
-    pub fn new(alloc: Global, adapter: Adapter, silence: u64) -> Result<Peers<W>, AllocError>
-        ensures { IfOk result (λ p. state_of p ≡ new_peers adapter silence) }
+    pub fn new(alloc: Global, adapter: Adapter, idle_timeout: u64) -> Result<Peers<W>, AllocError>
+        ensures { IfOk result (λ p. state_of p ≡ new_peers adapter idle_timeout) }
     {
         let (places, _) = adapter.free();
-        let mut lines = Vec::with_capacity(alloc, usize::from(places))?;
+        let mut slots = Vec::with_capacity(alloc, usize::from(places))?;
         for _ in 0..places {
-            lines.push_reserved(None);
+            slots.push_reserved(None);
         }
         Ok(Peers {
             adapter,
-            silence,
-            lines: lines.into_boxed_slice(),
+            idle_timeout,
+            slots: slots.into_boxed_slice(),
         })
     }
 
     /// The first place that is free, by its index.
     pub fn first_free(&self) -> Option<usize>
-        ensures { result ≡ first_free (state_of self.now).lines }
+        ensures { result ≡ first_free (state_of self.now).slots }
     {
-        self.lines.iter().position(|line| line.is_none())
+        self.slots.iter().position(|io| io.is_none())
     }
 
     /// A peer comes at a moment, with its wire: it takes the first free place, whose index is answered.
@@ -82,38 +82,38 @@ impl<W: Wire + Drop> Peers<W> {
     ///
     /// `Full::Places` where all places are taken, else `Full::Handles` where the last handle was given out. The wire is
     /// dropped.
-    pub fn come(&mut self, now: u64, wire: W) -> Result<usize, Full>
-        ensures { IsCome now wire (state_of self.old) (state_of self.new) result }
+    pub fn add(&mut self, now: u64, wire: W) -> Result<usize, Full>
+        ensures { IsAdded now wire (state_of self.old) (state_of self.new) result }
     {
-        let Some(place) = self.first_free() else {
+        let Some(slot) = self.first_free() else {
             return Err(Full::Places);
         };
         let peer = self.adapter.begin()?;
-        self.lines[place] = Some(Line::new(peer, wire, now));
-        Ok(place)
+        self.slots[slot] = Some(PeerIo::new(peer, wire, now));
+        Ok(slot)
     }
 
     /// The wire of a place may be ready. `ends` says that the end of its stream is reported, or that it failed: it is
     /// read on to then, since that may be reported once. Nothing is changed where the place is free.
-    pub fn wake(&mut self, place: usize, ends: bool)
-        ensures { state_of self.new ≡ record (state_of self.old) { lines = woken ends (state_of self.old).lines place } }
+    pub fn mark_ready(&mut self, slot: usize, ends: bool)
+        ensures { state_of self.new ≡ record (state_of self.old) { slots = marked_ready ends (state_of self.old).slots slot } }
     {
-        if place >= self.lines.len() {
+        if slot >= self.slots.len() {
             return;
         }
-        if let Some(line) = &mut self.lines[place] {
-            line.ready = true;
+        if let Some(io) = &mut self.slots[slot] {
+            io.ready = true;
             if ends {
-                line.ending = true;
+                io.end_reported = true;
             }
         }
     }
 
     /// A moment comes, and each peer whose wire may be ready has one turn.
     pub fn round(&mut self, now: u64) -> RoundEnd
-        ensures round { IsRound W.left W.written W.tally now (state_of self.old) (state_of self.new) }
-        ensures ended { result.ended ≡ ended_in (state_of self.old).lines (state_of self.new).lines }
-        ensures ready { result.ready ≡ list_any is_ready (state_of self.new).lines }
+        ensures round { IsRound W.left W.written W.counts now (state_of self.old) (state_of self.new) }
+        ensures ended { result.ended ≡ ended_in (state_of self.old).slots (state_of self.new).slots }
+        ensures ready { result.ready ≡ list_any is_ready (state_of self.new).slots }
         ensures next { result.next ≡ next_moment (state_of self.new) }
     {
         let mut due = Due {
@@ -132,17 +132,23 @@ impl<W: Wire + Drop> Peers<W> {
     /// A moment comes, and each place is served. Answers how many peers ended; when the others are to be served again
     /// is added to `due`.
     fn serve_all(&mut self, now: u64, due: &mut Due) -> usize
-        ensures round { IsRound W.left W.written W.tally now (state_of self.old) (state_of self.new) }
-        ensures ended { result ≡ ended_in (state_of self.old).lines (state_of self.new).lines }
-        ensures due { due.new ≡ due_by (state_of self.new).silence due.old (state_of self.new).lines }
+        ensures round { IsRound W.left W.written W.counts now (state_of self.old) (state_of self.new) }
+        ensures ended { result ≡ ended_in (state_of self.old).slots (state_of self.new).slots }
+        ensures due { due.new ≡ due_by (state_of self.new).idle_timeout due.old (state_of self.new).slots }
     {
         self.adapter.tick(now);
-        serve_places(&mut self.lines, &mut self.adapter, now, self.silence, due)
+        serve_slots(
+            &mut self.slots,
+            &mut self.adapter,
+            now,
+            self.idle_timeout,
+            due,
+        )
     }
 
     /// What answers a datagram, written in `room`: to exactly one ListIdentity, ListServices or ListInterfaces, and `None`
     /// to any other. No peer, session or connection is touched.
-    pub fn discover<'a>(&self, datagram: &[u8], room: &'a mut DiscoveryRoom) -> Option<&'a [u8]>
+    pub fn discover<'a>(&self, datagram: &[u8], room: &'a mut DiscoveryBuffer) -> Option<&'a [u8]>
         ensures answer { option_map (λ bytes. bytes.now) result
             ≡ discovered (state_of self.now).adapter.state.shared datagram.now }
         ensures fits { IfSome result (λ bytes. length bytes.now ≤ LONGEST_ANSWER) }
@@ -159,12 +165,12 @@ impl<W: Wire + Drop> Peers<W> {
 
     /// The earliest of a moment and those at which peers are ended if nothing comes of them.
     fn earliest(&self, moment: u64) -> u64
-        ensures { result ≡ earliest_of (state_of self.now).silence moment (state_of self.now).lines }
+        ensures { result ≡ earliest_of (state_of self.now).idle_timeout moment (state_of self.now).slots }
     {
         let mut earliest = moment;
-        for line in self.lines.iter() {
-            if let Some(line) = line {
-                earliest = earliest.min(line.last_moment(self.silence));
+        for io in self.slots.iter() {
+            if let Some(io) = io {
+                earliest = earliest.min(io.timeout_at(self.idle_timeout));
             }
         }
         earliest
@@ -183,46 +189,46 @@ fn moment_or_none(moment: u64) -> Option<u64>
 
 /// The places in a round, one after the other. Answers how many peers ended; when the others are to be served again is
 /// added to `due`.
-fn serve_places<W: Wire + Drop>(
-    places: &mut [Option<Line<W>>],
+fn serve_slots<W: Wire + Drop>(
+    places: &mut [Option<PeerIo<W>>],
     adapter: &mut Adapter,
     now: u64,
-    silence: u64,
+    idle_timeout: u64,
     due: &mut Due,
 ) -> usize
-    ensures served { ArePlacesServed W.left W.written W.tally now silence adapter.old places.old adapter.new places.new }
+    ensures served { AreSlotsServed W.left W.written W.counts now idle_timeout adapter.old places.old adapter.new places.new }
     ensures ended { result ≡ ended_in places.old places.new }
     ensures few { result ≤ length places.old }
-    ensures due { due.new ≡ due_by silence due.old places.new }
+    ensures due { due.new ≡ due_by idle_timeout due.old places.new }
 {
-    let Some((place, others)) = places.split_first_mut() else {
+    let Some((slot, others)) = places.split_first_mut() else {
         return 0;
     };
-    let ended = serve_place(place, adapter, now, silence, due);
-    usize::from(ended) + serve_places(others, adapter, now, silence, due)
+    let ended = serve_slot(slot, adapter, now, idle_timeout, due);
+    usize::from(ended) + serve_slots(others, adapter, now, idle_timeout, due)
 }
 
 /// One place in a round. Answers whether its peer ended; when it is to be served again, if not, is added to `due`.
-fn serve_place<W: Wire + Drop>(
-    place: &mut Option<Line<W>>,
+fn serve_slot<W: Wire + Drop>(
+    slot: &mut Option<PeerIo<W>>,
     adapter: &mut Adapter,
     now: u64,
-    silence: u64,
+    idle_timeout: u64,
     due: &mut Due,
 ) -> bool
-    ensures served { IsPlaceServed W.left W.written W.tally now silence adapter.old place.old adapter.new place.new }
-    ensures ended { result ≡ has_ended place.old place.new }
-    ensures due { due.new ≡ due_with silence due.old place.new }
+    ensures served { IsSlotServed W.left W.written W.counts now idle_timeout adapter.old slot.old adapter.new slot.new }
+    ensures ended { result ≡ has_ended slot.old slot.new }
+    ensures due { due.new ≡ due_with idle_timeout due.old slot.new }
 {
-    let Some(line) = place else {
+    let Some(io) = slot else {
         return false;
     };
-    if line.serve(adapter, now, silence) {
-        due.ready = due.ready || line.ready;
-        due.moment = due.moment.min(line.last_moment(silence));
+    if io.serve(adapter, now, idle_timeout) {
+        due.ready = due.ready || io.ready;
+        due.moment = due.moment.min(io.timeout_at(idle_timeout));
         return false;
     }
-    adapter.end(line.peer);
-    *place = None;
+    adapter.end(io.peer);
+    *slot = None;
     true
 }

@@ -2,19 +2,19 @@
 
 ghost use Rattle.std.specs.Prelude.{ℕ, List, Option, ◌≡◌, ◌<◌, ◌≤◌, length, take, IfSome};
 ghost use Rattle.std.specs.Io.KnownBytes.{Appends};
-ghost use Rattle.enip_server.specs.declared.tally.Tally.{Tally};
+ghost use Rattle.enip_server.specs.declared.wire_counts.WireCounts.{WireCounts};
 ghost use Rattle.enip_server.specs.Wires.{IsRead, size_taken, after_read, after_write};
 
 /// What a read came to.
 #[derive(Clone, Copy, Debug, PartialEq, Eq)]
-pub enum Came {
+pub enum ReadOutcome {
     /// So many bytes, one at least. More may have come.
     Bytes(usize),
     /// So many bytes, one at least, and nothing more has come: the system reports what comes from now on. It says
     /// nothing of an end of the stream that was reported already.
-    All(usize),
+    Drained(usize),
     /// Nothing yet.
-    Later,
+    WouldBlock,
     /// The end of the stream.
     End,
     /// The read failed.
@@ -30,14 +30,14 @@ pub trait Wire {
     ghost written: { Self → Option (List ℕ) };
 
     // How the calls went.
-    ghost tally: { Self → Tally };
+    ghost counts: { Self → WireCounts };
 
     /// Reads what has come to the front of a slice that is not empty.
-    fn read(&mut self, into: &mut [u8]) -> Came
+    fn read(&mut self, into: &mut [u8]) -> ReadOutcome
         requires { 0 < length into.old }
         ensures read { IsRead (left self.old) (left self.new) result into.new }
         ensures written { written self.new ≡ written self.old }
-        ensures tally { tally self.new ≡ after_read result (tally self.old) };
+        ensures counts { counts self.new ≡ after_read result (counts self.old) };
 
     /// Writes a front of these bytes, and answers how many: 0 where nothing goes out yet, `None` where the write
     /// failed.
@@ -45,11 +45,11 @@ pub trait Wire {
         ensures size { IfSome result (λ n. n ≤ length from.now) }
         ensures written { Appends (written self.old) (written self.new) (take (size_taken result) from.now) }
         ensures left { left self.new ≡ left self.old }
-        ensures tally { tally self.new ≡ after_write result (tally self.old) };
+        ensures counts { counts self.new ≡ after_write result (counts self.old) };
 
     /// Shuts the writing side. What comes can still be read.
     fn shut(&mut self)
         ensures written { written self.new ≡ written self.old }
         ensures left { left self.new ≡ left self.old }
-        ensures tally { tally self.new ≡ tally self.old };
+        ensures counts { counts self.new ≡ counts self.old };
 }

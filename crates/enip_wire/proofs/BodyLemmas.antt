@@ -8,9 +8,9 @@ use Rattle.std.specs.List.{flat_map}
 use Rattle.enip_wire.specs.declared.item_list.CpfFault.{CpfFault}
 use Rattle.enip_wire.specs.declared.item_list.CpfFault.TheVariants.{Short, Trailing, Interface, Address, Data}
 use Rattle.cip_bytes.specs.Numbers.{le, number_at, AreBytes}
-use Rattle.cip_bytes.specs.Reading.{◌>>=◌, seen_by}
+use Rattle.cip_bytes.specs.Reading.{◌>>=◌, map_ok}
 use Rattle.enip_wire.specs.Items.{Item, item, items, IsShort, IsTrailing, items_of}
-use Rattle.enip_wire.specs.Bodies.{null_address, connected_address, unconnected_data, connected_data, Opens, IsBody, IsRrBody, IsUnitBody, Faulty, IsNull, IsConnected, body_items_of, data_of, rr_items_of, with_id, unit_items_of, rr_body_of, unit_body_of}
+use Rattle.enip_wire.specs.Bodies.{null_address, connected_address, unconnected_data, connected_data, BeginsBody, IsBody, IsRrBody, IsUnitBody, IsBodyFault, IsNullAddress, IsConnectedAddress, body_items_of, data_of, rr_items_of, with_id, unit_items_of, rr_body_of, unit_body_of}
 use Rattle.cip_bytes.proofs.Bytes.{AreBytes-drop, AreBytes-take, cells, drop-cells, le-number_at_2, le-number_at_4, of_four}
 use Rattle.enip_wire.proofs.FrameLemmas.{number-two, number-four}
 use Rattle.enip_wire.proofs.ItemLemmas.{Spells, spells, items_of-spells, same_item}
@@ -30,8 +30,8 @@ body_items-zero : (text : List ℕ) → 6 ≤ length text → number_at 0 4 text
 body_items-zero text long none = grind (arith, nat_tests)
 
 -- a text with interface 0 opens a body
-opens-zero : (text : List ℕ) → AreBytes text → 6 ≤ length text → number_at 0 4 text ≡ 0 → Opens text (drop 6 text)
-opens-zero text fits long e =
+begins_body-zero : (text : List ℕ) → AreBytes text → 6 ≤ length text → number_at 0 4 text ≡ 0 → BeginsBody text (drop 6 text)
+begins_body-zero text fits long e =
     record {
       timeout = number_at 4 2 text;
       two_bytes = number-two 4 text fits;
@@ -40,33 +40,33 @@ opens-zero text fits long e =
           ∙ ap (λ c. le 4 0 ++ (c ++ drop 6 text)) (sym (le-number_at_2 4 text fits));
     }
 
-pub body_items-opens : (text rest : List ℕ) → Opens text rest → body_items_of text ≡ items_of rest
-body_items-opens text rest o =
+pub body_items-begins_body : (text rest : List ℕ) → BeginsBody text rest → body_items_of text ≡ items_of rest
+body_items-begins_body text rest o =
     ap body_items_of o.spelled
     ∙ body_items-zero (le 4 0 ++ le 2 o.timeout ++ rest) (omega arith) refl
 
-AreBytes-opens : (text rest : List ℕ) → Opens text rest → AreBytes text → AreBytes rest
-AreBytes-opens text rest o fits = subst AreBytes (ap (drop 6) o.spelled) (AreBytes-drop 6 text fits)
+AreBytes-begins_body : (text rest : List ℕ) → BeginsBody text rest → AreBytes text → AreBytes rest
+AreBytes-begins_body text rest o fits = subst AreBytes (ap (drop 6) o.spelled) (AreBytes-drop 6 text fits)
 
 body_items-body : (text : List ℕ) (l : List Item) → AreBytes text → IsBody text l → body_items_of text ≡ Ok l
 body_items-body text l fits b =
-    body_items-opens text (items l) b.opens
-    ∙ items_of-spells (items l) (Ok l) (AreBytes-opens text (items l) b.opens fits) (b.are_items, refl)
+    body_items-begins_body text (items l) b.begins_body
+    ∙ items_of-spells (items l) (Ok l) (AreBytes-begins_body text (items l) b.begins_body fits) (b.are_items, refl)
 
 -- what a body is, or why a text is none
 abbrev pub Bodies : List ℕ → Result (List Item) CpfFault → Type 0
 Bodies text (Ok l) = IsBody text l
-Bodies text (Err Short) = (length text < 6) ⊎ ((rest : List ℕ) × Opens text rest × IsShort rest)
-Bodies text (Err Trailing) = (rest : List ℕ) × Opens text rest × IsTrailing rest
+Bodies text (Err Short) = (length text < 6) ⊎ ((rest : List ℕ) × BeginsBody text rest × IsShort rest)
+Bodies text (Err Trailing) = (rest : List ℕ) × BeginsBody text rest × IsTrailing rest
 Bodies text (Err Interface) = (6 ≤ length text) × (number_at 0 4 text ≢ 0)
 Bodies text (Err Address) = ⊥
 Bodies text (Err Data) = ⊥
 
-opened : (text rest : List ℕ) (r : Result (List Item) CpfFault) → Opens text rest → Spells rest r → Bodies text r
+opened : (text rest : List ℕ) (r : Result (List Item) CpfFault) → BeginsBody text rest → Spells rest r → Bodies text r
 opened text rest (Ok l) o p =
     record {
       are_items = p.0;
-      opens = record { timeout = o.timeout; two_bytes = o.two_bytes; spelled = o.spelled ∙ ap (λ r. le 4 0 ++ le 2 o.timeout ++ r) p.1 };
+      begins_body = record { timeout = o.timeout; two_bytes = o.two_bytes; spelled = o.spelled ∙ ap (λ r. le 4 0 ++ le 2 o.timeout ++ r) p.1 };
     }
 opened text rest (Err Short) o p = inr (rest, o, p)
 opened text rest (Err Trailing) o p = (rest, o, p)
@@ -83,7 +83,7 @@ bodies_long text fits long =
       | inr least ↦
           let none : number_at 0 4 text ≡ 0 = omega arith in
           subst (Bodies text) (sym (body_items-zero text long none))
-          (opened text (drop 6 text) (items_of (drop 6 text)) (opens-zero text fits long none) (spells (drop 6 text) (AreBytes-drop 6 text fits)))
+          (opened text (drop 6 text) (items_of (drop 6 text)) (begins_body-zero text fits long none) (spells (drop 6 text) (AreBytes-drop 6 text fits)))
     ]
 
 bodies : (text : List ℕ) → AreBytes text → Bodies text (body_items_of text)
@@ -122,7 +122,7 @@ data_of-none kind [] none = refl
 data_of-none kind (d ∷ l) none = data_of-other kind d l (none d l refl)
 
 -- no null address stands first
-rr_items-none : (l : List Item) → ((a : Item) (others : List Item) → l ≡ a ∷ others → IsNull a → ⊥)
+rr_items-none : (l : List Item) → ((a : Item) (others : List Item) → l ≡ a ∷ others → IsNullAddress a → ⊥)
     → rr_items_of l ≡ Err Address
 rr_items-none [] none = refl
 rr_items-none (a ∷ l) absent =
@@ -137,7 +137,7 @@ rr_items-none (a ∷ l) absent =
 -- what a SendRRData is, or why a text is none
 abbrev pub RrSpells : List ℕ → Result (List ℕ) CpfFault → Type 0
 RrSpells text (Ok bytes) = IsRrBody text bytes
-RrSpells text (Err fault) = Faulty IsNull 0xb2 text fault
+RrSpells text (Err fault) = IsBodyFault IsNullAddress 0xb2 text fault
 
 same_body : {text : List ℕ} {l m : List Item} → l ≡ m → IsBody text l → IsBody text m
 same_body {text} e b = subst (IsBody text) e b
@@ -204,10 +204,10 @@ rr_body_of-spells text (Ok bytes) fits p =
 rr_body_of-spells text (Err Short) fits (inl short) = ap (λ r. r >>= rr_items_of) (body_items-short text short)
 rr_body_of-spells text (Err Short) fits (inr p) =
     ap (λ r. r >>= rr_items_of)
-    (body_items-opens text p.0 p.1 ∙ items_of-spells p.0 (Err Short) (AreBytes-opens text p.0 p.1 fits) p.2)
+    (body_items-begins_body text p.0 p.1 ∙ items_of-spells p.0 (Err Short) (AreBytes-begins_body text p.0 p.1 fits) p.2)
 rr_body_of-spells text (Err Trailing) fits p =
     ap (λ r. r >>= rr_items_of)
-    (body_items-opens text p.0 p.1 ∙ items_of-spells p.0 (Err Trailing) (AreBytes-opens text p.0 p.1 fits) p.2)
+    (body_items-begins_body text p.0 p.1 ∙ items_of-spells p.0 (Err Trailing) (AreBytes-begins_body text p.0 p.1 fits) p.2)
 rr_body_of-spells text (Err Interface) fits p = ap (λ r. r >>= rr_items_of) (body_items-interface text p.0 p.1)
 rr_body_of-spells text (Err Address) fits p =
     ap (λ r. r >>= rr_items_of) (body_items-body text p.0 fits p.1) ∙ rr_items-none p.0 p.2
@@ -225,7 +225,7 @@ rr_iff text found r fits e = (
 -- SendUnitData
 
 unit_items-address : (a : Item) (l : List Item) → a.kind ≡ 0xa1 → length a.bytes ≡ 4
-    → unit_items_of (a ∷ l) ≡ seen_by (with_id (number_at 0 4 a.bytes)) (data_of 0xb1 l)
+    → unit_items_of (a ∷ l) ≡ map_ok (with_id (number_at 0 4 a.bytes)) (data_of 0xb1 l)
 unit_items-address a l k n = grind (arith, nat_tests)
 
 unit_items-other : (a : Item) (l : List Item) → (a.kind ≢ 0xa1) ⊎ (length a.bytes ≢ 4) → unit_items_of (a ∷ l) ≡ Err Address
@@ -244,7 +244,7 @@ same_or_not m n =
     ]
 
 -- no connected address stands first
-unit_items-none : (l : List Item) → ((a : Item) (others : List Item) → l ≡ a ∷ others → IsConnected a → ⊥)
+unit_items-none : (l : List Item) → ((a : Item) (others : List Item) → l ≡ a ∷ others → IsConnectedAddress a → ⊥)
     → unit_items_of l ≡ Err Address
 unit_items-none [] absent = refl
 unit_items-none (a ∷ l) absent =
@@ -259,7 +259,7 @@ unit_items-none (a ∷ l) absent =
 -- the data of the first item are bytes of the text
 AreBytes-first : (text : List ℕ) (a : Item) (l : List Item) → IsBody text (a ∷ l) → AreBytes text → AreBytes a.bytes
 AreBytes-first text a l b fits =
-    let rest : drop 12 text ≡ a.bytes ++ flat_map item l = ap (drop 12) b.opens.spelled in
+    let rest : drop 12 text ≡ a.bytes ++ flat_map item l = ap (drop 12) b.begins_body.spelled in
     subst AreBytes (ap (take (length a.bytes)) rest ∙ take_at a.bytes (flat_map item l) (length a.bytes) refl)
     (AreBytes-take (length a.bytes) (drop 12 text) (AreBytes-drop 12 text fits))
 
@@ -268,19 +268,19 @@ four_cells xs n fits =
     drop-cells 4 0 xs (omega arith) ∙ ap (λ r. cells 4 0 xs ++ r) (drop_all 4 xs (omega arith))
     ∙ append-nil (cells 4 0 xs) ∙ sym (le-number_at_4 0 xs fits)
 
-is_connected : (a : Item) → IsConnected a → AreBytes a.bytes → a ≡ connected_address (number_at 0 4 a.bytes)
+is_connected : (a : Item) → IsConnectedAddress a → AreBytes a.bytes → a ≡ connected_address (number_at 0 4 a.bytes)
 is_connected a c fits = same_item c.0 (four_cells a.bytes c.1 fits)
 
 -- what a SendUnitData is, or why a text is none
 abbrev pub UnitSpells : List ℕ → Result (ℕ × List ℕ) CpfFault → Type 0
 UnitSpells text (Ok x) = IsUnitBody text x.0 x.1
-UnitSpells text (Err fault) = Faulty IsConnected 0xb1 text fault
+UnitSpells text (Err fault) = IsBodyFault IsConnectedAddress 0xb1 text fault
 
-with_data : {r s : Result (List ℕ) CpfFault} (id : ℕ) → r ≡ s → seen_by (with_id id) r ≡ seen_by (with_id id) s
-with_data id e = ap (seen_by (with_id id)) e
+with_data : {r s : Result (List ℕ) CpfFault} (id : ℕ) → r ≡ s → map_ok (with_id id) r ≡ map_ok (with_id id) s
+with_data id e = ap (map_ok (with_id id)) e
 
-unit_second : (text : List ℕ) (a : Item) (l : List Item) → IsConnected a → AreBytes text → IsBody text (a ∷ l)
-    → UnitSpells text (seen_by (with_id (number_at 0 4 a.bytes)) (data_of 0xb1 l))
+unit_second : (text : List ℕ) (a : Item) (l : List Item) → IsConnectedAddress a → AreBytes text → IsBody text (a ∷ l)
+    → UnitSpells text (map_ok (with_id (number_at 0 4 a.bytes)) (data_of 0xb1 l))
 unit_second text a [] c fits b = (a, [], c, b, λ d further wrong _. cc)
 unit_second text a (d ∷ l) c fits b =
     elim (same_or_not d.kind 0xb1) [
@@ -352,10 +352,10 @@ unit_body_of-spells text (Ok x) fits p =
 unit_body_of-spells text (Err Short) fits (inl short) = ap (λ r. r >>= unit_items_of) (body_items-short text short)
 unit_body_of-spells text (Err Short) fits (inr p) =
     ap (λ r. r >>= unit_items_of)
-    (body_items-opens text p.0 p.1 ∙ items_of-spells p.0 (Err Short) (AreBytes-opens text p.0 p.1 fits) p.2)
+    (body_items-begins_body text p.0 p.1 ∙ items_of-spells p.0 (Err Short) (AreBytes-begins_body text p.0 p.1 fits) p.2)
 unit_body_of-spells text (Err Trailing) fits p =
     ap (λ r. r >>= unit_items_of)
-    (body_items-opens text p.0 p.1 ∙ items_of-spells p.0 (Err Trailing) (AreBytes-opens text p.0 p.1 fits) p.2)
+    (body_items-begins_body text p.0 p.1 ∙ items_of-spells p.0 (Err Trailing) (AreBytes-begins_body text p.0 p.1 fits) p.2)
 unit_body_of-spells text (Err Interface) fits p = ap (λ r. r >>= unit_items_of) (body_items-interface text p.0 p.1)
 unit_body_of-spells text (Err Address) fits p =
     ap (λ r. r >>= unit_items_of) (body_items-body text p.0 fits p.1) ∙ unit_items-none p.0 p.2

@@ -123,7 +123,7 @@ two_reads = refl
 -- a sink with room for six bytes: the most that each write takes, and after how many one fails
 abbrev sink : ℕ → Option ℕ → SinkState
 sink largest failing =
-    record { written = []; room = 6; calls = record { largest_size = largest; before_failure = failing; failures = 0 } }
+    record { written = []; capacity = 6; calls = record { largest_size = largest; before_failure = failing; failures = 0 } }
 
 -- how many of these bytes writes take, one after the other
 abbrev taken : List (List ℕ) → SinkState → List (Option ℕ)
@@ -146,7 +146,7 @@ until_full-none_failed : (after_writes (take 3 until_full) (sink 4 None)).calls.
 until_full-none_failed = refl
 
 until_full-written : after_writes until_full (sink 4 None)
-    ≡ record { written = take 6 ten; room = 0; calls = record { largest_size = 4; before_failure = None; failures = 2 } }
+    ≡ record { written = take 6 ten; capacity = 0; calls = record { largest_size = 4; before_failure = None; failures = 2 } }
 until_full-written = refl
 
 -- the second write fails
@@ -157,7 +157,7 @@ pairs-taken : taken pairs (sink 100 (Some 1)) ≡ Some 2 ∷ None ∷ Some 2 ∷
 pairs-taken = refl
 
 pairs-failed : after_writes (take 2 pairs) (sink 100 (Some 1))
-    ≡ record { written = 0 ∷ 1 ∷ []; room = 4; calls = record { largest_size = 100; before_failure = None; failures = 1 } }
+    ≡ record { written = 0 ∷ 1 ∷ []; capacity = 4; calls = record { largest_size = 100; before_failure = None; failures = 1 } }
 pairs-failed = refl
 
 pairs-written : (after_writes pairs (sink 100 (Some 1))).written ≡ 0 ∷ 1 ∷ 2 ∷ 3 ∷ []

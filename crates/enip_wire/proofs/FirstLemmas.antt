@@ -6,13 +6,13 @@ use Rattle.cip_bytes.specs.Numbers.{number_at, AreBytes}
 use Rattle.cip_bytes.proofs.Bytes.{AreBytes-take}
 use Rattle.enip_wire.specs.Headers.{header_spelling, header_at}
 use Rattle.enip_wire.specs.Frames.{Frame, frame, IsFrame, end_after}
-use Rattle.enip_wire.specs.Stream.{IsFresh, taken_of, joined_of, sight_of, IsTakenFirst}
-use Rattle.enip_wire.specs.Stream.Sight.{Nothing_yet, A_frame, A_long_header}
+use Rattle.enip_wire.specs.Stream.{IsAtMostOneFrame, bytes_taken, held_and_taken, parsed, IsTakenFirst}
+use Rattle.enip_wire.specs.Stream.Parsed.{Incomplete, WholeFrame, TooLongHeader}
 use Rattle.enip_wire.proofs.FrameLemmas.{end_after-within, end_after-over, number_at-take}
 use Rattle.enip_wire.proofs.TakeLemmas.{Takes-count}
-use Rattle.enip_wire.proofs.RunningLemmas.{taken_of-short, taken_of-long}
-use Rattle.enip_wire.proofs.SeeLemmas.{header_at-take, see-whole, kind-whole, sight_of-short, sight_of-long}
-use Rattle.enip_wire.proofs.SightLemmas.{sight_of-waits}
+use Rattle.enip_wire.proofs.RunningLemmas.{bytes_taken-short, bytes_taken-long}
+use Rattle.enip_wire.proofs.ParseFrameLemmas.{header_at-take, parse_frame-whole, kind-whole, parsed-short, parsed-long}
+use Rattle.enip_wire.proofs.ParsedLemmas.{parsed-waits}
 
 -- the header that is read says where the frame ends
 says-length : (piece : List ℕ) (h : Header) → h ≡ header_at (take 24 piece) → number_at 2 2 piece ≡ h.length
@@ -20,40 +20,40 @@ says-length piece h is = sym (ap (λ x. x.length) (is ∙ header_at-take piece))
 
 -- Where no whole frame is at the front.
 
-pub none-short : (piece : List ℕ) → length piece < 24 → (f : Frame) → sight_of (joined_of [] piece) ≡ A_frame f → ⊥
+pub none-short : (piece : List ℕ) → length piece < 24 → (f : Frame) → parsed (held_and_taken [] piece) ≡ WholeFrame f → ⊥
 none-short piece short f e =
-    let size : length (take (taken_of [] piece) piece) ≡ length piece
-    = length-take (taken_of [] piece) piece ∙ omega (arith, taken_of-short [] piece (omega (arith, short))) in
-    let bad : Nothing_yet ≡ A_frame f = sym (sight_of-short (joined_of [] piece) (omega (arith, size, short))) ∙ e in
+    let size : length (take (bytes_taken [] piece) piece) ≡ length piece
+    = length-take (bytes_taken [] piece) piece ∙ omega (arith, bytes_taken-short [] piece (omega (arith, short))) in
+    let bad : Incomplete ≡ WholeFrame f = sym (parsed-short (held_and_taken [] piece) (omega (arith, size, short))) ∙ e in
     cc
 
 pub none-long : (piece : List ℕ) (h : Header) → 24 ≤ length piece → h ≡ header_at (take 24 piece) → 65511 < h.length
-    → (f : Frame) → sight_of (joined_of [] piece) ≡ A_frame f → ⊥
+    → (f : Frame) → parsed (held_and_taken [] piece) ≡ WholeFrame f → ⊥
 none-long piece h long is over f e =
     let says : number_at 2 2 piece ≡ h.length = says-length piece h is in
-    let number : taken_of [] piece ≡ 24
-    = taken_of-long [] piece (omega (arith, long)) ∙ omega (arith, end_after-over (number_at 2 2 piece) (omega (arith, says, over))) in
-    let size : length (take (taken_of [] piece) piece) ≡ 24
-    = length-take (taken_of [] piece) piece ∙ omega (arith, number, long) in
-    let same : number_at 2 2 (take (taken_of [] piece) piece) ≡ number_at 2 2 piece
-    = number_at-take (taken_of [] piece) piece (omega (arith, number)) in
-    let bad : A_long_header (header_at (joined_of [] piece)) ≡ A_frame f
-    = sym (sight_of-long (joined_of [] piece) (omega (arith, size)) (omega (arith, same, says, over))) ∙ e in
+    let number : bytes_taken [] piece ≡ 24
+    = bytes_taken-long [] piece (omega (arith, long)) ∙ omega (arith, end_after-over (number_at 2 2 piece) (omega (arith, says, over))) in
+    let size : length (take (bytes_taken [] piece) piece) ≡ 24
+    = length-take (bytes_taken [] piece) piece ∙ omega (arith, number, long) in
+    let same : number_at 2 2 (take (bytes_taken [] piece) piece) ≡ number_at 2 2 piece
+    = number_at-take (bytes_taken [] piece) piece (omega (arith, number)) in
+    let bad : TooLongHeader (header_at (held_and_taken [] piece)) ≡ WholeFrame f
+    = sym (parsed-long (held_and_taken [] piece) (omega (arith, size)) (omega (arith, same, says, over))) ∙ e in
     cc
 
 pub none-part : (piece : List ℕ) (h : Header) → 24 ≤ length piece → h ≡ header_at (take 24 piece) → h.length ≤ 65511
-    → length piece < 24 + h.length → (f : Frame) → sight_of (joined_of [] piece) ≡ A_frame f → ⊥
+    → length piece < 24 + h.length → (f : Frame) → parsed (held_and_taken [] piece) ≡ WholeFrame f → ⊥
 none-part piece h long is within short f e =
     let says : number_at 2 2 piece ≡ h.length = says-length piece h is in
-    let number : taken_of [] piece ≡ length piece
-    = taken_of-long [] piece (omega (arith, long))
+    let number : bytes_taken [] piece ≡ length piece
+    = bytes_taken-long [] piece (omega (arith, long))
     ∙ omega (arith, end_after-within (number_at 2 2 piece) (omega (arith, says, within)), says, short) in
-    let size : length (take (taken_of [] piece) piece) ≡ length piece
-    = length-take (taken_of [] piece) piece ∙ omega (arith, number) in
-    let same : number_at 2 2 (take (taken_of [] piece) piece) ≡ number_at 2 2 piece
-    = number_at-take (taken_of [] piece) piece (omega (arith, number, long)) in
-    let bad : Nothing_yet ≡ A_frame f
-    = sym (sight_of-waits (joined_of [] piece) (omega (arith, size, long)) (omega (arith, same, says, within))
+    let size : length (take (bytes_taken [] piece) piece) ≡ length piece
+    = length-take (bytes_taken [] piece) piece ∙ omega (arith, number) in
+    let same : number_at 2 2 (take (bytes_taken [] piece) piece) ≡ number_at 2 2 piece
+    = number_at-take (bytes_taken [] piece) piece (omega (arith, number, long)) in
+    let bad : Incomplete ≡ WholeFrame f
+    = sym (parsed-waits (held_and_taken [] piece) (omega (arith, size, long)) (omega (arith, same, says, within))
     (λ full. omega (arith, full, size, same, says, short))) ∙ e in
     cc
 
@@ -85,10 +85,10 @@ first-taken piece body h fits long is within whole back =
     = ap end_after says ∙ end_after-within h.length within in
     let count : 24 + length body ≡ min (end_after (number_at 2 2 piece) - 0) (length piece)
     = omega (arith, size, end, whole) in
-    let fresh : IsFresh [] = record { running = λ k below. absurd (omega (arith, below)) } in
+    let fresh : IsAtMostOneFrame [] = record { running = λ k below. absurd (omega (arith, below)) } in
     record {
       takes = Takes-count [] piece (24 + length body) (AreBytes-take 0 piece fits) fits fresh (omega (arith, long)) count;
-      number = count ∙ sym (taken_of-long [] piece (omega (arith, long)));
+      number = count ∙ sym (bytes_taken-long [] piece (omega (arith, long)));
       bound = omega (arith, size, within);
     }
 
@@ -99,13 +99,13 @@ pub first-shown : (piece body : List ℕ) (h : Header) → AreBytes piece → 24
     × (take (24 + length body) piece ≡ frame (record { header = h; body = body }))
 first-shown piece body h fits long is spelled within whole back =
     let size : length body ≡ h.length = body-size piece body h.length whole back in
-    see-whole (take (24 + length body) piece) (take 24 piece) body h (head-same piece (length body))
+    parse_frame-whole (take (24 + length body) piece) (take 24 piece) body h (head-same piece (length body))
     (body-same piece body h.length whole back) (long-front piece (length body) (omega (arith, size, whole)))
     (AreBytes-take (24 + length body) piece fits) is spelled within size
 
 pub first-kind : (piece body : List ℕ) (h : Header) → 24 ≤ length piece → h ≡ header_at (take 24 piece)
     → h.length ≤ 65511 → 24 + h.length ≤ length piece → body ≡ take h.length (drop 24 piece)
-    → A_frame (record { header = h; body = body }) ≡ sight_of (take (24 + length body) piece)
+    → WholeFrame (record { header = h; body = body }) ≡ parsed (take (24 + length body) piece)
 first-kind piece body h long is within whole back =
     let size : length body ≡ h.length = body-size piece body h.length whole back in
     kind-whole (take (24 + length body) piece) (take 24 piece) body h (head-same piece (length body))

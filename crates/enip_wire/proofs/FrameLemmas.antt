@@ -7,7 +7,7 @@ use Rattle.byteorder.specs.Numbers.{little_from-take}
 use Rattle.cip_bytes.specs.Numbers.{number_at, AreBytes}
 use Rattle.cip_bytes.proofs.Bytes.{AreBytes-take}
 use Rattle.enip_wire.specs.Headers.{header_spelling, header_at, IsHeader}
-use Rattle.enip_wire.specs.Frames.{Frame, frame, IsFrame, IsWhole, Stops, end_after}
+use Rattle.enip_wire.specs.Frames.{Frame, frame, IsFrame, IsWhole, IsComplete, end_after}
 use Rattle.enip_wire.proofs.HeaderLemmas.{header_spelling-header_at, header_at-header_spelling, length-header_spelling}
 
 pub number-two : (place : ℕ) (bytes : List ℕ) → AreBytes bytes → number_at place 2 bytes < 2 ^ 16
@@ -101,7 +101,7 @@ number_at-append xs ys h =
 
 -- nothing stops before the end
 pub not_before : (bytes : List ℕ) (m : ℕ) → m ≤ length bytes → m < end_after (number_at 2 2 bytes)
-    → Stops (take m bytes) → ⊥
+    → IsComplete (take m bytes) → ⊥
 not_before bytes m short before (inl whole) =
     let s : Sized (take m bytes) = Sized-whole (take m bytes) whole in
     let size : length (take m bytes) ≡ m = simp length-take (omega arith) in
@@ -120,7 +120,7 @@ not_before bytes m short before (inr over) =
 
 -- what begins so stops at the end
 pub stops_at : (bytes : List ℕ) (m : ℕ) → AreBytes bytes → 24 ≤ length bytes → m ≡ end_after (number_at 2 2 bytes)
-    → m ≤ length bytes → Stops (take m bytes)
+    → m ≤ length bytes → IsComplete (take m bytes)
 stops_at bytes m fits header e short =
     let far : 24 ≤ m = omega (arith, end_after-least (number_at 2 2 bytes)) in
     let size : length (take m bytes) ≡ m = simp length-take (omega arith) in

@@ -1,7 +1,7 @@
 pub mod HeaderLemmas
 pub mod FrameLemmas
 pub mod TakeLemmas
-pub mod SeeLemmas
+pub mod ParseFrameLemmas
 pub mod NextLemmas
 pub mod StreamLemmas
 pub mod PieceLemmas
@@ -11,6 +11,6 @@ pub mod WriteLemmas
 pub mod DeviceRows
 pub mod Rows
 pub mod RunningLemmas
-pub mod SightLemmas
+pub mod ParsedLemmas
 pub mod FirstLemmas
 pub mod TwoLemmas

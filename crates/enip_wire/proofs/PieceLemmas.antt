@@ -7,33 +7,33 @@ use Rattle.std.specs.List.{AllByRecursion, concat}
 use Rattle.cip_bytes.specs.Numbers.{number_at, AreBytes}
 use Rattle.cip_bytes.proofs.Bytes.{AreBytes-drop, AreBytes-append}
 use Rattle.enip_wire.specs.Headers.{header_spelling, header_at}
-use Rattle.enip_wire.specs.Frames.{Frame, frame, IsFrame, Stops, end_after}
-use Rattle.enip_wire.specs.Stream.{Cut, IsFresh, Takes, taken_of, sight_of}
-use Rattle.enip_wire.specs.Stream.Sight.{A_frame}
+use Rattle.enip_wire.specs.Frames.{Frame, frame, IsFrame, IsComplete, end_after}
+use Rattle.enip_wire.specs.Stream.{Cut, IsAtMostOneFrame, Takes, bytes_taken, parsed}
+use Rattle.enip_wire.specs.Stream.Parsed.{WholeFrame}
 use Rattle.enip_wire.specs.Pieces.{Reads}
 use Rattle.enip_wire.specs.Pieces.Reads.{Ended, Waited, Showed, Stayed}
 use Rattle.enip_wire.proofs.HeaderLemmas.{header_at-header_spelling, length-header_spelling}
 use Rattle.enip_wire.proofs.FrameLemmas.{number_at-frame, length-frame, end_after-within, not_before, stops_at}
-use Rattle.enip_wire.proofs.SeeLemmas.{same_frame, sight_of-frame}
-use Rattle.enip_wire.proofs.TakeLemmas.{stops-header, front, Takes-short, Takes-count, IsFresh-end-append, IsFresh-after}
+use Rattle.enip_wire.proofs.ParseFrameLemmas.{same_frame, parsed-frame}
+use Rattle.enip_wire.proofs.TakeLemmas.{stops-header, front, Takes-short, Takes-count, IsAtMostOneFrame-end-append, IsAtMostOneFrame-after}
 use Rattle.enip_wire.proofs.StreamLemmas.{any_pieces_lem, not_empty}
 
 -- what a reader that holds nothing takes of a text that begins with a whole header
-taken_of-nothing : (text : List ℕ) → 24 ≤ length text
-    → taken_of [] text ≡ min (end_after (number_at 2 2 text)) (length text)
-taken_of-nothing text long = grind (arith, nat_tests)
+bytes_taken-nothing : (text : List ℕ) → 24 ≤ length text
+    → bytes_taken [] text ≡ min (end_after (number_at 2 2 text)) (length text)
+bytes_taken-nothing text long = grind (arith, nat_tests)
 
-pub taken_of-frame : (f : Frame) (more : List ℕ) → IsFrame f → taken_of [] (frame f ++ more) ≡ length (frame f)
-taken_of-frame f more ok =
+pub bytes_taken-frame : (f : Frame) (more : List ℕ) → IsFrame f → bytes_taken [] (frame f ++ more) ≡ length (frame f)
+bytes_taken-frame f more ok =
     let size : length (frame f) ≡ 24 + f.header.length = length-frame f ok in
     let whole : length (frame f ++ more) ≡ length (frame f) + length more = length-append (frame f) more in
     let end : end_after (number_at 2 2 (frame f ++ more)) ≡ 24 + f.header.length
     = ap end_after (number_at-frame f more ok) ∙ end_after-within f.header.length ok.within in
-    taken_of-nothing (frame f ++ more) (omega arith)
+    bytes_taken-nothing (frame f ++ more) (omega arith)
     ∙ ap (λ e. min e (length (frame f ++ more))) end ∙ omega arith
 
-pub sight_of-written : (f : Frame) → IsFrame f → sight_of (frame f) ≡ A_frame f
-sight_of-written f ok =
+pub parsed-written : (f : Frame) → IsFrame f → parsed (frame f) ≡ WholeFrame f
+parsed-written f ok =
     let size : length (frame f) ≡ 24 + f.header.length = length-frame f ok in
     let says : number_at 2 2 (frame f) ≡ f.header.length
     = ap (λ h. h.length) (header_at-header_spelling f.header f.body ok.fields) in
@@ -41,46 +41,46 @@ sight_of-written f ok =
     let same : header_at (frame f) ≡ f.header = header_at-header_spelling f.header f.body ok.fields in
     let rest : drop 24 (frame f) ≡ f.body
     = drop_at (header_spelling f.header) f.body 24 (length-header_spelling f.header ok.fields.context) in
-    sight_of-frame (frame f) (omega arith) (omega arith) (omega arith) ∙ ap A_frame (same_frame same rest)
+    parsed-frame (frame f) (omega arith) (omega arith) (omega arith) ∙ ap WholeFrame (same_frame same rest)
 
 -- the piece is taken whole, and more is awaited
 record Awaits (held piece : List ℕ) : Type 0 where
   takes : Takes held piece (length piece)
-  waits : Stops (held ++ piece) → ⊥
+  waits : IsComplete (held ++ piece) → ⊥
 
 -- so much of the piece makes what is held a whole frame or a too long header
 record Completes (held piece : List ℕ) : Type 0 where
   number : ℕ
   takes : Takes held piece number
-  stops : Stops (held ++ take number piece)
+  stops : IsComplete (held ++ take number piece)
 
 -- a piece does the one or the other
 after_header : (held piece : List ℕ) (end : ℕ) → end ≡ end_after (number_at 2 2 (held ++ piece)) → AreBytes held
-    → AreBytes piece → IsFresh held → 24 ≤ length held + length piece → Awaits held piece ⊎ Completes held piece
+    → AreBytes piece → IsAtMostOneFrame held → 24 ≤ length held + length piece → Awaits held piece ⊎ Completes held piece
 after_header held piece end is f g fresh header =
     let whole : length (held ++ piece) ≡ length held + length piece = length-append held piece in
-    let begun : length held ≤ end_after (number_at 2 2 (held ++ piece)) = IsFresh-end-append held piece f fresh in
+    let begun : length held ≤ end_after (number_at 2 2 (held ++ piece)) = IsAtMostOneFrame-end-append held piece f fresh in
     elim (cases_lt (length (held ++ piece)) end) [
       | inl before ↦ inl (
           record {
             takes = Takes-count held piece (length piece) f g fresh header (omega arith);
             waits = λ stops.
                 not_before (held ++ piece) (length (held ++ piece)) (omega arith) (omega arith)
-                (subst Stops (sym (take_all (length (held ++ piece)) (held ++ piece) (omega arith))) stops);
+                (subst IsComplete (sym (take_all (length (held ++ piece)) (held ++ piece) (omega arith))) stops);
           }
           )
       | inr reached ↦ inr (
           record {
             number = end - length held;
             takes = Takes-count held piece (end - length held) f g fresh header (omega arith);
-            stops = subst Stops (sym (front held piece (end - length held)))
+            stops = subst IsComplete (sym (front held piece (end - length held)))
                 (stops_at (held ++ piece) (length held + (end - length held)) (AreBytes-append held piece f g)
                 (omega arith) (omega arith) (omega arith));
           }
           )
     ]
 
-after_piece : (held piece : List ℕ) → AreBytes held → AreBytes piece → IsFresh held
+after_piece : (held piece : List ℕ) → AreBytes held → AreBytes piece → IsAtMostOneFrame held
     → Awaits held piece ⊎ Completes held piece
 after_piece held piece f g fresh =
     elim (cases_lt (length held + length piece) 24) [
@@ -104,21 +104,21 @@ record HasReading (held : List ℕ) (pieces : List (List ℕ)) : Type 0 where
 -- what a reader that can go on holds
 record IsRunning (held : List ℕ) : Type 0 where
   bytes : AreBytes held
-  fresh : IsFresh held
-  running : Stops held → ⊥
+  fresh : IsAtMostOneFrame held
+  running : IsComplete held → ⊥
 
 nothing_held : IsRunning []
 nothing_held =
     record { bytes = λ i. lit< tt; fresh = record { running = λ k h. absurd (omega arith) }; running = not_empty }
 
 -- what becomes whole or too long takes a byte at least
-some_taken : (n : ℕ) (held piece : List ℕ) → (Stops held → ⊥) → Stops (held ++ take n piece) → 0 < n
-some_taken zero held piece running stops = absurd (running (subst Stops (append-nil held) stops))
+some_taken : (n : ℕ) (held piece : List ℕ) → (IsComplete held → ⊥) → IsComplete (held ++ take n piece) → 0 < n
+some_taken zero held piece running stops = absurd (running (subst IsComplete (append-nil held) stops))
 some_taken (suc n) held piece running stops = omega arith
 
 -- a piece that makes what is held whole or too long, where each shorter piece has a reading
 completed : (held piece : List ℕ) (pieces : List (List ℕ)) (n : ℕ) → IsRunning held → AreBytes piece
-    → Takes held piece n → Stops (held ++ take n piece)
+    → Takes held piece n → IsComplete (held ++ take n piece)
     → ((rest : List ℕ) → length rest < length piece → AreBytes rest → HasReading [] (rest ∷ pieces))
     → HasReading held (piece ∷ pieces)
 completed held piece pieces n going fits takes (inl whole) shorter =
@@ -142,8 +142,8 @@ with_piece held piece pieces going fits shorter after =
     elim (after_piece held piece going.bytes fits going.fresh) [
       | inl awaits ↦
           let whole : take (length piece) piece ≡ piece = take_all (length piece) piece (omega arith) in
-          let fresh : IsFresh (held ++ piece)
-          = subst (λ p. IsFresh (held ++ p)) whole (IsFresh-after held piece (length piece) going.fresh awaits.takes) in
+          let fresh : IsAtMostOneFrame (held ++ piece)
+          = subst (λ p. IsAtMostOneFrame (held ++ p)) whole (IsAtMostOneFrame-after held piece (length piece) going.fresh awaits.takes) in
           let later : HasReading (held ++ piece) pieces
           = after (held ++ piece)
           (record { bytes = AreBytes-append held piece going.bytes fits; fresh = fresh; running = awaits.waits }) in

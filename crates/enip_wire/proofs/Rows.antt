@@ -2,8 +2,8 @@
 use Rattle.std.proofs.Common.{◌≡◌, [], ◌∷◌, ◌++◌, take, refl}
 use Rattle.enip_wire.specs.Headers.{header_at}
 use Rattle.enip_wire.specs.Frames.{Frame, frame}
-use Rattle.enip_wire.specs.Stream.{taken_of, sight_of}
-use Rattle.enip_wire.specs.Stream.Sight.{Nothing_yet, A_frame, A_long_header}
+use Rattle.enip_wire.specs.Stream.{bytes_taken, parsed}
+use Rattle.enip_wire.specs.Stream.Parsed.{Incomplete, WholeFrame, TooLongHeader}
 
 -- RegisterSession
 abbrev pub register : Frame
@@ -24,17 +24,17 @@ pub register-spelled : frame register
     ≡ 0x65 ∷ 0 ∷ 4 ∷ 0 ∷ 0 ∷ 0 ∷ 0 ∷ 0 ∷ 0 ∷ 0 ∷ 0 ∷ 0 ∷ 1 ∷ 2 ∷ 3 ∷ 4 ∷ 5 ∷ 6 ∷ 7 ∷ 8 ∷ 0 ∷ 0 ∷ 0 ∷ 0 ∷ 1 ∷ 0 ∷ 0 ∷ 0 ∷ []
 register-spelled = refl
 
-pub register-seen : sight_of (frame register) ≡ A_frame register
+pub register-seen : parsed (frame register) ≡ WholeFrame register
 register-seen = refl
 
-pub register-cut_short : sight_of (take 27 (frame register)) ≡ Nothing_yet
+pub register-cut_short : parsed (take 27 (frame register)) ≡ Incomplete
 register-cut_short = refl
 
 -- of two frames in one piece, one is taken
-pub register-taken : taken_of [] (frame register ++ frame register) ≡ 28
+pub register-taken : bytes_taken [] (frame register ++ frame register) ≡ 28
 register-taken = refl
 
 -- a length of 65,512
-pub too_long-seen : sight_of (0 ∷ 0 ∷ 0xe8 ∷ 0xff ∷ take 20 (frame register))
-    ≡ A_long_header (header_at (0 ∷ 0 ∷ 0xe8 ∷ 0xff ∷ take 20 (frame register)))
+pub too_long-seen : parsed (0 ∷ 0 ∷ 0xe8 ∷ 0xff ∷ take 20 (frame register))
+    ≡ TooLongHeader (header_at (0 ∷ 0 ∷ 0xe8 ∷ 0xff ∷ take 20 (frame register)))
 too_long-seen = refl

@@ -5,14 +5,14 @@ use Rattle.std.specs.List.{flat_map, concat}
 use Rattle.cip_bytes.specs.Numbers.{number_at}
 use Rattle.cip_bytes.proofs.Joined.{same_front}
 use Rattle.enip_wire.specs.Headers.{header_spelling, header_at}
-use Rattle.enip_wire.specs.Frames.{Frame, frame, IsFrame, IsTooLong, Stops}
-use Rattle.enip_wire.specs.Stream.{Cut, IsFresh}
+use Rattle.enip_wire.specs.Frames.{Frame, frame, IsFrame, IsTooLong, IsComplete}
+use Rattle.enip_wire.specs.Stream.{Cut, IsAtMostOneFrame}
 use Rattle.enip_wire.specs.Pieces.{Reads}
 use Rattle.enip_wire.specs.Pieces.Reads.{Ended, Waited, Showed, Stayed}
 use Rattle.enip_wire.proofs.HeaderLemmas.{header_at-header_spelling}
 use Rattle.enip_wire.proofs.FrameLemmas.{number_at-frame, number_at-append}
-use Rattle.enip_wire.proofs.SeeLemmas.{same_frame}
-use Rattle.enip_wire.proofs.TakeLemmas.{IsFresh-after, stops-header}
+use Rattle.enip_wire.proofs.ParseFrameLemmas.{same_frame}
+use Rattle.enip_wire.proofs.TakeLemmas.{IsAtMostOneFrame-after, stops-header}
 
 -- the header at the front of what a frame spells
 header_in : (f : Frame) (x : List ℕ) → IsFrame f → header_at (frame f ++ x) ≡ f.header
@@ -53,7 +53,7 @@ one_cut_lem stream (f ∷ fs) (g ∷ gs) r q c d =
     (let p : f ≡ g = first.0 in let q' : fs ≡ gs = rest.0 in cc, rest.1)
 
 -- no frame spells a front of what is held
-none_held : (held : List ℕ) → IsFresh held → (Stops held → ⊥) → (f : Frame) (more : List ℕ) → IsFrame f
+none_held : (held : List ℕ) → IsAtMostOneFrame held → (IsComplete held → ⊥) → (f : Frame) (more : List ℕ) → IsFrame f
     → held ≡ frame f ++ more → ⊥
 none_held held fresh running f [] ok e =
     running (inl (record { of = f; is_frame = ok; spelled = e ∙ append-nil (frame f) }))
@@ -72,7 +72,7 @@ none_long bytes rest over f more ok e =
     = sym (number_at-append bytes rest (omega (arith, over.header))) ∙ ap (λ b. number_at 2 2 b) e ∙ number_at-frame f more ok in
     omega (arith, says, over.over, ok.within)
 
-pub not_empty : Stops [] → ⊥
+pub not_empty : IsComplete [] → ⊥
 not_empty stops = let header : 24 ≤ 0 = stops-header [] stops in omega arith
 
 shown_parts : (held piece more spelled others rest : List ℕ) (n : ℕ) → held ++ take n piece ≡ spelled
@@ -91,13 +91,13 @@ stayed_parts held piece more n =
     ∙ ap (λ p. held ++ (p ++ more)) (take-append-drop n piece) ∙ sym (append_assoc held piece more)
 
 pub any_pieces_lem : {held : List ℕ} {pieces : List (List ℕ)} {frames : List Frame} {rest : List ℕ}
-    → Reads held pieces frames rest → IsFresh held → (Stops held → ⊥) → Cut (held ++ concat pieces) frames rest
+    → Reads held pieces frames rest → IsAtMostOneFrame held → (IsComplete held → ⊥) → Cut (held ++ concat pieces) frames rest
 any_pieces_lem (Ended {held}) fresh running =
     record { parts = append-nil held; each = tt; no_more = none_held held fresh running }
 any_pieces_lem (Waited {held} {piece} {rest} {pieces} {frames} takes waits reads) fresh running =
     let whole : take (length piece) piece ≡ piece = take_all (length piece) piece (omega arith) in
-    let next : IsFresh (held ++ piece)
-    = subst (λ p. IsFresh (held ++ p)) whole (IsFresh-after held piece (length piece) fresh takes) in
+    let next : IsAtMostOneFrame (held ++ piece)
+    = subst (λ p. IsAtMostOneFrame (held ++ p)) whole (IsAtMostOneFrame-after held piece (length piece) fresh takes) in
     subst (λ s. Cut s frames rest) (append_assoc held piece (concat pieces)) (any_pieces_lem reads next waits)
 any_pieces_lem (Showed {held} {piece} {rest} {pieces} {frames} {f} {n} takes ok is reads) fresh running =
     let cut : Cut (drop n piece ++ concat pieces) frames rest

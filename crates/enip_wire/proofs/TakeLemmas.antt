@@ -4,12 +4,12 @@ use Rattle.std.proofs.Math.Seq.{take-append-add}
 use Rattle.std.proofs.lemmas.Bool.{cases_lt}
 use Rattle.std.proofs.lemmas.List.{take-append-le, take-take}
 use Rattle.cip_bytes.specs.Numbers.{number_at, AreBytes}
-use Rattle.enip_wire.specs.Frames.{Stops, end_after}
-use Rattle.enip_wire.specs.Stream.{IsFresh, Takes}
+use Rattle.enip_wire.specs.Frames.{IsComplete, end_after}
+use Rattle.enip_wire.specs.Stream.{IsAtMostOneFrame, Takes}
 use Rattle.cip_bytes.proofs.Bytes.{AreBytes-append}
 use Rattle.enip_wire.proofs.FrameLemmas.{end_after-most, number_at-append, end_after-least, not_before, stops_at, Sized, Sized-whole}
 
-pub stops-header : (bytes : List ℕ) → Stops bytes → 24 ≤ length bytes
+pub stops-header : (bytes : List ℕ) → IsComplete bytes → 24 ≤ length bytes
 stops-header bytes (inl whole) = let s : Sized bytes = Sized-whole bytes whole in s.header
 stops-header bytes (inr over) = over.header
 
@@ -28,39 +28,39 @@ Takes-short held piece short =
     }
 
 -- what is held is no longer than its end
-pub IsFresh-end : (held : List ℕ) → AreBytes held → IsFresh held → 24 ≤ length held
+pub IsAtMostOneFrame-end : (held : List ℕ) → AreBytes held → IsAtMostOneFrame held → 24 ≤ length held
     → length held ≤ end_after (number_at 2 2 held)
-IsFresh-end held fits fresh header =
+IsAtMostOneFrame-end held fits fresh header =
     elim (cases_lt (end_after (number_at 2 2 held)) (length held)) [
       | inl past ↦ absurd (fresh.running _ past (stops_at held _ fits header refl (omega arith)))
       | inr within ↦ within
     ]
 
 -- where what is held and a piece end together, it is no sooner than the end of what is held
-pub IsFresh-end-append : (held piece : List ℕ) → AreBytes held → IsFresh held
+pub IsAtMostOneFrame-end-append : (held piece : List ℕ) → AreBytes held → IsAtMostOneFrame held
     → length held ≤ end_after (number_at 2 2 (held ++ piece))
-IsFresh-end-append held piece fits fresh =
+IsAtMostOneFrame-end-append held piece fits fresh =
     elim (cases_lt (length held) 24) [
       | inl short ↦ omega (arith, end_after-least (number_at 2 2 (held ++ piece)))
       | inr long ↦
           subst (λ n. length held ≤ end_after n) (sym (number_at-append held piece (omega arith)))
-          (IsFresh-end held fits fresh long)
+          (IsAtMostOneFrame-end held fits fresh long)
     ]
 
-pub Takes-count : (held piece : List ℕ) (n : ℕ) → AreBytes held → AreBytes piece → IsFresh held
+pub Takes-count : (held piece : List ℕ) (n : ℕ) → AreBytes held → AreBytes piece → IsAtMostOneFrame held
     → 24 ≤ length held + length piece
     → n ≡ min (end_after (number_at 2 2 (held ++ piece)) - length held) (length piece) → Takes held piece n
 Takes-count held piece n f g fresh header e =
     let whole : length (held ++ piece) ≡ length held + length piece = length-append held piece in
     let least : 24 ≤ end_after (number_at 2 2 (held ++ piece)) = end_after-least (number_at 2 2 (held ++ piece)) in
-    let begun : length held ≤ end_after (number_at 2 2 (held ++ piece)) = IsFresh-end-append held piece f fresh in
+    let begun : length held ≤ end_after (number_at 2 2 (held ++ piece)) = IsAtMostOneFrame-end-append held piece f fresh in
     record {
       within = omega arith;
       least = λ k below stops.
-          not_before (held ++ piece) (length held + k) (omega arith) (omega arith) (subst Stops (front held piece k) stops);
+          not_before (held ++ piece) (length held + k) (omega arith) (omega arith) (subst IsComplete (front held piece k) stops);
       ends = elim (cases_lt n (length piece)) [
         | inl some ↦ inl (
-            subst Stops (sym (front held piece n))
+            subst IsComplete (sym (front held piece n))
             (stops_at (held ++ piece) (length held + n) (AreBytes-append held piece f g) (omega arith) (omega arith) (omega arith))
             )
         | inr all ↦ inr (omega arith)
@@ -68,25 +68,25 @@ Takes-count held piece n f g fresh header e =
     }
 
 -- what is held and taken is at most a frame
-pub bound-count : (held piece : List ℕ) (n e : ℕ) → AreBytes held → IsFresh held
+pub bound-count : (held piece : List ℕ) (n e : ℕ) → AreBytes held → IsAtMostOneFrame held
     → n ≡ min (e - length held) (length piece) → e ≤ 65535 → length held + n ≤ 65535
 bound-count held piece n e f fresh is most =
     let begun : length held ≤ 65535
     = elim (cases_lt (length held) 24) [
       | inl short ↦ omega arith
-      | inr long ↦ omega (arith, IsFresh-end held f fresh long, end_after-most (number_at 2 2 held))
+      | inr long ↦ omega (arith, IsAtMostOneFrame-end held f fresh long, end_after-most (number_at 2 2 held))
     ] in
     omega arith
 
-pub IsFresh-after : (held piece : List ℕ) (n : ℕ) → IsFresh held → Takes held piece n → IsFresh (held ++ take n piece)
-IsFresh-after held piece n fresh takes =
+pub IsAtMostOneFrame-after : (held piece : List ℕ) (n : ℕ) → IsAtMostOneFrame held → Takes held piece n → IsAtMostOneFrame (held ++ take n piece)
+IsAtMostOneFrame-after held piece n fresh takes =
     record {
       running = λ k below stops.
           elim (cases_lt k (length held)) [
             | inl front ↦
                 let same : take k (held ++ take n piece) ≡ take k held
                 = take-append-le k held (take n piece) (omega arith) in
-                fresh.running k front (subst Stops same stops)
+                fresh.running k front (subst IsComplete same stops)
             | inr past ↦
                 let within : n ≤ length piece = takes.within in
                 let less : k - length held < n = omega (arith, length-append held (take n piece), length-take n piece) in
@@ -95,15 +95,15 @@ IsFresh-after held piece n fresh takes =
                 = ap (λ j. take j (held ++ take n piece)) (sym place)
                 ∙ take-append-add held (take n piece) (k - length held)
                 ∙ ap (λ r. held ++ r) (take-take (k - length held) n piece (omega arith)) in
-                takes.least (k - length held) less (subst Stops same stops)
+                takes.least (k - length held) less (subst IsComplete same stops)
           ];
     }
 
 -- where neither a whole frame nor a too long header is held, of a byte or more some are taken
-pub some_taken : (held piece : List ℕ) (n : ℕ) → (Stops held → ⊥) → Takes held piece n → 0 < length piece → 0 < n
+pub some_taken : (held piece : List ℕ) (n : ℕ) → (IsComplete held → ⊥) → Takes held piece n → 0 < length piece → 0 < n
 some_taken held piece (suc n) running takes some = omega arith
 some_taken held piece zero running takes some =
     elim takes.ends [
-      | inl stops ↦ absurd (running (subst Stops (append-nil held) stops))
+      | inl stops ↦ absurd (running (subst IsComplete (append-nil held) stops))
       | inr whole ↦ omega (arith, whole, some)
     ]

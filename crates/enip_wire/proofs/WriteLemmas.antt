@@ -8,10 +8,10 @@ use Rattle.enip_wire.specs.declared.item_list.ItemView.{ItemView}
 use Rattle.cip_bytes.specs.Numbers.{le, number_at}
 use Rattle.cip_bytes.specs.Reading.{◌>>=◌}
 use Rattle.enip_wire.specs.Items.{Item, item, items, item_of, IsItem, AreItems, item_at, size_at, first_items, after, whole, items_of}
-use Rattle.enip_wire.specs.Bodies.{null_address, connected_address, unconnected_data, connected_data, IsBody, IsRrBody, IsUnitBody, rr_text, unit_text, rr_items_of, unit_items_of, with_id, rr_body_of, unit_body_of}
+use Rattle.enip_wire.specs.Bodies.{null_address, connected_address, unconnected_data, connected_data, IsBody, IsRrBody, IsUnitBody, rr_body_bytes, unit_body_bytes, rr_items_of, unit_items_of, with_id, rr_body_of, unit_body_of}
 use Rattle.cip_bytes.proofs.Bytes.{of_two, of_four}
 use Rattle.enip_wire.proofs.ItemLemmas.{same_item, after-long, first_items-long, items_of-long}
-use Rattle.enip_wire.proofs.BodyLemmas.{body_items-opens}
+use Rattle.enip_wire.proofs.BodyLemmas.{body_items-begins_body}
 
 -- the texts of items, one after the other
 abbrev pub texts : List ItemView → List ℕ
@@ -101,48 +101,48 @@ items_again l p =
     ∙ ap (λ r. whole (first_items (length l) (flat_map item l ++ [])) r) (after-flat l [] p.each)
     ∙ ap Ok (first_items-flat l [] p.each)
 
-rr_is_body : (bytes : List ℕ) → length bytes < 2 ^ 16 → IsBody (rr_text bytes) (null_address ∷ unconnected_data bytes ∷ [])
+rr_is_body : (bytes : List ℕ) → length bytes < 2 ^ 16 → IsBody (rr_body_bytes bytes) (null_address ∷ unconnected_data bytes ∷ [])
 rr_is_body bytes small =
     record {
       are_items = record {
         count = lit< tt;
         each = (record { kind = lit< tt; counted = lit< tt }, (record { kind = lit< tt; counted = small }, tt));
       };
-      opens = record { timeout = 0; two_bytes = lit< tt; spelled = refl };
+      begins_body = record { timeout = 0; two_bytes = lit< tt; spelled = refl };
     }
 
-pub rr_spelled : (bytes : List ℕ) → length bytes < 2 ^ 16 → IsRrBody (rr_text bytes) bytes
+pub rr_spelled : (bytes : List ℕ) → length bytes < 2 ^ 16 → IsRrBody (rr_body_bytes bytes) bytes
 rr_spelled bytes small = record { further = []; body = rr_is_body bytes small }
 
 unit_is_body : (id : ℕ) (bytes : List ℕ) → length bytes < 2 ^ 16
-    → IsBody (unit_text id bytes) (connected_address id ∷ connected_data bytes ∷ [])
+    → IsBody (unit_body_bytes id bytes) (connected_address id ∷ connected_data bytes ∷ [])
 unit_is_body id bytes small =
     record {
       are_items = record {
         count = lit< tt;
         each = (record { kind = lit< tt; counted = lit< tt }, (record { kind = lit< tt; counted = small }, tt));
       };
-      opens = record { timeout = 0; two_bytes = lit< tt; spelled = refl };
+      begins_body = record { timeout = 0; two_bytes = lit< tt; spelled = refl };
     }
 
-pub unit_spelled : (id : ℕ) (bytes : List ℕ) → id < 2 ^ 32 → length bytes < 2 ^ 16 → IsUnitBody (unit_text id bytes) id bytes
+pub unit_spelled : (id : ℕ) (bytes : List ℕ) → id < 2 ^ 32 → length bytes < 2 ^ 16 → IsUnitBody (unit_body_bytes id bytes) id bytes
 unit_spelled id bytes four small = record { four_bytes = four; further = []; body = unit_is_body id bytes small }
 
-pub rr_again : (bytes : List ℕ) → length bytes < 2 ^ 16 → rr_body_of (rr_text bytes) ≡ Ok bytes
+pub rr_again : (bytes : List ℕ) → length bytes < 2 ^ 16 → rr_body_of (rr_body_bytes bytes) ≡ Ok bytes
 unfolding rr_body_of
 rr_again bytes small =
     ap (λ r. r >>= rr_items_of)
     (
-    body_items-opens (rr_text bytes) (items (null_address ∷ unconnected_data bytes ∷ [])) (rr_is_body bytes small).opens
+    body_items-begins_body (rr_body_bytes bytes) (items (null_address ∷ unconnected_data bytes ∷ [])) (rr_is_body bytes small).begins_body
     ∙ items_again (null_address ∷ unconnected_data bytes ∷ []) (rr_is_body bytes small).are_items
     )
 
-pub unit_again : (id : ℕ) (bytes : List ℕ) → id < 2 ^ 32 → length bytes < 2 ^ 16 → unit_body_of (unit_text id bytes) ≡ Ok (id, bytes)
+pub unit_again : (id : ℕ) (bytes : List ℕ) → id < 2 ^ 32 → length bytes < 2 ^ 16 → unit_body_of (unit_body_bytes id bytes) ≡ Ok (id, bytes)
 unfolding unit_body_of
 unit_again id bytes four small =
     ap (λ r. r >>= unit_items_of)
     (
-    body_items-opens (unit_text id bytes) (items (connected_address id ∷ connected_data bytes ∷ [])) (unit_is_body id bytes small).opens
+    body_items-begins_body (unit_body_bytes id bytes) (items (connected_address id ∷ connected_data bytes ∷ [])) (unit_is_body id bytes small).begins_body
     ∙ items_again (connected_address id ∷ connected_data bytes ∷ []) (unit_is_body id bytes small).are_items
     )
     ∙ ap (λ n. Ok (with_id n bytes)) (of_four id four)

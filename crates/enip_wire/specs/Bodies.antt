@@ -3,7 +3,7 @@ use Rattle.std.specs.Prelude.{length, drop, Option, Some, None, Result, Ok, Err,
 use Rattle.enip_wire.specs.declared.item_list.CpfFault.{CpfFault}
 use Rattle.enip_wire.specs.declared.item_list.CpfFault.TheVariants.{Short, Trailing, Interface, Address, Data}
 use Rattle.cip_bytes.specs.Numbers.{le, number_at}
-use Rattle.cip_bytes.specs.Reading.{◌>>=◌, seen_by}
+use Rattle.cip_bytes.specs.Reading.{◌>>=◌, map_ok}
 use Rattle.enip_wire.specs.Items.{Item, items, AreItems, IsShort, IsTrailing, items_of, Two}
 
 -- The null address item, and the connected address item with its connection ID.
@@ -23,7 +23,7 @@ connected_data bytes = record { kind = 0xb1; bytes = bytes }
 
 -- A text that begins as a body does, with interface 0 and any timeout, and the rest of it.
 -- (Volume 2, SendRRData and SendUnitData.)
-pub record Opens (text rest : List ℕ) : Type 0 where
+pub record BeginsBody (text rest : List ℕ) : Type 0 where
   pub timeout : ℕ
   pub two_bytes : timeout < 2 ^ 16
   pub spelled : text ≡ le 4 0 ++ le 2 timeout ++ rest
@@ -31,7 +31,7 @@ pub record Opens (text rest : List ℕ) : Type 0 where
 -- A body with these items.
 pub record IsBody (text : List ℕ) (l : List Item) : Type 0 where
   pub are_items : AreItems l
-  pub opens : Opens text (items l)
+  pub begins_body : BeginsBody text (items l)
 
 -- A SendRRData with this data: the first two items are the null address and the unconnected data, and
 -- further ones say nothing.
@@ -48,29 +48,29 @@ pub record IsUnitBody (text : List ℕ) (id : ℕ) (bytes : List ℕ) : Type 0 w
 
 -- Where each fault of a body comes: `IsAddress` says which first item is the right one, and `kind` which
 -- type the second item has.
-abbrev pub Faulty : (Item → Type 0) → ℕ → List ℕ → CpfFault → Type 0
-Faulty IsAddress kind text Short = (length text < 6) ⊎ ((rest : List ℕ) × Opens text rest × IsShort rest)
-Faulty IsAddress kind text Interface = (6 ≤ length text) × (number_at 0 4 text ≢ 0)
-Faulty IsAddress kind text Trailing = (rest : List ℕ) × Opens text rest × IsTrailing rest
-Faulty IsAddress kind text Address =
+abbrev pub IsBodyFault : (Item → Type 0) → ℕ → List ℕ → CpfFault → Type 0
+IsBodyFault IsAddress kind text Short = (length text < 6) ⊎ ((rest : List ℕ) × BeginsBody text rest × IsShort rest)
+IsBodyFault IsAddress kind text Interface = (6 ≤ length text) × (number_at 0 4 text ≢ 0)
+IsBodyFault IsAddress kind text Trailing = (rest : List ℕ) × BeginsBody text rest × IsTrailing rest
+IsBodyFault IsAddress kind text Address =
     (l : List Item) × IsBody text l × ((a : Item) (others : List Item) → l ≡ a ∷ others → IsAddress a → ⊥)
-Faulty IsAddress kind text Data =
+IsBodyFault IsAddress kind text Data =
     (a : Item) × (others : List Item) × IsAddress a × IsBody text (a ∷ others)
     × ((d : Item) (further : List Item) → others ≡ d ∷ further → d.kind ≡ kind → ⊥)
 
 -- A first item that is the null address; one that is a connected address.
-abbrev pub IsNull : Item → Type 0
-IsNull a = a ≡ null_address
+abbrev pub IsNullAddress : Item → Type 0
+IsNullAddress a = a ≡ null_address
 
-abbrev pub IsConnected : Item → Type 0
-IsConnected a = (a.kind ≡ 0xa1) × (length a.bytes ≡ 4)
+abbrev pub IsConnectedAddress : Item → Type 0
+IsConnectedAddress a = (a.kind ≡ 0xa1) × (length a.bytes ≡ 4)
 
 -- A text of a SendRRData, with timeout 0, and of a SendUnitData.
-abbrev pub rr_text : List ℕ → List ℕ
-rr_text bytes = le 4 0 ++ le 2 0 ++ items (null_address ∷ unconnected_data bytes ∷ [])
+abbrev pub rr_body_bytes : List ℕ → List ℕ
+rr_body_bytes bytes = le 4 0 ++ le 2 0 ++ items (null_address ∷ unconnected_data bytes ∷ [])
 
-abbrev pub unit_text : ℕ → List ℕ → List ℕ
-unit_text id bytes = le 4 0 ++ le 2 0 ++ items (connected_address id ∷ connected_data bytes ∷ [])
+abbrev pub unit_body_bytes : ℕ → List ℕ → List ℕ
+unit_body_bytes id bytes = le 4 0 ++ le 2 0 ++ items (connected_address id ∷ connected_data bytes ∷ [])
 
 -- The rest says the same by numbers alone, for who computes with it.
 
@@ -97,7 +97,7 @@ abbrev pub unit_items_of : List Item → Result (ℕ × List ℕ) CpfFault
 unit_items_of [] = Err Address
 unit_items_of (a ∷ others) =
     if (a.kind == 0xa1) && (length a.bytes == 4)
-    then seen_by (with_id (number_at 0 4 a.bytes)) (data_of 0xb1 others)
+    then map_ok (with_id (number_at 0 4 a.bytes)) (data_of 0xb1 others)
     else Err Address
 
 -- The same of the first two items alone, since further ones say nothing.
@@ -116,7 +116,7 @@ abbrev pub unit_in : Option Item → Option Item → Result (ℕ × List ℕ) Cp
 unit_in None second = Err Address
 unit_in (Some a) second =
     if (a.kind == 0xa1) && (length a.bytes == 4)
-    then seen_by (with_id (number_at 0 4 a.bytes)) (data_in 0xb1 second)
+    then map_ok (with_id (number_at 0 4 a.bytes)) (data_in 0xb1 second)
     else Err Address
 
 abbrev pub unit_two_of : Two → Result (ℕ × List ℕ) CpfFault

@@ -32,8 +32,8 @@ pub record IsTooLong (bytes : List ℕ) : Type 0 where
   pub over : 65511 < number_at 2 2 bytes
 
 -- No byte more is needed to know what these bytes are.
-abbrev pub Stops : List ℕ → Type 0
-Stops bytes = IsWhole bytes ⊎ IsTooLong bytes
+abbrev pub IsComplete : List ℕ → Type 0
+IsComplete bytes = IsWhole bytes ⊎ IsTooLong bytes
 
 -- Where what begins with a header of this length ends: after the header where the length is too long,
 -- else after the data.

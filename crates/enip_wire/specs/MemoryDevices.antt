@@ -1,6 +1,6 @@
 use Rattle.std.specs.Prelude.{if◌then◌else◌, ◌==◌, ◌&&◌, nat_lt, ℕ, zero, suc, ◌+◌, ◌-◌, min, List, ◌++◌, length, take}
 use Rattle.std.specs.Prelude.{drop, slice_index, Option, Some, None}
-use Rattle.enip_wire.specs.declared.device.calls.Calls.{Calls}
+use Rattle.enip_wire.specs.declared.device.call_behavior.CallBehavior.{CallBehavior}
 
 -- How many bytes a call over memory moves of `most`, by how many calls come before the one that is to fail: none at
 -- all in that one.
@@ -16,13 +16,13 @@ calls_left (Some (suc calls)) = Some calls
 calls_left None = None
 
 -- How many bytes a call moves of those that are there, or that it fails.
-abbrev pub size_of : Calls → ℕ → Option ℕ
+abbrev pub size_of : CallBehavior → ℕ → Option ℕ
 size_of c there = size_before c.before_failure (min there c.largest_size)
 
 -- The calls that are left once one was answered so.
-abbrev pub answered : Calls → Option ℕ → Calls
-answered c None = record c { before_failure = calls_left c.before_failure; failures = c.failures + 1 }
-answered c (Some n) = record c { before_failure = calls_left c.before_failure }
+abbrev pub after_call : CallBehavior → Option ℕ → CallBehavior
+after_call c None = record c { before_failure = calls_left c.before_failure; failures = c.failures + 1 }
+after_call c (Some n) = record c { before_failure = calls_left c.before_failure }
 
 -- A source over memory: the bytes that are left, the moments of the reads from the first on, the moment of the last
 -- read that gave a byte, how many reads there were, and how it answers its calls.
@@ -31,7 +31,7 @@ pub record SourceState : Type 0 where
   pub moments : List ℕ
   pub moment : ℕ
   pub reads : ℕ
-  pub calls : Calls
+  pub calls : CallBehavior
 
 -- The moment of a read, by how many reads came before it: the last of the list again where the list is used up, and 0
 -- where it is empty.
@@ -44,27 +44,27 @@ given_by s size = size_of s.calls (min size (length s.left))
 
 -- A source after a read that gave so many bytes, or failed.
 abbrev pub after_read : SourceState → Option ℕ → SourceState
-after_read s None = record s { reads = s.reads + 1; calls = answered s.calls None }
+after_read s None = record s { reads = s.reads + 1; calls = after_call s.calls None }
 after_read s (Some n) =
     record s {
       left = drop n s.left;
       moment = if n == 0 then s.moment else moment_at s.moments s.reads;
       reads = s.reads + 1;
-      calls = answered s.calls (Some n);
+      calls = after_call s.calls (Some n);
     }
 
 -- A sink over memory: the bytes that were written, for how many more there is room, and how it answers its calls.
 pub record SinkState : Type 0 where
   pub written : List ℕ
-  pub room : ℕ
-  pub calls : Calls
+  pub capacity : ℕ
+  pub calls : CallBehavior
 
 -- How many bytes a write of so many takes, or that it fails: it does where it is full.
 abbrev pub taken_by : SinkState → ℕ → Option ℕ
-taken_by s size = if (s.room == 0) && nat_lt 0 size then None else size_of s.calls (min size s.room)
+taken_by s size = if (s.capacity == 0) && nat_lt 0 size then None else size_of s.calls (min size s.capacity)
 
 -- A sink after a write that took so many of these bytes, or failed.
 abbrev pub after_write : SinkState → List ℕ → Option ℕ → SinkState
-after_write s from None = record s { calls = answered s.calls None }
+after_write s from None = record s { calls = after_call s.calls None }
 after_write s from (Some n) =
-    record s { written = s.written ++ take n from; room = s.room - n; calls = answered s.calls (Some n) }
+    record s { written = s.written ++ take n from; capacity = s.capacity - n; calls = after_call s.calls (Some n) }

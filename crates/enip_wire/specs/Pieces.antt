@@ -1,6 +1,6 @@
 use Rattle.std.specs.Prelude.{ℕ, List, [], ◌∷◌, ◌≡◌, ◌++◌, length, take, drop}
 use Rattle.std.specs.List.{concat}
-use Rattle.enip_wire.specs.Frames.{Frame, frame, IsFrame, IsTooLong, Stops}
+use Rattle.enip_wire.specs.Frames.{Frame, frame, IsFrame, IsTooLong, IsComplete}
 use Rattle.enip_wire.specs.Stream.{Takes}
 
 -- A reader that holds some bytes is given these pieces, by push, state and clear again and again. It
@@ -11,7 +11,7 @@ pub data Reads : List ℕ → List (List ℕ) → List Frame → List ℕ → Ty
   Ended : {held : List ℕ} → Reads held [] [] held
   -- the piece is taken whole, and what is held is not a frame yet
   Waited : {held piece rest : List ℕ} {pieces : List (List ℕ)} {frames : List Frame}
-      → Takes held piece (length piece) → (Stops (held ++ piece) → ⊥) → Reads (held ++ piece) pieces frames rest
+      → Takes held piece (length piece) → (IsComplete (held ++ piece) → ⊥) → Reads (held ++ piece) pieces frames rest
       → Reads held (piece ∷ pieces) frames rest
   -- a frame is shown and cleared, and what is left of the piece is pushed
   Showed : {held piece rest : List ℕ} {pieces : List (List ℕ)} {frames : List Frame} {f : Frame} {n : ℕ}

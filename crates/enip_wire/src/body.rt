@@ -9,8 +9,8 @@
 
 ghost use Rattle.std.specs.Prelude.{◌≡◌, ◌↔◌, List, ℕ, Ok, Err};
 ghost use Rattle.enip_wire.specs.declared.item_list.CpfFault.{CpfFault};
-ghost use Rattle.cip_bytes.specs.Reading.{seen_by};
-ghost use Rattle.enip_wire.specs.Bodies.{IsRrBody, IsUnitBody, Faulty, IsNull, IsConnected};
+ghost use Rattle.cip_bytes.specs.Reading.{map_ok};
+ghost use Rattle.enip_wire.specs.Bodies.{IsRrBody, IsUnitBody, IsBodyFault, IsNullAddress, IsConnectedAddress};
 ghost use Rattle.enip_wire.specs.Bodies.{body_items_of, data_in, rr_body_of, unit_body_of};
 ghost use Rattle.enip_wire.specs.Items.{item_of, two_of, two_in};
 ghost use Rattle.std.specs.Option.{option_map};
@@ -46,10 +46,10 @@ pub(crate) const CONNECTION_ID: usize = 4;
 #[inline(always)]
 pub fn rr_body(text: &[u8]) -> Result<&[u8], CpfFault>
     // What is read is spelled so, and what is spelled so is read.
-    ensures spelled { (bytes : List ℕ) → (seen_by (λ lent. lent.now) result ≡ Ok bytes) ↔ IsRrBody text.now bytes }
+    ensures spelled { (bytes : List ℕ) → (map_ok (λ lent. lent.now) result ≡ Ok bytes) ↔ IsRrBody text.now bytes }
     ensures faulty { (fault : CpfFault) →
-        (seen_by (λ lent. lent.now) result ≡ Err fault) ↔ Faulty IsNull 0xb2 text.now fault }
-    ensures exact { seen_by (λ lent. lent.now) result ≡ rr_body_of text.now }
+        (map_ok (λ lent. lent.now) result ≡ Err fault) ↔ IsBodyFault IsNullAddress 0xb2 text.now fault }
+    ensures exact { map_ok (λ lent. lent.now) result ≡ rr_body_of text.now }
 {
     read_rr_body(text)
 }
@@ -58,7 +58,7 @@ pub fn rr_body(text: &[u8]) -> Result<&[u8], CpfFault>
 #[tactic(auto, using(crate::proofs::TwoLemmas::rr_two))]
 #[inline(always)]
 fn read_rr_body(text: &[u8]) -> Result<&[u8], CpfFault>
-    ensures { seen_by (λ lent. lent.now) result ≡ rr_body_of text.now }
+    ensures { map_ok (λ lent. lent.now) result ≡ rr_body_of text.now }
 {
     let items = body_items(text)?;
     match items.first {
@@ -81,12 +81,12 @@ fn read_rr_body(text: &[u8]) -> Result<&[u8], CpfFault>
 pub fn unit_body(text: &[u8]) -> Result<(u32, &[u8]), CpfFault>
     // What is read is spelled so, and what is spelled so is read.
     ensures spelled { (id : ℕ) (bytes : List ℕ) →
-        (seen_by {B = ℕ × List ℕ} (λ found. (found.0, found.1.now)) result ≡ Ok (id, bytes))
+        (map_ok {B = ℕ × List ℕ} (λ found. (found.0, found.1.now)) result ≡ Ok (id, bytes))
         ↔ IsUnitBody text.now id bytes }
     ensures faulty { (fault : CpfFault) →
-        (seen_by {B = ℕ × List ℕ} (λ found. (found.0, found.1.now)) result ≡ Err fault)
-        ↔ Faulty IsConnected 0xb1 text.now fault }
-    ensures exact { seen_by {B = ℕ × List ℕ} (λ found. (found.0, found.1.now)) result ≡ unit_body_of text.now }
+        (map_ok {B = ℕ × List ℕ} (λ found. (found.0, found.1.now)) result ≡ Err fault)
+        ↔ IsBodyFault IsConnectedAddress 0xb1 text.now fault }
+    ensures exact { map_ok {B = ℕ × List ℕ} (λ found. (found.0, found.1.now)) result ≡ unit_body_of text.now }
 {
     read_unit_body(text)
 }
@@ -95,7 +95,7 @@ pub fn unit_body(text: &[u8]) -> Result<(u32, &[u8]), CpfFault>
 #[tactic(auto, using(crate::proofs::TwoLemmas::unit_two))]
 #[inline(always)]
 fn read_unit_body(text: &[u8]) -> Result<(u32, &[u8]), CpfFault>
-    ensures { seen_by {B = ℕ × List ℕ} (λ found. (found.0, found.1.now)) result ≡ unit_body_of text.now }
+    ensures { map_ok {B = ℕ × List ℕ} (λ found. (found.0, found.1.now)) result ≡ unit_body_of text.now }
 {
     let items = body_items(text)?;
     match items.first {
@@ -112,7 +112,7 @@ fn read_unit_body(text: &[u8]) -> Result<(u32, &[u8]), CpfFault>
 /// The first two items of a body.
 #[inline(always)]
 fn body_items(text: &[u8]) -> Result<Pair<'_>, CpfFault>
-    ensures { seen_by two_in result ≡ seen_by two_of (body_items_of text.now) }
+    ensures { map_ok two_in result ≡ map_ok two_of (body_items_of text.now) }
 {
     if text.len() < BODY_HEAD {
         return Err(CpfFault::Short);
@@ -127,7 +127,7 @@ fn body_items(text: &[u8]) -> Result<Pair<'_>, CpfFault>
 /// The data of an item, which is to have this type.
 #[inline(always)]
 fn data(item: Option<ItemView<'_>>, kind: u16) -> Result<&[u8], CpfFault>
-    ensures { seen_by (λ lent. lent.now) result ≡ data_in kind (option_map item_of item.entry) }
+    ensures { map_ok (λ lent. lent.now) result ≡ data_in kind (option_map item_of item.entry) }
 {
     match item {
         Some(item) if item.kind == kind => Ok(item.bytes),

@@ -3,7 +3,7 @@
 //! A device counts its reads and its failures, so that whoever calls it can answer a fault only where it failed. Its
 //! bytes are told where they are known: those of [`MemorySource`] and [`MemorySink`] are, those of a socket are not.
 
-mod calls;
+mod call_behavior;
 mod memory_sink;
 mod memory_source;
 

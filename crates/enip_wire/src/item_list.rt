@@ -11,7 +11,7 @@ ghost use Rattle.std.specs.Prelude.{◌≡◌, ◌↔◌, ◌≤◌, ◌<◌, dr
 ghost use Rattle.enip_wire.specs.declared.item_list.CpfFault.{CpfFault};
 ghost use Rattle.std.specs.Iterator.{YieldsFirstBy, item_count};
 ghost use Rattle.std.specs.Option.{option_map};
-ghost use Rattle.cip_bytes.specs.Reading.{seen_by};
+ghost use Rattle.cip_bytes.specs.Reading.{map_ok};
 ghost use Rattle.enip_wire.specs.Items.{Item, items, AreItems, IsShort, IsTrailing, item_of};
 ghost use Rattle.enip_wire.specs.Items.{item_at, size_at, after, items_of, two_of, two_in, next_of};
 
@@ -151,7 +151,7 @@ fn read_items(text: &[u8]) -> Result<Items<'_>, CpfFault>
 /// The first two items of the whole text, each read once, with the faults of `cpf_items`.
 #[inline(always)]
 pub(crate) fn first_two(text: &[u8]) -> Result<Pair<'_>, CpfFault>
-    ensures { seen_by two_in result ≡ seen_by two_of (items_of text.now) }
+    ensures { map_ok two_in result ≡ map_ok two_of (items_of text.now) }
 {
     let Some((count, text)) = text.split_first_chunk::<COUNT>() else {
         return Err(CpfFault::Short);
@@ -169,7 +169,7 @@ pub(crate) fn first_two(text: &[u8]) -> Result<Pair<'_>, CpfFault>
 /// The item at the front of a text, if it is to have one, and what follows it.
 #[inline(always)]
 fn next_item(is_there: bool, text: &[u8]) -> Result<(Option<ItemView<'_>>, &[u8]), CpfFault>
-    ensures { seen_by (λ found. record { item = option_map item_of found.0; rest = found.1.now }) result
+    ensures { map_ok (λ found. record { item = option_map item_of found.0; rest = found.1.now }) result
         ≡ next_of is_there text.now }
 {
     if !is_there {
@@ -208,7 +208,7 @@ fn first_item(text: &[u8]) -> Option<(ItemView<'_>, &[u8])>
 /// What follows so many items at the front of a text.
 #[inline(always)]
 fn after_items(count: u16, text: &[u8]) -> Result<&[u8], CpfFault>
-    ensures { seen_by (λ rest. rest.now) result ≡ after count text.now }
+    ensures { map_ok (λ rest. rest.now) result ≡ after count text.now }
 {
     let mut rest = text;
     for index in 0..count {

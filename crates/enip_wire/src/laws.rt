@@ -5,10 +5,10 @@ ghost use Rattle.std.specs.Prelude.{ℕ, List, [], ◌≡◌, ◌<◌, ◌^◌, 
 ghost use Rattle.std.specs.List.{concat, AllByRecursion};
 ghost use Rattle.cip_bytes.specs.Numbers.{AreBytes};
 ghost use Rattle.enip_wire.specs.Frames.{Frame, frame, IsFrame};
-ghost use Rattle.enip_wire.specs.Stream.{Cut, Takes, taken_of, sight_of, A_frame, joined_of, left_of, cleared};
+ghost use Rattle.enip_wire.specs.Stream.{Cut, Takes, bytes_taken, parsed, WholeFrame, held_and_taken, held_after_next, cleared};
 ghost use Rattle.enip_wire.specs.Pieces.{Reads};
 ghost use Rattle.enip_wire.specs.Items.{Item, items, AreItems, items_of};
-ghost use Rattle.enip_wire.specs.Bodies.{IsRrBody, IsUnitBody, rr_text, unit_text, rr_body_of, unit_body_of};
+ghost use Rattle.enip_wire.specs.Bodies.{IsRrBody, IsUnitBody, rr_body_bytes, unit_body_bytes, rr_body_of, unit_body_of};
 
 /// A frame that spells a front of a text is the only one that does.
 pub fn one_spelling()
@@ -19,8 +19,8 @@ pub fn one_spelling()
 /// A frame that was written is read again, whatever follows it: a reader that holds nothing takes its bytes, and
 /// they show the frame.
 pub fn frame_read_again()
-    ensures taken { (f : Frame) (more : List ℕ) → IsFrame f → taken_of [] (frame f ++ more) ≡ length (frame f) }
-    ensures shown { (f : Frame) → IsFrame f → sight_of (frame f) ≡ A_frame f }
+    ensures taken { (f : Frame) (more : List ℕ) → IsFrame f → bytes_taken [] (frame f ++ more) ≡ length (frame f) }
+    ensures shown { (f : Frame) → IsFrame f → parsed (frame f) ≡ WholeFrame f }
 {}
 
 /// A stream has one cut.
@@ -49,8 +49,8 @@ pub fn any_pieces()
 /// Once a frame that was shown is cleared, a reader of frames in place holds what push, state and clear leave. As it
 /// takes and shows what they take and show, it reads any pieces as they do.
 pub fn in_place_as_gathered()
-    ensures { (held piece : List ℕ) → cleared (sight_of (joined_of held piece)) (left_of held piece)
-        ≡ cleared (sight_of (joined_of held piece)) (joined_of held piece) }
+    ensures { (held piece : List ℕ) → cleared (parsed (held_and_taken held piece)) (held_after_next held piece)
+        ≡ cleared (parsed (held_and_taken held piece)) (held_and_taken held piece) }
 {}
 
 /// Every list of pieces of bytes is read: repeated push, state and clear come to an end of it.
@@ -72,14 +72,14 @@ pub fn items_read_again()
 
 /// The body of a SendRRData that is written is one, and is read again.
 pub fn rr_body_read_again()
-    ensures spelled { (bytes : List ℕ) → length bytes < 2 ^ 16 → IsRrBody (rr_text bytes) bytes }
-    ensures again { (bytes : List ℕ) → length bytes < 2 ^ 16 → rr_body_of (rr_text bytes) ≡ Ok bytes }
+    ensures spelled { (bytes : List ℕ) → length bytes < 2 ^ 16 → IsRrBody (rr_body_bytes bytes) bytes }
+    ensures again { (bytes : List ℕ) → length bytes < 2 ^ 16 → rr_body_of (rr_body_bytes bytes) ≡ Ok bytes }
 {}
 
 /// The body of a SendUnitData that is written is one, and is read again.
 pub fn unit_body_read_again()
     ensures spelled { (id : ℕ) (bytes : List ℕ) → id < 2 ^ 32 → length bytes < 2 ^ 16
-        → IsUnitBody (unit_text id bytes) id bytes }
+        → IsUnitBody (unit_body_bytes id bytes) id bytes }
     ensures again { (id : ℕ) (bytes : List ℕ) → id < 2 ^ 32 → length bytes < 2 ^ 16
-        → unit_body_of (unit_text id bytes) ≡ Ok (id, bytes) }
+        → unit_body_of (unit_body_bytes id bytes) ≡ Ok (id, bytes) }
 {}

@@ -1,10 +1,10 @@
 //! EtherNet/IP's encapsulation (ODVA CIP Networks Library, Volume 2): the header, frames from a stream in any
 //! pieces, and the items of a packet.
 //!
-//! [`FrameReader`] gathers one frame at a time from the pieces of a stream, and [`see`] tells whether bytes are one;
+//! [`FrameReader`] gathers one frame at a time from the pieces of a stream, and [`parse_frame`] tells whether bytes are one;
 //! [`Header`] is the 24 bytes in front of a frame's data. [`cpf_items`], [`rr_body`] and [`unit_body`] read such data
-//! and lend what they find; [`write_items`], [`write_rr_body`] and [`write_unit_body`] append them, [`rr_front`] and
-//! [`unit_front`] give what stands in front of their data. [`Source`] and [`Sink`] are where bytes come from and go to,
+//! and lend what they find; [`write_items`], [`write_rr_body`] and [`write_unit_body`] append them, [`rr_body_head`] and
+//! [`unit_body_head`] give what stands in front of their data. [`Source`] and [`Sink`] are where bytes come from and go to,
 //! [`MemorySource`] and [`MemorySink`] those over memory.
 //!
 //! Each reader answers exactly the value that the bytes spell, or the first fault. Each writer appends exactly one
@@ -27,5 +27,5 @@ pub use cip_bytes::Full;
 pub use device::{Failed, MemorySink, MemorySource, Sink, Source, write_all};
 pub use header::Header;
 pub use item_list::{CpfFault, ItemView, Items, cpf_items};
-pub use reader::{FrameReader, FrameView, Held, LONGEST_BODY, see};
-pub use writing::{rr_front, unit_front, write_items, write_rr_body, write_unit_body};
+pub use reader::{FrameReader, FrameView, Held, LONGEST_BODY, parse_frame};
+pub use writing::{rr_body_head, unit_body_head, write_items, write_rr_body, write_unit_body};

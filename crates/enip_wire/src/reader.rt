@@ -11,9 +11,9 @@
 ghost use Rattle.std.specs.Prelude.{◌≡◌, ◌≤◌, ◌<◌, ◌^◌, ◌+◌, ◌++◌, [], take, length, IfOk, IfSome, IfNone, slice_index};
 ghost use Rattle.cip_bytes.specs.Numbers.{number_at, AreBytes};
 ghost use Rattle.enip_wire.specs.Frames.{Frame, end_after as end_after_length};
-ghost use Rattle.enip_wire.specs.Stream.{IsFresh, Takes, taken_of, Shows, sight, sight_of, left_of, joined_of, frame_of};
+ghost use Rattle.enip_wire.specs.Stream.{IsAtMostOneFrame, Takes, bytes_taken, Shows, parsed_frame, parsed, held_after_next, held_and_taken, frame_of};
 ghost use Rattle.enip_wire.specs.Stream.{IsTakenFirst};
-ghost use Rattle.enip_wire.specs.Stream.Sight.{A_frame};
+ghost use Rattle.enip_wire.specs.Stream.Parsed.{WholeFrame};
 ghost use Rattle.std.specs.Borrow.{sem};
 ghost use Rattle.std.specs.Io.BufRead.{Rests};
 
@@ -61,14 +61,14 @@ pub struct FrameReader {
 impl Model for FrameReader {
     ghost use Rattle.std.specs.Prelude.{ℕ, List, ◌≡◌, ◌≤◌, take};
     ghost use Rattle.std.specs.Box.{boxed_slice_items, boxed_slice_len};
-    ghost use Rattle.enip_wire.specs.Stream.{IsFresh};
+    ghost use Rattle.enip_wire.specs.Stream.{IsAtMostOneFrame};
 
     ghost Value = { List ℕ };
 
     ghost view = { λ r. take r.len (boxed_slice_items r.buffer) };
 
     ghost invariant = { λ r. (boxed_slice_len r.buffer ≡ 65535) × (r.len ≤ 65535)
-        × IsFresh (take r.len (boxed_slice_items r.buffer)) };
+        × IsAtMostOneFrame (take r.len (boxed_slice_items r.buffer)) };
 }
 
 impl FrameReader {
@@ -93,9 +93,9 @@ impl FrameReader {
     /// answers how many. While a whole frame or a too long header is held it takes none.
     pub fn push(&mut self, piece: &[u8]) -> usize
         ensures taken { Takes self.old piece.now result }
-        ensures number { result ≡ taken_of self.old piece.now }
+        ensures number { result ≡ bytes_taken self.old piece.now }
         ensures held { self.new ≡ self.old ++ take result piece.now }
-        ensures fresh { IsFresh self.new }
+        ensures fresh { IsAtMostOneFrame self.new }
         ensures bound { length self.new ≤ 65535 }
     {
         let taken = taken_size(&self.buffer[..self.len], piece);
@@ -107,10 +107,10 @@ impl FrameReader {
     /// What is held.
     pub fn state(&self) -> Held<'_>
         ensures shown { Shows self.now result }
-        ensures kind { sight result ≡ sight_of self.now }
+        ensures kind { parsed_frame result ≡ parsed self.now }
         ensures bound { length self.now ≤ 65535 }
     {
-        see(&self.buffer[..self.len])
+        parse_frame(&self.buffer[..self.len])
     }
 
     /// Takes the bytes of the piece that `push` takes, and shows what `state` then shows.
@@ -121,11 +121,11 @@ impl FrameReader {
     /// Who calls `clear` after each frame holds the same bytes as with `push`, `state` and `clear`.
     #[inline(always)]
     pub fn next<'a>(&'a mut self, piece: &'a [u8]) -> (usize, Held<'a>)
-        ensures* after { sem 𝓛 (Rests the_row self.entry (λ last. last ≡ left_of self.old piece.now)) }
+        ensures* after { sem 𝓛 (Rests the_row self.entry (λ last. last ≡ held_after_next self.old piece.now)) }
         ensures taken { Takes self.old piece.now result.0 }
-        ensures number { result.0 ≡ taken_of self.old piece.now }
+        ensures number { result.0 ≡ bytes_taken self.old piece.now }
         ensures shown { Shows (self.old ++ take result.0 piece.now) result.1 }
-        ensures kind { sight result.1 ≡ sight_of (self.old ++ take result.0 piece.now) }
+        ensures kind { parsed_frame result.1 ≡ parsed (self.old ++ take result.0 piece.now) }
         ensures bound { length self.old + result.0 ≤ 65535 }
     {
         if self.len == 0 {
@@ -156,11 +156,11 @@ impl FrameReader {
 /// The frame at the front of a piece, lent, where the piece has all of it.
 #[inline(always)]
 fn first_frame(piece: &[u8]) -> Option<FrameView<'_>>
-    ensures none { IfNone result ((f : Frame) → sight_of (joined_of [] piece.now) ≡ A_frame f → ⊥) }
+    ensures none { IfNone result ((f : Frame) → parsed (held_and_taken [] piece.now) ≡ WholeFrame f → ⊥) }
     ensures size { IfSome result (λ frame. IsTakenFirst piece.now (24 + length frame.body.now)) }
     ensures shown { IfSome result (λ frame. Shows (take (24 + length frame.body.now) piece.now) (Held.Frame frame)) }
     ensures kind { IfSome result (λ frame.
-        A_frame (frame_of frame) ≡ sight_of (take (24 + length frame.body.now) piece.now)) }
+        WholeFrame (frame_of frame) ≡ parsed (take (24 + length frame.body.now) piece.now)) }
 {
     let (head, rest) = piece.split_first_chunk::<{ Header::SIZE }>()?;
     let header = Header::read(head);
@@ -180,9 +180,9 @@ fn first_frame(piece: &[u8]) -> Option<FrameView<'_>>
 
 /// How many bytes of a piece a reader takes that holds these.
 fn taken_size(held: &[u8], piece: &[u8]) -> usize
-    requires { IsFresh held.now }
+    requires { IsAtMostOneFrame held.now }
     ensures takes { Takes held.now piece.now result }
-    ensures number { result ≡ taken_of held.now piece.now }
+    ensures number { result ≡ bytes_taken held.now piece.now }
     ensures bound { length held.now + result ≤ 65535 }
 {
     if held.len() < Header::SIZE && piece.len() < Header::SIZE - held.len() {
@@ -238,9 +238,9 @@ fn byte_in(held: &[u8], piece: &[u8], index: usize) -> u8
 
 /// What these bytes are: one whole frame, a header whose length is too long, or neither.
 #[inline(never)]
-pub fn see(bytes: &[u8]) -> Held<'_>
+pub fn parse_frame(bytes: &[u8]) -> Held<'_>
     ensures shown { Shows bytes.now result }
-    ensures kind { sight result ≡ sight_of bytes.now }
+    ensures kind { parsed_frame result ≡ parsed bytes.now }
 {
     let Some((head, body)) = bytes.split_first_chunk::<{ Header::SIZE }>() else {
         return Held::More;

@@ -4,7 +4,7 @@ ghost use Rattle.std.specs.Prelude.{ℕ, ◌≡◌, ◌↔◌, ◌≤◌, ◌<�
 ghost use Rattle.std.specs.List.{flat_map};
 ghost use Rattle.arrayvec.specs.ArrayVec.{array_vec_len};
 ghost use Rattle.enip_wire.specs.Items.{item as item_text, items, AreItems, item_of};
-ghost use Rattle.enip_wire.specs.Bodies.{rr_text, unit_text};
+ghost use Rattle.enip_wire.specs.Bodies.{rr_body_bytes, unit_body_bytes};
 
 use crate::body::{BODY_HEAD, CONNECTION_ID};
 use crate::item_list::{COUNT, ITEM_HEAD, ItemView};
@@ -12,9 +12,9 @@ use arrayvec::ArrayVec;
 use cip_bytes::{Full, append, append_u16};
 
 /// How many bytes of a body that is written stand in front of its data.
-const RR_FRONT: usize = BODY_HEAD + COUNT + ITEM_HEAD + ITEM_HEAD;
+const RR_BODY_HEAD: usize = BODY_HEAD + COUNT + ITEM_HEAD + ITEM_HEAD;
 
-const UNIT_FRONT: usize = RR_FRONT + CONNECTION_ID;
+const UNIT_BODY_HEAD: usize = RR_BODY_HEAD + CONNECTION_ID;
 
 /// Appends a list of items. (Volume 2, common packet format.)
 ///
@@ -30,8 +30,8 @@ pub fn write_items<const N: usize>(
     ensures ok { OnOk result (out.new.items ≡ out.old.items ++ items (map item_of list.now)) }
     ensures err { OnErr result (out.new ≡ out.old) }
 {
-    let room = out.remaining_capacity();
-    if room < COUNT || !fit(room - COUNT, list) {
+    let capacity = out.remaining_capacity();
+    if capacity < COUNT || !items_fit(capacity - COUNT, list) {
         return Err(Full);
     }
     append_u16(out, list.len() as u16);
@@ -49,15 +49,15 @@ pub fn write_items<const N: usize>(
 /// `Full` where the text doesn't fit, and then nothing is written.
 pub fn write_rr_body<const N: usize>(out: &mut ArrayVec<u8, N>, data: &[u8]) -> Result<(), Full>
     requires { length «data».now < 2 ^ 16 }
-    ensures fits { IsOk result ↔ (array_vec_len out.old + length (rr_text «data».now) ≤ N) }
-    ensures ok { OnOk result (out.new.items ≡ out.old.items ++ rr_text «data».now) }
+    ensures fits { IsOk result ↔ (array_vec_len out.old + length (rr_body_bytes «data».now) ≤ N) }
+    ensures ok { OnOk result (out.new.items ≡ out.old.items ++ rr_body_bytes «data».now) }
     ensures err { OnErr result (out.new ≡ out.old) }
 {
-    let room = out.remaining_capacity();
-    if room < RR_FRONT || room - RR_FRONT < data.len() {
+    let capacity = out.remaining_capacity();
+    if capacity < RR_BODY_HEAD || capacity - RR_BODY_HEAD < data.len() {
         return Err(Full);
     }
-    append(out, &rr_front(data.len() as u16));
+    append(out, &rr_body_head(data.len() as u16));
     append(out, data);
     Ok(())
 }
@@ -74,15 +74,15 @@ pub fn write_unit_body<const N: usize>(
     data: &[u8],
 ) -> Result<(), Full>
     requires { length «data».now < 2 ^ 16 }
-    ensures fits { IsOk result ↔ (array_vec_len out.old + length (unit_text id «data».now) ≤ N) }
-    ensures ok { OnOk result (out.new.items ≡ out.old.items ++ unit_text id «data».now) }
+    ensures fits { IsOk result ↔ (array_vec_len out.old + length (unit_body_bytes id «data».now) ≤ N) }
+    ensures ok { OnOk result (out.new.items ≡ out.old.items ++ unit_body_bytes id «data».now) }
     ensures err { OnErr result (out.new ≡ out.old) }
 {
-    let room = out.remaining_capacity();
-    if room < UNIT_FRONT || room - UNIT_FRONT < data.len() {
+    let capacity = out.remaining_capacity();
+    if capacity < UNIT_BODY_HEAD || capacity - UNIT_BODY_HEAD < data.len() {
         return Err(Full);
     }
-    append(out, &unit_front(id, data.len() as u16));
+    append(out, &unit_body_head(id, data.len() as u16));
     append(out, data);
     Ok(())
 }
@@ -90,8 +90,8 @@ pub fn write_unit_body<const N: usize>(
 /// The body of a SendRRData up to its data, of which there are so many bytes: interface 0, timeout 0, two items, the
 /// null address, and the type and length of the unconnected data. (Volume 2, SendRRData.)
 #[inline(always)]
-pub fn rr_front(size: u16) -> [u8; RR_FRONT]
-    ensures { (bytes : List ℕ) → length bytes ≡ size → rr_text bytes ≡ result ++ bytes }
+pub fn rr_body_head(size: u16) -> [u8; RR_BODY_HEAD]
+    ensures { (bytes : List ℕ) → length bytes ≡ size → rr_body_bytes bytes ≡ result ++ bytes }
 {
     let [low, high] = size.to_le_bytes();
     [0, 0, 0, 0, 0, 0, 2, 0, 0, 0, 0, 0, 0xb2, 0, low, high]
@@ -101,8 +101,8 @@ pub fn rr_front(size: u16) -> [u8; RR_FRONT]
 /// connected address with the connection ID, and the type and length of the connected data.
 /// (Volume 2, SendUnitData.)
 #[inline(always)]
-pub fn unit_front(id: u32, size: u16) -> [u8; UNIT_FRONT]
-    ensures { (bytes : List ℕ) → length bytes ≡ size → unit_text id bytes ≡ result ++ bytes }
+pub fn unit_body_head(id: u32, size: u16) -> [u8; UNIT_BODY_HEAD]
+    ensures { (bytes : List ℕ) → length bytes ≡ size → unit_body_bytes id bytes ≡ result ++ bytes }
 {
     let [low, high] = size.to_le_bytes();
     let [a, b, c, d] = id.to_le_bytes();
@@ -112,21 +112,21 @@ pub fn unit_front(id: u32, size: u16) -> [u8; UNIT_FRONT]
 }
 
 /// Whether there is room for the items.
-fn fit(mut room: usize, list: &[ItemView<'_>]) -> bool
-    ensures { IsTrue result ↔ (length (flat_map item_text (map item_of list.now)) ≤ room) }
+fn items_fit(mut capacity: usize, list: &[ItemView<'_>]) -> bool
+    ensures { IsTrue result ↔ (length (flat_map item_text (map item_of list.now)) ≤ capacity) }
 {
     for item in list {
-        if room < ITEM_HEAD || room - ITEM_HEAD < item.bytes.len() {
+        if capacity < ITEM_HEAD || capacity - ITEM_HEAD < item.bytes.len() {
             return false;
         }
-        room -= ITEM_HEAD + item.bytes.len();
+        capacity -= ITEM_HEAD + item.bytes.len();
     }
     true
 }
 
 /// Appends an item, for which there is room.
 fn append_item<const N: usize>(out: &mut ArrayVec<u8, N>, kind: u16, bytes: &[u8])
-    requires room { array_vec_len out.old + 4 + length bytes.now ≤ N }
+    requires capacity { array_vec_len out.old + 4 + length bytes.now ≤ N }
     requires counted { length bytes.now < 2 ^ 16 }
     ensures { out.new.items ≡ out.old.items ++ item_text (record { kind = kind; bytes = bytes.now }) }
 {

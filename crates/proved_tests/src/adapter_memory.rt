@@ -46,8 +46,15 @@ fn check_registered<A: Abort>(rt: &A, adapter: &mut Adapter, peer: &Peer) {
     let mut reader = MemorySource::new(REGISTER, &[]);
     let mut bytes = [0; 64];
     let mut writer = MemorySink::new(&mut bytes);
-    let told = Ok(Served::More);
-    let is_served = serves(adapter, peer, &mut reader, &mut writer, told, REGISTERED);
+    let expected = Ok(Served::More);
+    let is_served = serves(
+        adapter,
+        peer,
+        &mut reader,
+        &mut writer,
+        expected,
+        REGISTERED,
+    );
     check_same(rt, is_served, true);
 }
 

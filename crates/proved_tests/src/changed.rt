@@ -6,7 +6,7 @@ use std::alloc::Global;
 use std::process::Abort;
 use std::test::Fail;
 use test_fixtures::client::{
-    ADDED, CLOSED, GOT, OPENED, REGISTERED, Stand, hear, standing, with_bytes,
+    ADDED, CLOSED, GOT, OPENED, REGISTERED, StartState, client_at, hear, with_bytes,
 };
 
 /// Of a changed reply some is taken. Whether it is ignored.
@@ -43,13 +43,13 @@ fn check_changed<A: Abort>(
     rt: &A,
     alloc: Global,
     client: &mut Client,
-    stand: Stand,
+    start: StartState,
     reply: &[u8],
     change: (usize, u8),
 ) -> Result<(), Fail> {
     let stays = stays_changed(rt, alloc, client, reply, change)?;
     if !stays || change.0 == 2 || change.0 == 3 {
-        *client = standing(alloc, stand)?;
+        *client = client_at(alloc, start)?;
     }
     Ok(())
 }
@@ -59,14 +59,14 @@ fn check_each<A: Abort>(
     rt: &A,
     alloc: Global,
     client: &mut Client,
-    stand: Stand,
+    start: StartState,
     reply: &[u8],
 ) -> Result<usize, Fail> {
     let mut texts = 0usize;
     for (place, old) in reply.iter().enumerate() {
         for change in 1..=255u8 {
             let change = (place, old.wrapping_add(change));
-            check_changed(rt, alloc, client, stand, reply, change)?;
+            check_changed(rt, alloc, client, start, reply, change)?;
             texts = texts.saturating_add(1);
         }
     }
@@ -77,46 +77,58 @@ fn check_each<A: Abort>(
 fn changed_bytes<A: Abort>(
     rt: &A,
     alloc: Global,
-    stand: Stand,
+    start: StartState,
     reply: &[u8],
 ) -> Result<usize, Fail> {
-    let mut client = standing(alloc, stand)?;
-    check_each(rt, alloc, &mut client, stand, reply)
+    let mut client = client_at(alloc, start)?;
+    check_each(rt, alloc, &mut client, start, reply)
 }
 
 /// There are so many of these texts.
 fn check_changes<A: Abort>(
     rt: &A,
     alloc: Global,
-    stand: Stand,
+    start: StartState,
     reply: &[u8],
     texts: usize,
 ) -> Result<(), Fail> {
-    check_same(rt, changed_bytes(rt, alloc, stand, reply)?, texts);
+    check_same(rt, changed_bytes(rt, alloc, start, reply)?, texts);
     Ok(())
 }
 
 #[test]
 fn changed_register_replies(rt: HostRuntime) -> Result<(), Fail> {
-    check_changes(&rt, rt.alloc(), Stand::AwaitsSession, REGISTERED, 7_140)
+    check_changes(
+        &rt,
+        rt.alloc(),
+        StartState::AwaitsSession,
+        REGISTERED,
+        7_140,
+    )
 }
 
 #[test]
 fn changed_open_replies(rt: HostRuntime) -> Result<(), Fail> {
-    check_changes(&rt, rt.alloc(), Stand::AwaitsConnection, OPENED, 17_850)
+    check_changes(
+        &rt,
+        rt.alloc(),
+        StartState::AwaitsConnection,
+        OPENED,
+        17_850,
+    )
 }
 
 #[test]
 fn changed_replies(rt: HostRuntime) -> Result<(), Fail> {
-    check_changes(&rt, rt.alloc(), Stand::AwaitsReply, GOT, 11_730)
+    check_changes(&rt, rt.alloc(), StartState::AwaitsReply, GOT, 11_730)
 }
 
 #[test]
 fn changed_items(rt: HostRuntime) -> Result<(), Fail> {
-    check_changes(&rt, rt.alloc(), Stand::AwaitsItem, ADDED, 13_770)
+    check_changes(&rt, rt.alloc(), StartState::AwaitsItem, ADDED, 13_770)
 }
 
 #[test]
 fn changed_close_replies(rt: HostRuntime) -> Result<(), Fail> {
-    check_changes(&rt, rt.alloc(), Stand::AwaitsEnd, CLOSED, 13_770)
+    check_changes(&rt, rt.alloc(), StartState::AwaitsEnd, CLOSED, 13_770)
 }

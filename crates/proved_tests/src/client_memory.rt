@@ -6,8 +6,8 @@ use std::alloc::Global;
 use std::process::Abort;
 use std::test::Fail;
 use test_fixtures::client::{
-    ADD, ADD_SENT, ADDED, CLOSE, CLOSED, IS_5, OPEN, OPENED, REGISTER, REGISTERED, UNREGISTER,
-    WANTS, hear, made,
+    ADD, ADD_SENT, ADDED, CLOSE, CLOSED, OPEN, OPENED, REGISTER, REGISTERED, REPLY_OF_5,
+    UNREGISTER, WANTS, hear, made,
 };
 
 /// A client, made again where a growth of it is refused.
@@ -39,7 +39,7 @@ fn check_opening<A: Abort>(rt: &A, client: &mut Client) {
 fn check_request<A: Abort>(rt: &A, client: &mut Client) {
     check_same(rt, client.submit(ADD), Ok(ADD_SENT));
     check_same(rt, client.resend(), Some(ADD_SENT));
-    check_heard(rt, client, ADDED, Heard::Accepted(IS_5));
+    check_heard(rt, client, ADDED, Heard::Accepted(REPLY_OF_5));
     check_same(rt, client.close(), Ok(CLOSE));
     check_heard(rt, client, CLOSED, Heard::Closed);
     check_same(rt, client.unregister(), Ok(UNREGISTER));

@@ -27,7 +27,7 @@ fn the_laws_of_the_manager() {
 
 #[test]
 fn the_laws_of_the_objects() {
-    cip_objects::laws::replies_are_in_form();
+    cip_objects::laws::replies_are_well_formed();
 }
 
 #[test]
@@ -56,17 +56,17 @@ struct Last {
 }
 
 impl Router for Last {
-    ghost after = { λ s room request. record { byte = slice_index request 0 } };
+    ghost after = { λ s max_size request. record { byte = slice_index request 0 } };
 
-    ghost answer = { λ s room request. s.byte ∷ [] };
+    ghost answer = { λ s max_size request. s.byte ∷ [] };
 
-    fn execute(&mut self, request: &[u8], room: usize, reply: &mut ReplyBuf) {
+    fn execute(&mut self, request: &[u8], max_size: usize, reply: &mut ReplyBuf) {
         reply.clear();
         reply.push(self.byte);
         self.byte = request[0];
     }
 
-    ghost too_large = { λ s room request h e. absurd (cc) };
+    ghost too_large = { λ s max_size request h e. absurd (cc) };
 }
 
 /// The one byte of the reply that a target keeps.

@@ -5,7 +5,7 @@ use enip_bench::{Accepted, Bench, Event, Step};
 use std::alloc::Global;
 use std::process::Abort;
 use std::test::Fail;
-use test_fixtures::bench::{ADD_1, EXACTLY_ONCE, IS_12, Row, all_done, bench, counter, look};
+use test_fixtures::bench::{ADD_1, EXACTLY_ONCE, REPLY_OF_12, Row, all_done, bench, counter, look};
 
 /// Adds the events of these rows to a list.
 fn add_events(
@@ -74,7 +74,7 @@ const ONCE: Wanted<'static> = Wanted {
     back: 3,
     accepted: 2,
     last_number: 1,
-    last_reply: IS_12,
+    last_reply: REPLY_OF_12,
 };
 
 /// A request that is sent twice: both reach the adapter, and both replies the client.

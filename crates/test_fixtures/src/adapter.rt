@@ -131,7 +131,7 @@ pub fn serves(
     peer: &Peer,
     reader: &mut MemorySource<'_>,
     writer: &mut MemorySink<'_>,
-    told: Result<Served, ServeFault>,
+    expected: Result<Served, ServeFault>,
     written: &[u8],
 ) -> bool {
     if reader.reads() == u64::MAX
@@ -142,7 +142,7 @@ pub fn serves(
     }
     // What the buffer holds before counts for nothing.
     let mut buffer = [0xee; LONGEST_READ];
-    serve(adapter, peer, reader, writer, &mut buffer) == told && writer.written() == written
+    serve(adapter, peer, reader, writer, &mut buffer) == expected && writer.written() == written
 }
 
 /// How many places are free, of peers and of connections.

@@ -13,9 +13,9 @@ pub const ADD_5: &[u8] = b"\x32\x02\x20\x64\x24\x01\x05\0\0\0";
 
 pub const ADD_7: &[u8] = b"\x32\x02\x20\x64\x24\x01\x07\0\0\0";
 
-pub const IS_5: &[u8] = b"\xb2\0\0\0\x05\0\0\0";
+pub const REPLY_OF_5: &[u8] = b"\xb2\0\0\0\x05\0\0\0";
 
-pub const IS_12: &[u8] = b"\xb2\0\0\0\x0c\0\0\0";
+pub const REPLY_OF_12: &[u8] = b"\xb2\0\0\0\x0c\0\0\0";
 
 /// Adds 1.
 pub const ADD_1: &[u8] = b"\x32\x02\x20\x64\x24\x01\x01\0\0\0";
@@ -160,9 +160,9 @@ pub const EXACTLY_ONCE: [(Row, Step); 9] = [
     (Row::Reach(0), Step::Reached(Some(0))),
     (Row::Reach(0), Step::Reached(Some(1))),
     (Row::Submit(ADD_7), Step::Refused(Refused::Busy)),
-    (Row::Back(0), Step::Accepted(IS_5)),
+    (Row::Back(0), Step::Accepted(REPLY_OF_5)),
     (Row::Submit(ADD_7), Step::Sent(1, 1)),
     (Row::Back(1), Step::Ignored),
     (Row::Reach(1), Step::Reached(Some(2))),
-    (Row::Back(2), Step::Accepted(IS_12)),
+    (Row::Back(2), Step::Accepted(REPLY_OF_12)),
 ];

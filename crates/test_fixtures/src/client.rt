@@ -70,7 +70,7 @@ pub const GET_SENT_THIRD: &[u8] = b"\x6f\0\x18\0\x01\0\0\0\0\0\0\0\x03\0\0\0\0\0
     \0\0\0\0\0\0\x02\0\0\0\0\0\xb2\0\x08\0\x0e\x03\x20\x01\x24\x01\x30\x01";
 
 /// What the requests are replied.
-pub const IS_5: &[u8] = b"\xb2\0\0\0\x05\0\0\0";
+pub const REPLY_OF_5: &[u8] = b"\xb2\0\0\0\x05\0\0\0";
 
 pub const VENDOR: &[u8] = b"\x8e\0\0\0\x34\x12";
 
@@ -121,7 +121,7 @@ pub fn with_bytes(alloc: Global, bytes: &[u8], changes: &[(usize, u8)]) -> Resul
 
 /// What a client has done: nothing, registered, or opened its connection. Or which reply it awaits.
 #[derive(Clone, Copy, Debug)]
-pub enum Stand {
+pub enum StartState {
     New,
     Registered,
     Opened,
@@ -134,28 +134,30 @@ pub enum Stand {
 }
 
 /// Asks for what is awaited.
-fn asks(client: &mut Client, stand: Stand) -> bool {
-    match stand {
-        Stand::New | Stand::Registered | Stand::Opened => true,
-        Stand::AwaitsSession => client.register().is_ok(),
-        Stand::AwaitsConnection => client.open().is_ok(),
-        Stand::AwaitsReply => client.unconnected(GET).is_ok(),
-        Stand::AwaitsItem => client.submit(ADD).is_ok(),
-        Stand::AwaitsEnd => client.close().is_ok(),
-        Stand::AwaitsItemAndEnd => client.submit(ADD).is_ok() && client.close().is_ok(),
+fn asks(client: &mut Client, start: StartState) -> bool {
+    match start {
+        StartState::New | StartState::Registered | StartState::Opened => true,
+        StartState::AwaitsSession => client.register().is_ok(),
+        StartState::AwaitsConnection => client.open().is_ok(),
+        StartState::AwaitsReply => client.unconnected(GET).is_ok(),
+        StartState::AwaitsItem => client.submit(ADD).is_ok(),
+        StartState::AwaitsEnd => client.close().is_ok(),
+        StartState::AwaitsItemAndEnd => client.submit(ADD).is_ok() && client.close().is_ok(),
     }
 }
 
 /// A client that stands so.
-pub fn standing(alloc: Global, stand: Stand) -> Result<Client, Fail> {
-    let mut client = match stand {
-        Stand::New | Stand::AwaitsSession => made(alloc)?,
-        Stand::Registered | Stand::AwaitsConnection | Stand::AwaitsReply => registered(alloc)?,
-        Stand::Opened | Stand::AwaitsItem | Stand::AwaitsEnd | Stand::AwaitsItemAndEnd => {
-            opened(alloc)?
-        }
+pub fn client_at(alloc: Global, start: StartState) -> Result<Client, Fail> {
+    let mut client = match start {
+        StartState::New | StartState::AwaitsSession => made(alloc)?,
+        StartState::Registered | StartState::AwaitsConnection | StartState::AwaitsReply =>
+            registered(alloc)?,
+        StartState::Opened
+        | StartState::AwaitsItem
+        | StartState::AwaitsEnd
+        | StartState::AwaitsItemAndEnd => { opened(alloc)? }
     };
-    if asks(&mut client, stand) {
+    if asks(&mut client, start) {
         Ok(client)
     } else {
         Err("a frame is lent".into())

@@ -14,9 +14,9 @@ mod cip;
 #[cfg(test)]
 mod client;
 #[cfg(test)]
-mod peers;
+mod commands;
 #[cfg(test)]
-mod text;
+mod server;
 #[cfg(test)]
 mod values;
 #[cfg(test)]

@@ -401,7 +401,7 @@ static BROKEN: [Broken; 14] = [
     (
         "BOOL",
         &[2],
-        ValueFault::NoBool(2),
+        ValueFault::NotBool(2),
         "2 is no BOOL, which is 0 or 1",
     ),
     (
@@ -413,7 +413,7 @@ static BROKEN: [Broken; 14] = [
     (
         "BOOL[]",
         &[1, 0xff],
-        ValueFault::NoBool(255),
+        ValueFault::NotBool(255),
         "255 is no BOOL, which is 0 or 1",
     ),
     (
@@ -443,13 +443,13 @@ static BROKEN: [Broken; 14] = [
     (
         "USINT",
         &[1, 2, 3, 4],
-        ValueFault::Leftover(3),
+        ValueFault::Trailing(3),
         "3 bytes are left over",
     ),
     (
         "UINT",
         &[1, 2, 3],
-        ValueFault::Leftover(1),
+        ValueFault::Trailing(1),
         "1 byte is left over",
     ),
     (
@@ -473,7 +473,7 @@ static BROKEN: [Broken; 14] = [
     (
         "SHORT_STRING",
         &[1, b'a', b'b'],
-        ValueFault::Leftover(1),
+        ValueFault::Trailing(1),
         "1 byte is left over",
     ),
     (

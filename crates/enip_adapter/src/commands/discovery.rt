@@ -11,19 +11,19 @@ use crate::reply::{AnswerFrame, LONGEST_ANSWER};
 use crate::shared::Shared;
 use cip_bytes::protocol::Command;
 use cip_objects::ReplyBuf;
-use enip_wire::{FrameView, Held, see};
+use enip_wire::{FrameView, Held, parse_frame};
 
 /// The room that the answer to a datagram needs. What it held before counts for nothing.
 #[derive(Drop)]
-pub struct DiscoveryRoom {
+pub struct DiscoveryBuffer {
     reply: ReplyBuf,
     answer: AnswerFrame,
 }
 
-impl DiscoveryRoom {
+impl DiscoveryBuffer {
     /// A blank one. It takes no memory, here or later.
-    pub fn new() -> DiscoveryRoom {
-        DiscoveryRoom {
+    pub fn new() -> DiscoveryBuffer {
+        DiscoveryBuffer {
             reply: ReplyBuf::new(),
             answer: AnswerFrame::new(),
         }
@@ -35,7 +35,7 @@ impl DiscoveryRoom {
         ensures fits { IfSome result (λ bytes. length bytes.now ≤ LONGEST_ANSWER) }
     {
         // A datagram is one frame and not a byte more (ours).
-        let Held::Frame(frame) = see(datagram) else {
+        let Held::Frame(frame) = parse_frame(datagram) else {
             return None;
         };
         if self.write_answer(shared, frame) {

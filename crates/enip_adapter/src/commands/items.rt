@@ -4,18 +4,18 @@
 ghost use Rattle.std.specs.Prelude.{◌≡◌, ◌≤◌, ℕ, List, ◌+◌, ◌++◌, length, false};
 ghost use Rattle.cip_bytes.specs.declared.protocol.EncapsulationStatus.TheVariants.{Success};
 ghost use Rattle.cip_class3.specs.Item.{item};
-ghost use Rattle.enip_wire.specs.Bodies.{unit_text};
+ghost use Rattle.enip_wire.specs.Bodies.{unit_body_bytes};
 ghost use Rattle.enip_wire.specs.Stream.{frame_of};
 ghost use Rattle.enip_adapter.specs.Replies.{reply, written};
 ghost use Rattle.enip_adapter.specs.SendUnitData.{send_unit_data, turn_of_item, left_by_item, item_reply};
 
+use crate::no_reply_reason::NoReplyReason;
 use crate::peer::Session;
 use crate::reply::{AnswerFrame, PACKET_HEAD, Reaction, write_reply};
 use crate::shared::Shared;
-use crate::silence::Silence;
-use cip_bytes::protocol::{EncapsulationStatus, LARGEST_SIZE, SEQUENCE_COUNT_SIZE};
+use cip_bytes::protocol::{EncapsulationStatus, LARGEST_CONNECTION_SIZE, SEQUENCE_COUNT_SIZE};
 use cip_manager::KeptAnswer;
-use enip_wire::{FrameView, Header, unit_body, unit_front};
+use enip_wire::{FrameView, Header, unit_body, unit_body_head};
 
 /// The bytes in front of the reply in an item that answers: the front of the packet, and the count.
 const ITEM_FRONT: usize = PACKET_HEAD + SEQUENCE_COUNT_SIZE;
@@ -34,11 +34,11 @@ pub(super) fn send_unit_data(
     ensures close { result.close ≡ (send_unit_data shared.old session (frame_of frame.entry)).reaction.close }
 {
     if !session.is_registered_as(frame.header.session) {
-        return Reaction::silent(Silence::AnotherSession);
+        return Reaction::no_reply(NoReplyReason::AnotherSession);
     }
     match unit_body(frame.body) {
         Ok((id, item)) => send_item(shared, session, &frame.header, id, item, answer),
-        Err(fault) => Reaction::silent(Silence::NotAPacket(fault)),
+        Err(fault) => Reaction::no_reply(NoReplyReason::NotAPacket(fault)),
     }
 }
 
@@ -66,16 +66,16 @@ fn send_item(
             write_unit_reply(asked, kept, answer);
             Reaction::ANSWERED
         }
-        None => Reaction::silent(Silence::NotTaken),
+        None => Reaction::no_reply(NoReplyReason::NotTaken),
     }
 }
 
 /// Writes a whole SendUnitData that answers, with the T->O connection ID, and the count and reply that are held.
 #[inline(always)]
 fn write_unit_reply(asked: &Header, kept: KeptAnswer<'_>, answer: &mut AnswerFrame)
-    requires { length kept.reply.now + SEQUENCE_COUNT_SIZE ≤ LARGEST_SIZE }
+    requires { length kept.reply.now + SEQUENCE_COUNT_SIZE ≤ LARGEST_CONNECTION_SIZE }
     ensures { answer.new.items ≡ reply asked.now asked.now.session Success
-        (unit_text kept.entry.id (item kept.entry.sequence_count kept.entry.reply.now)) }
+        (unit_body_bytes kept.entry.id (item kept.entry.sequence_count kept.entry.reply.now)) }
 {
     let size = SEQUENCE_COUNT_SIZE + kept.reply.len();
     let front = item_front(kept.id, kept.sequence_count, size as u16);
@@ -94,10 +94,10 @@ fn write_unit_reply(asked: &Header, kept: KeptAnswer<'_>, answer: &mut AnswerFra
 #[inline(always)]
 fn item_front(id: u32, sequence_count: u16, size: u16) -> [u8; ITEM_FRONT]
     ensures { (reply : List ℕ) → length reply + SEQUENCE_COUNT_SIZE ≡ size →
-        unit_text id (item sequence_count reply) ≡ result ++ reply }
+        unit_body_bytes id (item sequence_count reply) ≡ result ++ reply }
 {
     let mut front = [0; ITEM_FRONT];
-    front[..PACKET_HEAD].copy_from_slice(&unit_front(id, size));
+    front[..PACKET_HEAD].copy_from_slice(&unit_body_head(id, size));
     front[PACKET_HEAD..].copy_from_slice(&sequence_count.to_le_bytes());
     front
 }

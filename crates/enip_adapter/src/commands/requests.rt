@@ -4,46 +4,46 @@
 ghost use Rattle.std.specs.Prelude.{◌≡◌, ◌≤◌, length};
 ghost use Rattle.cip_bytes.specs.declared.protocol.EncapsulationStatus.TheVariants.{Success};
 ghost use Rattle.cip_message.specs.PathReading.{path_of};
-ghost use Rattle.enip_wire.specs.Bodies.{rr_text};
+ghost use Rattle.enip_wire.specs.Bodies.{rr_body_bytes};
 ghost use Rattle.enip_wire.specs.Stream.{frame_of};
 ghost use Rattle.enip_adapter.specs.Replies.{reply};
 ghost use Rattle.enip_adapter.specs.Replies.Reply.{Sends};
-ghost use Rattle.enip_adapter.specs.SendRRData.{send_rr_data, routed, destination_of, is_manager};
-ghost use Rattle.enip_adapter.specs.Destinations.{destination, is_path_of_manager};
+ghost use Rattle.enip_adapter.specs.SendRRData.{send_rr_data, routed, route_of, is_manager};
+ghost use Rattle.enip_adapter.specs.Routes.{route_in, is_path_of_manager};
 
 use crate::peer::Session;
 use crate::reply::{AnswerFrame, refuse, write_reply};
 use crate::shared::Shared;
 use cip_bytes::protocol::{
-    CONNECTION_MANAGER, EncapsulationStatus, ManagerService, UNCONNECTED_ROOM,
+    CONNECTION_MANAGER, EncapsulationStatus, ManagerService, UNCONNECTED_LIMIT,
 };
 use cip_message::{Path, RequestView, read_path};
 use cip_objects::{ReplyBuf, Router};
-use enip_wire::{FrameView, Header, rr_body, rr_front};
+use enip_wire::{FrameView, Header, rr_body, rr_body_head};
 
 /// Where a request goes.
 #[derive(Clone, Copy)]
-enum Destination<'a> {
+enum Route<'a> {
     /// To the Connection Manager: a service, and its data.
     Manager(ManagerService, &'a [u8]),
     /// To the objects.
     Objects,
 }
 
-impl<'a> Destination<'a> {
+impl<'a> Route<'a> {
     /// Where these bytes go as a request.
     #[inline(always)]
-    fn of(request: &'a [u8]) -> Destination<'a>
-        ensures { destination result ≡ destination_of request.now }
+    fn of(request: &'a [u8]) -> Route<'a>
+        ensures { route_in result ≡ route_of request.now }
     {
         let Ok(request) = RequestView::read(request) else {
-            return Destination::Objects;
+            return Route::Objects;
         };
         match ManagerService::of(request.service) {
             Some(service) if is_to_manager(request.path) => {
-                Destination::Manager(service, request.data)
+                Route::Manager(service, request.data)
             }
-            _ => Destination::Objects,
+            _ => Route::Objects,
         }
     }
 }
@@ -98,33 +98,33 @@ fn route(shared: &mut Shared, session: Session, request: &[u8], reply: &mut Repl
     requires { 2 ≤ length request.now }
     ensures shared { shared.new ≡ (routed shared.old session request.now).shared }
     ensures reply { reply.new.items ≡ (routed shared.old session request.now).reply }
-    ensures fits { length reply.new.items ≤ UNCONNECTED_ROOM }
+    ensures fits { length reply.new.items ≤ UNCONNECTED_LIMIT }
 {
-    match Destination::of(request) {
-        Destination::Manager(ManagerService::ForwardOpen, data) => {
+    match Route::of(request) {
+        Route::Manager(ManagerService::ForwardOpen, data) => {
             shared
                 .manager
                 .open(shared.moment, session.handle, data, reply);
         }
-        Destination::Manager(ManagerService::LargeForwardOpen, data) => {
+        Route::Manager(ManagerService::LargeForwardOpen, data) => {
             shared
                 .manager
                 .open_large(shared.moment, session.handle, data, reply);
         }
-        Destination::Manager(ManagerService::ForwardClose, data) => {
+        Route::Manager(ManagerService::ForwardClose, data) => {
             shared.manager.close(session.handle, data, reply);
         }
-        Destination::Objects => shared.objects.execute(request, UNCONNECTED_ROOM, reply),
+        Route::Objects => shared.objects.execute(request, UNCONNECTED_LIMIT, reply),
     }
 }
 
 /// Writes a whole reply to a SendRRData, with the reply of the router as its data item.
 #[inline(always)]
 fn write_rr_reply(asked: &Header, router_reply: &[u8], answer: &mut AnswerFrame)
-    requires { length router_reply.now ≤ UNCONNECTED_ROOM }
-    ensures { answer.new.items ≡ reply asked.now asked.now.session Success (rr_text router_reply.now) }
+    requires { length router_reply.now ≤ UNCONNECTED_LIMIT }
+    ensures { answer.new.items ≡ reply asked.now asked.now.session Success (rr_body_bytes router_reply.now) }
 {
-    let front = rr_front(router_reply.len() as u16);
+    let front = rr_body_head(router_reply.len() as u16);
     write_reply(
         asked,
         asked.session,

@@ -7,9 +7,9 @@ ghost use Rattle.enip_adapter.specs.RegisterSession.{register_session, version_o
 ghost use Rattle.enip_adapter.specs.Replies.{reply, is_registered_as};
 ghost use Rattle.enip_adapter.specs.Replies.Reply.{Sends};
 
+use crate::no_reply_reason::NoReplyReason;
 use crate::peer::Session;
 use crate::reply::{AnswerFrame, Reaction, Reply, refuse, write_reply};
-use crate::silence::Silence;
 use byteorder::{ByteOrder, LittleEndian};
 use cip_bytes::protocol::EncapsulationStatus;
 use enip_wire::{FrameView, Header};
@@ -87,17 +87,17 @@ impl Session {
 /// UnRegisterSession: no answer.
 pub(super) fn unregister_session(session: Session, header: Header) -> Reaction
     ensures { result ≡ record {
-      reply = Reply.Silent (if is_registered_as session header.session then Silence.Unregistered
-          else Silence.AnotherSession);
+      reply = Reply.NoReply (if is_registered_as session header.session then NoReplyReason.Unregistered
+          else NoReplyReason.AnotherSession);
       close = is_registered_as session header.session;
     } }
 {
     // another session than this peer's registered one is dropped (UnRegisterSession; ours)
     if !session.is_registered_as(header.session) {
-        return Reaction::silent(Silence::AnotherSession);
+        return Reaction::no_reply(NoReplyReason::AnotherSession);
     }
     Reaction {
-        reply: Reply::Silent(Silence::Unregistered),
+        reply: Reply::NoReply(NoReplyReason::Unregistered),
         close: true,
     }
 }

@@ -2,7 +2,7 @@
 
 ghost use Rattle.std.specs.Prelude.{◌≡◌, ◌++◌, IfOk, codes, decimal, map, string_bytes};
 ghost use Rattle.cip_values.specs.Values.{value_in};
-ghost use Rattle.enip_commands.specs.Json.{data_told, AreValuesTold, IsValuesLine, refusal_told};
+ghost use Rattle.enip_commands.specs.Json.{data_told, AreValuesJson, IsValuesLine, refusal_json};
 ghost use Rattle.serde_json.specs.View.{view};
 ghost use Rattle.serde_json.specs.Written.{compact_text};
 
@@ -43,7 +43,7 @@ fn values_object(
     value_type: ValueType,
     values: &[Value<'_>],
 ) -> Result<Json, AllocError>
-    ensures { IfOk result (λ object. AreValuesTold bytes.now value_type (map value_in values.now) (view object)) }
+    ensures { IfOk result (λ object. AreValuesJson bytes.now value_type (map value_in values.now) (view object)) }
 {
     let list = list_of(alloc, values)?;
     let digits = hex::encode(alloc, bytes)?;
@@ -53,13 +53,13 @@ fn values_object(
 
 /// The line of a refusal: the general status, and the first additional word or 0.
 pub fn refusal_line(alloc: Global, status: u8, extended: u16) -> Result<String, AllocError>
-    ensures { IfOk result (λ line. string_bytes line ≡ compact_text (refusal_told status extended)) }
+    ensures { IfOk result (λ line. string_bytes line ≡ compact_text (refusal_json status extended)) }
 {
     refusal_object(alloc, status, extended)?.to_string(alloc)
 }
 
 fn refusal_object(alloc: Global, status: u8, extended: u16) -> Result<Json, AllocError>
-    ensures { IfOk result (λ object. view object ≡ refusal_told status extended) }
+    ensures { IfOk result (λ object. view object ≡ refusal_json status extended) }
 {
     json!(in alloc; {"extended": extended, "status": status})
 }

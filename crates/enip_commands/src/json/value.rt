@@ -2,7 +2,7 @@
 
 ghost use Rattle.std.specs.Prelude.{◌≡◌, IfOk, map};
 ghost use Rattle.cip_values.specs.Values.{value_in};
-ghost use Rattle.enip_commands.specs.Json.{IsTold, AreTold};
+ghost use Rattle.enip_commands.specs.Json.{IsTold, AreJsonOf};
 ghost use Rattle.serde_json.specs.Data.{depth};
 ghost use Rattle.serde_json.specs.View.{view};
 
@@ -13,7 +13,7 @@ use std::alloc::{AllocError, Global};
 
 /// The values, one after the other.
 pub(crate) fn list_of(alloc: Global, values: &[Value<'_>]) -> Result<Json, AllocError>
-    ensures { IfOk result (λ list. AreTold (map value_in values.now) (view list)) }
+    ensures { IfOk result (λ list. AreJsonOf (map value_in values.now) (view list)) }
 {
     let mut list = Vec::new(alloc);
     for value in values {

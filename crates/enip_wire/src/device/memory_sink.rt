@@ -5,7 +5,7 @@ ghost use Rattle.std.specs.Result.{result_ok};
 ghost use Rattle.std.specs.Io.KnownBytes.{WriteAppends};
 ghost use Rattle.enip_wire.specs.Devices.{failures_in};
 
-use super::calls::Calls;
+use super::call_behavior::CallBehavior;
 use super::{Failed, Sink};
 use std::marker::Model;
 
@@ -14,7 +14,7 @@ use std::marker::Model;
 pub struct MemorySink<'a> {
     into: &'a mut [u8],
     len: usize,
-    calls: Calls,
+    calls: CallBehavior,
 }
 
 impl<'a> Model for MemorySink<'a> {
@@ -23,7 +23,7 @@ impl<'a> Model for MemorySink<'a> {
 
     ghost Value = { SinkState };
 
-    ghost view = { λ s. record { written = take s.len s.into.now; room = length s.into.now - s.len; calls = s.calls } };
+    ghost view = { λ s. record { written = take s.len s.into.now; capacity = length s.into.now - s.len; calls = s.calls } };
 
     ghost invariant = { λ s. (s.len ≤ length s.into.now) × (0 < s.calls.largest_size) };
 }
@@ -31,12 +31,12 @@ impl<'a> Model for MemorySink<'a> {
 impl<'a> MemorySink<'a> {
     /// A sink into this slice, from its front on.
     pub fn new(into: &'a mut [u8]) -> MemorySink<'a>
-        ensures { result ≡ record { written = []; room = length into.old; calls = Calls.UNBOUNDED } }
+        ensures { result ≡ record { written = []; capacity = length into.old; calls = CallBehavior.UNBOUNDED } }
     {
         MemorySink {
             into,
             len: 0,
-            calls: Calls::UNBOUNDED,
+            calls: CallBehavior::UNBOUNDED,
         }
     }
 
@@ -53,7 +53,7 @@ impl<'a> MemorySink<'a> {
     pub fn with_failure_after(mut self, calls: u64) -> MemorySink<'a>
         ensures { result ≡ record self.entry { calls = record self.entry.calls { before_failure = Some calls } } }
     {
-        self.calls = Calls {
+        self.calls = CallBehavior {
             before_failure: Some(calls),
             ..self.calls
         };

@@ -6,7 +6,7 @@ ghost use Rattle.std.specs.Io.KnownBytes.{ReadConsumes};
 ghost use Rattle.enip_wire.specs.Devices.{failures_in, moved};
 ghost use Rattle.enip_wire.specs.MemoryDevices.{moment_at};
 
-use super::calls::Calls;
+use super::call_behavior::CallBehavior;
 use super::{Failed, Source};
 use std::marker::Model;
 
@@ -17,7 +17,7 @@ pub struct MemorySource<'a> {
     moments: &'a [u64],
     moment: u64,
     reads: u64,
-    calls: Calls,
+    calls: CallBehavior,
 }
 
 impl<'a> Model for MemorySource<'a> {
@@ -46,7 +46,7 @@ impl<'a> MemorySource<'a> {
           moments = moments.now;
           moment = 0;
           reads = 0;
-          calls = Calls.UNBOUNDED;
+          calls = CallBehavior.UNBOUNDED;
         } }
     {
         MemorySource {
@@ -54,7 +54,7 @@ impl<'a> MemorySource<'a> {
             moments,
             moment: 0,
             reads: 0,
-            calls: Calls::UNBOUNDED,
+            calls: CallBehavior::UNBOUNDED,
         }
     }
 
@@ -71,7 +71,7 @@ impl<'a> MemorySource<'a> {
     pub fn with_failure_after(mut self, calls: u64) -> MemorySource<'a>
         ensures { result ≡ record self.entry { calls = record self.entry.calls { before_failure = Some calls } } }
     {
-        self.calls = Calls {
+        self.calls = CallBehavior {
             before_failure: Some(calls),
             ..self.calls
         };

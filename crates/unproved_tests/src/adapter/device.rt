@@ -1,6 +1,6 @@
 //! What the device writes at its adapter, and the changes that it sees there.
 
-use enip_adapter::{Adapter, DiscoveryRoom};
+use enip_adapter::{Adapter, DiscoveryBuffer};
 use std::test::Fail;
 use test_fixtures::adapter::{adapter_with_peer, demo_with_connection, feed};
 
@@ -23,7 +23,7 @@ const ID_AT: usize = 36;
 
 /// Whether the status and the state are these in what ListIdentity answers.
 fn shows(adapter: &Adapter, status: &[u8], state: u8) -> bool {
-    let mut room = DiscoveryRoom::new();
+    let mut room = DiscoveryBuffer::new();
     match adapter.discover(LIST_IDENTITY, &mut room) {
         Some(answer) => {
             &answer[STATUS_AT..STATUS_AT + 2] == status && answer[answer.len() - 1] == state

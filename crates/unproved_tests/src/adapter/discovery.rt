@@ -1,6 +1,6 @@
 //! Datagrams: which are answered, and which are dropped.
 
-use enip_adapter::{Adapter, DiscoveryRoom};
+use enip_adapter::{Adapter, DiscoveryBuffer};
 use std::alloc::Global;
 use std::process::Abort;
 use std::test::Fail;
@@ -80,7 +80,7 @@ fn with_data(alloc: Global, size: u16) -> Result<Vec<u8>, Fail> {
 }
 
 /// A datagram is dropped, also by a room that has held an answer.
-fn check_dropped<A: Abort>(rt: &A, adapter: &Adapter, room: &mut DiscoveryRoom, datagram: &[u8]) {
+fn check_dropped<A: Abort>(rt: &A, adapter: &Adapter, room: &mut DiscoveryBuffer, datagram: &[u8]) {
     let answered = ANSWERED[0];
     assert_eq!(rt; adapter.discover(answered.0, room), Some(answered.1));
     assert_eq!(rt; adapter.discover(datagram, room), None);
@@ -89,7 +89,7 @@ fn check_dropped<A: Abort>(rt: &A, adapter: &Adapter, room: &mut DiscoveryRoom, 
 #[test]
 fn lists_are_answered_as_over_tcp(rt: HostRuntime) -> Result<(), Fail> {
     let (mut adapter, peer) = adapter_with_peer(rt.alloc())?;
-    let mut room = DiscoveryRoom::new();
+    let mut room = DiscoveryBuffer::new();
     for (datagram, answer) in &ANSWERED {
         assert_eq!(rt; adapter.discover(datagram, &mut room), Some(*answer));
         assert_eq!(rt; feed(&mut adapter, &peer, datagram).answer, Some(*answer));
@@ -100,7 +100,7 @@ fn lists_are_answered_as_over_tcp(rt: HostRuntime) -> Result<(), Fail> {
 #[test]
 fn other_datagrams_are_dropped(rt: HostRuntime) -> Result<(), Fail> {
     let (mut adapter, peer) = adapter_with_peer(rt.alloc())?;
-    let mut room = DiscoveryRoom::new();
+    let mut room = DiscoveryBuffer::new();
     for datagram in &DROPPED {
         check_dropped(&rt, &adapter, &mut room, datagram);
     }
@@ -118,7 +118,7 @@ fn other_datagrams_are_dropped(rt: HostRuntime) -> Result<(), Fail> {
 #[test]
 fn a_list_with_data_is_no_request(rt: HostRuntime) -> Result<(), Fail> {
     let (adapter, _peer) = adapter_with_peer(rt.alloc())?;
-    let mut room = DiscoveryRoom::new();
+    let mut room = DiscoveryBuffer::new();
     for size in [1, 2, 26, 65_511, 65_512] {
         let datagram = with_data(rt.alloc(), size)?;
         check_dropped(&rt, &adapter, &mut room, datagram.as_slice());

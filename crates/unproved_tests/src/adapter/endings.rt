@@ -1,7 +1,7 @@
 //! Which connections ended, and why.
 
 use super::deadline::{CLOSE, opening};
-use enip_adapter::{Adapter, Ended, Endings, Peer, Why};
+use enip_adapter::{Adapter, EndReason, EndedConnection, Endings, Peer};
 use std::alloc::Global;
 use std::test::Fail;
 use test_fixtures::adapter::{LONG, REGISTER, demo_with_connection};
@@ -18,14 +18,14 @@ fn looked_at(alloc: Global) -> Result<(Adapter, Peer, Endings), Fail> {
 }
 
 /// Whether a look tells that these have ended: of each its ID, its session and why.
-fn tells(endings: &mut Endings, adapter: &Adapter, wanted: &[(u32, u32, Why)]) -> bool {
+fn ends_are(endings: &mut Endings, adapter: &Adapter, wanted: &[(u32, u32, EndReason)]) -> bool {
     endings.update(adapter);
     let ended = endings.ended();
     ended.len() == wanted.len() && (0..wanted.len()).all(|place| is(ended[place], wanted[place]))
 }
 
-fn is(ended: Ended, wanted: (u32, u32, Why)) -> bool {
-    (ended.id, ended.session, ended.why) == wanted
+fn is(ended: EndedConnection, wanted: (u32, u32, EndReason)) -> bool {
+    (ended.id, ended.session, ended.reason) == wanted
 }
 
 #[test]
@@ -33,11 +33,11 @@ fn timed_out(rt: HostRuntime) -> Result<(), Fail> {
     let (mut adapter, _, mut endings) = looked_at(rt.alloc())?;
     assert!(rt; endings.ended().is_empty());
     adapter.tick(9_999_999);
-    assert!(rt; tells(&mut endings, &adapter, &[]));
+    assert!(rt; ends_are(&mut endings, &adapter, &[]));
     adapter.tick(10_000_000);
-    assert!(rt; tells(&mut endings, &adapter, &[(1, 1, Why::TimedOut)]));
+    assert!(rt; ends_are(&mut endings, &adapter, &[(1, 1, EndReason::TimedOut)]));
     // It is told once.
-    assert!(rt; tells(&mut endings, &adapter, &[]));
+    assert!(rt; ends_are(&mut endings, &adapter, &[]));
     Ok(())
 }
 
@@ -45,8 +45,8 @@ fn timed_out(rt: HostRuntime) -> Result<(), Fail> {
 fn closed(rt: HostRuntime) -> Result<(), Fail> {
     let (mut adapter, peer, mut endings) = looked_at(rt.alloc())?;
     let _ = adapter.feed(1, &peer, CLOSE);
-    assert!(rt; tells(&mut endings, &adapter, &[(1, 1, Why::Closed)]));
-    assert!(rt; tells(&mut endings, &adapter, &[]));
+    assert!(rt; ends_are(&mut endings, &adapter, &[(1, 1, EndReason::Closed)]));
+    assert!(rt; ends_are(&mut endings, &adapter, &[]));
     Ok(())
 }
 
@@ -56,9 +56,9 @@ fn session_ended(rt: HostRuntime) -> Result<(), Fail> {
     for frame in [UNREGISTER, LONG] {
         let (mut adapter, peer, mut endings) = looked_at(rt.alloc())?;
         let _ = adapter.feed(1, &peer, frame);
-        assert!(rt; tells(&mut endings, &adapter, &[(1, 1, Why::SessionEnded)]));
+        assert!(rt; ends_are(&mut endings, &adapter, &[(1, 1, EndReason::SessionEnded)]));
         adapter.end(peer);
-        assert!(rt; tells(&mut endings, &adapter, &[]));
+        assert!(rt; ends_are(&mut endings, &adapter, &[]));
     }
     Ok(())
 }
@@ -67,8 +67,8 @@ fn session_ended(rt: HostRuntime) -> Result<(), Fail> {
 fn peer_ended(rt: HostRuntime) -> Result<(), Fail> {
     let (mut adapter, peer, mut endings) = looked_at(rt.alloc())?;
     adapter.end(peer);
-    assert!(rt; tells(&mut endings, &adapter, &[(1, 1, Why::PeerEnded)]));
-    assert!(rt; tells(&mut endings, &adapter, &[]));
+    assert!(rt; ends_are(&mut endings, &adapter, &[(1, 1, EndReason::PeerEnded)]));
+    assert!(rt; ends_are(&mut endings, &adapter, &[]));
     Ok(())
 }
 
@@ -80,15 +80,15 @@ fn several(rt: HostRuntime) -> Result<(), Fail> {
     for serial in [2, 3] {
         let opening = opening(rt.alloc(), 2, serial)?;
         let _ = adapter.feed(1_000_000, &other, opening.as_slice());
-        assert!(rt; tells(&mut endings, &adapter, &[]));
+        assert!(rt; ends_are(&mut endings, &adapter, &[]));
     }
     // Of two sessions each has its own, in the order of opening; the first one's time is over first.
     adapter.tick(10_000_000);
-    assert!(rt; tells(&mut endings, &adapter, &[(1, 1, Why::TimedOut)]));
+    assert!(rt; ends_are(&mut endings, &adapter, &[(1, 1, EndReason::TimedOut)]));
     adapter.end(first);
-    assert!(rt; tells(&mut endings, &adapter, &[]));
+    assert!(rt; ends_are(&mut endings, &adapter, &[]));
     adapter.end(other);
-    let wanted = [(2, 2, Why::PeerEnded), (3, 2, Why::PeerEnded)];
-    assert!(rt; tells(&mut endings, &adapter, &wanted));
+    let wanted = [(2, 2, EndReason::PeerEnded), (3, 2, EndReason::PeerEnded)];
+    assert!(rt; ends_are(&mut endings, &adapter, &wanted));
     Ok(())
 }

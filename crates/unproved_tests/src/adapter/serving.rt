@@ -20,9 +20,9 @@ fn check_served<A: Abort>(
     peer: &Peer,
     reader: &mut MemorySource<'_>,
     writer: &mut MemorySink<'_>,
-    told: Told<'_>,
+    expected: Told<'_>,
 ) {
-    for (served, written) in told {
+    for (served, written) in expected {
         assert!(rt; serves(adapter, peer, reader, writer, *served, written));
     }
 }
@@ -56,11 +56,18 @@ fn more_and_then_the_end(rt: HostRuntime) -> Result<(), Fail> {
     let mut reader = MemorySource::new(REGISTER, &[]);
     let mut bytes = [0; 64];
     let mut writer = MemorySink::new(&mut bytes);
-    let told: [(Result<Served, ServeFault>, &[u8]); 2] = [
+    let expected: [(Result<Served, ServeFault>, &[u8]); 2] = [
         (Ok(Served::More), REGISTERED),
         (Ok(Served::Input), REGISTERED),
     ];
-    check_served(&rt, &mut adapter, &peer, &mut reader, &mut writer, &told);
+    check_served(
+        &rt,
+        &mut adapter,
+        &peer,
+        &mut reader,
+        &mut writer,
+        &expected,
+    );
     check_reads(&rt, &reader, 2, 0);
     Ok(())
 }
@@ -74,11 +81,18 @@ fn each_read_has_its_moment(rt: HostRuntime) -> Result<(), Fail> {
     let mut bytes = [0; 128];
     let mut writer = MemorySink::new(&mut bytes);
     // At the second read the connection is over, so its item has no answer.
-    let told: [(Result<Served, ServeFault>, &[u8]); 2] = [
+    let expected: [(Result<Served, ServeFault>, &[u8]); 2] = [
         (Ok(Served::More), ADDED),
         (Ok(Served::More), ADDED),
     ];
-    check_served(&rt, &mut adapter, &peer, &mut reader, &mut writer, &told);
+    check_served(
+        &rt,
+        &mut adapter,
+        &peer,
+        &mut reader,
+        &mut writer,
+        &expected,
+    );
     assert_eq!(rt; free(&adapter), (8, 16));
     Ok(())
 }
@@ -88,8 +102,8 @@ fn check_addition<A: Abort>(rt: &A, adapter: &mut Adapter, peer: &Peer, answer: 
     let mut reader = MemorySource::new(ADD, &[]);
     let mut bytes = [0; 128];
     let mut writer = MemorySink::new(&mut bytes);
-    let told = Ok(Served::More);
-    assert!(rt; serves(adapter, peer, &mut reader, &mut writer, told, answer));
+    let expected = Ok(Served::More);
+    assert!(rt; serves(adapter, peer, &mut reader, &mut writer, expected, answer));
 }
 
 /// Serves a RegisterSession and an opening that come in one read, by a writer that takes 10 bytes a call and fails
@@ -108,8 +122,17 @@ fn serve_with_failure_after(
     let mut writer = MemorySink::new(&mut bytes)
         .with_largest_size(10)
         .with_failure_after(calls);
-    let told = Err(ServeFault::Write);
-    assert!(rt; serves(&mut adapter, &peer, &mut reader, &mut writer, told, front));
+    let expected = Err(ServeFault::Write);
+    assert!(rt;
+        serves(
+            &mut adapter,
+            &peer,
+            &mut reader,
+            &mut writer,
+            expected,
+            front
+        )
+    );
     check_calls(rt, &reader, &writer, 1, 1);
     check_addition(rt, &mut adapter, &peer, answer);
     Ok(())
@@ -130,11 +153,11 @@ fn check_added<A: Abort>(
     adapter: &mut Adapter,
     peer: &Peer,
     writer: &mut MemorySink<'_>,
-    told: Result<Served, ServeFault>,
+    expected: Result<Served, ServeFault>,
     written: &[u8],
 ) -> Result<(), Fail> {
     let mut reader = MemorySource::new(ADD, &[]);
-    assert!(rt; serves(adapter, peer, &mut reader, writer, told, written));
+    assert!(rt; serves(adapter, peer, &mut reader, writer, expected, written));
     assert_eq!(rt; value(adapter)?, 5);
     Ok(())
 }
@@ -144,11 +167,11 @@ fn a_reply_that_was_not_written_is_kept(rt: HostRuntime) -> Result<(), Fail> {
     let (mut adapter, peer) = demo_with_connection(rt.alloc())?;
     let mut bytes = [0; 128];
     let mut writer = MemorySink::new(&mut bytes).with_failure_after(0);
-    let told: [(Result<Served, ServeFault>, &[u8]); 2] = [
+    let expected: [(Result<Served, ServeFault>, &[u8]); 2] = [
         (Err(ServeFault::Write), b""),
         (Ok(Served::More), ADDED),
     ];
-    for (served, written) in told {
+    for (served, written) in expected {
         check_added(&rt, &mut adapter, &peer, &mut writer, served, written)?;
     }
     Ok(())
@@ -162,15 +185,29 @@ fn the_reader_fails(rt: HostRuntime) -> Result<(), Fail> {
         .with_failure_after(1);
     let mut bytes = [0; 64];
     let mut writer = MemorySink::new(&mut bytes);
-    let told: [(Result<Served, ServeFault>, &[u8]); 2] = [
+    let expected: [(Result<Served, ServeFault>, &[u8]); 2] = [
         (Ok(Served::More), b""),
         (Err(ServeFault::Read), b""),
     ];
-    check_served(&rt, &mut adapter, &peer, &mut reader, &mut writer, &told);
+    check_served(
+        &rt,
+        &mut adapter,
+        &peer,
+        &mut reader,
+        &mut writer,
+        &expected,
+    );
     check_reads(&rt, &reader, 2, 1);
     // What came before it is not lost.
-    let told: [(Result<Served, ServeFault>, &[u8]); 1] = [(Ok(Served::More), REGISTERED)];
-    check_served(&rt, &mut adapter, &peer, &mut reader, &mut writer, &told);
+    let expected: [(Result<Served, ServeFault>, &[u8]); 1] = [(Ok(Served::More), REGISTERED)];
+    check_served(
+        &rt,
+        &mut adapter,
+        &peer,
+        &mut reader,
+        &mut writer,
+        &expected,
+    );
     Ok(())
 }
 
@@ -182,8 +219,8 @@ fn check_not_held<A: Abort>(
     writer: &mut MemorySink<'_>,
 ) {
     let mut reader = MemorySource::new(REGISTER, &[]).with_failure_after(0);
-    let told = Ok(Served::Closed);
-    assert!(rt; serves(adapter, peer, &mut reader, writer, told, REFUSED));
+    let expected = Ok(Served::Closed);
+    assert!(rt; serves(adapter, peer, &mut reader, writer, expected, REFUSED));
     check_reads(rt, &reader, 0, 0);
 }
 
@@ -203,8 +240,17 @@ fn a_closed_peer_is_not_read(rt: HostRuntime) -> Result<(), Fail> {
     // The answer is written before the peer closes, and the rest of the read is not fed. A peer that is closed is not
     // read, nor is one that is not held.
     for _ in 0..2 {
-        let told = Ok(Served::Closed);
-        assert!(rt; serves(&mut adapter, &peer, &mut reader, &mut writer, told, REFUSED));
+        let expected = Ok(Served::Closed);
+        assert!(rt;
+            serves(
+                &mut adapter,
+                &peer,
+                &mut reader,
+                &mut writer,
+                expected,
+                REFUSED
+            )
+        );
         check_calls(&rt, &reader, &writer, 1, 0);
     }
     check_ended(&rt, &mut adapter, peer, &mut writer);

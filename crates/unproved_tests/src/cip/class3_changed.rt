@@ -2,7 +2,7 @@
 //! class 3: the count alone tells a repeat.)
 
 use super::counting::objects;
-use cip_class3::{Kept, Received, Target};
+use cip_class3::{KeptReply, Received, Target};
 use std::alloc::Global;
 use std::process::Abort;
 use std::test::Fail;
@@ -12,7 +12,7 @@ const ITEM: [u8; 12] = [
     0x02, 0x01, 0x32, 0x02, 0x20, 0x64, 0x24, 0x01, 0x01, 0x00, 0x00, 0x00,
 ];
 
-const FIRST: Kept<'static> = Kept {
+const FIRST: KeptReply<'static> = KeptReply {
     sequence_count: 0x0102,
     reply: &[0xb2, 0x00, 0x00, 0x00, 0x01, 0x00, 0x00, 0x00],
 };
@@ -23,7 +23,7 @@ fn check(
     rt: &impl Abort,
     alloc: Global,
     item: &[u8],
-    wanted: (Received, Kept<'_>, u8),
+    wanted: (Received, KeptReply<'_>, u8),
 ) -> Result<(), Fail> {
     let (received, kept, additions) = wanted;
     let mut objects = objects(alloc)?;
@@ -46,7 +46,7 @@ fn each_changed_byte(rt: HostRuntime) -> Result<(), Fail> {
             let mut item = ITEM;
             item[place] = ITEM[place].wrapping_add(change);
             let wanted = if place < 2 {
-                let second = Kept {
+                let second = KeptReply {
                     sequence_count: u16::from_le_bytes([item[0], item[1]]),
                     reply: &[0xb2, 0x00, 0x00, 0x00, 0x02, 0x00, 0x00, 0x00],
                 };
@@ -82,7 +82,7 @@ fn the_longest_with_another_count(rt: HostRuntime) -> Result<(), Fail> {
     let mut block = [0; 500];
     block[..ITEM.len()].copy_from_slice(&ITEM);
     block[0] = 0x03;
-    let refused = Kept {
+    let refused = KeptReply {
         sequence_count: 0x0103,
         reply: &[0xb2, 0x00, 0x15, 0x00],
     };

@@ -1,7 +1,7 @@
 //! Both ends of a connection over more requests than there are counts.
 
 use super::counting::{ADD_ONE, objects};
-use cip_class3::{Came, Kept, Originator, Received, Refused, Stage, Target};
+use cip_class3::{Came, KeptReply, Originator, Received, Refused, Stage, Target};
 use cip_objects::Objects;
 use std::alloc::Global;
 use std::process::Abort;
@@ -103,7 +103,7 @@ fn check_item(
     assert!(rt; target.receive(objects, &item) == received);
     let [a, b, c, d] = value.to_le_bytes();
     let reply = [0xb2, 0x00, 0x00, 0x00, a, b, c, d];
-    let wanted = Kept {
+    let wanted = KeptReply {
         sequence_count: count,
         reply: &reply,
     };

@@ -10,8 +10,8 @@ use std::alloc::Global;
 use std::process::Abort;
 use std::test::Fail;
 use test_fixtures::client::{
-    ADD, ADD_SENT, ADDED, CLOSE, CLOSED, GET, GET_SENT, GOT, IS_5, OPEN, OPENED, REGISTER,
-    REGISTERED, Stand, UNREGISTER, VENDOR, joined, made, standing,
+    ADD, ADD_SENT, ADDED, CLOSE, CLOSED, GET, GET_SENT, GOT, OPEN, OPENED, REGISTER, REGISTERED,
+    REPLY_OF_5, StartState, UNREGISTER, VENDOR, client_at, joined, made,
 };
 
 /// A reader at its end, with the reads that it has counted.
@@ -51,7 +51,7 @@ impl Source for Counted {
 /// it fails, what is asked, what is told, and how many bytes of the frames are sent.
 struct Exchange<'a> {
     name: &'static str,
-    stand: Stand,
+    start: StartState,
     heard: &'a [&'a [u8]],
     largest_read: usize,
     reads: u64,
@@ -59,7 +59,7 @@ struct Exchange<'a> {
     writes: u64,
     request: &'a [u8],
     connected: bool,
-    told: Result<(), AskFault>,
+    expected: Result<(), AskFault>,
     reply: &'a [u8],
     sent: &'a [&'a [u8]],
     count: usize,
@@ -68,7 +68,7 @@ struct Exchange<'a> {
 /// An exchange in which no device fails.
 const WELL: Exchange<'static> = Exchange {
     name: "no device fails",
-    stand: Stand::New,
+    start: StartState::New,
     heard: &[REGISTERED, GOT],
     largest_read: 4_096,
     reads: u64::MAX,
@@ -76,7 +76,7 @@ const WELL: Exchange<'static> = Exchange {
     writes: u64::MAX,
     request: GET,
     connected: false,
-    told: Ok(()),
+    expected: Ok(()),
     reply: VENDOR,
     sent: &[REGISTER, GET_SENT, UNREGISTER],
     count: 100,
@@ -94,7 +94,7 @@ static EXCHANGES: [Exchange<'static>; 10] = [
         largest_write: 1,
         request: ADD,
         connected: true,
-        reply: IS_5,
+        reply: REPLY_OF_5,
         sent: &[REGISTER, OPEN, ADD_SENT, CLOSE, UNREGISTER],
         count: 256,
         ..WELL
@@ -104,7 +104,7 @@ static EXCHANGES: [Exchange<'static>; 10] = [
         heard: &[REGISTERED, OPENED],
         request: NO_REQUEST,
         connected: true,
-        told: Err(AskFault::Submit(Refused::NoRequest)),
+        expected: Err(AskFault::Submit(Refused::NoRequest)),
         reply: &[],
         sent: &[REGISTER, OPEN],
         count: 114,
@@ -113,17 +113,17 @@ static EXCHANGES: [Exchange<'static>; 10] = [
     Exchange {
         name: "no request, without a connection",
         request: NO_REQUEST,
-        told: Err(AskFault::Client(ClientFault::Request)),
+        expected: Err(AskFault::Client(ClientFault::Request)),
         reply: &[],
         count: 28,
         ..WELL
     },
     Exchange {
         name: "a client in use: nothing is read or written",
-        stand: Stand::AwaitsSession,
+        start: StartState::AwaitsSession,
         reads: 0,
         writes: 0,
-        told: Err(AskFault::Client(ClientFault::State)),
+        expected: Err(AskFault::Client(ClientFault::State)),
         reply: &[],
         count: 0,
         ..WELL
@@ -132,7 +132,7 @@ static EXCHANGES: [Exchange<'static>; 10] = [
         name: "a writer of 10 bytes a call fails after 0",
         largest_write: 10,
         writes: 0,
-        told: Err(AskFault::Write),
+        expected: Err(AskFault::Write),
         reply: &[],
         count: 0,
         ..WELL
@@ -141,7 +141,7 @@ static EXCHANGES: [Exchange<'static>; 10] = [
         name: "a writer of 10 bytes a call fails after 1",
         largest_write: 10,
         writes: 1,
-        told: Err(AskFault::Write),
+        expected: Err(AskFault::Write),
         reply: &[],
         count: 10,
         ..WELL
@@ -150,7 +150,7 @@ static EXCHANGES: [Exchange<'static>; 10] = [
         name: "a writer of 10 bytes a call fails after 3",
         largest_write: 10,
         writes: 3,
-        told: Err(AskFault::Write),
+        expected: Err(AskFault::Write),
         reply: &[],
         count: 28,
         ..WELL
@@ -159,7 +159,7 @@ static EXCHANGES: [Exchange<'static>; 10] = [
         name: "a writer of 10 bytes a call fails after 4",
         largest_write: 10,
         writes: 4,
-        told: Err(AskFault::Write),
+        expected: Err(AskFault::Write),
         reply: &[],
         count: 38,
         ..WELL
@@ -168,7 +168,7 @@ static EXCHANGES: [Exchange<'static>; 10] = [
         name: "a reader of 30 bytes a call fails at its second",
         largest_read: 30,
         reads: 1,
-        told: Err(AskFault::Read),
+        expected: Err(AskFault::Read),
         reply: &[],
         count: 76,
         ..WELL
@@ -211,15 +211,15 @@ fn check_devices<A: Abort>(
         .with_largest_size(row.largest_write)
         .with_failure_after(row.writes);
     let mut reply = ReplyBuf::new();
-    let told = asked(rt, client, &mut reader, &mut writer, row, &mut reply);
-    assert_eq!(rt; told, row.told, "{}", row.name);
+    let expected = asked(rt, client, &mut reader, &mut writer, row, &mut reply);
+    assert_eq!(rt; expected, row.expected, "{}", row.name);
     check_texts(rt, row, reply.as_slice(), writer.written(), sent);
 }
 
 fn check_exchange<A: Abort>(rt: &A, alloc: Global, row: &Exchange<'_>) -> Result<(), Fail> {
     let heard = joined(alloc, row.heard)?;
     let sent = joined(alloc, row.sent)?;
-    let mut client = standing(alloc, row.stand)?;
+    let mut client = client_at(alloc, row.start)?;
     check_devices(rt, &mut client, row, heard.as_slice(), sent.as_slice());
     Ok(())
 }

@@ -6,8 +6,8 @@ use std::alloc::Global;
 use std::process::Abort;
 use std::test::Fail;
 use test_fixtures::client::{
-    ADD, ADD_SENT, ADD_SENT_NEXT, ADDED, CLOSE, CLOSED, GET, GET_SENT_THIRD, GOT, IS_5, OPEN,
-    OPENED, REGISTER, REGISTERED, Stand, UNREGISTER, hear, opened, standing, with_bytes,
+    ADD, ADD_SENT, ADD_SENT_NEXT, ADDED, CLOSE, CLOSED, GET, GET_SENT_THIRD, GOT, OPEN, OPENED,
+    REGISTER, REGISTERED, REPLY_OF_5, StartState, UNREGISTER, client_at, hear, opened, with_bytes,
 };
 
 /// A call, and what it answers.
@@ -32,12 +32,20 @@ enum Step<'a> {
 /// Makes the call of a list, and compares what it answers.
 fn check_step<A: Abort>(rt: &A, client: &mut Client, name: &str, position: usize, step: Step<'_>) {
     match step {
-        Step::Register(told) => assert_eq!(rt; client.register(), told, "{name}, {position}"),
-        Step::Open(told) => assert_eq!(rt; client.open(), told, "{name}, {position}"),
-        Step::Close(told) => assert_eq!(rt; client.close(), told, "{name}, {position}"),
-        Step::Unregister(told) => assert_eq!(rt; client.unregister(), told, "{name}, {position}"),
-        Step::Stage(told) => assert_eq!(rt; client.stage(), told, "{name}, {position}"),
-        Step::Fault(told) => assert_eq!(rt; client.fault(), told, "{name}, {position}"),
+        Step::Register(expected) => assert_eq!(rt;
+            client.register(),
+            expected,
+            "{name}, {position}"
+        ),
+        Step::Open(expected) => assert_eq!(rt; client.open(), expected, "{name}, {position}"),
+        Step::Close(expected) => assert_eq!(rt; client.close(), expected, "{name}, {position}"),
+        Step::Unregister(expected) => assert_eq!(rt;
+            client.unregister(),
+            expected,
+            "{name}, {position}"
+        ),
+        Step::Stage(expected) => assert_eq!(rt; client.stage(), expected, "{name}, {position}"),
+        Step::Fault(expected) => assert_eq!(rt; client.fault(), expected, "{name}, {position}"),
         _ => check_request(rt, client, name, position, step),
     }
 }
@@ -51,14 +59,14 @@ fn check_request<A: Abort>(
     step: Step<'_>,
 ) {
     match step {
-        Step::Ask(request, told) => {
-            assert_eq!(rt; client.unconnected(request), told, "{name}, {position}");
+        Step::Ask(request, expected) => {
+            assert_eq!(rt; client.unconnected(request), expected, "{name}, {position}");
         }
-        Step::Submit(request, told) => {
-            assert_eq!(rt; client.submit(request), told, "{name}, {position}");
+        Step::Submit(request, expected) => {
+            assert_eq!(rt; client.submit(request), expected, "{name}, {position}");
         }
-        Step::Resend(told) => assert_eq!(rt; client.resend(), told, "{name}, {position}"),
-        Step::GiveUp(told) => assert_eq!(rt; client.give_up(), told, "{name}, {position}"),
+        Step::Resend(expected) => assert_eq!(rt; client.resend(), expected, "{name}, {position}"),
+        Step::GiveUp(expected) => assert_eq!(rt; client.give_up(), expected, "{name}, {position}"),
         _ => check_hearing(rt, client, name, position, step),
     }
 }
@@ -70,11 +78,11 @@ fn check_heard<A: Abort>(
     position: usize,
     hearing: Hearing<'_>,
     taken: Option<usize>,
-    told: Heard<'_>,
+    expected: Heard<'_>,
 ) {
     let taken = taken.unwrap_or(hearing.taken);
     assert_eq!(rt; hearing.taken, taken, "{name}, {position}");
-    assert_eq!(rt; hearing.heard, told, "{name}, {position}");
+    assert_eq!(rt; hearing.heard, expected, "{name}, {position}");
 }
 
 /// The same of a piece that is heard.
@@ -85,12 +93,12 @@ fn check_hearing<A: Abort>(
     position: usize,
     step: Step<'_>,
 ) {
-    let (piece, taken, told) = match step {
-        Step::Feed(piece, told) => (piece, None, told),
-        Step::Take(piece, taken, told) => (piece, Some(taken), told),
+    let (piece, taken, expected) = match step {
+        Step::Feed(piece, expected) => (piece, None, expected),
+        Step::Take(piece, taken, expected) => (piece, Some(taken), expected),
         _ => return,
     };
-    check_heard(rt, name, position, hear(client, piece), taken, told);
+    check_heard(rt, name, position, hear(client, piece), taken, expected);
 }
 
 /// Makes these calls in turn, and compares what each answers.
@@ -110,7 +118,7 @@ const WHOLE: [Step<'static>; 17] = [
     Step::Submit(ADD, Ok(ADD_SENT)),
     Step::Stage(Some(Stage::Waiting)),
     Step::Resend(Some(ADD_SENT)),
-    Step::Feed(ADDED, Heard::Accepted(IS_5)),
+    Step::Feed(ADDED, Heard::Accepted(REPLY_OF_5)),
     Step::Stage(Some(Stage::Idle)),
     Step::Resend(None),
     Step::Close(Ok(CLOSE)),
@@ -155,7 +163,7 @@ const WHILE_AWAITED: [Step<'static>; 8] = [
     Step::Unregister(Err(ClientFault::State)),
     Step::Submit(ADD, Ok(ADD_SENT)),
     Step::Submit(ADD, Err(SubmitFault::Refused(Refused::Busy))),
-    Step::Feed(ADDED, Heard::Accepted(IS_5)),
+    Step::Feed(ADDED, Heard::Accepted(REPLY_OF_5)),
 ];
 
 /// After the end of the session nothing is possible.
@@ -228,54 +236,54 @@ const REFUSED_CLOSE: [Step<'static>; 4] = [
 /// Where a client stands, and calls that follow.
 struct Calls<'a> {
     name: &'static str,
-    stand: Stand,
+    start: StartState,
     steps: &'a [Step<'a>],
 }
 
 static CALLS: [Calls<'static>; 9] = [
     Calls {
         name: "a connection from register to unregister",
-        stand: Stand::New,
+        start: StartState::New,
         steps: &WHOLE,
     },
     Calls {
         name: "before the session",
-        stand: Stand::New,
+        start: StartState::New,
         steps: &NOT_REGISTERED,
     },
     Calls {
         name: "while the session is awaited",
-        stand: Stand::AwaitsSession,
+        start: StartState::AwaitsSession,
         steps: &REGISTERS_ONCE,
     },
     Calls {
         name: "while a reply is awaited",
-        stand: Stand::Opened,
+        start: StartState::Opened,
         steps: &WHILE_AWAITED,
     },
     Calls {
         name: "after the end",
-        stand: Stand::Opened,
+        start: StartState::Opened,
         steps: &AFTER_THE_END,
     },
     Calls {
         name: "forms of requests",
-        stand: Stand::Registered,
+        start: StartState::Registered,
         steps: &NO_REQUESTS,
     },
     Calls {
         name: "giving up",
-        stand: Stand::Opened,
+        start: StartState::Opened,
         steps: &GIVING_UP,
     },
     Calls {
         name: "an open that is refused",
-        stand: Stand::Registered,
+        start: StartState::Registered,
         steps: &REFUSED_OPEN,
     },
     Calls {
         name: "a close that is refused",
-        stand: Stand::Opened,
+        start: StartState::Opened,
         steps: &REFUSED_CLOSE,
     },
 ];
@@ -283,7 +291,7 @@ static CALLS: [Calls<'static>; 9] = [
 #[test]
 fn calls_in_any_order(rt: HostRuntime) -> Result<(), Fail> {
     for row in &CALLS {
-        let mut client = standing(rt.alloc(), row.stand)?;
+        let mut client = client_at(rt.alloc(), row.start)?;
         check(&rt, &mut client, row.name, row.steps);
     }
     Ok(())
@@ -317,67 +325,67 @@ const SHORTER_OPENED: &[u8] = b"\x6f\0\x2d\0\x01\0\0\0\0\0\0\0\x02\0\0\0\0\0\0\0
     \x01\0\x42\0\x78\x56\x34\x12\x80\x84\x1e\0\x80\x84\x1e\0\0";
 
 /// Where a client stands, a frame that comes then with other bytes at some places, and the fault that lasts.
-struct Faulty<'a> {
-    stand: Stand,
+struct IsBodyFault<'a> {
+    start: StartState,
     frame: &'a [u8],
     changes: &'a [(usize, u8)],
     fault: ClientFault,
 }
 
-static FAULTY: [Faulty<'static>; 9] = [
+static FAULTY: [IsBodyFault<'static>; 9] = [
     // a status in each reply that is awaited
-    Faulty {
-        stand: Stand::AwaitsSession,
+    IsBodyFault {
+        start: StartState::AwaitsSession,
         frame: REGISTERED,
         changes: &[(8, 0x64)],
         fault: ClientFault::Status(100),
     },
-    Faulty {
-        stand: Stand::AwaitsConnection,
+    IsBodyFault {
+        start: StartState::AwaitsConnection,
         frame: OPENED,
         changes: &[(9, 1)],
         fault: ClientFault::Status(256),
     },
-    Faulty {
-        stand: Stand::AwaitsReply,
+    IsBodyFault {
+        start: StartState::AwaitsReply,
         frame: GOT,
         changes: &[(8, 3)],
         fault: ClientFault::Status(3),
     },
-    Faulty {
-        stand: Stand::AwaitsItemAndEnd,
+    IsBodyFault {
+        start: StartState::AwaitsItemAndEnd,
         frame: CLOSED,
         changes: &[(8, 1)],
         fault: ClientFault::Status(1),
     },
     // a header whose length is over 65,511
-    Faulty {
-        stand: Stand::Opened,
+    IsBodyFault {
+        start: StartState::Opened,
         frame: UNREGISTER,
         changes: &[(2, 0xe8), (3, 0xff)],
         fault: ClientFault::TooLong,
     },
     // another shape
-    Faulty {
-        stand: Stand::AwaitsSession,
+    IsBodyFault {
+        start: StartState::AwaitsSession,
         frame: LONGER_REGISTERED,
         changes: &[],
         fault: ClientFault::Malformed,
     },
-    Faulty {
-        stand: Stand::AwaitsConnection,
+    IsBodyFault {
+        start: StartState::AwaitsConnection,
         frame: SHORTER_OPENED,
         changes: &[],
         fault: ClientFault::Malformed,
     },
-    Faulty {
-        stand: Stand::AwaitsEnd,
+    IsBodyFault {
+        start: StartState::AwaitsEnd,
         frame: CLOSED,
         changes: &[(40, 0xd4)],
         fault: ClientFault::Malformed,
     },
-    Faulty {
-        stand: Stand::AwaitsReply,
+    IsBodyFault {
+        start: StartState::AwaitsReply,
         frame: GOT,
         changes: &[(24, 1)],
         fault: ClientFault::Malformed,
@@ -403,9 +411,9 @@ fn lasts<A: Abort>(rt: &A, client: &mut Client, fault: ClientFault) {
 }
 
 /// The frame has the fault, which lasts. Of a header that is too long 24 bytes are taken.
-fn check_faulty<A: Abort>(rt: &A, alloc: Global, row: &Faulty<'_>) -> Result<(), Fail> {
+fn check_faulty<A: Abort>(rt: &A, alloc: Global, row: &IsBodyFault<'_>) -> Result<(), Fail> {
     let changed = with_bytes(alloc, row.frame, row.changes)?;
-    let mut client = standing(alloc, row.stand)?;
+    let mut client = client_at(alloc, row.start)?;
     let hearing = hear(&mut client, &changed);
     check_heard(
         rt,

@@ -445,7 +445,7 @@ struct Exchange<'a> {
     largest_read: usize,
     reads: u64,
     writes: u64,
-    told: Result<(), AskFault>,
+    expected: Result<(), AskFault>,
     count: usize,
     made: u64,
 }
@@ -456,7 +456,7 @@ const WELL: Exchange<'static> = Exchange {
     largest_read: 4_096,
     reads: u64::MAX,
     writes: u64::MAX,
-    told: Ok(()),
+    expected: Ok(()),
     count: 24,
     made: 1,
 };
@@ -477,13 +477,13 @@ static EXCHANGES: [Exchange<'static>; 10] = [
     Exchange {
         name: "the input ends",
         heard: b"",
-        told: Err(AskFault::Ended),
+        expected: Err(AskFault::Ended),
         ..WELL
     },
     Exchange {
         name: "the input ends within the frame",
         heard: b"\x63\0\x02\0\0\0\0\0\0\0\0\0\0\0\0\0\0\0\0\0\0\0\0\0\0",
-        told: Err(AskFault::Ended),
+        expected: Err(AskFault::Ended),
         made: 2,
         ..WELL
     },
@@ -491,14 +491,14 @@ static EXCHANGES: [Exchange<'static>; 10] = [
         name: "the second read fails",
         largest_read: 30,
         reads: 1,
-        told: Err(AskFault::Read),
+        expected: Err(AskFault::Read),
         made: 2,
         ..WELL
     },
     Exchange {
         name: "the third write fails",
         writes: 2,
-        told: Err(AskFault::Write),
+        expected: Err(AskFault::Write),
         count: 20,
         made: 0,
         ..WELL
@@ -506,19 +506,19 @@ static EXCHANGES: [Exchange<'static>; 10] = [
     Exchange {
         name: "a frame that is too long",
         heard: b"\x63\0\xe8\xff\0\0\0\0\0\0\0\0\0\0\0\0\0\0\0\0\0\0\0\0",
-        told: Err(AskFault::Client(ClientFault::TooLong)),
+        expected: Err(AskFault::Client(ClientFault::TooLong)),
         ..WELL
     },
     Exchange {
         name: "a status",
         heard: b"\x63\0\0\0\0\0\0\0\x01\0\0\0\0\0\0\0\0\0\0\0\0\0\0\0",
-        told: Err(AskFault::Client(ClientFault::Status(1))),
+        expected: Err(AskFault::Client(ClientFault::Status(1))),
         ..WELL
     },
     Exchange {
         name: "the first frame is no answer",
         heard: b"\x65\0\0\0\0\0\0\0\0\0\0\0\0\0\0\0\0\0\0\0\0\0\0\0\x63\0\x02\0",
-        told: Err(AskFault::Client(ClientFault::Malformed)),
+        expected: Err(AskFault::Client(ClientFault::Malformed)),
         ..WELL
     },
 ];
@@ -547,8 +547,8 @@ fn check_exchange<A: Abort>(rt: &A, alloc: Global, row: &Exchange<'_>) -> Result
     let mut writer = MemorySink::new(&mut room)
         .with_largest_size(10)
         .with_failure_after(row.writes);
-    let told = asked(rt, &mut frames, &mut reader, &mut writer);
-    assert_eq!(rt; told, row.told, "{}", row.name);
+    let expected = asked(rt, &mut frames, &mut reader, &mut writer);
+    assert_eq!(rt; expected, row.expected, "{}", row.name);
     assert_eq!(rt;
         Some(writer.written()),
         LIST_IDENTITY.get(..row.count),

@@ -31,7 +31,7 @@ fn the_rest_of_the_slice_stays(rt: HostRuntime) {
 #[derive(Clone, Copy)]
 struct Text<'a> {
     text: &'a [u8],
-    told: Result<(), Failed>,
+    expected: Result<(), Failed>,
     written: &'a [u8],
     failures: u64,
 }
@@ -53,13 +53,13 @@ static WRITTEN: [Written<'static>; 3] = [
         texts: &[
             Text {
                 text: &BYTES,
-                told: Ok(()),
+                expected: Ok(()),
                 written: &BYTES,
                 failures: 0,
             },
             Text {
                 text: &[],
-                told: Ok(()),
+                expected: Ok(()),
                 written: &BYTES,
                 failures: 0,
             },
@@ -72,7 +72,7 @@ static WRITTEN: [Written<'static>; 3] = [
         failing: Some(2),
         texts: &[Text {
             text: &BYTES,
-            told: Err(Failed),
+            expected: Err(Failed),
             written: &[0, 1, 2, 3, 4, 5],
             failures: 1,
         }],
@@ -83,7 +83,7 @@ static WRITTEN: [Written<'static>; 3] = [
         failing: None,
         texts: &[Text {
             text: &BYTES,
-            told: Err(Failed),
+            expected: Err(Failed),
             written: &[0, 1, 2, 3, 4, 5, 6],
             failures: 1,
         }],
@@ -92,7 +92,7 @@ static WRITTEN: [Written<'static>; 3] = [
 
 fn check_text<A: Abort>(rt: &A, sink: &mut MemorySink<'_>, row: Text<'_>) {
     assert!(rt; sink.failures() < u64::MAX);
-    assert_eq!(rt; write_all(sink, row.text), row.told);
+    assert_eq!(rt; write_all(sink, row.text), row.expected);
     assert_eq!(rt; sink.written(), row.written);
     assert_eq!(rt; sink.failures(), row.failures);
 }

@@ -38,10 +38,10 @@ fn check_rr_body<A: Abort>(
     rt: &A,
     out: &mut ArrayVec<u8, 24>,
     data: &[u8],
-    told: Result<(), Full>,
+    expected: Result<(), Full>,
 ) {
     assert!(rt; data.len() < 0x1_0000);
-    assert_eq!(rt; write_rr_body(out, data), told);
+    assert_eq!(rt; write_rr_body(out, data), expected);
 }
 
 /// The same of a SendUnitData.
@@ -50,10 +50,10 @@ fn check_unit_body<A: Abort>(
     out: &mut ArrayVec<u8, 22>,
     id: u32,
     data: &[u8],
-    told: Result<(), Full>,
+    expected: Result<(), Full>,
 ) {
     assert!(rt; data.len() < 0x1_0000);
-    assert_eq!(rt; write_unit_body(out, id, data), told);
+    assert_eq!(rt; write_unit_body(out, id, data), expected);
 }
 
 /// What was written, and what is read of it.
@@ -71,13 +71,13 @@ fn check_unit_text<A: Abort>(rt: &A, got: &[u8], text: &[u8], id: u32, data: &[u
 #[test]
 fn bodies_are_written(rt: HostRuntime) {
     let mut out: ArrayVec<u8, 24> = ArrayVec::new();
-    for (data, told) in [(&ROW[16..], Ok(())), (&[], Err(Full))] {
-        check_rr_body(&rt, &mut out, data, told);
+    for (data, expected) in [(&ROW[16..], Ok(())), (&[], Err(Full))] {
+        check_rr_body(&rt, &mut out, data, expected);
         check_rr_text(&rt, out.as_slice(), &ROW, &ROW[16..]);
     }
     let mut out: ArrayVec<u8, 22> = ArrayVec::new();
-    for (id, data, told) in [(0x0102_0304, &UNIT[20..], Ok(())), (1, &[], Err(Full))] {
-        check_unit_body(&rt, &mut out, id, data, told);
+    for (id, data, expected) in [(0x0102_0304, &UNIT[20..], Ok(())), (1, &[], Err(Full))] {
+        check_unit_body(&rt, &mut out, id, data, expected);
         check_unit_text(&rt, out.as_slice(), &UNIT, 0x0102_0304, &[7, 9]);
     }
 }
@@ -87,14 +87,14 @@ fn check_items<A: Abort>(
     rt: &A,
     out: &mut ArrayVec<u8, 13>,
     list: [ItemView<'_>; 2],
-    told: Result<(), Full>,
+    expected: Result<(), Full>,
 ) {
     assert!(rt; list[0].bytes.len() < 0x1_0000 && list[1].bytes.len() < 0x1_0000);
-    assert_eq!(rt; write_items(out, &list), told);
+    assert_eq!(rt; write_items(out, &list), expected);
 }
 
-fn check_no_items<A: Abort>(rt: &A, out: &mut ArrayVec<u8, 13>, told: Result<(), Full>) {
-    assert_eq!(rt; write_items(out, &[]), told);
+fn check_no_items<A: Abort>(rt: &A, out: &mut ArrayVec<u8, 13>, expected: Result<(), Full>) {
+    assert_eq!(rt; write_items(out, &[]), expected);
 }
 
 fn check_item<A: Abort>(rt: &A, items: &mut Items<'_>, kind: u16, bytes: &[u8]) {

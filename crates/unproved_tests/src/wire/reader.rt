@@ -1,7 +1,7 @@
 //! How many bytes of a piece are taken, and what is lent.
 
 ghost use Rattle.std.specs.Prelude.{◌≡◌, ◌<◌, ◌≤◌, length};
-ghost use Rattle.enip_wire.specs.Stream.{taken_of, sight_of, joined_of, cleared};
+ghost use Rattle.enip_wire.specs.Stream.{bytes_taken, parsed, held_and_taken, cleared};
 
 use enip_wire::{FrameReader, FrameView, Header, Held};
 use std::process::Abort;
@@ -181,9 +181,9 @@ impl Counting {
     /// Counts the frame that a piece completes, if it does, and answers how many bytes were taken.
     fn feed(&mut self, piece: &[u8]) -> usize
         requires { self.old.shown < 255 }
-        ensures number { result ≡ taken_of self.old.reader piece.now }
+        ensures number { result ≡ bytes_taken self.old.reader piece.now }
         ensures held { self.new.reader
-            ≡ cleared (sight_of (joined_of self.old.reader piece.now)) (joined_of self.old.reader piece.now) }
+            ≡ cleared (parsed (held_and_taken self.old.reader piece.now)) (held_and_taken self.old.reader piece.now) }
         ensures within { result ≤ length piece.now }
     {
         let (taken, held) = self.reader.next(piece);

@@ -1,4 +1,4 @@
-use Rattle.enip_adapter.proofs.DeedLemmas.{deeds_stand, deeds_for_other}
+use Rattle.enip_adapter.proofs.ActionLemmas.{deeds_stand, deeds_for_other}
 use Rattle.enip_adapter.proofs.laws.servings_are_calls.Goals as goal
 
 pub returns-clause-calls : goal.returns-clause-calls

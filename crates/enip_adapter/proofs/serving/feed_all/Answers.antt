@@ -1,6 +1,6 @@
 use Rattle.std.proofs.Common.{◌≡◌, ◌-◌, length, take, drop, ap, arith, length-drop}
 use Rattle.cip_bytes.proofs.Bytes.{rest_slice}
-use Rattle.enip_adapter.proofs.DeedLemmas.{fed_feeds, one_more}
+use Rattle.enip_adapter.proofs.ActionLemmas.{fed_feeds, one_more}
 use Rattle.enip_adapter.proofs.ServeLemmas.{more_fed}
 use Rattle.enip_adapter.proofs.serving.feed_all.Goals as goal
 

@@ -62,11 +62,11 @@ returns-in_err-step-clause-asked g c =
     rw (p.1, p.2)
     (asked_fault (record { request = c.args.request; connected = c.args.connected })
     (ends c.args.client.now (g.R.Source.left c.args.reader.now) (g.R.Source.reads c.args.reader.now) (g.W.Sink.written c.args.writer.now) c.args.reply.now.items)
-    (ends c.hear_piece.new.client (g.R.Source.left c.read.new.reader) (g.R.Source.reads c.read.new.reader) (g.W.Sink.written c.hear_piece.new.writer) c.hear_piece.new.reply.items)
+    (ends c.feed_piece.new.client (g.R.Source.left c.read.new.reader) (g.R.Source.reads c.read.new.reader) (g.W.Sink.written c.feed_piece.new.writer) c.feed_piece.new.reply.items)
     c.in_err-step.field-0.0 (come_on (record { request = c.args.request; connected = c.args.connected }) c.loop-asked.step
     (ends c.args.client.now (g.R.Source.left c.args.reader.now) (g.R.Source.reads c.args.reader.now) (g.W.Sink.written c.args.writer.now) c.args.reply.now.items)
     (ends c.loop-asked.client (g.R.Source.left c.loop-asked.reader) (g.R.Source.reads c.loop-asked.reader) (g.W.Sink.written c.loop-asked.writer) c.loop-asked.reply.items)
-    (ends c.hear_piece.new.client (g.R.Source.left c.read.new.reader) (g.R.Source.reads c.read.new.reader) (g.W.Sink.written c.hear_piece.new.writer) c.hear_piece.new.reply.items)
+    (ends c.feed_piece.new.client (g.R.Source.left c.read.new.reader) (g.R.Source.reads c.read.new.reader) (g.W.Sink.written c.feed_piece.new.writer) c.feed_piece.new.reply.items)
     (take c.in_ok-size.size c.read.new.into) c.in_ok-size.size (Err c.in_err-step.field-0.0) c.loop-asked.invariant.so_far
     (sym c.loop-asked-test.ensures) c.in_ok-size.ensures.bytes.0
     (size_read c.in_ok-size.size c.read.new.into c.in_ok-size.ensures.within c.in_ok-size.ensures.room)
@@ -77,11 +77,11 @@ pub loop-asked-preserved : goal.loop-asked-preserved
 loop-asked-preserved g c = record {
   read_failures = omega (arith, c.in_ok-size.ensures.failures, c.loop-asked.invariant.read_failures);
   write_failures = omega (arith, c.in_ok-step.ensures.failures, c.loop-asked.invariant.write_failures);
-  healthy = healthy_step c.hear_piece.new.client.state c.in_ok-step.step c.in_ok-step.ensures.healthy;
+  healthy = healthy_step c.feed_piece.new.client.state c.in_ok-step.step c.in_ok-step.ensures.healthy;
   so_far = come_on (record { request = c.args.request; connected = c.args.connected }) c.loop-asked.step
       (ends c.args.client.now (g.R.Source.left c.args.reader.now) (g.R.Source.reads c.args.reader.now) (g.W.Sink.written c.args.writer.now) c.args.reply.now.items)
       (ends c.loop-asked.client (g.R.Source.left c.loop-asked.reader) (g.R.Source.reads c.loop-asked.reader) (g.W.Sink.written c.loop-asked.writer) c.loop-asked.reply.items)
-      (ends c.hear_piece.new.client (g.R.Source.left c.read.new.reader) (g.R.Source.reads c.read.new.reader) (g.W.Sink.written c.hear_piece.new.writer) c.hear_piece.new.reply.items)
+      (ends c.feed_piece.new.client (g.R.Source.left c.read.new.reader) (g.R.Source.reads c.read.new.reader) (g.W.Sink.written c.feed_piece.new.writer) c.feed_piece.new.reply.items)
       (take c.in_ok-size.size c.read.new.into) c.in_ok-size.size (Ok c.in_ok-step.step) c.loop-asked.invariant.so_far
       (sym c.loop-asked-test.ensures) c.in_ok-size.ensures.bytes.0
       (size_read c.in_ok-size.size c.read.new.into c.in_ok-size.ensures.within c.in_ok-size.ensures.room)

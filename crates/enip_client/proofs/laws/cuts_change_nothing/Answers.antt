@@ -1,8 +1,8 @@
-use Rattle.enip_client.proofs.CutLemmas.{cuts-news, cuts-client, some-pour}
+use Rattle.enip_client.proofs.CutLemmas.{cuts-heard_event, cuts-client, some-pour}
 use Rattle.enip_client.proofs.laws.cuts_change_nothing.Goals as goal
 
-pub returns-clause-news : goal.returns-clause-news
-returns-clause-news c = cuts-news
+pub returns-clause-heard_event : goal.returns-clause-heard_event
+returns-clause-heard_event c = cuts-heard_event
 
 pub returns-clause-client : goal.returns-clause-client
 returns-clause-client c = cuts-client

@@ -1,6 +1,6 @@
 use Rattle.std.proofs.Common.{ℕ, List, subst}
-use Rattle.enip_config.specs.declared.fault.Refusal.{Refusal}
-use Rattle.enip_config.specs.Told.{IsRefused}
+use Rattle.enip_config.specs.declared.fault.ConfigurationRefusal.{ConfigurationRefusal}
+use Rattle.enip_config.specs.Documents.{IsRefused}
 use Rattle.enip_config.specs.Configured.{IsAccepted}
 use Rattle.enip_cmd.proofs.answer.answer.Goals as goal
 
@@ -13,4 +13,4 @@ returns-clause-line g c four = subst (λ (text : List ℕ). IsAccepted text) c.a
 
 pub returns-clause-refused : goal.returns-clause-refused
 returns-clause-refused g c three =
-    subst (λ (text : List ℕ). (refusal : Refusal) × IsRefused text refusal) c.as_bytes.ensures.value (c.answer_bytes.ensures.refused three)
+    subst (λ (text : List ℕ). (refusal : ConfigurationRefusal) × IsRefused text refusal) c.as_bytes.ensures.value (c.answer_bytes.ensures.refused three)

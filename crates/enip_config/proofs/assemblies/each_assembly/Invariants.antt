@@ -1,7 +1,7 @@
 use Rattle.std.proofs.Common.{◌≡◌, ◌++◌, drop, map, option_map}
 use Rattle.toml.specs.View.{items_view}
 use Rattle.enip_config.specs.Keys.{each, assembly_in}
-use Rattle.enip_config.specs.Told.{assembly_seen}
+use Rattle.enip_config.specs.Documents.{assembly_seen}
 use Rattle.enip_config.proofs.assemblies.each_assembly.Given as goal
 
 abbrev pub invariant-loop-value : goal.invariant-loop-value

@@ -5,4 +5,4 @@ use Rattle.cip_manager.proofs.index.Index.remove.Goals as goal
 
 pub invariant_of-self : goal.invariant_of-self
 invariant_of-self c =
-    subst (λ entries. Rises (ids entries)) (sym c.remove.ensures.items) (Rises-remove c.self.inside.entries.items c.args.place c.self.invariant)
+    subst (λ entries. Rises (ids entries)) (sym c.remove.ensures.items) (Rises-remove c.self.inside.entries.items c.args.position c.self.invariant)

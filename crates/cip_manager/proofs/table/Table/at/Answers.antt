@@ -5,16 +5,16 @@ use Rattle.cip_manager.proofs.table.Table.at.Goals as goal
 
 pub key-requires : goal.key-requires
 key-requires c =
-    within c.self.inside.connections c.self.inside.index c.args.self.now.connections c.args.place c.self.invariant.named (ap (λ t. t.connections) c.self.view_is) c.requires
+    within c.self.inside.connections c.self.inside.index c.args.self.now.connections c.args.position c.self.invariant.named (ap (λ t. t.connections) c.self.view_is) c.requires
 
 pub at-requires : goal.at-requires
 at-requires c =
-    let inside = within c.self.inside.connections c.self.inside.index c.args.self.now.connections c.args.place c.self.invariant.named (ap (λ t. t.connections) c.self.view_is) c.requires in
+    let inside = within c.self.inside.connections c.self.inside.index c.args.self.now.connections c.args.position c.self.invariant.named (ap (λ t. t.connections) c.self.view_is) c.requires in
     subst (ContainsKey c.self.inside.connections) (sym c.key.ensures.key)
-    (has-key c.self.inside.connections c.self.inside.index c.args.place c.self.invariant.named inside)
+    (has-key c.self.inside.connections c.self.inside.index c.args.position c.self.invariant.named inside)
 
 pub returns : goal.returns
 returns c = λ d.
-    let inside = within c.self.inside.connections c.self.inside.index c.args.self.now.connections c.args.place c.self.invariant.named (ap (λ t. t.connections) c.self.view_is) c.requires in
-    sym (listed-at c.self.inside.connections c.self.inside.index c.args.place c.key.result c.at.result.now d c.self.invariant.named inside c.key.ensures.key c.at.ensures)
-    ∙ ap (λ t. get_or t.connections c.args.place d) c.self.view_is
+    let inside = within c.self.inside.connections c.self.inside.index c.args.self.now.connections c.args.position c.self.invariant.named (ap (λ t. t.connections) c.self.view_is) c.requires in
+    sym (listed-at c.self.inside.connections c.self.inside.index c.args.position c.key.result c.at.result.now d c.self.invariant.named inside c.key.ensures.key c.at.ensures)
+    ∙ ap (λ t. get_or t.connections c.args.position d) c.self.view_is

@@ -4,7 +4,7 @@ use Rattle.cip_manager.proofs.WalkLemmas.{IsKeptFrom}
 use Rattle.cip_manager.proofs.table.Table.end.Given as goal
 
 -- from the place on, those that are not in the group are kept
-abbrev pub invariant-loop-place : goal.invariant-loop-place
-invariant-loop-place l =
+abbrev pub invariant-loop-position : goal.invariant-loop-position
+invariant-loop-position l =
     (l.self.places ≡ l.fn.self.places)
-    × IsKeptFrom (λ c. not (is_in l.group c)) l.fn.self.connections l.self.connections l.place
+    × IsKeptFrom (λ c. not (is_in l.group c)) l.fn.self.connections l.self.connections l.position

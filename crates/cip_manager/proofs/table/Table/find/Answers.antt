@@ -13,11 +13,11 @@ pub returns-clause-found : goal.returns-clause-found
 returns-clause-found c =
     let cs = listed c.self.inside.connections c.self.inside.index in
     c.is_some.ensures
-    ∙ (ap is_some (sym (found-listed c.self.inside.connections c.self.inside.index c.args.id c.place_of.result c.self.invariant.named c.place_of.ensures.place))
+    ∙ (ap is_some (sym (found-listed c.self.inside.connections c.self.inside.index c.args.id c.position_of.result c.self.invariant.named c.position_of.ensures.found))
     ∙ (sym (is_some-position (has_id c.args.id) cs) ∙ ap (λ t. list_any (has_id c.args.id) t.connections) c.self.view_is))
 
 pub returns-clause-bound : goal.returns-clause-bound
 returns-clause-bound c =
-    subst (λ n. c.place_of.new.steps.count ≤ c.args.steps.now.count + binary_digits n)
+    subst (λ n. c.position_of.new.steps.count ≤ c.args.steps.now.count + binary_digits n)
     (sym (length-listed c.self.inside.connections c.self.inside.index c.self.invariant.named) ∙ ap (λ t. length t.connections) c.self.view_is)
-    c.place_of.ensures.bound
+    c.position_of.ensures.bound

@@ -4,5 +4,5 @@ use Rattle.cip_manager.specs.Table.{is_in}
 use Rattle.cip_manager.proofs.table.Table.has_any.Given as goal
 
 -- none so far is in the group
-abbrev pub invariant-loop-place : goal.invariant-loop-place
-invariant-loop-place l = list_any (is_in l.group) (take l.place l.self.connections) ≡ false
+abbrev pub invariant-loop-position : goal.invariant-loop-position
+invariant-loop-position l = list_any (is_in l.group) (take l.position l.self.connections) ≡ false

@@ -5,17 +5,17 @@ use Rattle.std.proofs.lemmas.List.Elements.{All-push, All-weaker}
 use Rattle.cip_manager.specs.Index.{ids}
 use Rattle.cip_manager.specs.Table.{listed, Names, AreBelow, AreOpenUntil}
 use Rattle.cip_manager.proofs.DeadlineLemmas.{AreOpenUntil-push}
-use Rattle.cip_manager.proofs.SlotLemmas.{leaves-place, ids-below, Shows-push}
+use Rattle.cip_manager.proofs.SlotLemmas.{leaves-position, ids-below, Shows-push}
 use Rattle.cip_manager.proofs.table.Table.push.Goals as goal
 
 pub insert-key-requires : goal.insert-key-requires
 insert-key-requires c =
-    let left = leaves-place c.self.inside.connections c.self.inside.index c.args.self.now.connections c.args.self.now.places c.self.invariant.named (ap (λ t. t.connections) c.self.view_is) c.requires.place in
+    let left = leaves-position c.self.inside.connections c.self.inside.index c.args.self.now.connections c.args.self.now.places c.self.invariant.named (ap (λ t. t.connections) c.self.view_is) c.requires.position in
     omega (arith, left, ap (λ t. t.places) c.self.view_is, c.self.invariant.others, c.self.invariant.room)
 
 pub push-requires-clause-room : goal.push-requires-clause-room
 push-requires-clause-room c =
-    let left = leaves-place c.self.inside.connections c.self.inside.index c.args.self.now.connections c.args.self.now.places c.self.invariant.named (ap (λ t. t.connections) c.self.view_is) c.requires.place in
+    let left = leaves-position c.self.inside.connections c.self.inside.index c.args.self.now.connections c.args.self.now.places c.self.invariant.named (ap (λ t. t.connections) c.self.view_is) c.requires.position in
     omega (arith, left, ap (λ t. t.places) c.self.view_is, c.self.invariant.to)
 
 pub push-requires-clause-above : goal.push-requires-clause-above
@@ -31,7 +31,7 @@ invariant_of-self c =
     let pushed = c.push.ensures ∙ ap (λ n. c.self.inside.index ++ record { id = n; key = put.result } ∷ []) c.requires.id in
     let shows = Shows-push c.self.inside.connections put.new.self put.result (Some c.args.connection) put.ensures.updates c.self.inside.index c.args.connection put.ensures.was_vacant refl c.self.invariant.named in
     let longer = ap length pushed ∙ length_push c.self.inside.index (record { id = c.args.connection.o_to_t_id; key = put.result }) in
-    let left = leaves-place c.self.inside.connections c.self.inside.index c.args.self.now.connections c.args.self.now.places c.self.invariant.named (ap (λ t. t.connections) c.self.view_is) c.requires.place in
+    let left = leaves-position c.self.inside.connections c.self.inside.index c.args.self.now.connections c.args.self.now.places c.self.invariant.named (ap (λ t. t.connections) c.self.view_is) c.requires.position in
     record {
       from = c.self.invariant.from;
       to = c.self.invariant.to;

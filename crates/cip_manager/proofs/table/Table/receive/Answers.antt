@@ -5,7 +5,7 @@ use Rattle.slab.specs.Slab.{Slab, ContainsKey}
 use Rattle.cip_manager.specs.declared.connection.Connection.{Connection}
 use Rattle.cip_manager.specs.Connection.{is_named}
 use Rattle.cip_manager.specs.Items.{turn_of_connection}
-use Rattle.cip_manager.specs.Room.{IsSound}
+use Rattle.cip_manager.specs.Soundness.{IsSound}
 use Rattle.cip_manager.specs.Table.{listed, AreOpenUntil}
 use Rattle.cip_manager.proofs.DeadlineLemmas.{AreOpenUntil-received}
 use Rattle.cip_manager.proofs.FindLemmas.{found-listed, found-within, named-none, found-named}
@@ -18,7 +18,7 @@ use Rattle.cip_manager.proofs.table.Table.receive.Goals as goal
 pub returns-in_default : goal.returns-in_default
 returns-in_default g c =
     let cs = listed c.self.inside.connections c.self.inside.index in
-    let none = found-listed c.self.inside.connections c.self.inside.index c.args.id c.place_of.result c.self.invariant.named c.place_of.ensures.place ∙ c.in_default.is in
+    let none = found-listed c.self.inside.connections c.self.inside.index c.args.id c.position_of.result c.self.invariant.named c.position_of.ensures.found ∙ c.in_default.is in
     let named : position (is_named c.args.session c.args.id) c.args.self.now.connections ≡ None =
     ap (λ t. position (is_named c.args.session c.args.id) t.connections) (sym c.self.view_is) ∙ named-none c.args.session c.args.id cs none in
     let stay = stays g.R.Router.after g.R.Router.answer c.args.self.now.connections c.args.now c.args.session c.args.id c.args.item.now c.args.router.now named in (
@@ -42,16 +42,16 @@ returns-in_default g c =
 pub at-connection-requires : goal.at-connection-requires
 at-connection-requires g c =
     subst (ContainsKey c.self.inside.connections) (sym c.key-key.ensures.key)
-    (has-key c.self.inside.connections c.self.inside.index c.in-Some.place c.self.invariant.named
-    (found-within c.self.inside.index c.args.id c.in-Some.place (sym c.place_of.ensures.place ∙ c.in-Some.is)))
+    (has-key c.self.inside.connections c.self.inside.index c.in-Some.position c.self.invariant.named
+    (found-within c.self.inside.index c.args.id c.in-Some.position (sym c.position_of.ensures.found ∙ c.in-Some.is)))
 
 -- another session opened it
 pub returns-then-connection-session : goal.returns-then-connection-session
 returns-then-connection-session g c =
     let named : position (is_named c.args.session c.args.id) c.args.self.now.connections ≡ None =
     ap (λ t. position (is_named c.args.session c.args.id) t.connections) (sym c.self.view_is)
-    ∙ found-named c.self.inside.connections c.self.inside.index c.args.session c.args.id c.in-Some.place c.key-key.result c.at-connection.result.now
-    c.self.invariant.named c.key-key.ensures.rising (sym c.place_of.ensures.place ∙ c.in-Some.is) c.key-key.ensures.key c.at-connection.ensures
+    ∙ found-named c.self.inside.connections c.self.inside.index c.args.session c.args.id c.in-Some.position c.key-key.result c.at-connection.result.now
+    c.self.invariant.named c.key-key.ensures.rising (sym c.position_of.ensures.found ∙ c.in-Some.is) c.key-key.ensures.key c.at-connection.ensures
     false (ne_eqb c.at-connection.result.now.session c.args.session c.if-connection-session.true) in
     let stay = stays g.R.Router.after g.R.Router.answer c.args.self.now.connections c.args.now c.args.session c.args.id c.args.item.now c.args.router.now named in (
       (
@@ -76,10 +76,10 @@ pub invariant_of-self-2 : goal.invariant_of-self-2
 invariant_of-self-2 g c =
     let slab = c.self.inside.connections in
     let entries = c.self.inside.index in
-    let i = c.in-Some.place in
+    let i = c.in-Some.position in
     let old = c.at-connection.result.now in
     let turn = turn_of_connection g.R.Router.after g.R.Router.answer old c.args.now c.args.item.now c.args.router.now in
-    let inside : i < length entries = found-within entries c.args.id i (sym c.place_of.ensures.place ∙ c.in-Some.is) in
+    let inside : i < length entries = found-within entries c.args.id i (sym c.position_of.ensures.found ∙ c.in-Some.is) in
     let shows = Shows-received slab entries i c.key-key.result old turn.connection inside c.key-key.ensures.key c.key-key.ensures.rising
     c.self.invariant.named c.at-connection.ensures refl in
     let has = subst (ContainsKey slab) (sym c.key-key.ensures.key) (has-key slab entries i c.self.invariant.named inside) in
@@ -104,10 +104,10 @@ returns g c =
     let slab = c.self.inside.connections in
     let entries = c.self.inside.index in
     let cs = c.args.self.now.connections in
-    let i = c.in-Some.place in
+    let i = c.in-Some.position in
     let old = c.at-connection.result.now in
     let turn = turn_of_connection g.R.Router.after g.R.Router.answer old c.args.now c.args.item.now c.args.router.now in
-    let found = sym c.place_of.ensures.place ∙ c.in-Some.is in
+    let found = sym c.position_of.ensures.found ∙ c.in-Some.is in
     let before : listed slab entries ≡ cs = ap (λ t. t.connections) c.self.view_is in
     let inside : i < length entries = found-within entries c.args.id i found in
     let e : position (is_named c.args.session c.args.id) cs ≡ Some i =

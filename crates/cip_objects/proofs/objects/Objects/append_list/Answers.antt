@@ -2,9 +2,9 @@ use Rattle.std.proofs.Common.{◌≡◌, ◌+◌, ◌*◌, ◌++◌, ◌∷◌, 
 use Rattle.byteorder.specs.Endian.{little_number}
 use Rattle.std.proofs.lemmas.List.{take_rest, length-drop, append-nil}
 use Rattle.std.specs.List.{flat_map}
-use Rattle.cip_objects.specs.Destination.{path_to}
+use Rattle.cip_objects.specs.ObjectRef.{path_to}
 use Rattle.cip_bytes.specs.Numbers.{words_of}
-use Rattle.cip_objects.specs.ReadServices.{list_entry, all_there}
+use Rattle.cip_objects.specs.ReadServices.{list_entry, has_all_attributes}
 use Rattle.cip_objects.proofs.Words.{words_step, words_end}
 use Rattle.cip_objects.proofs.objects.Objects.append_list.Goals as goal
 use Rattle.cip_objects.proofs.objects.Objects.append_list.Goals.{then-all, else-all}
@@ -22,7 +22,7 @@ both false x e = refl
 pub loop-i-preserved : goal.loop-i-preserved
 loop-i-preserved c =
     let xs = c.args.list.now in
-    let entry = list_entry c.args.self.now (path_to c.args.self.now.shapes c.args.subject) in
+    let entry = list_entry c.args.self.now (path_to c.args.self.now.shapes c.args.resolved) in
     let later = words_of (drop (2 * (c.loop-i.i + 1)) xs) in
     let read : c.read_u16-attribute.result ≡ little_number 2 (drop (2 * c.loop-i.i) xs) = rw (take_rest xs (2 * c.loop-i.i)) at c.read_u16-attribute.ensures in
     let e : words_of (drop (2 * c.loop-i.i) xs) ≡ c.read_u16-attribute.result ∷ later = words_step c.loop-i.i xs (omega arith) ∙ ap (λ n. n ∷ later) (sym read) in
@@ -33,7 +33,7 @@ loop-i-preserved c =
           ∙ ap (λ w. old ++ flat_map entry w) (sym e)
           ∙ c.loop-i.invariant.text;
       there = elim c.if-all.branch [
-        | then-all w ↦ kept _ _ _ _ _ _ (ap (all_there c.args.self.now (path_to c.args.self.now.shapes c.args.subject)) e) w.if-all.true (w.all-is ∙ c.in_ok-there.ensures.there) c.loop-i.invariant.there
+        | then-all w ↦ kept _ _ _ _ _ _ (ap (has_all_attributes c.args.self.now (path_to c.args.self.now.shapes c.args.resolved)) e) w.if-all.true (w.all-is ∙ c.in_ok-there.ensures.there) c.loop-i.invariant.there
         | else-all w ↦ lost _ _ _ _ _ w.if-all.false w.all-is c.loop-i.invariant.there
       ];
       fits = rw c.in_ok-there.ensures.text.1 c.in_ok-there.ensures.text.0;
@@ -43,11 +43,11 @@ pub returns-clause-text : goal.returns-clause-text
 returns-clause-text c =
     let xs = c.args.list.now in
     let e = words_end (drop (2 * c.loop-i.i) xs) (omega (arith, length-drop (2 * c.loop-i.i) xs)) in
-    let whole = sym (append-nil c.loop-i.reply.items) ∙ ap (λ w. c.loop-i.reply.items ++ flat_map (list_entry c.args.self.now (path_to c.args.self.now.shapes c.args.subject)) w) (sym e) ∙ c.loop-i.invariant.text in
+    let whole = sym (append-nil c.loop-i.reply.items) ∙ ap (λ w. c.loop-i.reply.items ++ flat_map (list_entry c.args.self.now (path_to c.args.self.now.shapes c.args.resolved)) w) (sym e) ∙ c.loop-i.invariant.text in
     (rw (← whole) c.loop-i.invariant.fits, whole)
 
 pub returns-clause-there : goal.returns-clause-there
 returns-clause-there c =
     let xs = c.args.list.now in
     let e = words_end (drop (2 * c.loop-i.i) xs) (omega (arith, length-drop (2 * c.loop-i.i) xs)) in
-    both c.loop-i.all _ (ap (all_there c.args.self.now (path_to c.args.self.now.shapes c.args.subject)) e) ∙ c.loop-i.invariant.there
+    both c.loop-i.all _ (ap (has_all_attributes c.args.self.now (path_to c.args.self.now.shapes c.args.resolved)) e) ∙ c.loop-i.invariant.there

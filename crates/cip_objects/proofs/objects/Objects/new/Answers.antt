@@ -1,7 +1,7 @@
 use Rattle.std.proofs.Common.{◌≡◌, sym, ap, ◌∙◌, arith, length, map}
 use Rattle.std.specs.Box.{boxed_slice_items}
 use Rattle.std.proofs.lemmas.List.{length-map}
-use Rattle.cip_objects.specs.Configuration.{contents_of_config, block_of, identity_of, counter_of}
+use Rattle.cip_objects.specs.Configuration.{contents_of_config, assembly_of_config, identity_of, counter_of}
 use Rattle.cip_objects.specs.Counter.{counter_values}
 use Rattle.cip_objects.specs.Entries.{contents_of}
 use Rattle.std.specs.String.{string_bytes}
@@ -29,10 +29,10 @@ pub invariant_of-result : goal.invariant_of-result
 invariant_of-result c =
     let s = sound c.args.config.now (sym c.in_default.ensures) in
     let blocks = boxed_slice_items c.in_ok-assemblies_of.field-0 in
-    let items : blocks ≡ map block_of c.args.config.now.assemblies.items =
-    c.in_ok-assemblies_of.ensures ∙ ap (map block_of) c.deref.ensures.value in
+    let items : blocks ≡ map assembly_of_config c.args.config.now.assemblies.items =
+    c.in_ok-assemblies_of.ensures ∙ ap (map assembly_of_config) c.deref.ensures.value in
     record {
-      few = omega (arith, s.few, ap length items, length-map c.args.config.now.assemblies.items block_of);
+      few = omega (arith, s.few, ap length items, length-map c.args.config.now.assemblies.items assembly_of_config);
       numbered = rw items s.numbered;
       value = rw c.new.ensures.new c.new.ensures.value;
       limit = rw c.new.ensures.new c.new.ensures.limit;
@@ -44,8 +44,8 @@ unfolding contents_of_config
 returns-clause-made c =
     let config = c.args.config.now in
     let blocks = boxed_slice_items c.in_ok-assemblies_of.field-0 in
-    let items : blocks ≡ map block_of config.assemblies.items =
-    c.in_ok-assemblies_of.ensures ∙ ap (map block_of) c.deref.ensures.value in
+    let items : blocks ≡ map assembly_of_config config.assemblies.items =
+    c.in_ok-assemblies_of.ensures ∙ ap (map assembly_of_config) c.deref.ensures.value in
     let name : c.name_of.result.items ≡ string_bytes config.name = c.name_of.ensures ∙ c.as_bytes.ensures.value in
     ap (λ k. contents_of (record (identity_of config) { name = c.name_of.result.items }) blocks (counter_values k))
     c.new.ensures.new
@@ -56,8 +56,8 @@ pub returns-clause-counter : goal.returns-clause-counter
 returns-clause-counter c =
     let s = sound c.args.config.now (sym c.in_default.ensures) in
     let blocks = boxed_slice_items c.in_ok-assemblies_of.field-0 in
-    let items : blocks ≡ map block_of c.args.config.now.assemblies.items =
-    c.in_ok-assemblies_of.ensures ∙ ap (map block_of) c.deref.ensures.value in
+    let items : blocks ≡ map assembly_of_config c.args.config.now.assemblies.items =
+    c.in_ok-assemblies_of.ensures ∙ ap (map assembly_of_config) c.deref.ensures.value in
     rw c.new.ensures.new (new_counts _ blocks (rw items s.numbered) c.args.config.now.counter.value
     c.args.config.now.counter.limit s.counter c.new.ensures.limit)
 
@@ -65,6 +65,6 @@ pub returns-clause-whole : goal.returns-clause-whole
 returns-clause-whole c =
     let s = sound c.args.config.now (sym c.in_default.ensures) in
     let blocks = boxed_slice_items c.in_ok-assemblies_of.field-0 in
-    let items : blocks ≡ map block_of c.args.config.now.assemblies.items =
-    c.in_ok-assemblies_of.ensures ∙ ap (map block_of) c.deref.ensures.value in
+    let items : blocks ≡ map assembly_of_config c.args.config.now.assemblies.items =
+    c.in_ok-assemblies_of.ensures ∙ ap (map assembly_of_config) c.deref.ensures.value in
     contents_whole _ blocks _ (rw items s.numbered) (rw items (whole_blocks c.args.config.now.assemblies.items))

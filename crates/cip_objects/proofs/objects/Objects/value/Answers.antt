@@ -1,22 +1,22 @@
 use Rattle.std.proofs.Common.{sym, ap, ◌∙◌, subst}
-use Rattle.cip_objects.specs.Destination.{IsThere, IsPlace, value_to}
-use Rattle.cip_objects.specs.Entries.{attribute_in, block_attributes}
-use Rattle.cip_objects.proofs.Destinations.{place_value, place_within}
+use Rattle.cip_objects.specs.ObjectRef.{Exists, IsAssemblyIndex, value_to}
+use Rattle.cip_objects.specs.Entries.{attribute_in, assembly_attributes}
+use Rattle.cip_objects.proofs.ObjectRefs.{place_value, place_within}
 use Rattle.cip_objects.proofs.objects.Objects.value.Goals as goal
 
 pub index-requires : goal.index-requires
 index-requires c =
     let m = c.args.self.now in
-    let p : IsPlace m.shapes c.in-Assembly.place = subst (IsThere m.shapes) c.in-Assembly.is c.requires in
-    place_within c.self.inside m c.in-Assembly.place c.self.view_is p
+    let p : IsAssemblyIndex m.shapes c.in-Assembly.assembly_index = subst (Exists m.shapes) c.in-Assembly.is c.requires in
+    place_within c.self.inside m c.in-Assembly.assembly_index c.self.view_is p
 
 pub returns-in-Assembly-clause-value : goal.returns-in-Assembly-clause-value
 returns-in-Assembly-clause-value c =
     let m = c.args.self.now in
-    let place = c.in-Assembly.place in
+    let assembly_index = c.in-Assembly.assembly_index in
     let a = c.args.attribute in
-    let p : IsPlace m.shapes place = subst (IsThere m.shapes) c.in-Assembly.is c.requires in
+    let p : IsAssemblyIndex m.shapes assembly_index = subst (Exists m.shapes) c.in-Assembly.is c.requires in
     c.attribute-in-Assembly.ensures.value
-    ∙ ap (λ b. attribute_in a (block_attributes b)) c.index.ensures
-    ∙ sym (place_value c.self.inside m place a c.index.result.now c.self.view_is c.self.invariant.numbered p)
+    ∙ ap (λ b. attribute_in a (assembly_attributes b)) c.index.ensures
+    ∙ sym (place_value c.self.inside m assembly_index a c.index.result.now c.self.view_is c.self.invariant.numbered p)
     ∙ ap (λ d. value_to m d a) (sym c.in-Assembly.is)

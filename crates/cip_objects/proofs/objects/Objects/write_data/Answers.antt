@@ -8,24 +8,24 @@ returns-in_default-clause-written c =
     let m = c.args.self.now in
     sym (ap (λ o. unwrap_or o m) (write_nowhere m c.args.instance c.args.offset c.args.bytes.now c.in_default.ensures))
 
-pub returns-in_default-clause-told : goal.returns-in_default-clause-told
-returns-in_default-clause-told c =
+pub returns-in_default-clause-reported : goal.returns-in_default-clause-reported
+returns-in_default-clause-reported c =
     sym (ap is_some (write_nowhere c.args.self.now c.args.instance c.args.offset c.args.bytes.now c.in_default.ensures))
 
 pub returns-then-not-ends_within-clause-written : goal.returns-then-not-ends_within-clause-written
 returns-then-not-ends_within-clause-written c =
     let m = c.args.self.now in
     let b = c.assembly.result.now in
-    sym (ap (λ o. unwrap_or o m) (write_past m c.args.instance c.args.offset c.in-Some.place c.args.bytes.now (shape_of b)
-    c.in-Some.ensures c.assembly.ensures.shape (inside c.args.self.now c.in-Some.place (c.args.offset + length c.args.bytes.now) b.content _ _
+    sym (ap (λ o. unwrap_or o m) (write_past m c.args.instance c.args.offset c.in-Some.assembly_index c.args.bytes.now (shape_of b)
+    c.in-Some.ensures c.assembly.ensures.shape (inside c.args.self.now c.in-Some.assembly_index (c.args.offset + length c.args.bytes.now) b.content _ _
     c.assembly.ensures.content c.size.ensures.content (sym c.ends_within.ensures ∙ c.if-not-ends_within.true))))
 
-pub returns-then-not-ends_within-clause-told : goal.returns-then-not-ends_within-clause-told
-returns-then-not-ends_within-clause-told c =
+pub returns-then-not-ends_within-clause-reported : goal.returns-then-not-ends_within-clause-reported
+returns-then-not-ends_within-clause-reported c =
     let m = c.args.self.now in
     let b = c.assembly.result.now in
-    sym (ap is_some (write_past m c.args.instance c.args.offset c.in-Some.place c.args.bytes.now (shape_of b)
-    c.in-Some.ensures c.assembly.ensures.shape (inside c.args.self.now c.in-Some.place (c.args.offset + length c.args.bytes.now) b.content _ _
+    sym (ap is_some (write_past m c.args.instance c.args.offset c.in-Some.assembly_index c.args.bytes.now (shape_of b)
+    c.in-Some.ensures c.assembly.ensures.shape (inside c.args.self.now c.in-Some.assembly_index (c.args.offset + length c.args.bytes.now) b.content _ _
     c.assembly.ensures.content c.size.ensures.content (sym c.ends_within.ensures ∙ c.if-not-ends_within.true))))
 
 pub returns-clause-written : goal.returns-clause-written
@@ -33,14 +33,14 @@ returns-clause-written c =
     let m = c.args.self.now in
     let b = c.assembly.result.now in
     c.write_content.ensures
-    ∙ sym (ap (λ o. unwrap_or o m) (write_within m c.args.instance c.args.offset c.in-Some.place c.args.bytes.now (shape_of b)
-    c.in-Some.ensures c.assembly.ensures.shape (inside c.args.self.now c.in-Some.place (c.args.offset + length c.args.bytes.now) b.content _ _
+    ∙ sym (ap (λ o. unwrap_or o m) (write_within m c.args.instance c.args.offset c.in-Some.assembly_index c.args.bytes.now (shape_of b)
+    c.in-Some.ensures c.assembly.ensures.shape (inside c.args.self.now c.in-Some.assembly_index (c.args.offset + length c.args.bytes.now) b.content _ _
     c.assembly.ensures.content c.size.ensures.content (sym c.ends_within.ensures ∙ c.if-not-ends_within.false))))
 
-pub returns-clause-told : goal.returns-clause-told
-returns-clause-told c =
+pub returns-clause-reported : goal.returns-clause-reported
+returns-clause-reported c =
     let m = c.args.self.now in
     let b = c.assembly.result.now in
-    sym (ap is_some (write_within m c.args.instance c.args.offset c.in-Some.place c.args.bytes.now (shape_of b)
-    c.in-Some.ensures c.assembly.ensures.shape (inside c.args.self.now c.in-Some.place (c.args.offset + length c.args.bytes.now) b.content _ _
+    sym (ap is_some (write_within m c.args.instance c.args.offset c.in-Some.assembly_index c.args.bytes.now (shape_of b)
+    c.in-Some.ensures c.assembly.ensures.shape (inside c.args.self.now c.in-Some.assembly_index (c.args.offset + length c.args.bytes.now) b.content _ _
     c.assembly.ensures.content c.size.ensures.content (sym c.ends_within.ensures ∙ c.if-not-ends_within.false))))

@@ -1,6 +1,6 @@
 use Rattle.std.proofs.Common.{refl, sym, ap, ◌∙◌}
 use Rattle.enip_adapter.specs.Lookup.{first_with}
-use Rattle.enip_adapter.specs.Places.{handle_of}
+use Rattle.enip_adapter.specs.PeerSlots.{handle_of}
 use Rattle.enip_adapter.specs.Serving.{is_open, is_peer_served}
 use Rattle.enip_adapter.proofs.FeedLemmas.{session_found}
 use Rattle.enip_adapter.proofs.adapter.Adapter.is_served.Goals as goal

@@ -1,7 +1,7 @@
 use Rattle.std.proofs.Common.{refl, sym, ap, ◌∙◌}
 use Rattle.enip_adapter.specs.Calls.{AdapterState}
 use Rattle.enip_adapter.specs.Lookup.{first_with}
-use Rattle.enip_adapter.specs.Places.{handle_of}
+use Rattle.enip_adapter.specs.PeerSlots.{handle_of}
 use Rattle.enip_adapter.specs.Turn.{session_of}
 use Rattle.enip_adapter.proofs.FeedLemmas.{session_found}
 use Rattle.enip_adapter.proofs.adapter.Adapter.session.Goals as goal

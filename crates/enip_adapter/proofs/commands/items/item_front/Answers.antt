@@ -18,7 +18,7 @@ joined f b p same q =
 pub returns : goal.returns
 returns c reply fits =
     let count = c.copy_from_slice-2.ensures.after ∙ c.to_le_bytes.ensures in
-    c.unit_front.ensures (item c.args.sequence_count reply) (omega (arith, fits))
+    c.unit_body_head.ensures (item c.args.sequence_count reply) (omega (arith, fits))
     ∙ ap (λ l. l ++ item c.args.sequence_count reply) (sym c.copy_from_slice.ensures.after)
     ∙ sym (append_assoc c.copy_from_slice.new.self (item c.args.sequence_count []) reply)
     ∙ ap (λ l. (c.copy_from_slice.new.self ++ l) ++ reply) (sym count)

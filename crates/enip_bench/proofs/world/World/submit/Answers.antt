@@ -14,14 +14,14 @@ unreachable-requires c =
 pub returns-in-Err-Refused-clause-stepped : goal.returns-in-Err-Refused-clause-stepped
 returns-in-Err-Refused-clause-stepped c =
     refused_told (world_in c.args.self.now) c.args.request.now c.in-Err-Refused.why c.submit.follows.lender-at-none
-    c.make_room.new.self.frames c.requires.reached
+    c.reserve_frame.new.self.frames c.requires.reached
     (sym c.submit.ensures.lent ∙ (ap bytes_in c.in-Err-Refused.is ∙ ap (λ fault. bytes_in (Err fault)) c.in-Err-Refused.field-0-is))
-    c.submit.follows.holds-at-none c.make_room.ensures.kept
+    c.submit.follows.holds-at-none c.reserve_frame.ensures.kept
 
 pub returns-clause-stepped : goal.returns-clause-stepped
 returns-clause-stepped c =
     sent_told (world_in c.args.self.now) c.args.request.now c.in-Ok.frame.now c.submit.follows.lender-at-none
     c.push.new.self.frames c.len.result c.requires.reached
     (sym c.submit.ensures.lent ∙ ap bytes_in c.in-Ok.is) c.submit.follows.holds-at-none
-    (c.push.ensures ∙ ap (λ xs. xs ++ c.in-Ok.frame.now ∷ []) c.make_room.ensures.kept)
-    (c.len.ensures.count ∙ ap length c.make_room.ensures.kept)
+    (c.push.ensures ∙ ap (λ xs. xs ++ c.in-Ok.frame.now ∷ []) c.reserve_frame.ensures.kept)
+    (c.len.ensures.count ∙ ap length c.reserve_frame.ensures.kept)

@@ -9,7 +9,7 @@ use Rattle.enip_commands.proofs.json.reply.values_line.Goals as goal
 
 pub returns : goal.returns
 returns c =
-    let told = c.in_ok-values_object.ensures in
+    let rendered = c.in_ok-values_object.ensures in
     let flat : depth (view c.in_ok-values_object.field-0) ≤ max_depth =
-    rw (values_nest c.args.bytes.now c.args.value_type (map value_in c.args.values.now) (view c.in_ok-values_object.field-0) told) (omega arith) in
-    IfOk-weaker c.to_string.result _ _ (λ line reads. (view c.in_ok-values_object.field-0, told, reads flat)) c.to_string.ensures.reads_back
+    rw (values_nest c.args.bytes.now c.args.value_type (map value_in c.args.values.now) (view c.in_ok-values_object.field-0) rendered) (omega arith) in
+    IfOk-weaker c.to_string.result _ _ (λ line reads. (view c.in_ok-values_object.field-0, rendered, reads flat)) c.to_string.ensures.reads_back

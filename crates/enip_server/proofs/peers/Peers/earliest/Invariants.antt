@@ -3,7 +3,7 @@ use Rattle.std.specs.Box.{boxed_slice_items}
 use Rattle.enip_server.specs.Rounds.{earliest_of}
 use Rattle.enip_server.proofs.peers.Peers.earliest.Given as goal
 
-abbrev pub invariant-loop-line : goal.invariant-loop-line
-invariant-loop-line g l =
-    earliest_of l.self.silence l.earliest (drop l.line-index (boxed_slice_items l.self.lines))
-    ≡ earliest_of l.self.silence l.moment (boxed_slice_items l.self.lines)
+abbrev pub invariant-loop-io : goal.invariant-loop-io
+invariant-loop-io g l =
+    earliest_of l.self.idle_timeout l.earliest (drop l.io-index (boxed_slice_items l.self.slots))
+    ≡ earliest_of l.self.idle_timeout l.moment (boxed_slice_items l.self.slots)

@@ -2,4 +2,4 @@ use Rattle.std.proofs.Common.{◌≡◌, ◌≤◌, None, replicate, vec_len, ve
 use Rattle.enip_server.proofs.peers.Peers.new.Given as goal
 
 abbrev pub invariant-loop : goal.invariant-loop
-invariant-loop g l = (l.places ≤ vec_capacity l.lines) × (vec_len l.lines ≡ l.counter) × (l.lines.items ≡ replicate l.counter None)
+invariant-loop g l = (l.places ≤ vec_capacity l.slots) × (vec_len l.slots ≡ l.counter) × (l.slots.items ≡ replicate l.counter None)

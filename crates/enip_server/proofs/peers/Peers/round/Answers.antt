@@ -6,7 +6,7 @@ use Rattle.enip_server.proofs.peers.Peers.round.Goals as goal
 
 pub returns-clause-ready : goal.returns-clause-ready
 returns-clause-ready g c =
-    ap (λ d. d.ready) c.serve_all-ended.ensures.due ∙ due_ready _ _ (state_of c.serve_all-ended.new.self).lines
+    ap (λ d. d.ready) c.serve_all-ended.ensures.due ∙ due_ready _ _ (state_of c.serve_all-ended.new.self).slots
 
 pub returns-clause-next : goal.returns-clause-next
 returns-clause-next g c =
@@ -15,8 +15,8 @@ returns-clause-next g c =
     (c.min.ensures
     ∙ ap (λ n. min c.unwrap_or-deadline.result n)
     (ap (λ d. d.moment) c.serve_all-ended.ensures.due
-    ∙ due_moment c.serve_all-ended.new.self.silence _ (state_of c.serve_all-ended.new.self).lines)
-    ∙ earliest_after c.serve_all-ended.new.self.silence c.unwrap_or-deadline.result
-    (state_of c.serve_all-ended.new.self).lines c.unwrap_or-deadline.type_inv
-    ∙ ap (λ n. earliest_of c.serve_all-ended.new.self.silence n (state_of c.serve_all-ended.new.self).lines)
+    ∙ due_moment c.serve_all-ended.new.self.idle_timeout _ (state_of c.serve_all-ended.new.self).slots)
+    ∙ earliest_after c.serve_all-ended.new.self.idle_timeout c.unwrap_or-deadline.result
+    (state_of c.serve_all-ended.new.self).slots c.unwrap_or-deadline.type_inv
+    ∙ ap (λ n. earliest_of c.serve_all-ended.new.self.idle_timeout n (state_of c.serve_all-ended.new.self).slots)
     (c.unwrap_or-deadline.ensures ∙ ap (λ o. unwrap_or o (2 ^ 64 - 1)) c.deadline.ensures))

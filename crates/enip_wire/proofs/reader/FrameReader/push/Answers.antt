@@ -1,8 +1,8 @@
 use Rattle.std.proofs.Common.{◌≡◌, ◌+◌, ◌≤◌, ◌++◌, length, take, drop, sym, ap, subst, ◌∙◌, arith, length-take}
 use Rattle.std.specs.Box.{boxed_slice_items, boxed_slice_len}
-use Rattle.enip_wire.specs.Stream.{IsFresh, Takes}
-use Rattle.enip_wire.proofs.SeeLemmas.{placed}
-use Rattle.enip_wire.proofs.TakeLemmas.{IsFresh-after}
+use Rattle.enip_wire.specs.Stream.{IsAtMostOneFrame, Takes}
+use Rattle.enip_wire.proofs.ParseFrameLemmas.{placed}
+use Rattle.enip_wire.proofs.TakeLemmas.{IsAtMostOneFrame-after}
 use Rattle.enip_wire.proofs.reader.FrameReader.push.Goals as goal
 
 held : (c : goal.After-self-2-1)
@@ -25,8 +25,8 @@ takes c =
     c.taken_size-taken.ensures.takes
 
 fresh : (c : goal.After-self-2-1)
-    → IsFresh (take c.self.inside.len (boxed_slice_items c.self.inside.buffer) ++ take c.taken_size-taken.result c.args.piece.now)
-fresh c = IsFresh-after (take c.self.inside.len (boxed_slice_items c.self.inside.buffer)) c.args.piece.now c.taken_size-taken.result c.self.invariant.2 (takes c)
+    → IsAtMostOneFrame (take c.self.inside.len (boxed_slice_items c.self.inside.buffer) ++ take c.taken_size-taken.result c.args.piece.now)
+fresh c = IsAtMostOneFrame-after (take c.self.inside.len (boxed_slice_items c.self.inside.buffer)) c.args.piece.now c.taken_size-taken.result c.self.invariant.2 (takes c)
 
 within : (c : goal.After-self-2-1) → c.self.inside.len + c.taken_size-taken.result ≤ 65535
 within c =
@@ -36,10 +36,10 @@ within c =
     omega (arith, length-take c.self.inside.len c.deref.result.now, c.self.invariant.1)
 
 pub invariant_of-self : goal.invariant_of-self
-invariant_of-self c = (c.self.invariant.0, within c, subst IsFresh (sym (held c)) (fresh c))
+invariant_of-self c = (c.self.invariant.0, within c, subst IsAtMostOneFrame (sym (held c)) (fresh c))
 
 pub returns-clause-held : goal.returns-clause-held
 returns-clause-held c = held c ∙ ap (λ h. h ++ take c.taken_size-taken.result c.args.piece.now) c.self.view_is
 
 pub returns-clause-fresh : goal.returns-clause-fresh
-returns-clause-fresh c = subst IsFresh (sym (held c)) (fresh c)
+returns-clause-fresh c = subst IsAtMostOneFrame (sym (held c)) (fresh c)

@@ -1,0 +1,208 @@
+-- What class and instance lead to, in the contents that the objects make.
+use Rattle.std.specs.Prelude.{if◌then◌else◌}
+use Rattle.std.proofs.Common.{◌≡◌, ℕ, zero, suc, ◌<◌, eqb, Bool, true, false, cond, List, [], ◌∷◌, length, map, get_or}
+use Rattle.std.proofs.Common.{MatchOption, Option, Some, None, option_map, refl, sym, ap, ◌∙◌, arith, subst}
+use Rattle.std.specs.Box.{boxed_slice_items, boxed_slice_len}
+use Rattle.std.proofs.lemmas.Bool.Decides.{nat_tests}
+use Rattle.std.proofs.lemmas.List.{length-map}
+use Rattle.cip_objects.specs.declared.class.Class.TheVariants as classes
+use Rattle.cip_objects.specs.declared.object_ref.ObjectRef.{ObjectRef}
+use Rattle.cip_objects.specs.declared.object_ref.ObjectRef.TheVariants as object_refs
+use Rattle.cip_objects.specs.declared.objects.Objects.TheInside.{Inside}
+use Rattle.cip_objects.specs.Contents.{Contents, value_at}
+use Rattle.cip_objects.specs.Counter.{counter_values}
+use Rattle.cip_objects.specs.ObjectRef.{class_at, instance_at, number_at, IsAssemblyIndex, Exists, IsAssemblyAt}
+use Rattle.cip_objects.specs.Entries.{IdentityValues, AssemblyValues, CounterValues, contents_of, shape_of, assembly_at, NoneIsClass}
+use Rattle.cip_objects.specs.Entries.{attribute_in, assembly_attributes, class_attributes, greatest_of}
+use Rattle.cip_objects.specs.FirstOf.{IsFirst}
+use Rattle.cip_objects.specs.Tables.{Shape, shape_at, services_of, assembly_services}
+use Rattle.cip_bytes.specs.declared.protocol.TheConstants.{ASSEMBLY}
+use Rattle.cip_objects.specs.Tables.{settable_size, size_if_settable}
+use Rattle.cip_objects.proofs.Blocks.{eqb-other, first_at}
+use Rattle.cip_objects.proofs.Lookup.{block_value, none_of_class, value_at-contents_of}
+use Rattle.cip_objects.proofs.Offers.{table}
+use Rattle.cip_objects.proofs.Shapes.{shape_at-contents, shapes-contents}
+use Rattle.cip_objects.proofs.Writes.{first_above}
+
+-- the objects hold these contents
+abbrev Shows : Inside → Contents → Type 0
+Shows o m = contents_of o.identity (boxed_slice_items o.assemblies) (counter_values o.counter) ≡ m
+
+abbrev IsFirstBlock : List AssemblyValues → ℕ → ℕ → Type 0
+IsFirstBlock bs i k = IsFirst (λ b. b.instance) bs i k
+
+abbrev IsFirstShape : List Shape → ℕ → ℕ → Type 0
+IsFirstShape shapes i k = IsFirst (λ s. s.instance) shapes i k
+
+shape-get : (bs : List AssemblyValues) (k : ℕ) (d : AssemblyValues) → get_or (map shape_of bs) k (shape_of d) ≡ shape_of (get_or bs k d)
+shape-get [] k d = refl
+shape-get (b ∷ bs) zero d = refl
+shape-get (b ∷ bs) (suc k) d = shape-get bs k d
+
+-- an assembly of a shape, without data
+abbrev with_shape : Shape → AssemblyValues
+with_shape s = record { instance = s.instance; settable = s.settable; members = s.members; content = []; changes = 0 }
+
+abbrev no_block : AssemblyValues
+no_block = record { instance = 0; settable = false; members = []; content = []; changes = 0 }
+
+-- the first assembly of a number has the first shape of it
+first_shape : (bs : List AssemblyValues) (i k : ℕ) → IsFirstBlock bs i k → IsFirstShape (map shape_of bs) i k
+first_shape bs i k f = record {
+  within = omega (arith, f.within, length-map bs shape_of);
+  here = λ s. ap (λ x. x.instance) (shape-get bs k (with_shape s)) ∙ f.here (with_shape s);
+  before = λ j s lt e. f.before j (with_shape s) lt (sym (ap (λ x. x.instance) (shape-get bs j (with_shape s))) ∙ e);
+}
+
+first_block : (bs : List AssemblyValues) (i k : ℕ) → IsFirstShape (map shape_of bs) i k → IsFirstBlock bs i k
+first_block bs i k f = record {
+  within = omega (arith, f.within, length-map bs shape_of);
+  here = λ b. sym (ap (λ x. x.instance) (shape-get bs k b)) ∙ f.here (shape_of b);
+  before = λ j b lt e. f.before j (shape_of b) lt (ap (λ x. x.instance) (shape-get bs j b) ∙ e);
+}
+
+-- the first of a number has that number
+number_here : (shapes : List Shape) (i k : ℕ) → IsFirstShape shapes i k → number_at shapes k ≡ i
+number_here [] i k f = absurd (omega (arith, f.within))
+number_here (s ∷ shapes) i zero f = f.here s
+number_here (s ∷ shapes) i (suc k) f =
+    number_here shapes i k (record {
+      within = omega (arith, f.within);
+      here = f.here;
+      before = λ j e lt. f.before (suc j) e (omega arith);
+    })
+
+-- an assembly that was found stands at a place, with the number that was looked for
+pub found : (o : Inside) (m : Contents) (i k : ℕ) → Shows o m → IsFirstBlock (boxed_slice_items o.assemblies) i k
+    → IsAssemblyAt m.shapes i k
+found o m i k is f =
+    let all = shapes-contents o.identity (boxed_slice_items o.assemblies) (counter_values o.counter) m is in
+    let first : IsFirstShape m.shapes i k =
+    subst (λ ss. IsFirstShape ss i k) (sym all) (first_shape (boxed_slice_items o.assemblies) i k f) in
+    let number = number_here m.shapes i k first in
+    record {
+      number = sym number;
+      there = subst (λ n. IsFirstShape m.shapes n k) (sym number) first;
+    }
+
+-- the place where the first assembly of a number was looked for
+pub placed : (o : Inside) (m : Contents) (i : ℕ) (r : Option ℕ) → Shows o m
+    → MatchOption r (assembly_at i (boxed_slice_items o.assemblies) ≡ None)
+    (IsFirst (λ b. b.instance) (boxed_slice_items o.assemblies) i)
+    → MatchOption r (shape_at i m.shapes ≡ None) (IsAssemblyAt m.shapes i)
+placed o m i None is h =
+    shape_at-contents o.identity (boxed_slice_items o.assemblies) (counter_values o.counter) m i is
+    ∙ ap (option_map shape_of) h
+placed o m i (Some k) is h = found o m i k is h
+
+-- what stands at a place is the first of its number
+pub first_at_place : (o : Inside) (m : Contents) (k : ℕ) → Shows o m → IsAssemblyIndex m.shapes k
+    → IsFirstBlock (boxed_slice_items o.assemblies) (number_at m.shapes k) k
+first_at_place o m k is p =
+    let all = shapes-contents o.identity (boxed_slice_items o.assemblies) (counter_values o.counter) m is in
+    first_block (boxed_slice_items o.assemblies) (number_at m.shapes k) k
+    (subst (λ ss. IsFirstShape ss (number_at m.shapes k) k) all p)
+
+-- and is no farther than the assemblies go
+pub place_within : (o : Inside) (m : Contents) (k : ℕ) → Shows o m → IsAssemblyIndex m.shapes k
+    → k < boxed_slice_len o.assemblies
+place_within o m k is p = omega (arith, o.assemblies.items.ok.0, (first_at_place o m k is p).within)
+
+-- the value of an attribute of the assembly at a place
+pub place_value : (o : Inside) (m : Contents) (k attribute : ℕ) (b : AssemblyValues) → Shows o m
+    → NoneIsClass (boxed_slice_items o.assemblies) → IsAssemblyIndex m.shapes k
+    → value_at m ASSEMBLY (number_at m.shapes k) attribute ≡ attribute_in attribute (assembly_attributes (get_or (boxed_slice_items o.assemblies) k b))
+place_value o m k attribute b is h p =
+    let bs = boxed_slice_items o.assemblies in
+    let i = number_at m.shapes k in
+    let f = first_at_place o m k is p in
+    let of_class = attribute_in attribute (class_attributes 2 (greatest_of bs) (length bs)) in
+    ap (λ x. value_at x ASSEMBLY i attribute) (sym is)
+    ∙ value_at-contents_of o.identity bs (counter_values o.counter) h ASSEMBLY i attribute
+    ∙ ap (λ t. cond t of_class (block_value attribute (assembly_at i bs)))
+    (eqb-other i 0 (let above = first_above bs i k b h f in λ z. omega arith))
+    ∙ ap (block_value attribute) (first_at bs i k b f)
+
+-- an instance that isn't 0 has the services of an assembly where there is one of its number
+services_at_number : (shapes : List Shape) (class instance : ℕ) → class ≡ 4 → (instance ≡ 0 → ⊥)
+    → services_of shapes class instance ≡ option_map (λ _. assembly_services) (shape_at instance shapes)
+unfolding services_of
+services_at_number shapes class instance e n = rw (e, eqb-other instance 0 n) refl
+
+pub services_found : (o : Inside) (m : Contents) (class i k : ℕ) → Shows o m → class ≡ 4 → (i ≡ 0 → ⊥)
+    → IsFirstBlock (boxed_slice_items o.assemblies) i k → services_of m.shapes class i ≡ Some assembly_services
+services_found o m class i k is e n f =
+    let bs = boxed_slice_items o.assemblies in
+    services_at_number m.shapes class i e n
+    ∙ ap (option_map (λ _. assembly_services))
+    (shape_at-contents o.identity bs (counter_values o.counter) m i is
+    ∙ ap (option_map shape_of) (first_at bs i k no_block f))
+
+pub services_missing : (o : Inside) (m : Contents) (class i : ℕ) → Shows o m → class ≡ 4 → (i ≡ 0 → ⊥)
+    → assembly_at i (boxed_slice_items o.assemblies) ≡ None → services_of m.shapes class i ≡ None
+services_missing o m class i is e n none =
+    services_at_number m.shapes class i e n
+    ∙ ap (option_map (λ _. assembly_services))
+    (shape_at-contents o.identity (boxed_slice_items o.assemblies) (counter_values o.counter) m i is
+    ∙ ap (option_map shape_of) none)
+
+-- no assembly has the instance of a class itself
+pub none_at_class : (d : IdentityValues) (bs : List AssemblyValues) (c : CounterValues) (m : Contents) → contents_of d bs c ≡ m
+    → NoneIsClass bs → shape_at 0 m.shapes ≡ None
+none_at_class d bs c m is h = shape_at-contents d bs c m 0 is ∙ ap (option_map shape_of) (none_of_class bs h)
+
+no_table : (b1 b4 b6 b100 z o : Bool) (x : Option Shape) (v1 v2 v3 v4 v5 v6 : Option (List ℕ))
+    → (x ≡ None → v4 ≡ None) → (b6 ≡ true → b100 ≡ false) → table b1 b4 b6 b100 z o x ≡ None
+    → cond b1 (cond z v1 (cond o v2 None)) (cond b4 (cond z v3 v4) (cond b100 (cond z v5 (cond o v6 None)) None)) ≡ None
+no_table true b4 b6 b100 true o x v1 v2 v3 v4 v5 v6 h g e = absurd (cc)
+no_table true b4 b6 b100 false true x v1 v2 v3 v4 v5 v6 h g e = absurd (cc)
+no_table true b4 b6 b100 false false x v1 v2 v3 v4 v5 v6 h g e = refl
+no_table false true b6 b100 true o x v1 v2 v3 v4 v5 v6 h g e = absurd (cc)
+no_table false true b6 b100 false o None v1 v2 v3 v4 v5 v6 h g e = h refl
+no_table false true b6 b100 false o (Some s) v1 v2 v3 v4 v5 v6 h g e = absurd (cc)
+no_table false false true true z o x v1 v2 v3 v4 v5 v6 h g e = absurd (let f = g refl in cc)
+no_table false false true false z o x v1 v2 v3 v4 v5 v6 h g e = refl
+no_table false false false true true o x v1 v2 v3 v4 v5 v6 h g e = absurd (cc)
+no_table false false false true false true x v1 v2 v3 v4 v5 v6 h g e = absurd (cc)
+no_table false false false true false false x v1 v2 v3 v4 v5 v6 h g e = refl
+no_table false false false false z o x v1 v2 v3 v4 v5 v6 h g e = refl
+
+six : (n : ℕ) → eqb n 6 ≡ true → eqb n 100 ≡ false
+six n e = grind (arith, nat_tests)
+
+no_block_value : (attribute : ℕ) (o : Option AssemblyValues) → option_map shape_of o ≡ None → block_value attribute o ≡ None
+no_block_value attribute None e = refl
+no_block_value attribute (Some b) e = absurd (cc)
+
+-- where there are no services, no attribute is there
+pub no_value : (d : IdentityValues) (bs : List AssemblyValues) (c : CounterValues) (m : Contents) (class instance : ℕ)
+    → contents_of d bs c ≡ m → NoneIsClass bs → services_of m.shapes class instance ≡ None
+    → (attribute : ℕ) → value_at m class instance attribute ≡ None
+unfolding services_of
+no_value d bs c m class instance is h e attribute =
+    ap (λ x. value_at x class instance attribute) (sym is)
+    ∙ value_at-contents_of d bs c h class instance attribute
+    ∙ no_table (eqb class 1) (eqb class 4) (eqb class 6) (eqb class 100) (eqb instance 0) (eqb instance 1)
+    (shape_at instance m.shapes) _ _ _ _ _ _
+    (λ n. no_block_value attribute (assembly_at instance bs) (sym (shape_at-contents d bs c m instance is) ∙ n))
+    (six class) e
+
+pub ruleset reaches = (no_value, none_at_class)
+
+not_both : (a : Bool) (o : Option Shape) → o ≡ None → if◌then◌else◌ a (size_if_settable o) None ≡ None
+not_both true o e = ap size_if_settable e
+not_both false o e = refl
+
+-- nothing else can be set
+pub not_settable : (shapes : List Shape) (object : ObjectRef) (attribute : ℕ) → Exists shapes object
+    → ((assembly_index : ℕ) → object ≡ object_refs.Assembly assembly_index → ⊥) → (object ≡ object_refs.Counter → ⊥)
+    → settable_size shapes (class_at object) (instance_at shapes object) attribute ≡ None
+unfolding settable_size
+not_settable shapes (object_refs.Class classes.Identity) attribute t f g = refl
+not_settable shapes (object_refs.Class classes.Assembly) attribute t f g =
+    not_both (eqb attribute 3) (shape_at 0 shapes) t
+not_settable shapes (object_refs.Class classes.Counter) attribute t f g = refl
+not_settable shapes object_refs.Identity attribute t f g = refl
+not_settable shapes (object_refs.Assembly assembly_index) attribute t f g = absurd (f assembly_index refl)
+not_settable shapes object_refs.ConnectionManager attribute t f g = refl
+not_settable shapes object_refs.Counter attribute t f g = absurd (g refl)

@@ -1,5 +1,0 @@
-use Rattle.cip_objects.proofs.Refused.{any_room as law}
-use Rattle.cip_objects.proofs.laws.any_room.Goals as goal
-
-pub returns : goal.returns
-returns c = law

@@ -1,8 +1,0 @@
--- Where an assembly stands among the assemblies.
-use Rattle.std.specs.Prelude.{◌≡◌, ◌≢◌, ℕ, ◌<◌, List, length, slice_index_or}
-
--- the first of these with this instance number, as number tells it, stands at this place
-pub record IsFirst {A : Type 0} (number : A → ℕ) (items : List A) (instance place : ℕ) : Type 0 where
-  pub within : place < length items
-  pub here : (d : A) → number (slice_index_or items place d) ≡ instance
-  pub before : (k : ℕ) (d : A) → k < place → number (slice_index_or items k d) ≢ instance

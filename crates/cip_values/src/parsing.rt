@@ -1,0 +1,190 @@
+//! The value that a word tells.
+
+ghost use Rattle.std.specs.Prelude.{◌≡◌, ◌≤◌, ◌<◌, ◌↔◌, ◌^◌, IfOk, IfErr, MatchResult, MatchOption, IsTrue, ℕ, ℤ, pos, min, ◌-◌, ◌≢◌, ◌++◌, List};
+ghost use Rattle.std.specs.Char.{is_digit};
+ghost use Rattle.std.specs.List.{list_all};
+ghost use Rattle.std.specs.Str.Parse.{IsNumeral, digits_value};
+ghost use Rattle.cip_values.specs.Types.{IsSized, form_of};
+ghost use Rattle.cip_values.specs.Values.{Real, value_in, IsOf, IsSignedOf, IsUnsignedOf};
+ghost use Rattle.cip_values.specs.Parsing.{ParsesAs, IsParseFault, IsWordFault, Clamps, ParsesAsInteger, ParsesAsBits};
+
+use crate::element::{ElementaryType, Form};
+use crate::fault::ValueFault;
+use crate::value::Value;
+use std::num::f32_to_bits_with_nan;
+
+/// Why a word tells no value of a form.
+#[derive(Clone, Copy)]
+pub(crate) enum ParseFault {
+    /// It is none, whatever the range.
+    Form,
+    /// Its number is out of range.
+    Range,
+}
+
+/// The value of a word, of a type other than SHORT_STRING.
+///
+/// A BOOL is `0`, `1`, `false` or `true`. An integer is decimal digits, behind a minus sign where it is negative. A bit
+/// string is `0x` and hexadecimal digits, or an integer. A REAL is a decimal number, with or without an exponent, `inf`
+/// or `nan`.
+///
+/// # Errors
+///
+/// `Form` where the word is no such thing, `Range` where its number is out of the type's range.
+pub(crate) fn parse_value<'a>(
+    element: ElementaryType,
+    word: &'a str,
+) -> Result<Value<'static>, ValueFault<'a>>
+    ensures parses { IfOk result (λ value. ParsesAs (form_of element) word.now (value_in value)) }
+    ensures of_type { IfOk result (λ value. IsOf (form_of element) (value_in value)) }
+    ensures refused { IfErr result (IsWordFault element word.now) }
+{
+    match parse_word(element.form(), word) {
+        Ok(value) => Ok(value),
+        Err(ParseFault::Form) => Err(ValueFault::Form(word, element)),
+        Err(ParseFault::Range) => Err(ValueFault::Range(word, element)),
+    }
+}
+
+/// The value of a word, of a form other than a text.
+fn parse_word(form: Form, word: &str) -> Result<Value<'static>, ParseFault>
+    requires { IsSized form }
+    ensures parses { IfOk result (λ value. ParsesAs form word.now (value_in value)) }
+    ensures of_type { IfOk result (λ value. IsOf form (value_in value)) }
+    ensures missed { IfErr result (IsParseFault form word.now) }
+{
+    match form {
+        Form::Bool => match word {
+            "0" | "false" => Ok(Value::Bool(false)),
+            "1" | "true" => Ok(Value::Bool(true)),
+            _ => Err(ParseFault::Form),
+        },
+        Form::Signed(size) => {
+            let number = integer(word)?;
+            if !fits_signed(number, size) {
+                return Err(ParseFault::Range);
+            }
+            Ok(Value::Signed(number as i64))
+        }
+        Form::Unsigned(size) => {
+            let number = integer(word)?;
+            if !fits_unsigned(number, size) {
+                return Err(ParseFault::Range);
+            }
+            Ok(Value::Unsigned(number as u64))
+        }
+        Form::Bits(size) => {
+            let number = bit_string(word)?;
+            if !fits_unsigned(number, size) {
+                return Err(ParseFault::Range);
+            }
+            Ok(Value::Bits(number as u64))
+        }
+        Form::Real => Ok(Value::Real(real(word)?)),
+        Form::Text => Err(ParseFault::Form),
+    }
+}
+
+/// Whether an integer has two's complement of so many bytes.
+fn fits_signed(number: i128, size: usize) -> bool
+    requires low { 1 ≤ size }
+    requires high { size ≤ 8 }
+    ensures { IsTrue result ↔ IsSignedOf size number }
+{
+    let half = (1u128 << (8 * size - 1)) as i128;
+    -half <= number && number < half
+}
+
+/// Whether an integer is an unsigned one of so many bytes.
+fn fits_unsigned(number: i128, size: usize) -> bool
+    requires low { 1 ≤ size }
+    requires high { size ≤ 8 }
+    ensures { IsTrue result ↔ IsUnsignedOf size number }
+{
+    0 <= number && number < (1u128 << (8 * size)) as i128
+}
+
+/// The integer that a word tells. One of more than 127 bits is told as the greatest or least of them.
+fn integer(word: &str) -> Result<i128, ParseFault>
+    ensures { MatchResult result (Clamps (ParsesAsInteger word.now))
+        (λ miss. (miss ≡ ParseFault.Form) × ((number : ℤ) → ParsesAsInteger word.now number → ⊥)) }
+{
+    match after_prefix("-", word) {
+        Some(digits) => Ok(-number_of(digits, 10)?),
+        None => number_of(word, 10),
+    }
+}
+
+/// The bits that a word tells, as a number.
+fn bit_string(word: &str) -> Result<i128, ParseFault>
+    ensures { MatchResult result (Clamps (ParsesAsBits word.now))
+        (λ miss. (miss ≡ ParseFault.Form) × ((number : ℤ) → ParsesAsBits word.now number → ⊥)) }
+{
+    match after_prefix("0x", word) {
+        Some(digits) => number_of(digits, 16),
+        None => integer(word),
+    }
+}
+
+/// What stands behind a mark at the front of a word.
+fn after_prefix<'a>(mark: &str, word: &'a str) -> Option<&'a str>
+    ensures { MatchOption result ((rest : List ℕ) → word.now ≢ mark.now ++ rest)
+        (λ rest. word.now ≡ mark.now ++ rest.now) }
+{
+    word.strip_prefix(mark)
+}
+
+/// The number that digits spell. One of more than 127 bits is told as the greatest of them.
+fn number_of(digits: &str, radix: u32) -> Result<i128, ParseFault>
+    requires low { 2 ≤ radix }
+    requires high { radix ≤ 16 }
+    ensures { MatchResult result
+        (λ number. IsNumeral radix digits.now × (number ≡ pos (min (digits_value radix digits.now) (2 ^ 127 - 1))))
+        (λ miss. (miss ≡ ParseFault.Form) × ¬ IsNumeral radix digits.now) }
+{
+    if !is_numeral(digits, radix) {
+        return Err(ParseFault::Form);
+    }
+    Ok(i128::from_str_radix(digits, radix).unwrap_or(i128::MAX))
+}
+
+/// Whether a text is digits, one at least.
+fn is_numeral(text: &str, radix: u32) -> bool
+    requires low { 2 ≤ radix }
+    requires high { radix ≤ 16 }
+    ensures { IsTrue result ↔ IsNumeral radix text.now }
+{
+    !text.is_empty() && are_digits(text.as_bytes(), radix)
+}
+
+/// Whether each byte is a digit.
+fn are_digits(bytes: &[u8], radix: u32) -> bool
+    requires low { 2 ≤ radix }
+    requires high { radix ≤ 16 }
+    ensures { result ≡ list_all (λ byte. is_digit byte radix) bytes.now }
+{
+    bytes.iter().all(|byte| is_digit(*byte, radix))
+}
+
+/// Whether a byte is a digit.
+fn is_digit(byte: u8, radix: u32) -> bool
+    requires low { 2 ≤ radix }
+    requires high { radix ≤ 16 }
+    ensures { result ≡ is_digit byte radix }
+{
+    char::from(byte).is_digit(radix)
+}
+
+/// The bits of the REAL that a word tells.
+fn real(word: &str) -> Result<u32, ParseFault>
+    ensures parses { IfOk result (λ bits. ParsesAs Form.Real word.now (Real bits)) }
+    ensures missed { IfErr result (IsParseFault Form.Real word.now) }
+{
+    let Ok(number) = word.parse::<f32>() else {
+        return Err(ParseFault::Form);
+    };
+    if number.is_infinite() && word.bytes().any(|byte| byte.is_ascii_digit()) {
+        return Err(ParseFault::Range);
+    }
+    Ok(f32_to_bits_with_nan(number))
+}

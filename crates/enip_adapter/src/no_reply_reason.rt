@@ -1,0 +1,36 @@
+//! Why nothing is sent to a peer.
+
+use enip_wire::CpfFault;
+use thiserror::Error;
+
+/// Why nothing answers what came of a peer.
+#[derive(Clone, Copy, Debug, PartialEq, Eq, Error)]
+pub enum NoReplyReason {
+    /// No frame is whole yet.
+    #[error("no whole frame has come")]
+    NoFrame,
+    /// A frame's options are not 0.
+    #[error("the options are not 0")]
+    Options,
+    /// A frame's status is not 0 (ours).
+    #[error("the status is not 0")]
+    Status,
+    /// A NOP has no answer.
+    #[error("a NOP has no answer")]
+    Nop,
+    /// A SendUnitData or an UnRegisterSession comes from another session than the one that the peer registered (ours).
+    #[error("the session is not the one that the peer registered")]
+    AnotherSession,
+    /// The data of a SendUnitData are no packet (ours).
+    #[error("the data are no packet: {0}")]
+    NotAPacket(CpfFault),
+    /// The session has no such connection, or the connection does not take such an item (ours).
+    #[error("no such connection, or an item that it does not take")]
+    NotTaken,
+    /// An UnRegisterSession closes the peer.
+    #[error("the session is unregistered")]
+    Unregistered,
+    /// The peer is closed, or not held.
+    #[error("the peer is closed or not held")]
+    NotServed,
+}

@@ -1,0 +1,165 @@
+//! The places for peers: those that are taken, and the readers of those that are free. No call adds one.
+
+ghost use Rattle.std.specs.Prelude.{ℕ, ◌≡◌, ◌==◌, ◌<◌, ◌≤◌, ◌-◌, length, false, is_some, All, IfOk};
+ghost use Rattle.std.specs.Option.{option_map};
+ghost use Rattle.std.specs.List.{position};
+ghost use Rattle.enip_adapter.specs.Adapter.{session_in, IsWaiting};
+ghost use Rattle.enip_adapter.specs.Lookup.{first_with, without_first};
+ghost use Rattle.enip_adapter.specs.PeerSlots.{IsFed, piece_at, handle_of, no_slot_taken, with_slot};
+ghost use Rattle.enip_adapter.specs.Serving.{is_open};
+
+use crate::peer::{PeerSlot, Session};
+use crate::reply::{AnswerFrame, Reaction};
+use crate::shared::Shared;
+use cip_objects::ReplyBuf;
+use enip_wire::FrameReader;
+use std::alloc::{AllocError, Global};
+use std::marker::Model;
+
+/// So many places for peers, in the order in which the peers began that hold one.
+#[derive(Drop)]
+pub(crate) struct PeerSlots {
+    limit: u16,
+    taken: Vec<PeerSlot>,
+    free: Vec<FrameReader>,
+}
+
+impl Model for PeerSlots {
+    ghost use Rattle.enip_adapter.specs.PeerSlots.{PeerSlotsState, peer_slots_in, HasFreeReaders};
+
+    ghost Value = { PeerSlotsState };
+
+    ghost view = { λ p. peer_slots_in p.limit p.taken.items };
+
+    ghost invariant = { λ p. HasFreeReaders p.limit p.taken p.free };
+}
+
+impl PeerSlots {
+    /// So many places, all free. All their memory is taken here.
+    ///
+    /// # Errors
+    ///
+    /// `AllocError` where memory is refused.
+    pub(crate) fn new(alloc: Global, limit: u16) -> Result<PeerSlots, AllocError>
+        requires { limit ≤ 16 }
+        ensures { IfOk result (λ p. p ≡ no_slot_taken limit) }
+    {
+        let taken = Vec::with_capacity(alloc, usize::from(limit))?;
+        let mut free = Vec::with_capacity(alloc, usize::from(limit))?;
+        for _ in 0..limit {
+            free.push_reserved(FrameReader::new(alloc)?);
+        }
+        Ok(PeerSlots { limit, taken, free })
+    }
+
+    /// How many places are free.
+    pub(crate) fn free(&self) -> u16
+        ensures count { result ≡ self.now.limit - length self.now.taken }
+        ensures within { length self.now.taken ≤ self.now.limit }
+    {
+        self.free.len() as u16
+    }
+
+    /// Takes a free place for a peer that begins with this session handle.
+    pub(crate) fn take(&mut self, handle: u32)
+        requires { length self.old.taken < self.old.limit }
+        ensures { self.new ≡ with_slot self.old handle }
+    {
+        if let Some(reader) = self.free.pop() {
+            let session = Session {
+                handle,
+                registered: false,
+                closed: false,
+            };
+            self.taken.push_reserved(PeerSlot { session, reader });
+        }
+    }
+
+    /// Frees the place of the peer with this handle. False where it holds none.
+    pub(crate) fn release(&mut self, handle: u32) -> bool
+        ensures held { result ≡ is_some (first_with handle_of handle self.old.taken) }
+        ensures limit { self.new.limit ≡ self.old.limit }
+        ensures taken { self.new.taken ≡ without_first handle_of handle self.old.taken }
+    {
+        let Some(index) = index_of(&self.taken, handle) else {
+            return false;
+        };
+        let place = self.taken.remove(index);
+        let mut reader = place.reader;
+        reader.clear();
+        self.free.push_reserved(reader);
+        true
+    }
+
+    /// The session of the peer with this handle, `None` where it holds no place.
+    pub(crate) fn session(&self, handle: u32) -> Option<Session>
+        ensures { result ≡ option_map session_in (first_with handle_of handle self.now.taken) }
+    {
+        let index = index_of(&self.taken, handle)?;
+        Some(self.taken[index].session)
+    }
+
+    /// Whether the peer with this handle holds a place and is not closed.
+    pub(crate) fn is_open(&self, handle: u32) -> bool
+        ensures { result ≡ is_open (option_map session_in (first_with handle_of handle self.now.taken)) }
+    {
+        match index_of(&self.taken, handle) {
+            Some(index) => !self.taken[index].session.closed,
+            None => false,
+        }
+    }
+
+    /// Feeds a piece to the peer with this handle. Answers how many bytes were taken, and what came of them.
+    pub(crate) fn feed(
+        &mut self,
+        shared: &mut Shared,
+        handle: u32,
+        piece: &[u8],
+        reply: &mut ReplyBuf,
+        answer: &mut AnswerFrame,
+    ) -> (usize, Reaction)
+        ensures fed { (next_handle : ℕ) → IsFed self.old.limit next_handle shared.old self.old.taken
+            (piece_at self.old.limit next_handle shared.old self.old.taken handle piece.now)
+            shared.new self.new.taken result answer.new.items }
+        ensures limit { self.new.limit ≡ self.old.limit }
+        ensures within { result.0 ≤ length piece.now }
+        ensures progress { 0 < length piece.now → result.1.close ≡ false → 0 < result.0 }
+    {
+        feed_taken(shared, &mut self.taken, handle, piece, reply, answer)
+    }
+}
+
+/// Where the first peer with this handle is.
+fn index_of(places: &[PeerSlot], handle: u32) -> Option<usize>
+    ensures { result ≡ position (λ p. p.session.handle == handle) places.now }
+{
+    places
+        .iter()
+        .position(|place| place.session.handle == handle)
+}
+
+/// Feeds a piece to the peer with this handle. Answers how many bytes were taken, and what came of them.
+fn feed_taken(
+    shared: &mut Shared,
+    places: &mut [PeerSlot],
+    handle: u32,
+    piece: &[u8],
+    reply: &mut ReplyBuf,
+    answer: &mut AnswerFrame,
+) -> (usize, Reaction)
+    requires { All IsWaiting places.old }
+    ensures fed { (limit next_handle : ℕ) → IsFed limit next_handle shared.old places.old
+        (piece_at limit next_handle shared.old places.old handle piece.now)
+        shared.new places.new result answer.new.items }
+    ensures size { length places.new ≡ length places.old }
+    ensures within { result.0 ≤ length piece.now }
+    ensures progress { 0 < length piece.now → result.1.close ≡ false → 0 < result.0 }
+    ensures waiting { All IsWaiting places.new }
+{
+    match index_of(places, handle) {
+        Some(index) if !places[index].session.closed => places[index].feed(
+            shared, piece, reply, answer,
+        ),
+        _ => (0, Reaction::NOT_SERVED),
+    }
+}

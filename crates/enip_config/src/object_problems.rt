@@ -1,0 +1,89 @@
+//! What is wrong with the objects of a configuration whose values are right by themselves.
+
+use crate::configuration::Configuration;
+use crate::explanation::{Location, Problem};
+use cip_objects::{AssemblyConfig, Config, ConfigFault};
+use std::alloc::{AllocError, Global};
+use toml::Table;
+
+/// What the objects refuse, by the first check that fails.
+pub(crate) fn object_problem(
+    alloc: Global,
+    text: &Table,
+) -> Result<Option<(Location<'static>, Problem)>, AllocError> {
+    let Ok(configuration) = Configuration::from_table(alloc, text) else {
+        return Err(AllocError);
+    };
+    let config = configuration.objects;
+    match config.fault() {
+        None => Ok(None),
+        Some(ConfigFault::Name) => Ok(Some((
+            Location::Text("name"),
+            Problem::Name(config.name.len()),
+        ))),
+        Some(ConfigFault::Limit) => {
+            let problem = Problem::Limit(config.counter.value, config.counter.limit);
+            Ok(Some((Location::Counter("value"), problem)))
+        }
+        Some(check) => assembly_problem(config, check),
+    }
+}
+
+/// The first assembly at which a check fails: it holds of those before it.
+fn assembly_problem(
+    config: Config,
+    check: ConfigFault,
+) -> Result<Option<(Location<'static>, Problem)>, AllocError> {
+    let mut config = config;
+    let count = config.assemblies.len();
+    for _ in 0..count {
+        let Some(last) = config.assemblies.pop() else {
+            break;
+        };
+        if config.fault() != Some(check) {
+            let spot = Location::InAssembly(config.assemblies.len(), key_of(check));
+            let problem = problem_with(&last, check, count);
+            config.assemblies.clear();
+            config.assemblies.push(last)?;
+            let is_alone = config.fault() == Some(check);
+            return Ok(Some((spot, if is_alone { problem.0 } else { problem.1 })));
+        }
+    }
+    Ok(None)
+}
+
+/// The key of an assembly that a check looks at.
+fn key_of(check: ConfigFault) -> &'static str {
+    match check {
+        ConfigFault::DoubleInstance => "instance",
+        _ => "members",
+    }
+}
+
+/// What is wrong with an assembly: where the check fails of it alone, and where it fails only with those before it.
+fn problem_with(assembly: &AssemblyConfig, check: ConfigFault, count: usize) -> (Problem, Problem) {
+    let instance = assembly.instance;
+    let sizes = assembly.members.as_slice();
+    match check {
+        ConfigFault::Size => {
+            let size = sizes
+                .iter()
+                .fold(0u64, |sum, size| sum.saturating_add(u64::from(*size)));
+            (Problem::Size(instance, size), Problem::Assemblies(count))
+        }
+        ConfigFault::Members if sizes.contains(&0) => {
+            (
+                Problem::EmptyMember(instance),
+                Problem::EmptyMember(instance),
+            )
+        }
+        ConfigFault::Members => {
+            let members = sizes.len();
+            (
+                Problem::Members(instance, members),
+                Problem::Members(instance, members),
+            )
+        }
+        _ => (Problem::NoInstance, Problem::Twice(instance)),
+    }
+}

@@ -1,0 +1,108 @@
+//! What is wrong with a text that is no TOML, or has a key that is not known.
+
+use crate::explanation::{Location, Problem};
+use crate::known::{TableKind, has_key};
+use std::alloc::{AllocError, Global};
+use toml::{Table, Value};
+
+/// Why a text is no TOML, and the line where that is seen.
+pub(crate) fn no_toml(bytes: &[u8], error: toml::de::Error) -> (Option<usize>, Problem) {
+    let line = error.span().map(|span| line_at(bytes, span.start));
+    (line, Problem::NoToml(error))
+}
+
+/// The line of a place in a text, from 1.
+fn line_at(bytes: &[u8], place: usize) -> usize {
+    let before = &bytes[..place.min(bytes.len())];
+    before
+        .iter()
+        .filter(|byte| **byte == b'\n')
+        .count()
+        .saturating_add(1)
+}
+
+/// The first key that is not known, or that has keys where it takes none.
+pub(crate) fn unknown_key(
+    alloc: Global,
+    text: &Table,
+) -> Result<Option<(Location<'_>, Problem)>, AllocError> {
+    for (key, value) in text.iter() {
+        let key = key.as_str();
+        let found = match key {
+            "counter" => unknown_within(alloc, key, value, TableKind::Counter)?,
+            "assembly" => unknown_within(alloc, key, value, TableKind::Assembly)?,
+            _ => unknown_at(alloc, "", key, value, TableKind::Text)?.map(|problem| (
+                Location::Text(key),
+                problem,
+            )),
+        };
+        if found.is_some() {
+            return Ok(found);
+        }
+    }
+    Ok(None)
+}
+
+/// The same within the value of `counter` or `assembly`: a table, or an array of them.
+fn unknown_within<'a>(
+    alloc: Global,
+    name: &'a str,
+    value: &'a Value,
+    kind: TableKind,
+) -> Result<Option<(Location<'a>, Problem)>, AllocError> {
+    match value {
+        Value::Array(values) => {
+            for (place, value) in values.iter().enumerate() {
+                let found = unknown_in(alloc, name, value, kind)?;
+                if let Some((key, problem)) = found {
+                    return Ok(Some((Location::InAssembly(place, key), problem)));
+                }
+            }
+            Ok(None)
+        }
+        _ => {
+            let found = unknown_in(alloc, name, value, kind)?;
+            Ok(found.map(|(key, problem)| match kind {
+                TableKind::Counter => (Location::Counter(key), problem),
+                _ => (Location::InAssembly(0, key), problem),
+            }))
+        }
+    }
+}
+
+/// The same of a table, and the key.
+fn unknown_in<'a>(
+    alloc: Global,
+    name: &str,
+    value: &'a Value,
+    kind: TableKind,
+) -> Result<Option<(&'a str, Problem)>, AllocError> {
+    let Value::Table(table) = value else {
+        return Ok(None);
+    };
+    for (key, value) in table.iter() {
+        let key = key.as_str();
+        if let Some(problem) = unknown_at(alloc, name, key, value, kind)? {
+            return Ok(Some((key, problem)));
+        }
+    }
+    Ok(None)
+}
+
+/// The same of one key of a table of this name.
+fn unknown_at(
+    alloc: Global,
+    table: &str,
+    key: &str,
+    value: &Value,
+    kind: TableKind,
+) -> Result<Option<Problem>, AllocError> {
+    let dot = if table.is_empty() { "" } else { "." };
+    if !kind.knows(key) {
+        return Ok(Some(Problem::NoKey(format!(in alloc; "{table}{dot}{key}")?)));
+    }
+    if has_key(value) {
+        return Ok(Some(Problem::Keys(format!(in alloc; "{table}{dot}{key}")?)));
+    }
+    Ok(None)
+}

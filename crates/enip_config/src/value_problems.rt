@@ -1,0 +1,131 @@
+//! What is wrong with a key's value: it is missing, of another type or out of its range.
+
+use crate::explanation::{Location, Problem};
+use crate::key::{INSTANCE, NumberKey, Row};
+use crate::known::TEXT_NUMBERS;
+use crate::values::number_in;
+use toml::{Table, Value};
+
+/// The first value that is wrong: of the numbers, the name, the address, the counter and the assemblies.
+pub(crate) fn bad_value(text: &Table) -> Option<(Location<'static>, Problem)> {
+    for key in &TEXT_NUMBERS {
+        let row = key.row();
+        if let Some(problem) = bad_number(text, row) {
+            return Some((Location::Text(row.name), problem));
+        }
+    }
+    if let Some(problem) = bad_name(text) {
+        return Some((Location::Text("name"), problem));
+    }
+    if let Some(problem) = bad_address(text) {
+        return Some((Location::Text("address"), problem));
+    }
+    if let Some(found) = bad_counter(text) {
+        return Some(found);
+    }
+    bad_assemblies(text)
+}
+
+/// What is wrong with the number of a key.
+fn bad_number(table: &Table, row: Row) -> Option<Problem> {
+    match table.get(row.name) {
+        None if row.default.is_some() => None,
+        None => Some(Problem::Missing(row.name)),
+        Some(value) => out_of_range(row.name, value, row.least, row.greatest),
+    }
+}
+
+/// What is wrong with a number.
+fn out_of_range(name: &'static str, value: &Value, least: u32, greatest: u32) -> Option<Problem> {
+    if number_in(value, least, greatest).is_ok() {
+        return None;
+    }
+    Some(match value {
+        Value::Integer(number) => Problem::Range(name, *number, least, greatest),
+        _ => Problem::Type(name, "number"),
+    })
+}
+
+fn bad_name(text: &Table) -> Option<Problem> {
+    match text.get("name") {
+        Some(Value::String(_)) => None,
+        Some(_) => Some(Problem::Type("name", "text")),
+        None => Some(Problem::Missing("name")),
+    }
+}
+
+fn bad_address(text: &Table) -> Option<Problem> {
+    let values = match text.get("address") {
+        None => return None,
+        Some(Value::Array(values)) => values.as_slice(),
+        Some(_) => return Some(Problem::Type("address", "list of four numbers")),
+    };
+    if values.len() != 4 {
+        return Some(Problem::Type("address", "list of four numbers"));
+    }
+    values
+        .iter()
+        .find_map(|value| out_of_range("address", value, 0, 0xff))
+}
+
+fn bad_counter(text: &Table) -> Option<(Location<'static>, Problem)> {
+    let table = match text.get("counter") {
+        None => return None,
+        Some(Value::Table(table)) => table,
+        Some(_) => return Some((Location::Text("counter"), Problem::Type("counter", "table"))),
+    };
+    for key in [NumberKey::CounterValue, NumberKey::CounterLimit] {
+        let row = key.row();
+        if let Some(problem) = bad_number(table, row) {
+            return Some((Location::Counter(row.name), problem));
+        }
+    }
+    None
+}
+
+fn bad_assemblies(text: &Table) -> Option<(Location<'static>, Problem)> {
+    let values = match text.get("assembly") {
+        None => return None,
+        Some(Value::Array(values)) => values.as_slice(),
+        Some(_) => return Some((
+            Location::Text("assembly"),
+            Problem::Type("assembly", "list of tables"),
+        )),
+    };
+    for (place, value) in values.iter().enumerate() {
+        let Value::Table(table) = value else {
+            return Some((
+                Location::Assembly(place),
+                Problem::Type("assembly", "table"),
+            ));
+        };
+        if let Some((key, problem)) = bad_assembly(table) {
+            let spot = match table.get(key) {
+                Some(_) => Location::InAssembly(place, key),
+                None => Location::Assembly(place),
+            };
+            return Some((spot, problem));
+        }
+    }
+    None
+}
+
+/// What is wrong with a table `assembly`, and at which key.
+fn bad_assembly(table: &Table) -> Option<(&'static str, Problem)> {
+    if let Some(problem) = bad_number(table, INSTANCE) {
+        return Some((INSTANCE.name, problem));
+    }
+    match table.get("settable") {
+        None | Some(Value::Boolean(_)) => {}
+        Some(_) => return Some(("settable", Problem::Settable)),
+    }
+    let sizes = match table.get("members") {
+        None => return Some(("members", Problem::Missing("members"))),
+        Some(Value::Array(values)) => values.as_slice(),
+        Some(_) => return Some(("members", Problem::Type("members", "list of sizes"))),
+    };
+    let problem = sizes
+        .iter()
+        .find_map(|value| out_of_range("members", value, 0, 0xffff))?;
+    Some(("members", problem))
+}

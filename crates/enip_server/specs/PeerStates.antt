@@ -1,0 +1,177 @@
+-- A peer's line as the adapter and the wire see it, and what a turn does to it.
+use Rattle.std.specs.Prelude.{ℕ, ◌+◌, ◌-◌, ◌^◌, min, ◌≡◌, ◌≢◌, ◌≤◌, List, [], ◌∷◌, ◌++◌, length, drop}
+use Rattle.std.specs.Prelude.{Bool, true, false, Option, Some, None, ⊤}
+use Rattle.std.specs.Io.KnownBytes.{Appends, Consumes}
+use Rattle.enip_adapter.specs.Calls.{AdapterState, call_meaning, call_answer, after_call}
+use Rattle.enip_adapter.specs.Calls.Call.{Feeds}
+use Rattle.enip_adapter.specs.Serving.{output_bytes}
+use Rattle.enip_server.specs.declared.peer_io.PeerIo.{PeerIo}
+use Rattle.enip_server.specs.declared.peer_io.Turn.{Turn}
+use Rattle.enip_server.specs.declared.peer_io.Turn.TheVariants.{More, UntilReadable, UntilWritable, Finished}
+use Rattle.enip_server.specs.declared.wire_counts.WireCounts.{WireCounts}
+use Rattle.enip_server.specs.declared.wire.ReadOutcome.{ReadOutcome}
+use Rattle.enip_server.specs.declared.wire.ReadOutcome.TheVariants.{Bytes, Drained, WouldBlock, End, Failed}
+use Rattle.enip_server.specs.Wires.{one_more}
+
+-- A sum of moments, which stops at the greatest.
+abbrev pub moment_after : ℕ → ℕ → ℕ
+moment_after moment more = min (moment + more) (2 ^ 64 - 1)
+
+-- The adapter, what was read of a peer and not fed, what of an answer is not out, where the adapter closed the peer the
+-- moment up to which it is still read, the moment at which a byte came last, what of its wire is left to read and was
+-- written, where that is known, and how the calls of its wire went.
+pub record PeerState : Type 0 where
+  pub adapter : AdapterState
+  pub inbox : List ℕ
+  pub outbox : List ℕ
+  pub closed : Option ℕ
+  pub last_byte_at : ℕ
+  pub left : Option (List ℕ)
+  pub written : Option (List ℕ)
+  pub counts : WireCounts
+
+-- The desk of a line.
+abbrev pub peer_state_of : {W : Type 0} → (W → Option (List ℕ)) → (W → Option (List ℕ)) → (W → WireCounts) → AdapterState → PeerIo W
+    → PeerState
+peer_state_of left written counts adapter io = record {
+  adapter = adapter;
+  inbox = io.inbox;
+  outbox = io.outbox;
+  closed = io.closed;
+  last_byte_at = io.last_byte_at;
+  left = left io.wire;
+  written = written io.wire;
+  counts = counts io.wire;
+}
+
+-- A front of what waits of an answer is written, and nothing else is done.
+pub record IsFlushed (old new : PeerState) : Type 0 where
+  pub gone : List ℕ
+  pub waits : old.outbox ≡ gone ++ new.outbox
+  pub written : Appends old.written new.written gone
+  pub adapter : new.adapter ≡ old.adapter
+  pub inbox : new.inbox ≡ old.inbox
+  pub closed : new.closed ≡ old.closed
+  pub last_byte_at : new.last_byte_at ≡ old.last_byte_at
+  pub left : new.left ≡ old.left
+  pub reads : new.counts.reads ≡ old.counts.reads
+
+-- A peer that is closed at a moment is still read for a second.
+abbrev pub closed_at : ℕ → Bool → Option ℕ
+closed_at now false = None
+closed_at now true = Some (moment_after now 1_000_000)
+
+-- What was read is fed to its peer at a moment, up to the end of one frame; what answers it waits.
+abbrev pub fed_once : ℕ → ℕ → PeerState → PeerState
+fed_once now peer d = record d {
+  adapter = after_call d.adapter (Feeds now peer d.inbox);
+  inbox = drop (call_meaning d.adapter (Feeds now peer d.inbox)).taken d.inbox;
+  outbox = output_bytes (call_answer d.adapter (Feeds now peer d.inbox)).output;
+  closed = closed_at now (call_answer d.adapter (Feeds now peer d.inbox)).close;
+}
+
+-- Feeds of a peer at a moment: at each of them all answers before it are out, and the adapter has not closed the peer.
+pub data AreFed (now peer : ℕ) : PeerState → PeerState → Type 0 where
+  None_fed : {d : PeerState} → AreFed now peer d d
+  One_more_fed : {old d new : PeerState} → AreFed now peer old d → d.outbox ≡ [] → d.closed ≡ None
+      → IsFlushed (fed_once now peer d) new → AreFed now peer old new
+
+-- When a byte came last, after bytes that came at a moment.
+abbrev pub last_byte_after : ℕ → List ℕ → ℕ → ℕ
+last_byte_after now [] last_byte_at = last_byte_at
+last_byte_after now (byte ∷ bytes) last_byte_at = now
+
+-- Where nothing waits to be fed one read is made, of 4,096 bytes at most; what came waits to be fed.
+pub record IsFetched (now : ℕ) (old new : PeerState) : Type 0 where
+  pub received : List ℕ
+  pub few : length received ≤ 4096
+  pub only : old.inbox ≢ [] → received ≡ []
+  pub read : Consumes old.left new.left received
+  pub inbox : new.inbox ≡ old.inbox ++ received
+  pub adapter : new.adapter ≡ old.adapter
+  pub outbox : new.outbox ≡ old.outbox
+  pub closed : new.closed ≡ old.closed
+  pub last_byte_at : new.last_byte_at ≡ last_byte_after now received old.last_byte_at
+  pub written : new.written ≡ old.written
+  pub reads : old.inbox ≡ [] → new.counts.reads ≡ one_more old.counts.reads
+  pub no_read : old.inbox ≢ [] → new.counts.reads ≡ old.counts.reads
+
+-- What waits to be fed, or came, is fed.
+pub record IsServed (now peer : ℕ) (old new : PeerState) : Type 0 where
+  pub between : PeerState
+  pub fetched : IsFetched now old between
+  pub fed : AreFed now peer between new
+
+-- One read of a peer that the adapter closed is thrown away, and with it what waited to be fed.
+pub record IsDiscarded (old new : PeerState) : Type 0 where
+  pub received : List ℕ
+  pub read : Consumes old.left new.left received
+  pub same : new ≡ record old { inbox = []; left = new.left; counts = new.counts }
+  pub reads : new.counts.reads ≡ one_more old.counts.reads
+
+-- A turn: what waits of an answer is written first. While some of it waits nothing else is done.
+pub record IsTurn (now peer : ℕ) (old new : PeerState) : Type 0 where
+  pub between : PeerState
+  pub flushed : IsFlushed old between
+  pub waits : between.outbox ≢ [] → new ≡ between
+  pub served : between.outbox ≡ [] → between.closed ≡ None → IsServed now peer between new
+  pub discarded : between.outbox ≡ [] → between.closed ≢ None → IsDiscarded between new
+
+-- What a turn came to: where more may have come all that was read is fed, unless the adapter closed the peer.
+abbrev pub FitsBuffers : PeerState → Turn → Type 0
+FitsBuffers d More = (d.outbox ≡ []) × (d.closed ≡ None → d.inbox ≡ [])
+FitsBuffers d UntilReadable = (d.outbox ≡ []) × (d.inbox ≡ [])
+FitsBuffers d UntilWritable = d.outbox ≢ []
+FitsBuffers d Finished = ⊤
+
+-- What a turn comes to by a read of it, once all that came is fed. Where nothing more has come the system is waited
+-- for, but not where it has reported the end of the stream: it does so once.
+abbrev pub turn_after : ReadOutcome → Bool → Turn
+turn_after (Bytes size) end_reported = More
+turn_after (Drained size) false = UntilReadable
+turn_after (Drained size) true = More
+turn_after WouldBlock end_reported = UntilReadable
+turn_after End end_reported = Finished
+turn_after Failed end_reported = Finished
+
+-- No call of the wire had to wait, and none was at its end or failed.
+abbrev pub IsThrough : WireCounts → WireCounts → Type 0
+IsThrough old new = (new.waits ≡ old.waits) × (new.ends ≡ old.ends)
+
+-- The same, and no read said that nothing more had come.
+abbrev pub GoesOn : WireCounts → WireCounts → Type 0
+GoesOn old new = (new.drained ≡ old.drained) × (new.waits ≡ old.waits) × (new.ends ≡ old.ends)
+
+-- What a turn came to, by how the calls of the wire went. Where more may have come none of them had to wait, and no
+-- read said that nothing more had come, unless the end of the stream was reported or the adapter closed the peer. Where
+-- the wire is waited for until it can be read, one read said that nothing more had come, and where the end of the
+-- stream was reported it had to wait. Where it is waited for until it can be written, one call had to wait. Where the
+-- stream is over one of them was at its end or failed.
+abbrev pub FitsCounts : Bool → Option ℕ → Turn → WireCounts → WireCounts → Type 0
+FitsCounts end_reported closed More old new =
+    IsThrough old new × (end_reported ≡ false → closed ≡ None → new.drained ≡ old.drained)
+FitsCounts end_reported closed UntilReadable old new = (new.drained ≡ one_more old.drained) × (new.ends ≡ old.ends)
+    × (end_reported ≡ true → new.waits ≡ one_more old.waits)
+FitsCounts end_reported closed UntilWritable old new = (new.waits ≡ one_more old.waits) × (new.ends ≡ old.ends)
+FitsCounts end_reported closed Finished old new = (new.waits ≡ old.waits) × (new.ends ≡ one_more old.ends)
+
+-- A turn that ends with writes: the adapter closed the peer, an answer is not out, or a write failed.
+abbrev pub IsCutShort : Option ℕ → Turn → WireCounts → WireCounts → Type 0
+IsCutShort closed More old new = (closed ≢ None) × (new.waits ≡ old.waits) × (new.ends ≡ old.ends)
+IsCutShort closed UntilReadable old new = ⊥
+IsCutShort closed UntilWritable old new = (new.waits ≡ one_more old.waits) × (new.ends ≡ old.ends)
+IsCutShort closed Finished old new = (new.waits ≡ old.waits) × (new.ends ≡ one_more old.ends)
+
+-- A turn that ends before a read is made: an answer is not out, or a write failed.
+abbrev pub IsWaiting : Turn → Type 0
+IsWaiting More = ⊥
+IsWaiting UntilReadable = ⊥
+IsWaiting UntilWritable = ⊤
+IsWaiting Finished = ⊤
+
+-- What a turn comes to by a read.
+abbrev pub IsByRead : Turn → Type 0
+IsByRead More = ⊤
+IsByRead UntilReadable = ⊤
+IsByRead UntilWritable = ⊥
+IsByRead Finished = ⊤

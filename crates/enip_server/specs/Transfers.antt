@@ -1,0 +1,41 @@
+-- What calls of the adapter do to one peer's desk, whoever they are for.
+use Rattle.std.specs.Prelude.{ℕ, ◌≡◌, ◌≢◌, ◌==◌, ⊤, List, [], ◌∷◌, ◌++◌, if◌then◌else◌, None}
+use Rattle.std.specs.Io.KnownBytes.{Appends, Consumes}
+use Rattle.enip_adapter.specs.Calls.{AdapterState, Call, call_answer, after_call}
+use Rattle.enip_adapter.specs.Calls.Call.{Begins_peer, Feeds, Ends_peer, Ticks}
+use Rattle.enip_adapter.specs.Runs.{after_calls, taken_by_calls}
+use Rattle.enip_adapter.specs.Serving.{output_bytes}
+use Rattle.enip_server.specs.PeerStates.{PeerState}
+
+-- The bytes that a call sends to a peer.
+abbrev pub sent_by_call : ℕ → AdapterState → Call → List ℕ
+sent_by_call peer a Begins_peer = []
+sent_by_call peer a (Feeds now other piece) =
+    if other == peer then output_bytes (call_answer a (Feeds now other piece)).output else []
+sent_by_call peer a (Ends_peer other) = []
+sent_by_call peer a (Ticks now) = []
+
+-- The bytes that calls send to a peer, joined.
+abbrev pub sent_by_calls : ℕ → AdapterState → List Call → List ℕ
+sent_by_calls peer a [] = []
+sent_by_calls peer a (call ∷ calls) = sent_by_call peer a call ++ sent_by_calls peer (after_call a call) calls
+
+-- Nothing is lost and nothing is mixed up: these calls were made, these bytes came of the peer's wire, and these went
+-- out. What waited and came is what the calls took of this peer, and what waits now; what waited and what the calls sent
+-- to it is what went out, and what waits now. Of a peer that the adapter closed nothing more is taken.
+pub record Transfers (peer : ℕ) (calls : List Call) (received gone : List ℕ) (old new : PeerState) : Type 0 where
+  pub adapter : new.adapter ≡ after_calls old.adapter calls
+  pub read : Consumes old.left new.left received
+  pub written : Appends old.written new.written gone
+  pub sent : old.outbox ++ sent_by_calls peer old.adapter calls ≡ gone ++ new.outbox
+  pub rest : List ℕ
+  pub taken : old.inbox ++ received ≡ taken_by_calls peer old.adapter calls ++ rest
+  pub waits : new.closed ≡ None → rest ≡ new.inbox
+  pub closed : old.closed ≢ None → (new.closed ≢ None) × (taken_by_calls peer old.adapter calls ≡ [])
+
+-- A call that does not end this peer.
+abbrev pub GoesOnWith : ℕ → Call → Type 0
+GoesOnWith peer Begins_peer = ⊤
+GoesOnWith peer (Feeds now other piece) = ⊤
+GoesOnWith peer (Ends_peer other) = other ≢ peer
+GoesOnWith peer (Ticks now) = ⊤

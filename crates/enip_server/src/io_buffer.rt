@@ -1,0 +1,99 @@
+//! Bytes that wait.
+
+ghost use Rattle.std.specs.Prelude.{◌≡◌, ◌≤◌, ◌==◌, [], length, take, drop};
+ghost use Rattle.std.specs.Io.KnownBytes.{Consumes};
+ghost use Rattle.enip_server.specs.Wires.{AreReadBy, after_read};
+
+use crate::wire::{ReadOutcome, Wire};
+use std::marker::Model;
+
+/// The most bytes that wait, and the most of a read (ours).
+pub const IO_BUFFER_SIZE: usize = 4_096;
+
+/// Bytes that wait, in the order in which they came.
+#[derive(Drop)]
+pub(crate) struct IoBuffer {
+    start: usize,
+    end: usize,
+    block: [u8; IO_BUFFER_SIZE],
+}
+
+impl Model for IoBuffer {
+    ghost use Rattle.std.specs.Prelude.{ℕ, List, ◌≤◌, take, drop};
+
+    ghost Value = { List ℕ };
+
+    ghost view = { λ s. drop s.start (take s.end s.block) };
+
+    ghost invariant = { λ s. (s.start ≤ s.end) × (s.end ≤ 4096) };
+}
+
+impl IoBuffer {
+    /// Nothing waits.
+    pub(crate) fn new() -> IoBuffer
+        ensures { result ≡ [] }
+    {
+        IoBuffer {
+            start: 0,
+            end: 0,
+            block: [0; IO_BUFFER_SIZE],
+        }
+    }
+
+    /// Whether nothing waits.
+    pub(crate) fn is_empty(&self) -> bool
+        ensures { result ≡ (length self.now == 0) }
+    {
+        self.start == self.end
+    }
+
+    /// The bytes that wait.
+    pub(crate) fn as_slice(&self) -> &[u8]
+        ensures { result.now ≡ self.now }
+    {
+        &self.block[self.start..self.end]
+    }
+
+    /// So many bytes from the front wait no longer.
+    pub(crate) fn drop_front(&mut self, size: usize)
+        requires { size ≤ length self.old }
+        ensures { self.new ≡ drop size self.old }
+    {
+        self.start += size;
+    }
+
+    /// Nothing waits any longer.
+    pub(crate) fn clear(&mut self)
+        ensures { self.new ≡ [] }
+    {
+        self.start = 0;
+        self.end = 0;
+    }
+
+    /// These bytes wait, and no others.
+    pub(crate) fn put(&mut self, text: &[u8])
+        requires { length text.now ≤ IO_BUFFER_SIZE }
+        ensures { self.new ≡ text.now }
+    {
+        self.block[..text.len()].copy_from_slice(text);
+        self.start = 0;
+        self.end = text.len();
+    }
+
+    /// What one read of a wire gives waits, and nothing else.
+    pub(crate) fn fill<W: Wire>(&mut self, wire: &mut W) -> ReadOutcome
+        ensures read { Consumes (W.left wire.old) (W.left wire.new) self.new }
+        ensures bytes { AreReadBy result self.new }
+        ensures few { length self.new ≤ IO_BUFFER_SIZE }
+        ensures written { W.written wire.new ≡ W.written wire.old }
+        ensures counts { W.counts wire.new ≡ after_read result (W.counts wire.old) }
+    {
+        let received = wire.read(&mut self.block);
+        self.start = 0;
+        self.end = match received {
+            ReadOutcome::Bytes(size) | ReadOutcome::Drained(size) => size,
+            ReadOutcome::WouldBlock | ReadOutcome::End | ReadOutcome::Failed => 0,
+        };
+        received
+    }
+}

@@ -1,0 +1,259 @@
+//! A peer's line, and its turn.
+//! Text: docs/PROGRAM.md, "`enip serve`".
+
+ghost use Rattle.std.specs.Prelude.{◌≡◌, ◌≢◌, ◌≤◌, ◌<◌, [], length, Some, None, true, false, IfSome, IfNone, IfErr, IfOk};
+ghost use Rattle.enip_adapter.specs.Calls.{AdapterState};
+ghost use Rattle.enip_server.specs.Rounds.{timeout_at, IsServedPeer, TakesTurn};
+ghost use Rattle.enip_server.specs.PeerStates.{peer_state_of, fed_once, IsFlushed, AreFed, IsDiscarded, IsTurn, FitsBuffers, FitsCounts, IsWaiting};
+ghost use Rattle.enip_server.specs.PeerStates.{IsFetched, IsByRead, IsThrough, GoesOn, IsCutShort, turn_after};
+
+use crate::io_buffer::IoBuffer;
+use crate::wire::{ReadOutcome, Wire};
+use enip_adapter::{Adapter, Peer};
+
+/// How long a peer that the adapter closed is still read, in microseconds, so that its answer is not lost (ours).
+pub const LINGER: u64 = 1_000_000;
+
+/// What a turn came to.
+#[derive(Clone, Copy, PartialEq, Eq)]
+pub(crate) enum Turn {
+    /// More may have come.
+    More,
+    /// Nothing more has come: the wire is waited for until it can be read.
+    UntilReadable,
+    /// An answer is not out: the wire is waited for until it can be written.
+    UntilWritable,
+    /// The stream is at its end, or a call failed.
+    Finished,
+}
+
+impl Turn {
+    /// What a turn comes to by a read of it, once all that came is fed. `end_reported` says that the system has reported the
+    /// end of the stream: it does so once, so that is read on to.
+    fn after(received: ReadOutcome, end_reported: bool) -> Turn
+        ensures { result ≡ turn_after received end_reported }
+    {
+        match received {
+            ReadOutcome::Bytes(_) => Turn::More,
+            ReadOutcome::Drained(_) if end_reported => Turn::More,
+            ReadOutcome::Drained(_) | ReadOutcome::WouldBlock => Turn::UntilReadable,
+            ReadOutcome::End | ReadOutcome::Failed => Turn::Finished,
+        }
+    }
+}
+
+/// A peer that holds a place: its wire, and what waits on it.
+#[derive(Drop)]
+pub(crate) struct PeerIo<W> {
+    pub(crate) peer: Peer,
+    pub(crate) wire: W,
+    /// Whether the wire may be ready.
+    pub(crate) ready: bool,
+    /// Whether the system has reported the end of the stream, which it does once.
+    pub(crate) end_reported: bool,
+    /// The moment at which a byte came last, or at which it began.
+    last_byte_at: u64,
+    /// Where the adapter closed the peer, the moment up to which it is still read.
+    closed: Option<u64>,
+    /// What was read and not fed.
+    inbox: IoBuffer,
+    /// What of an answer is not out.
+    outbox: IoBuffer,
+}
+
+impl<W: Wire> PeerIo<W> {
+    /// A peer's line at its beginning, at a moment.
+    pub(crate) fn new(peer: Peer, wire: W, now: u64) -> PeerIo<W>
+        ensures { result ≡ record {
+          peer = peer;
+          wire = wire;
+          ready = true;
+          end_reported = false;
+          last_byte_at = now;
+          closed = None;
+          inbox = [];
+          outbox = [];
+        } }
+    {
+        PeerIo {
+            peer,
+            wire,
+            ready: true,
+            end_reported: false,
+            last_byte_at: now,
+            closed: None,
+            inbox: IoBuffer::new(),
+            outbox: IoBuffer::new(),
+        }
+    }
+
+    /// The moment at which the peer is ended if nothing comes of it, where silence may last so long.
+    pub(crate) fn timeout_at(&self, idle_timeout: u64) -> u64
+        ensures { result ≡ timeout_at idle_timeout self.now }
+    {
+        let silent = self.last_byte_at.saturating_add(idle_timeout);
+        match self.closed {
+            Some(last) => last.min(silent),
+            None => silent,
+        }
+    }
+
+    /// Gives the peer a turn if its wire may be ready. Answers whether it goes on: it does not where it was silent for
+    /// too long, or its stream is over.
+    pub(crate) fn serve(&mut self, adapter: &mut Adapter, now: u64, idle_timeout: u64) -> bool
+        ensures { IsServedPeer W.left W.written W.counts now idle_timeout adapter.old self.old adapter.new self.new result }
+    {
+        if now >= self.timeout_at(idle_timeout) {
+            return false;
+        }
+        if !self.ready {
+            return true;
+        }
+        self.take_turn(adapter, now)
+    }
+
+    /// Has one turn. Answers whether the stream goes on.
+    fn take_turn(&mut self, adapter: &mut Adapter, now: u64) -> bool
+        ensures { TakesTurn W.left W.written W.counts now adapter.old self.old adapter.new self.new result }
+    {
+        let turn = self.turn(adapter, now);
+        self.ready = turn == Turn::More;
+        turn != Turn::Finished
+    }
+
+    /// One turn: what waits of an answer is written, and once all of it is out a read is made and fed.
+    fn turn(&mut self, adapter: &mut Adapter, now: u64) -> Turn
+        ensures turn { IsTurn now self.old.peer (peer_state_of W.left W.written W.counts adapter.old self.old)
+            (peer_state_of W.left W.written W.counts adapter.new self.new) }
+        ensures fits_buffers { FitsBuffers (peer_state_of W.left W.written W.counts adapter.new self.new) result }
+        ensures fits_counts { FitsCounts self.old.end_reported self.new.closed result (W.counts self.old.wire) (W.counts self.new.wire) }
+        ensures peer { self.new.peer ≡ self.old.peer }
+        ensures end_reported { self.new.end_reported ≡ self.old.end_reported }
+    {
+        if let Some(waits) = self.flush() {
+            return waits;
+        }
+        if self.closed.is_some() {
+            return self.discard_input();
+        }
+        let turn = self.fetch(now);
+        if self.inbox.is_empty() {
+            return turn;
+        }
+        if let Some(cut_short) = self.feed_all(adapter, now) {
+            return cut_short;
+        }
+        turn
+    }
+
+    /// Reads once, where nothing waits to be fed. Answers what the turn comes to once all that waits then is fed.
+    fn fetch(&mut self, now: u64) -> Turn
+        ensures fetched { (adapter : AdapterState) → IsFetched now (peer_state_of W.left W.written W.counts adapter self.old)
+            (peer_state_of W.left W.written W.counts adapter self.new) }
+        ensures by_read { IsByRead result }
+        ensures some { self.new.inbox ≢ [] → IsThrough (W.counts self.old.wire) (W.counts self.new.wire) }
+        ensures fits_counts { FitsCounts self.old.end_reported None result (W.counts self.old.wire) (W.counts self.new.wire) }
+        ensures peer { self.new.peer ≡ self.old.peer }
+        ensures end_reported { self.new.end_reported ≡ self.old.end_reported }
+        ensures outbox { self.new.outbox ≡ self.old.outbox }
+        ensures closed { self.new.closed ≡ self.old.closed }
+    {
+        if !self.inbox.is_empty() {
+            return Turn::More;
+        }
+        let received = self.inbox.fill(&mut self.wire);
+        if let ReadOutcome::Bytes(_) | ReadOutcome::Drained(_) = received {
+            self.last_byte_at = now;
+        }
+        Turn::after(received, self.end_reported)
+    }
+
+    /// Feeds what was read, frame by frame. Answers `None` where nothing is left, and what the turn came to where an
+    /// answer is not out, or the adapter closed the peer.
+    fn feed_all(&mut self, adapter: &mut Adapter, now: u64) -> Option<Turn>
+        requires out { self.old.outbox ≡ [] }
+        requires open { self.old.closed ≡ None }
+        ensures fed { AreFed now self.old.peer (peer_state_of W.left W.written W.counts adapter.old self.old)
+            (peer_state_of W.left W.written W.counts adapter.new self.new) }
+        ensures out { IfNone result ((self.new.outbox ≡ []) × (self.new.inbox ≡ [])) }
+        ensures fits_buffers { IfSome result (FitsBuffers (peer_state_of W.left W.written W.counts adapter.new self.new)) }
+        ensures goes_on { IfNone result (GoesOn (W.counts self.old.wire) (W.counts self.new.wire)) }
+        ensures fits_counts { IfSome result (λ turn.
+            IsCutShort self.new.closed turn (W.counts self.old.wire) (W.counts self.new.wire)) }
+        ensures peer { self.new.peer ≡ self.old.peer }
+        ensures end_reported { self.new.end_reported ≡ self.old.end_reported }
+    {
+        while !self.inbox.is_empty() {
+            self.feed_once(adapter, now);
+            if let Some(unsent) = self.flush() {
+                return Some(unsent);
+            }
+            if self.closed.is_some() {
+                return Some(Turn::More);
+            }
+        }
+        None
+    }
+
+    /// Feeds what was read up to the end of one frame. What answers it waits to be written.
+    fn feed_once(&mut self, adapter: &mut Adapter, now: u64)
+        requires out { self.old.outbox ≡ [] }
+        requires open { self.old.closed ≡ None }
+        ensures fed { peer_state_of W.left W.written W.counts adapter.new self.new
+            ≡ fed_once now self.old.peer (peer_state_of W.left W.written W.counts adapter.old self.old) }
+        ensures peer { self.new.peer ≡ self.old.peer }
+        ensures end_reported { self.new.end_reported ≡ self.old.end_reported }
+        ensures progress { 0 < length self.old.inbox → self.new.closed ≡ None →
+            length self.new.inbox < length self.old.inbox }
+    {
+        let fed = adapter.feed(now, &self.peer, self.inbox.as_slice());
+        let (taken, close) = (fed.taken, fed.close);
+        if let Some(frame) = fed.answer {
+            self.outbox.put(frame);
+        }
+        self.inbox.drop_front(taken);
+        if close {
+            self.closed = Some(now.saturating_add(LINGER));
+        }
+    }
+
+    /// Writes what waits of an answer. Answers `None` where all of it is out.
+    fn flush(&mut self) -> Option<Turn>
+        ensures flushed { (adapter : AdapterState) → IsFlushed (peer_state_of W.left W.written W.counts adapter self.old)
+            (peer_state_of W.left W.written W.counts adapter self.new) }
+        ensures out { IfNone result (self.new.outbox ≡ []) }
+        ensures waits { IfSome result (λ turn. (self.new.outbox ≢ []) × IsWaiting turn) }
+        ensures goes_on { IfNone result (GoesOn (W.counts self.old.wire) (W.counts self.new.wire)) }
+        ensures fits_counts { IfSome result (λ turn.
+            IsCutShort self.new.closed turn (W.counts self.old.wire) (W.counts self.new.wire)) }
+        ensures peer { self.new.peer ≡ self.old.peer }
+        ensures end_reported { self.new.end_reported ≡ self.old.end_reported }
+        ensures inbox { self.new.inbox ≡ self.old.inbox }
+        ensures closed { self.new.closed ≡ self.old.closed }
+    {
+        while !self.outbox.is_empty() {
+            match self.wire.write(self.outbox.as_slice()) {
+                None => return Some(Turn::Finished),
+                Some(0) => return Some(Turn::UntilWritable),
+                Some(size) => self.outbox.drop_front(size),
+            }
+        }
+        None
+    }
+
+    /// Reads once of a peer that the adapter closed, and throws it away; what is written to it is at its end.
+    fn discard_input(&mut self) -> Turn
+        requires out { self.old.outbox ≡ [] }
+        ensures discarded { (adapter : AdapterState) → IsDiscarded (peer_state_of W.left W.written W.counts adapter self.old)
+            (peer_state_of W.left W.written W.counts adapter self.new) }
+        ensures fits_buffers { (adapter : AdapterState) → FitsBuffers (peer_state_of W.left W.written W.counts adapter self.new) result }
+        ensures fits_counts { FitsCounts self.old.end_reported self.new.closed result (W.counts self.old.wire) (W.counts self.new.wire) }
+        ensures peer { self.new.peer ≡ self.old.peer }
+        ensures end_reported { self.new.end_reported ≡ self.old.end_reported }
+    {
+        self.wire.shut();
+        let received = self.inbox.fill(&mut self.wire);
+        self.inbox.clear();
+        Turn::after(received, self.end_reported)
+    }
+}
