@@ -11,15 +11,15 @@ use test_fixtures::adapter::{REGISTER, REGISTERED, new_adapter};
 fn serve_ready<W: Wire + Drop>(
     peers: &mut Peers<W>,
     now: u64,
-    came: Option<W>,
+    accepted: Option<W>,
     ready: &[usize],
 ) -> Option<u64> {
-    if let Some(wire) = came {
-        // where no place is free the wire is dropped, which closes it
+    if let Some(wire) = accepted {
+        // if no slot is free, the wire is dropped, which closes it
         let _ = peers.add(now, wire);
     }
-    for place in ready {
-        peers.mark_ready(*place, false);
+    for slot in ready {
+        peers.mark_ready(*slot, false);
     }
     let end = peers.round(now);
     if end.ready { Some(now) } else { end.next }
