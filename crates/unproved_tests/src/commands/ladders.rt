@@ -15,7 +15,7 @@ const HEAD: &str =
     "            client                                 wire                               adapter\n";
 
 /// The last line.
-const SAME: &str = "both worlds show the same: what a world without counts or kept replies shows\n";
+const SAME: &str = "same result as in a world without sequence counts or kept replies\n";
 
 /// Draws a script with the demo device.
 fn drawn(alloc: Global, script: &str) -> Result<String, Fail> {
