@@ -104,7 +104,7 @@ const AFTER: [(&[u8], &[u8]); 2] = [(GET, REPLY_TOO_LARGE), (OPEN_CONNECTED, NOT
 
 /// A session with a large connection.
 fn check_session<A: Abort>(rt: &A, adapter: &mut Adapter) -> Result<(), Fail> {
-    let peer = adapter.begin().ok().ok_or("a place is free")?;
+    let peer = adapter.begin().ok().ok_or("a slot is free")?;
     check_answered(rt, adapter, &peer, REGISTER);
     check(rt, adapter, &peer, &BEFORE);
     check_data(rt, answer(adapter, &peer, GET_CONNECTED).unwrap_or(&[]));

@@ -82,7 +82,7 @@ fn check_end<A: Abort>(rt: &A, adapter: &mut Adapter, peer: Peer) {
 
 /// A session that uses all buffers: a peer, frames in pieces, a connection, a kept reply and answers.
 fn check_session<A: Abort>(rt: &A, adapter: &mut Adapter) -> Result<(), Fail> {
-    let peer = adapter.begin().ok().ok_or("a place is free")?;
+    let peer = adapter.begin().ok().ok_or("a slot is free")?;
     check_registered(rt, adapter, &peer);
     check_answered(rt, adapter, &peer, OPEN);
     check_same(rt, free(adapter), (8, 15));

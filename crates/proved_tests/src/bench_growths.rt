@@ -54,12 +54,12 @@ fn run_all(bench: &mut Bench, events: &[Event]) -> Result<(), Fail> {
         return Ok(());
     };
     if !is_as_before(bench, position) {
-        return Err(Fail::from("the events before it stand, and no other"));
+        return Err(Fail::from("exactly the events before it have happened"));
     }
     let rest = events.get(position..).ok_or("it is one of them")?;
     match all_done(bench, rest) {
         Ok(()) => Ok(()),
-        Err(_) => Err(Fail::from("the rest is done")),
+        Err(_) => Err(Fail::from("the rest is run")),
     }
 }
 

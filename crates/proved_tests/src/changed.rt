@@ -37,8 +37,8 @@ fn stays_changed<A: Abort>(
     Ok(stays(rt, client, &changed))
 }
 
-/// Feeds a reply with one byte changed. If the client ignores it, its state is unchanged and it accepts the right
-/// reply next. If the length is changed, the bytes may not be a whole frame.
+/// Feeds a reply with one byte changed. If the client ignores it, its state is unchanged, and it gets the next reply.
+/// A new client replaces it otherwise, and if the length is changed, since the bytes may not be a whole frame then.
 fn check_changed<A: Abort>(
     rt: &A,
     alloc: Global,

@@ -98,7 +98,7 @@ pub fn new_adapter(alloc: Global) -> Result<Adapter, Fail> {
 /// The same with its first peer.
 pub fn adapter_with_peer(alloc: Global) -> Result<(Adapter, Peer), Fail> {
     let mut adapter = new_adapter(alloc)?;
-    let peer = adapter.begin().ok().ok_or("a place is free")?;
+    let peer = adapter.begin().ok().ok_or("a slot is free")?;
     Ok((adapter, peer))
 }
 

@@ -148,7 +148,7 @@ pub fn compare(alloc: Global, bench: &mut Bench, rows: &[(Row, Step<'_>)]) -> Re
     for (row, step) in rows {
         let event = row.event(alloc)?;
         if done(bench, &event)? != *step {
-            return Err(Fail::from("another step is told"));
+            return Err(Fail::from("another step is reported"));
         }
     }
     Ok(())

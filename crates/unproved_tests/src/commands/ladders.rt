@@ -7,7 +7,7 @@ use enip_replay::{ReplayFailure, draw_replay};
 use std::alloc::Global;
 use std::test::Fail;
 
-/// What is printed at the end where nothing was done.
+/// What is printed at the end if nothing was executed.
 const UNTOUCHED: &str = "counter 0 100 0\nassembly 100 00000000\nclient idle\n";
 
 /// The first line.
