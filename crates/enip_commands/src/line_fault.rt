@@ -9,13 +9,13 @@ pub enum LineFault {
     #[error("expected `P HEX`, `end P` or `now N`")]
     Input,
     /// `P HEX`, but HEX is empty or not hexadecimal.
-    #[error("piece: empty or not hexadecimal (two digits per byte)")]
+    #[error("piece: empty, or not two hex digits per byte")]
     Piece,
     /// `end P`, but P is not a digit from 1 to 9.
     #[error("end: expected a peer, 1 to 9")]
     End,
     /// `now N`, but N is not a decimal number of 64 bits.
-    #[error("now: expected microseconds, 0 to 18446744073709551615")]
+    #[error("now: expected 0 to 18446744073709551615")]
     Now,
     /// The line is not one of a script.
     #[error("expected an event (see `enip replay --help`)")]
