@@ -1,24 +1,24 @@
 /*
- * The layer between C and the calls that are proved. It refuses what C may do wrong, and hands the rest on: null
- * pointers, objects that are none, ranges that are none or lie over each other. Nothing else is decided here.
+ * The layer between C and the proved calls of crates/enip_c. It refuses what a C caller can get wrong (NULL pointers,
+ * foreign handles, empty or overlapping ranges) and passes everything else on. It decides nothing else.
  */
 #include "enip.h"
 
 #include <stdlib.h>
 #include <string.h>
 
-/* What the proved calls keep of an object: its pointer, null where there is none. */
+/* What the proved calls keep of an object: a pointer to it, NULL if there is none. */
 struct kept {
     void *at;
 };
 
-enum { REFUSAL_ROOM = 511 };
+enum { REFUSAL_LENGTH = 511 };
 
 #define ADAPTER_MARK UINT64_C(0x656e69702d616461)
 #define ENDINGS_MARK UINT64_C(0x656e69702d656e64)
 #define CLIENT_MARK UINT64_C(0x656e69702d636c69)
 
-/* The mark stands behind what an allocator writes into a block that was freed. */
+/* The mark lies behind the bytes that an allocator overwrites in a freed block. */
 struct enip_adapter {
     struct kept kept;
     uint64_t spare[2];
@@ -90,31 +90,40 @@ static int is_client(const enip_client *client) {
     return client != NULL && client->mark == CLIENT_MARK;
 }
 
-/* A room for bytes and a number beside it, of a call that reads nothing else. */
-static int is_place(const void *room, size_t size, const size_t *count) {
-    return is_range(room, size) && count != NULL && are_apart(room, size, count, sizeof *count);
+/* Whether a call may write to the buffer and to *count. */
+static int is_output(const void *buffer, size_t size, const size_t *count) {
+    return is_range(buffer, size) && count != NULL && are_apart(buffer, size, count, sizeof *count);
 }
 
-/* A range to read beside them. */
-static inline int is_call(const void *bytes, size_t length, const void *room, size_t size, const void *told, size_t told_size) {
-    return is_range(bytes, length) && is_range(room, size) && told != NULL && are_apart(bytes, length, room, size)
-        && are_apart(bytes, length, told, told_size) && are_apart(room, size, told, told_size);
+/* Whether a call may read the bytes, and write to the buffer and the result. */
+static inline int is_call(const void *bytes, size_t length, const void *buffer, size_t size, const void *result,
+                          size_t result_size) {
+    return is_range(bytes, length) && is_range(buffer, size) && result != NULL && are_apart(bytes, length, buffer, size)
+        && are_apart(bytes, length, result, result_size) && are_apart(buffer, size, result, result_size);
+}
+
+/*
+ * A proved call takes the object out of `kept` while it runs and puts it back, so it needs a pointer that is not const.
+ * For a call that only reads, its contract says that the object is the same afterwards.
+ */
+static struct kept *kept_to_read(const struct kept *kept) {
+    return (struct kept *)kept;
 }
 
 const char *enip_version(void) {
     return ENIP_VERSION;
 }
 
-size_t enip_status_text(int kind, uint32_t number, char *room, size_t size) {
+size_t enip_status_text(int kind, uint32_t number, char *buffer, size_t size) {
     uint8_t text[256];
-    size_t count, shown;
-    if (kind < 0 || !is_range(room, size))
+    size_t length, shown;
+    if (kind < 0 || !is_range(buffer, size))
         return 0;
-    count = enip_core_status_text((uint32_t)kind, number, text, sizeof text);
-    shown = count < size ? count : size - 1;
-    memcpy(room, text, shown);
-    room[shown] = '\0';
-    return count;
+    length = enip_core_status_text((uint32_t)kind, number, text, sizeof text);
+    shown = length < size ? length : size - 1;
+    memcpy(buffer, text, shown);
+    buffer[shown] = '\0';
+    return length;
 }
 
 int enip_adapter_new(const char *text, size_t length, enip_adapter **adapter, enip_refusal *refusal) {
@@ -127,8 +136,9 @@ int enip_adapter_new(const char *text, size_t length, enip_adapter **adapter, en
     made->kept.at = NULL;
     status = enip_core_adapter_new(&made->kept, (const uint8_t *)text, length, &number);
     if (status == ENIP_CONFIGURATION && refusal != NULL) {
+        size_t shown = enip_core_explain((const uint8_t *)text, length, (uint8_t *)refusal->text, REFUSAL_LENGTH);
+        refusal->text[shown] = '\0';
         refusal->number = number;
-        refusal->text[enip_core_explain((const uint8_t *)text, length, (uint8_t *)refusal->text, REFUSAL_ROOM)] = '\0';
     }
     if (status != ENIP_OK) {
         free(made);
@@ -156,11 +166,11 @@ int enip_adapter_begin(enip_adapter *adapter, uint32_t *peer) {
     return (int)enip_core_adapter_begin(&adapter->kept, peer);
 }
 
-int enip_adapter_feed(enip_adapter *adapter, uint64_t now, uint32_t peer, const void *bytes, size_t length, void *room,
-                      size_t size, enip_fed *fed) {
-    if (!is_adapter(adapter) || !is_call(bytes, length, room, size, fed, sizeof *fed))
+int enip_adapter_feed(enip_adapter *adapter, uint64_t now, uint32_t peer, const void *bytes, size_t length,
+                      void *buffer, size_t size, enip_fed *fed) {
+    if (!is_adapter(adapter) || !is_call(bytes, length, buffer, size, fed, sizeof *fed))
         return ENIP_MISUSE;
-    return (int)enip_core_adapter_feed(&adapter->kept, now, peer, bytes, length, room, size, fed);
+    return (int)enip_core_adapter_feed(&adapter->kept, now, peer, bytes, length, buffer, size, fed);
 }
 
 int enip_adapter_tick(enip_adapter *adapter, uint64_t now) {
@@ -170,10 +180,10 @@ int enip_adapter_tick(enip_adapter *adapter, uint64_t now) {
     return ENIP_OK;
 }
 
-int enip_adapter_deadline(enip_adapter *adapter, uint64_t *deadline) {
+int enip_adapter_deadline(const enip_adapter *adapter, uint64_t *deadline) {
     if (!is_adapter(adapter) || deadline == NULL)
         return ENIP_MISUSE;
-    return (int)enip_core_adapter_deadline(&adapter->kept, deadline);
+    return (int)enip_core_adapter_deadline(kept_to_read(&adapter->kept), deadline);
 }
 
 int enip_adapter_end(enip_adapter *adapter, uint32_t peer) {
@@ -183,17 +193,18 @@ int enip_adapter_end(enip_adapter *adapter, uint32_t peer) {
     return ENIP_OK;
 }
 
-int enip_adapter_read(enip_adapter *adapter, uint16_t class_code, uint32_t instance, uint16_t attribute, void *room,
-                      size_t size, size_t *count) {
-    if (!is_adapter(adapter) || !is_place(room, size, count))
+int enip_adapter_read(const enip_adapter *adapter, uint16_t class_code, uint32_t instance, uint16_t attribute,
+                      void *buffer, size_t size, size_t *count) {
+    if (!is_adapter(adapter) || !is_output(buffer, size, count))
         return ENIP_MISUSE;
-    return (int)enip_core_adapter_read(&adapter->kept, class_code, instance, attribute, room, size, count);
+    return (int)enip_core_adapter_read(kept_to_read(&adapter->kept), class_code, instance, attribute, buffer, size,
+                                       count);
 }
 
-int enip_adapter_places(enip_adapter *adapter, uint16_t *peers, uint16_t *connections) {
+int enip_adapter_places(const enip_adapter *adapter, uint16_t *peers, uint16_t *connections) {
     if (!is_adapter(adapter) || peers == NULL || connections == NULL || peers == connections)
         return ENIP_MISUSE;
-    enip_core_adapter_places(&adapter->kept, peers, connections);
+    enip_core_adapter_places(kept_to_read(&adapter->kept), peers, connections);
     return ENIP_OK;
 }
 
@@ -203,10 +214,10 @@ int enip_adapter_write(enip_adapter *adapter, uint32_t instance, size_t offset, 
     return (int)enip_core_adapter_write(&adapter->kept, instance, offset, bytes, length);
 }
 
-int enip_adapter_changes(enip_adapter *adapter, uint32_t instance, uint32_t *changes) {
+int enip_adapter_changes(const enip_adapter *adapter, uint32_t instance, uint32_t *changes) {
     if (!is_adapter(adapter) || changes == NULL)
         return ENIP_MISUSE;
-    return (int)enip_core_adapter_changes(&adapter->kept, instance, changes);
+    return (int)enip_core_adapter_changes(kept_to_read(&adapter->kept), instance, changes);
 }
 
 int enip_adapter_set_status(enip_adapter *adapter, uint16_t status) {
@@ -252,17 +263,17 @@ int enip_endings_free(enip_endings *endings) {
     return ENIP_OK;
 }
 
-int enip_endings_update(enip_endings *endings, enip_adapter *adapter) {
+int enip_endings_update(enip_endings *endings, const enip_adapter *adapter) {
     if (!is_endings(endings) || !is_adapter(adapter))
         return ENIP_MISUSE;
-    enip_core_endings_update(&endings->kept, &adapter->kept);
+    enip_core_endings_update(&endings->kept, kept_to_read(&adapter->kept));
     return ENIP_OK;
 }
 
-int enip_endings_at(enip_endings *endings, size_t place, enip_ended *ended) {
+int enip_endings_at(const enip_endings *endings, size_t index, enip_ended *ended) {
     if (!is_endings(endings) || ended == NULL)
         return ENIP_MISUSE;
-    return (int)enip_core_endings_at(&endings->kept, place, ended);
+    return (int)enip_core_endings_at(kept_to_read(&endings->kept), index, ended);
 }
 
 int enip_client_new(const enip_wants *wants, enip_client **client) {
@@ -294,29 +305,29 @@ int enip_client_free(enip_client *client) {
     return ENIP_OK;
 }
 
-#define LENDS(call)                                                                                 \
-    int enip_client_##call(enip_client *client, void *room, size_t size, size_t *count) {           \
-        if (!is_client(client) || !is_place(room, size, count))                                     \
-            return ENIP_MISUSE;                                                                     \
-        return (int)enip_core_client_##call(&client->kept, room, size, count);                      \
+#define WRITES(call)                                                                        \
+    int enip_client_##call(enip_client *client, void *buffer, size_t size, size_t *count) { \
+        if (!is_client(client) || !is_output(buffer, size, count))                          \
+            return ENIP_MISUSE;                                                             \
+        return (int)enip_core_client_##call(&client->kept, buffer, size, count);            \
     }
 
-LENDS(register)
-LENDS(open)
-LENDS(resend)
-LENDS(close)
-LENDS(unregister)
+WRITES(register)
+WRITES(open)
+WRITES(resend)
+WRITES(close)
+WRITES(unregister)
 
-#define LENDS_REQUEST(call)                                                                                           \
-    int enip_client_##call(enip_client *client, const void *request, size_t length, void *room, size_t size,          \
-                           size_t *count) {                                                                           \
-        if (!is_client(client) || !is_call(request, length, room, size, count, sizeof *count))                        \
-            return ENIP_MISUSE;                                                                                       \
-        return (int)enip_core_client_##call(&client->kept, request, length, room, size, count);                       \
+#define WRITES_REQUEST(call)                                                                                   \
+    int enip_client_##call(enip_client *client, const void *request, size_t length, void *buffer, size_t size, \
+                           size_t *count) {                                                                    \
+        if (!is_client(client) || !is_call(request, length, buffer, size, count, sizeof *count))               \
+            return ENIP_MISUSE;                                                                                \
+        return (int)enip_core_client_##call(&client->kept, request, length, buffer, size, count);              \
     }
 
-LENDS_REQUEST(ask)
-LENDS_REQUEST(submit)
+WRITES_REQUEST(ask)
+WRITES_REQUEST(submit)
 
 int enip_client_give_up(enip_client *client) {
     if (!is_client(client))
@@ -324,9 +335,9 @@ int enip_client_give_up(enip_client *client) {
     return (int)enip_core_client_give_up(&client->kept);
 }
 
-int enip_client_feed(enip_client *client, const void *bytes, size_t length, void *room, size_t size,
+int enip_client_feed(enip_client *client, const void *bytes, size_t length, void *buffer, size_t size,
                      enip_heard *heard) {
-    if (!is_client(client) || !is_call(bytes, length, room, size, heard, sizeof *heard))
+    if (!is_client(client) || !is_call(bytes, length, buffer, size, heard, sizeof *heard))
         return ENIP_MISUSE;
-    return (int)enip_core_client_feed(&client->kept, bytes, length, room, size, heard);
+    return (int)enip_core_client_feed(&client->kept, bytes, length, buffer, size, heard);
 }

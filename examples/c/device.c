@@ -1,5 +1,10 @@
-/* A device with a lamp, which the first byte of assembly 100 switches. Assembly 101 counts how often 100 was written.
- * cc -std=c99 device.c -lenip -o device && ./device 44818 */
+/*
+ * A device with a lamp. The first byte of assembly 100 switches the lamp, and assembly 101 counts how often assembly
+ * 100 was written. One thread serves up to 16 clients.
+ *
+ *     cc -std=c99 device.c -lenip -o device
+ *     ./device 44818
+ */
 #define _POSIX_C_SOURCE 200809L
 #include <arpa/inet.h>
 #include <enip.h>
@@ -11,70 +16,166 @@
 #include <time.h>
 #include <unistd.h>
 
-enum { PEERS = 16 };
+enum { CLIENTS = 16, OUTPUT = 100, INPUT = 101 };
 
 static const char configuration[] =
-    "vendor = 4660\ndevice_type = 43\nproduct_code = 7\nmajor = 2\nminor = 5\nserial = 16909060\nname = \"Lamp\"\n"
-    "address = [127, 0, 0, 1]\npeers = 16\n[counter]\nlimit = 100\n"
-    "[[assembly]]\ninstance = 100\nsettable = true\nmembers = [1, 1]\n[[assembly]]\ninstance = 101\nmembers = [4]\n";
+    "vendor = 4660\n"
+    "device_type = 43\n"
+    "product_code = 7\n"
+    "major = 2\n"
+    "minor = 5\n"
+    "serial = 16909060\n"
+    "name = \"Lamp\"\n"
+    "address = [127, 0, 0, 1]\n"
+    "peers = 16\n"
+    "[counter]\n"
+    "limit = 100\n"
+    "[[assembly]]\n"
+    "instance = 100\n"
+    "settable = true\n"
+    "members = [1, 1]\n"
+    "[[assembly]]\n"
+    "instance = 101\n"
+    "members = [4]\n";
 
-static uint64_t moment(void) {
-    struct timespec now;
-    clock_gettime(CLOCK_MONOTONIC, &now);
-    return (uint64_t)now.tv_sec * 1000000u + (uint64_t)now.tv_nsec / 1000u;
+static enip_adapter *adapter;
+
+/* sockets[0] listens. Each of the others is a client, or free: its fd is -1, which poll ignores. */
+static struct pollfd sockets[1 + CLIENTS];
+
+/* The adapter's number for the client of each socket. */
+static uint32_t peers[1 + CLIENTS];
+
+/* The time in microseconds. */
+static uint64_t now(void) {
+    struct timespec time;
+    clock_gettime(CLOCK_MONOTONIC, &time);
+    return (uint64_t)time.tv_sec * 1000000 + (uint64_t)time.tv_nsec / 1000;
 }
 
-/* Serves what came of a peer; 0 where its connection is over. A client that does not read its answers is ended. */
-static int serve(enip_adapter *adapter, int fd, uint32_t peer) {
-    unsigned char bytes[4096], room[ENIP_ANSWER_ROOM];
-    ssize_t came = recv(fd, bytes, sizeof bytes, MSG_DONTWAIT);
-    size_t at = 0, rest;
-    enip_fed fed = {0, 0, 0, 0};
-    while (came > 0 && at < (size_t)came && !fed.close) {
-        rest = (size_t)came - at;
-        if (enip_adapter_feed(adapter, moment(), peer, bytes + at, rest, room, sizeof room, &fed) != ENIP_OK)
-            return 0;
-        if (fed.answer > 0 && send(fd, room, fed.answer, MSG_DONTWAIT | MSG_NOSIGNAL) != (ssize_t)fed.answer) return 0;
-        at += fed.taken;
+/* How long poll may wait, in milliseconds: until the next deadline of a connection, and no longer than a minute. */
+static int poll_timeout(void) {
+    uint64_t deadline, time = now();
+    if (enip_adapter_deadline(adapter, &deadline) != ENIP_OK || deadline > time + 60000000)
+        return 60000;
+    if (deadline <= time)
+        return 0;
+    return (int)((deadline - time) / 1000 + 1);
+}
+
+/* Opens a socket that listens at this port of 127.0.0.1. Returns -1 if that fails. */
+static int listen_at(uint16_t port) {
+    struct sockaddr_in address = {.sin_family = AF_INET, .sin_port = htons(port), .sin_addr = {htonl(INADDR_LOOPBACK)}};
+    int on = 1;
+    int fd = socket(AF_INET, SOCK_STREAM, 0);
+    if (fd < 0)
+        return -1;
+    setsockopt(fd, SOL_SOCKET, SO_REUSEADDR, &on, sizeof on);
+    if (bind(fd, (struct sockaddr *)&address, sizeof address) != 0 || listen(fd, CLIENTS) != 0)
+        return -1;
+    return fd;
+}
+
+/* Accepts a client into a free slot. */
+static void accept_client(int slot) {
+    int fd = accept(sockets[0].fd, NULL, NULL);
+    if (fd < 0)
+        return;
+    if (enip_adapter_begin(adapter, &peers[slot]) != ENIP_OK) {
+        /* The adapter has no slot or no session handle left. */
+        close(fd);
+        return;
     }
-    return (came > 0 && !fed.close) || (came < 0 && (errno == EAGAIN || errno == EINTR));
+    sockets[slot].fd = fd;
+    sockets[slot].revents = 0;
 }
 
-int main(int count, char **words) {
-    uint16_t port = (uint16_t)(count > 1 ? atoi(words[1]) : 44818);
-    struct sockaddr_in here = {.sin_family = AF_INET, .sin_port = htons(port), .sin_addr = {htonl(INADDR_LOOPBACK)}};
-    unsigned char data[2];
-    size_t size;
-    struct pollfd seats[PEERS + 1];
-    uint32_t peers[PEERS + 1], changes, seen = 0;
-    enip_adapter *adapter;
-    enip_refusal why;
-    int lamp = 0, on = 1, listener = socket(AF_INET, SOCK_STREAM, 0);
-    setsockopt(listener, SOL_SOCKET, SO_REUSEADDR, &on, sizeof on);
-    if (bind(listener, (struct sockaddr *)&here, sizeof here) || listen(listener, PEERS)) return perror("device"), 1;
-    if (enip_adapter_new(configuration, sizeof configuration - 1, &adapter, &why))
-        return fprintf(stderr, "device: %s\n", why.text), 1;
-    for (int i = 0; i <= PEERS; i++) seats[i] = (struct pollfd){i == 0 ? listener : -1, POLLIN, 0};
-    for (;;) {
-        uint64_t now = moment(), due;
-        int wait = enip_adapter_deadline(adapter, &due) != ENIP_OK ? -1 : due > now ? (int)((due - now) / 1000 + 1) : 0;
-        for (int i = seats[0].events = 0; i <= PEERS; i++) seats[0].events |= seats[i].fd < 0 ? POLLIN : 0;
-        poll(seats, PEERS + 1, wait);
-        enip_adapter_tick(adapter, moment());
-        for (int i = 1; i <= PEERS; i++) {
-            if (seats[i].fd >= 0 && seats[i].revents != 0 && !serve(adapter, seats[i].fd, peers[i])) {
-                enip_adapter_end(adapter, peers[i]);
-                close(seats[i].fd), seats[i].fd = -1;
-            } else if (seats[i].fd < 0 && (seats[0].revents & POLLIN)) {
-                seats[0].revents = 0;
-                if ((seats[i].fd = accept(listener, NULL, NULL)) >= 0)
-                    enip_adapter_begin(adapter, &peers[i]);
-            }
+static void drop_client(int slot) {
+    enip_adapter_end(adapter, peers[slot]);
+    close(sockets[slot].fd);
+    sockets[slot].fd = -1;
+}
+
+/* Passes what a client sent to the adapter, and sends the answers. Returns 0 if the client is to be dropped. */
+static int serve_client(int slot) {
+    unsigned char bytes[4096], answer[ENIP_ANSWER_ROOM];
+    ssize_t count = recv(sockets[slot].fd, bytes, sizeof bytes, MSG_DONTWAIT);
+    size_t done = 0;
+    if (count < 0)
+        return errno == EAGAIN || errno == EINTR;
+    if (count == 0)
+        return 0;
+    while (done < (size_t)count) {
+        enip_fed fed;
+        if (enip_adapter_feed(adapter, now(), peers[slot], bytes + done, (size_t)count - done, answer, sizeof answer,
+                              &fed) != ENIP_OK)
+            return 0;
+        if (fed.answer > 0) {
+            /* A client that does not read its answers is dropped, so that the others need not wait for it. */
+            ssize_t sent = send(sockets[slot].fd, answer, fed.answer, MSG_DONTWAIT | MSG_NOSIGNAL);
+            if (sent != (ssize_t)fed.answer)
+                return 0;
         }
-        if (enip_adapter_changes(adapter, 100, &changes) != ENIP_OK || changes == seen) continue;
-        enip_adapter_write(adapter, 101, 0, &changes, sizeof changes); /* least byte first, as x86-64 has it */
-        seen = changes;
-        if (enip_adapter_read(adapter, 4, 100, 3, data, sizeof data, &size) == ENIP_OK && (data[0] != 0) != lamp)
-            printf("lamp %s\n", (lamp = data[0] != 0) ? "on" : "off"), fflush(stdout);
+        if (fed.close)
+            return 0;
+        done += fed.taken;
+    }
+    return 1;
+}
+
+/* Counts what clients wrote to the output, and switches the lamp. */
+static void update_lamp(void) {
+    static uint32_t seen;
+    static int is_on;
+    uint32_t changes;
+    unsigned char output[2];
+    size_t size;
+    if (enip_adapter_changes(adapter, OUTPUT, &changes) != ENIP_OK || changes == seen)
+        return;
+    seen = changes;
+    /* On x86-64 the bytes of a number are in the order of the wire. */
+    enip_adapter_write(adapter, INPUT, 0, &changes, sizeof changes);
+    if (enip_adapter_read(adapter, 4, OUTPUT, 3, output, sizeof output, &size) != ENIP_OK)
+        return;
+    if ((output[0] != 0) != is_on) {
+        is_on = !is_on;
+        puts(is_on ? "lamp on" : "lamp off");
+        fflush(stdout);
+    }
+}
+
+int main(int count, char **arguments) {
+    enip_refusal refusal;
+    int port = count > 1 ? atoi(arguments[1]) : 44818;
+    int status = enip_adapter_new(configuration, sizeof configuration - 1, &adapter, &refusal);
+    if (status != ENIP_OK) {
+        fprintf(stderr, "device: %s\n", status == ENIP_CONFIGURATION ? refusal.text : "out of memory");
+        return 1;
+    }
+    for (int slot = 0; slot <= CLIENTS; slot++)
+        sockets[slot] = (struct pollfd){.fd = -1, .events = POLLIN};
+    sockets[0].fd = listen_at((uint16_t)port);
+    if (sockets[0].fd < 0) {
+        perror("device");
+        return 1;
+    }
+    for (;;) {
+        /* A client that finds all slots taken waits in the queue of the listening socket. */
+        int free_slot = 0;
+        for (int slot = CLIENTS; slot > 0; slot--) {
+            if (sockets[slot].fd < 0)
+                free_slot = slot;
+        }
+        sockets[0].events = free_slot > 0 ? POLLIN : 0;
+        if (poll(sockets, 1 + CLIENTS, poll_timeout()) < 0)
+            continue;
+        enip_adapter_tick(adapter, now());
+        for (int slot = 1; slot <= CLIENTS; slot++) {
+            if (sockets[slot].fd >= 0 && sockets[slot].revents != 0 && !serve_client(slot))
+                drop_client(slot);
+        }
+        if (sockets[0].revents & POLLIN)
+            accept_client(free_slot);
+        update_lamp();
     }
 }

@@ -1,8 +1,14 @@
-/* Reads a device's identity, and sets an assembly over a class 3 connection.
- * cc -std=c99 read.c -lenip -o read && ./read 127.0.0.1 44818 100 01020304 */
+/*
+ * Reads a device's identity, and sets an assembly over a class 3 connection. If no reply to the set comes within a
+ * second, it sends the same request again, up to four times, and then gives the request up.
+ *
+ *     cc -std=c99 read.c -lenip -o read
+ *     ./read 127.0.0.1 44818 100 01020304
+ */
 #define _POSIX_C_SOURCE 200809L
 #include <arpa/inet.h>
 #include <enip.h>
+#include <errno.h>
 #include <stdio.h>
 #include <stdlib.h>
 #include <string.h>
@@ -10,80 +16,165 @@
 #include <sys/time.h>
 #include <unistd.h>
 
+enum { SECONDS = 1, RESENDS = 4 };
+
+/* Get_Attributes_All of the Identity object: service, path size in words, class 1, instance 1. */
+static const unsigned char get_identity[] = {0x01, 0x02, 0x20, 0x01, 0x24, 0x01};
+
+static enip_client *client;
+static int stream;
 static unsigned char frame[ENIP_FRAME_ROOM], reply[ENIP_REPLY_ROOM];
 static size_t count;
 static enip_heard heard;
 
-static void stop(const char *what, int kind, uint32_t number) {
-    char text[160] = "";
-    enip_status_text(kind, number, text, sizeof text);
-    fprintf(stderr, "read: %s: %s\n", what, text);
+static void fail(const char *what, const char *why) {
+    fprintf(stderr, "read: %s: %s\n", what, why);
     exit(1);
 }
 
-/* Sends the frame that a call gave, and waits until something is heard. */
-static void exchange(enip_client *client, int fd, int status, const char *what) {
-    unsigned char bytes[4096];
-    if (status != ENIP_OK)
-        stop(what, ENIP_OF_CALL, (uint32_t)status);
-    if (send(fd, frame, count, MSG_NOSIGNAL) != (ssize_t)count)
-        stop(what, ENIP_OF_CALL, ENIP_ABSENT);
-    for (;;) {
-        ssize_t came = recv(fd, bytes, sizeof bytes, 0);
-        size_t at = 0;
-        if (came <= 0)
-            stop(what, ENIP_OF_CALL, ENIP_ABSENT);
-        while (at < (size_t)came) {
-            status = enip_client_feed(client, bytes + at, (size_t)came - at, reply, sizeof reply, &heard);
-            if (status != ENIP_OK)
-                stop(what, ENIP_OF_CALL, (uint32_t)status);
-            if (heard.taken == 0)
-                stop(what, ENIP_OF_CALL, ENIP_FAILED);
-            if (heard.kind == ENIP_HEARD_REFUSED)
-                stop(what, ENIP_OF_EXTENDED, heard.extended);
-            if (heard.kind != ENIP_HEARD_NOTHING && heard.general != 0)
-                stop(what, ENIP_OF_GENERAL, heard.general);
-            if (heard.kind != ENIP_HEARD_NOTHING)
-                return;
-            at += heard.taken;
-        }
-    }
+static void fail_with(const char *what, int kind, uint32_t number) {
+    char text[160] = "";
+    enip_status_text(kind, number, text, sizeof text);
+    fail(what, text);
 }
 
-int main(int words, char **word) {
-    /* Get_Attributes_All of Identity; Set_Attribute_Single of the data of an assembly */
-    static const unsigned char identity[] = {0x01, 0x02, 0x20, 0x01, 0x24, 0x01};
-    unsigned char set[512] = {0x10, 0x03, 0x20, 0x04, 0x24, 0x00, 0x30, 0x03};
-    enip_wants wants = {0x01020304, 0x00010001, 1000000, 0x1234, 1, 500, 500, 1, 3};
-    struct timeval patience = {5, 0};
-    struct sockaddr_in there = {.sin_family = AF_INET};
-    enip_client *client;
-    size_t size = 8;
-    int status, fd = socket(AF_INET, SOCK_STREAM, 0);
-    if (words != 5 || inet_pton(AF_INET, word[1], &there.sin_addr) != 1 || strlen(word[4]) > 800)
-        return fprintf(stderr, "usage: read ADDRESS PORT ASSEMBLY HEX\n"), 2;
-    there.sin_port = htons((uint16_t)atoi(word[2]));
-    setsockopt(fd, SOL_SOCKET, SO_RCVTIMEO, &patience, sizeof patience);
-    if (connect(fd, (struct sockaddr *)&there, sizeof there) != 0)
-        return perror("read"), 1;
-    if ((status = enip_client_new(&wants, &client)) != ENIP_OK)
-        stop("new", ENIP_OF_CALL, (uint32_t)status);
-    exchange(client, fd, enip_client_register(client, frame, sizeof frame, &count), "register");
-    exchange(client, fd, enip_client_ask(client, identity, sizeof identity, frame, sizeof frame, &count), "identity");
-    if (heard.reply >= 19)
-        printf("vendor %d, product code %d, name %.*s\n", reply[4] + 256 * reply[5], reply[8] + 256 * reply[9],
-               (int)reply[18] <= (int)heard.reply - 19 ? reply[18] : 0, (const char *)reply + 19);
-    set[5] = (unsigned char)atoi(word[3]);
-    for (const char *digits = word[4]; digits[0] != '\0' && digits[1] != '\0'; digits += 2) {
-        const char pair[] = {digits[0], digits[1], '\0'};
-        set[size++] = (unsigned char)strtoul(pair, NULL, 16);
+/* Sends the frame that a call wrote. status is the status of the call. */
+static void send_frame(const char *what, int status) {
+    if (status != ENIP_OK)
+        fail_with(what, ENIP_OF_CALL, (uint32_t)status);
+    if (send(stream, frame, count, MSG_NOSIGNAL) != (ssize_t)count)
+        fail(what, "the device closed the connection");
+}
+
+/* Passes a piece that came to the client. Returns 1 if the client heard what it awaits. */
+static int feed(const char *what, const unsigned char *piece, size_t size) {
+    int is_heard = 0;
+    while (size > 0) {
+        enip_heard now;
+        int status = enip_client_feed(client, piece, size, reply, sizeof reply, &now);
+        if (status != ENIP_OK)
+            fail_with(what, ENIP_OF_CALL, (uint32_t)status);
+        if (now.taken == 0)
+            fail(what, "the device sent a malformed reply");
+        if (now.kind != ENIP_HEARD_NOTHING) {
+            heard = now;
+            is_heard = 1;
+        }
+        piece += now.taken;
+        size -= now.taken;
     }
-    exchange(client, fd, enip_client_open(client, frame, sizeof frame, &count), "open");
-    exchange(client, fd, enip_client_submit(client, set, size, frame, sizeof frame, &count), "set");
-    exchange(client, fd, enip_client_close(client, frame, sizeof frame, &count), "close");
-    if (enip_client_unregister(client, frame, sizeof frame, &count) == ENIP_OK)
-        (void)!send(fd, frame, count, MSG_NOSIGNAL);
+    return is_heard;
+}
+
+/* Waits for the reply. Returns 0 if none comes in time. */
+static int receive(const char *what) {
+    unsigned char bytes[4096];
+    ssize_t size;
+    do {
+        size = recv(stream, bytes, sizeof bytes, 0);
+        if (size < 0 && (errno == EAGAIN || errno == EWOULDBLOCK))
+            return 0;
+        if (size <= 0)
+            fail(what, "the device closed the connection");
+    } while (!feed(what, bytes, (size_t)size));
+    if (heard.kind == ENIP_HEARD_REFUSED)
+        fail_with(what, ENIP_OF_EXTENDED, heard.extended);
+    if (heard.general != 0)
+        fail_with(what, ENIP_OF_GENERAL, heard.general);
+    return 1;
+}
+
+/* Sends the frame that a call wrote, and waits for the reply. */
+static void exchange(const char *what, int status) {
+    send_frame(what, status);
+    if (!receive(what))
+        fail(what, "no reply");
+}
+
+/* Submits a request on the connection, and sends it again until its reply comes. Returns 0 if it was given up. */
+static int submit(const char *what, const unsigned char *request, size_t size) {
+    send_frame(what, enip_client_submit(client, request, size, frame, sizeof frame, &count));
+    for (int resends = 0; !receive(what); resends++) {
+        if (resends == RESENDS) {
+            enip_client_give_up(client);
+            return 0;
+        }
+        send_frame(what, enip_client_resend(client, frame, sizeof frame, &count));
+    }
+    return 1;
+}
+
+static void print_identity(void) {
+    int vendor = reply[4] + 256 * reply[5];
+    int product = reply[8] + 256 * reply[9];
+    size_t length = reply[18];
+    if (heard.reply < 19 + length)
+        fail("identity", "the reply is too short");
+    printf("vendor %d, product code %d, name %.*s\n", vendor, product, (int)length, (const char *)reply + 19);
+}
+
+/* Writes Set_Attribute_Single of the data of an assembly to request, and returns its size. */
+static size_t set_request(unsigned char *request, int assembly, const char *hex) {
+    const unsigned char start[] = {0x10, 0x03, 0x20, 0x04, 0x24, (unsigned char)assembly, 0x30, 0x03};
+    size_t size = sizeof start;
+    memcpy(request, start, sizeof start);
+    for (; hex[0] != '\0' && hex[1] != '\0'; hex += 2) {
+        const char byte[] = {hex[0], hex[1], '\0'};
+        request[size] = (unsigned char)strtoul(byte, NULL, 16);
+        size++;
+    }
+    return size;
+}
+
+static void connect_to(const char *address, const char *port) {
+    struct sockaddr_in device = {.sin_family = AF_INET, .sin_port = htons((uint16_t)atoi(port))};
+    struct timeval timeout = {.tv_sec = SECONDS};
+    if (inet_pton(AF_INET, address, &device.sin_addr) != 1)
+        fail(address, "not an IPv4 address");
+    stream = socket(AF_INET, SOCK_STREAM, 0);
+    if (stream < 0 || connect(stream, (struct sockaddr *)&device, sizeof device) != 0)
+        fail(address, strerror(errno));
+    setsockopt(stream, SOL_SOCKET, SO_RCVTIMEO, &timeout, sizeof timeout);
+}
+
+int main(int argument_count, char **arguments) {
+    const enip_wants wants = {
+        .originator_vendor = 0x1234,
+        .originator_serial = 0x01020304,
+        .connection_serial = 1,
+        .t_to_o_id = 0x00010001,
+        .rpi = 1000000,
+        .timeout_multiplier = 3,
+        .o_to_t_size = 500,
+        .t_to_o_size = 500,
+        .first_count = 1,
+    };
+    unsigned char request[512];
+    size_t size;
+    int status, is_set;
+    if (argument_count != 5 || strlen(arguments[4]) > 800) {
+        fprintf(stderr, "usage: read ADDRESS PORT ASSEMBLY HEX\n");
+        return 2;
+    }
+    connect_to(arguments[1], arguments[2]);
+    status = enip_client_new(&wants, &client);
+    if (status != ENIP_OK)
+        fail_with("new", ENIP_OF_CALL, (uint32_t)status);
+
+    exchange("register", enip_client_register(client, frame, sizeof frame, &count));
+    exchange("identity",
+             enip_client_ask(client, get_identity, sizeof get_identity, frame, sizeof frame, &count));
+    print_identity();
+
+    exchange("open", enip_client_open(client, frame, sizeof frame, &count));
+    size = set_request(request, atoi(arguments[3]), arguments[4]);
+    is_set = submit("set", request, size);
+    exchange("close", enip_client_close(client, frame, sizeof frame, &count));
+    send_frame("unregister", enip_client_unregister(client, frame, sizeof frame, &count));
+    close(stream);
+    enip_client_free(client);
+    if (!is_set)
+        fail("set", "no reply: the device executed it once or not at all");
     puts("set");
-    close(fd);
-    return enip_client_free(client);
+    return 0;
 }

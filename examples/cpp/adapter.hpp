@@ -1,4 +1,4 @@
-// One owner of an adapter, C++17: it frees what it has, moves, and throws nothing.
+// A C++17 class that owns an adapter. It can be moved, not copied, and throws nothing.
 #pragma once
 #include <cstddef>
 #include <cstdint>
@@ -9,7 +9,7 @@
 
 class Adapter {
 public:
-    // None where the text is no configuration, or there is no memory: `why` has the reason.
+    // Returns nothing if the configuration is refused, with the reason in `why`, or memory runs out.
     static std::optional<Adapter> of(std::string_view configuration, enip_refusal &why) noexcept {
         enip_adapter *made = nullptr;
         if (enip_adapter_new(configuration.data(), configuration.size(), &made, &why) != ENIP_OK)
@@ -25,17 +25,18 @@ public:
     Adapter &operator=(const Adapter &) = delete;
     ~Adapter() { enip_adapter_free(made_); }
 
+    // Adds a peer, and returns its number; nothing if all slots are taken.
     std::optional<std::uint32_t> begin() noexcept {
         std::uint32_t peer = 0;
         if (enip_adapter_begin(made_, &peer) != ENIP_OK)
             return std::nullopt;
         return peer;
     }
-    // The answer stands in `answer`, which lasts until the next call.
+    // Feeds a piece of a peer's stream. `answer` is then the answer to send, until the next call.
     enip_fed feed(std::uint64_t now, std::uint32_t peer, std::string_view piece) noexcept {
         enip_fed fed = {};
-        enip_adapter_feed(made_, now, peer, piece.data(), piece.size(), room_, sizeof room_, &fed);
-        answer = std::string_view(reinterpret_cast<const char *>(room_), fed.answer);
+        enip_adapter_feed(made_, now, peer, piece.data(), piece.size(), buffer_, sizeof buffer_, &fed);
+        answer = std::string_view(reinterpret_cast<const char *>(buffer_), fed.answer);
         return fed;
     }
     void end(std::uint32_t peer) noexcept { enip_adapter_end(made_, peer); }
@@ -45,5 +46,5 @@ public:
 private:
     explicit Adapter(enip_adapter *made) noexcept : made_(made) {}
     enip_adapter *made_;
-    unsigned char room_[ENIP_ANSWER_ROOM] = {};
+    unsigned char buffer_[ENIP_ANSWER_ROOM] = {};
 };

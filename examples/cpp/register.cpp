@@ -1,4 +1,4 @@
-// A device in memory: registers a session at it, and prints the answer's bytes.
+// Makes a device in memory, registers a session, and prints the bytes of the reply.
 #include "adapter.hpp"
 #include <cstdio>
 
@@ -7,8 +7,10 @@ int main() {
     enip_refusal why = {};
     auto adapter = Adapter::of("vendor = 1\ndevice_type = 43\nproduct_code = 1\nmajor = 1\nminor = 1\nserial = 1\n"
                                "name = \"Cpp\"\naddress = [127, 0, 0, 1]\n[counter]\nlimit = 1\n"sv, why);
-    if (!adapter)
-        return std::fprintf(stderr, "register: %s\n", why.text), 1;
+    if (!adapter) {
+        std::fprintf(stderr, "register: %s\n", why.text);
+        return 1;
+    }
     auto peer = adapter->begin();
     if (!peer)
         return 1;

@@ -1,20 +1,25 @@
 /*
- * enip.h: an EtherNet/IP adapter and client for explicit messages (ODVA CIP Networks Library, Volumes 1 and 2).
+ * enip.h: an EtherNet/IP adapter and a client for explicit messages (ODVA CIP Networks Library, Volumes 1 and 2).
  *
- * Bytes and moments go in, bytes come out. No call opens a socket, reads a clock, starts a thread, waits, prints or
- * ends the program; after enip_adapter_new and enip_client_new no call takes memory.
+ * You pass bytes and times in and get bytes back. No call opens a socket, reads a clock, starts a thread, blocks,
+ * prints or ends the program. No call allocates memory, except the calls that make an object (enip_adapter_new,
+ * enip_endings_new, enip_client_new).
  *
- * An object belongs to one call at a time; two objects know nothing of each other. A call that answers another
- * status than ENIP_OK has changed nothing, neither the object nor what its pointers lead to, but where its comment
- * says otherwise.
+ * Use an object in one call at a time, also if the calls only read it. Objects share nothing: two threads may use two
+ * objects at once.
  *
- * Every call takes ENIP_MISUSE for its answer where
- *   - a pointer is null that its comment does not let be null,
- *   - an object is none of this library, or was freed,
- *   - a range of bytes to read has no byte, or over PTRDIFF_MAX,
- *   - a range to read and the room to write lie over each other.
+ * A call that returns a status other than ENIP_OK has changed nothing: neither the object nor what its pointers point
+ * to. Where a call differs, its comment says so.
  *
- * C99, and C++17. x86-64 Linux. Link with -lenip; nothing else is needed.
+ * Every call that returns a status returns ENIP_MISUSE if
+ *   - a pointer is NULL, unless its comment allows it,
+ *   - the handle was not created by this library, or was freed,
+ *   - a range of bytes to read or a buffer is empty, or a length or an offset is over PTRDIFF_MAX,
+ *   - the bytes to read, the buffer and the results (such as *count and *fed) overlap.
+ *
+ * Times are in microseconds from any start, as CLOCK_MONOTONIC gives them.
+ *
+ * C99 and C++17, x86-64 Linux. Link with -lenip. The library depends on nothing but libc.
  */
 #ifndef ENIP_H
 #define ENIP_H
@@ -34,283 +39,317 @@
 extern "C" {
 #endif
 
-/* What a call answers. */
+/* The status that a call returns. */
 enum {
-    ENIP_OK = 0,            /* it was done */
-    ENIP_MISUSE = 1,        /* it was called as it may not be */
-    ENIP_ROOM = 2,          /* the room is smaller than the call asks for */
-    ENIP_MEMORY = 3,        /* memory was refused */
-    ENIP_CONFIGURATION = 4, /* the text is no configuration of an adapter */
-    ENIP_PLACES = 5,        /* all places for peers are taken */
-    ENIP_HANDLES = 6,       /* all session handles were given out */
-    ENIP_ABSENT = 7,        /* there is no such thing */
-    ENIP_STATE = 8,         /* the call is not possible now */
-    ENIP_FAILED = 9,        /* an awaited reply had an encapsulation status: the client is over */
-    ENIP_REFUSED = 10,      /* an open or a close was refused */
-    ENIP_TOO_LONG = 11,     /* a header came whose length is over 65,511: the client is over */
-    ENIP_MALFORMED = 12,    /* an awaited reply had another shape: the client is over */
-    ENIP_REQUEST = 13,      /* the bytes are no request */
-    ENIP_WAITING = 14,      /* another request waits for its reply */
-    ENIP_LONG_REQUEST = 15, /* the request is longer than the connection's size */
+    ENIP_OK = 0,            /* success */
+    ENIP_MISUSE = 1,        /* an argument is not allowed (see above) */
+    ENIP_ROOM = 2,          /* the buffer is smaller than the call requires */
+    ENIP_MEMORY = 3,        /* out of memory */
+    ENIP_CONFIGURATION = 4, /* the configuration is refused */
+    ENIP_PLACES = 5,        /* all peer slots are taken */
+    ENIP_HANDLES = 6,       /* all session handles have been given out */
+    ENIP_ABSENT = 7,        /* it does not exist */
+    ENIP_STATE = 8,         /* the call is not possible in this state */
+    ENIP_FAILED = 9,        /* an awaited reply had a nonzero encapsulation status: the client has failed for good */
+    ENIP_REFUSED = 10,      /* the device refused an open or a close */
+    ENIP_TOO_LONG = 11,     /* a header gave a length over 65,511: the client has failed for good */
+    ENIP_MALFORMED = 12,    /* an awaited reply was malformed: the client has failed for good */
+    ENIP_REQUEST = 13,      /* the bytes are not a request */
+    ENIP_WAITING = 14,      /* another request is waiting for its reply */
+    ENIP_LONG_REQUEST = 15, /* the request is longer than the connection's size allows */
     ENIP_GIVEN_UP = 16,     /* a request was given up */
     ENIP_ABANDONED = 17,    /* 65,535 requests were submitted since the last accepted reply */
-    ENIP_WANTS = 18         /* a size that is wanted of a connection is out of its range */
+    ENIP_WANTS = 18         /* a connection size in enip_wants is out of range */
 };
 
-/* The least room for the answer of enip_adapter_feed, in bytes. */
+/* The smallest buffer for the answer of enip_adapter_feed, in bytes. */
 #define ENIP_ANSWER_ROOM 4046
 
-/* The least room for the frame of a call of a client, in bytes. */
+/* The smallest buffer for a frame of the client, in bytes. */
 #define ENIP_FRAME_ROOM 4046
 
-/* The least room for a reply of enip_client_feed, in bytes. */
+/* The smallest buffer for a reply of enip_client_feed, in bytes. */
 #define ENIP_REPLY_ROOM 65535
 
-/* The version of the library that runs, as ENIP_VERSION is that of this header. Never null, never freed. */
+/* Returns the version of the library in use; ENIP_VERSION is the version of this header. Never NULL, never freed. */
 ENIP_API const char *enip_version(void);
 
-/* Which numbers enip_status_text knows. */
+/* The kinds of numbers that enip_status_text explains. */
 enum {
-    ENIP_OF_CALL = 0,     /* ENIP_OK to ENIP_WANTS */
-    ENIP_OF_SILENCE = 1,  /* the silence of struct enip_fed, 1 to 9 */
-    ENIP_OF_GENERAL = 2,  /* general statuses of a reply, 0x00 to 0xff */
-    ENIP_OF_EXTENDED = 3, /* extended statuses of the Connection Manager, 0x0000 to 0xffff */
-    ENIP_OF_ENDING = 4    /* why a connection ended, 1 to 4 */
+    ENIP_OF_CALL = 0,     /* the status of a call: ENIP_OK to ENIP_WANTS */
+    ENIP_OF_NO_REPLY = 1, /* why a frame got no answer: ENIP_NO_REPLY_INCOMPLETE and the following */
+    ENIP_OF_GENERAL = 2,  /* the general status of a reply, 0x00 to 0xff */
+    ENIP_OF_EXTENDED = 3, /* the extended status of the Connection Manager, 0x0000 to 0xffff */
+    ENIP_OF_ENDING = 4    /* why a connection ended: ENIP_ENDED_TIMED_OUT and the following */
 };
 
 /*
- * Writes the text of a number into room, with a 0 behind it: at most size - 1 bytes of it. kind is one of ENIP_OF_CALL
- * and the others. Answers how many bytes the whole text has, 0 for a number without a text, a kind that is none, a
- * room that is null, and a size of 0 or over PTRDIFF_MAX; it writes nothing then, but for the 0 where there is room.
+ * Writes the text of a number to buffer, followed by a 0 byte. If the text does not fit, buffer gets its first
+ * size - 1 bytes. kind is one of ENIP_OF_CALL and the following.
+ * Returns the length of the whole text. Returns 0 if the number has no text, kind is unknown, buffer is NULL, or size
+ * is 0 or over PTRDIFF_MAX. In these cases nothing is written, except the 0 byte if buffer and size allow it.
  */
-ENIP_API size_t enip_status_text(int kind, uint32_t number, char *room, size_t size);
+ENIP_API size_t enip_status_text(int kind, uint32_t number, char *buffer, size_t size);
 
 /* ---- the adapter ---- */
 
 typedef struct enip_adapter enip_adapter;
 
-/* Why a text is no configuration. */
+/* Why a configuration is refused: the checks of docs/PROGRAM.md, "The configuration". There is no check 6. */
+enum {
+    ENIP_CONFIG_NAME = 1,     /* the name is longer than 32 bytes, or has a byte outside 0x20 to 0x7e */
+    ENIP_CONFIG_SIZE = 2,     /* more than 16 assemblies, or one of 0 or more than 3,900 bytes */
+    ENIP_CONFIG_MEMBERS = 3,  /* an assembly of more than 64 members, or a member of 0 bytes */
+    ENIP_CONFIG_INSTANCE = 4, /* an assembly's instance is 0 or used twice */
+    ENIP_CONFIG_LIMIT = 5,    /* the counter's value is over its limit */
+    ENIP_CONFIG_TOML = 7,     /* the text is not TOML, or not UTF-8 */
+    ENIP_CONFIG_VALUE = 8,    /* a value is missing, of another type or out of range */
+    ENIP_CONFIG_KEY = 9       /* a key is unknown */
+};
+
+/* Why enip_adapter_new refuses a configuration. */
 typedef struct enip_refusal {
-    uint32_t number; /* the check that refuses it, 1 to 9, as `enip check` prints it */
-    char text[512];  /* the line and what is wrong there, in a line; empty where memory is short or the text longer */
+    uint32_t number; /* the check that failed: one of ENIP_CONFIG_NAME and the following */
+    char text[512];  /* one line: where and what is wrong; empty if memory runs out or the line does not fit */
 } enip_refusal;
 
-/* What became of a piece of a peer's stream. */
+/* Why a frame gets no answer. */
+enum {
+    ENIP_NO_REPLY_INCOMPLETE = 1,    /* no frame is complete yet */
+    ENIP_NO_REPLY_OPTIONS = 2,       /* the frame's options are not 0 */
+    ENIP_NO_REPLY_STATUS = 3,        /* the frame's status is not 0 */
+    ENIP_NO_REPLY_NOP = 4,           /* a NOP has no reply */
+    ENIP_NO_REPLY_OTHER_SESSION = 5, /* the session is not the one that the peer registered */
+    ENIP_NO_REPLY_MALFORMED = 6,     /* the data of a SendUnitData are malformed */
+    ENIP_NO_REPLY_CONNECTION = 7,    /* the session has no such connection, or it does not accept the item */
+    ENIP_NO_REPLY_UNREGISTERED = 8,  /* an UnRegisterSession closed the peer; it has no reply */
+    ENIP_NO_REPLY_NOT_SERVED = 9     /* the peer is closed or unknown */
+};
+
+/* The result of enip_adapter_feed. */
 typedef struct enip_fed {
-    size_t taken;     /* how many bytes of the piece were taken, from its front */
-    size_t answer;    /* how many bytes of the room are to be sent to the peer, 0 where there is no answer */
-    uint32_t silence; /* why there is no answer, 1 to 9; 0 where there is one */
-    uint32_t close;   /* 1: the peer's connection is to be closed, after the answer; else 0 */
+    size_t taken;      /* the number of bytes taken from the front of the piece */
+    size_t answer;     /* the number of bytes in the buffer to send to the peer; 0 if there is no answer */
+    uint32_t no_reply; /* 0 if there is an answer; otherwise one of ENIP_NO_REPLY_INCOMPLETE and the following */
+    uint32_t close;    /* 1: send the answer, then close the peer's TCP connection; otherwise 0 */
 } enip_fed;
 
 /*
- * Makes the adapter of a configuration, a TOML text of length bytes as README and docs/PROTOCOL.md describe it. Takes
- * all memory that the adapter will ever need. *adapter is freed by enip_adapter_free.
- * ENIP_OK; ENIP_CONFIGURATION: *refusal says why, unless refusal is null; ENIP_MEMORY; ENIP_MISUSE. Where the answer
- * is not ENIP_OK *adapter is unchanged.
+ * Makes an adapter from a configuration: a TOML text of length bytes (docs/PROGRAM.md, "The configuration"). Allocates
+ * all the memory that the adapter will ever need. Free *adapter with enip_adapter_free.
+ * ENIP_OK; ENIP_CONFIGURATION: *refusal gives the reason, refusal may be NULL; ENIP_MEMORY; ENIP_MISUSE. On any status
+ * but ENIP_OK *adapter is unchanged.
  */
 ENIP_API int enip_adapter_new(const char *text, size_t length, enip_adapter **adapter, enip_refusal *refusal);
 
-/* Frees an adapter. Null is none, and nothing is done. ENIP_OK, ENIP_MISUSE. */
+/* Frees an adapter. If adapter is NULL, does nothing. ENIP_OK, ENIP_MISUSE. */
 ENIP_API int enip_adapter_free(enip_adapter *adapter);
 
 /*
- * A TCP connection begins: *peer is its number from now on, 1 to 2^32 - 1, which never comes again.
+ * Adds a peer, for a TCP connection that was accepted. *peer is its number from now on, 1 to 2^32 - 1. No number is
+ * used twice.
  * ENIP_OK, ENIP_PLACES, ENIP_HANDLES, ENIP_MISUSE.
  */
 ENIP_API int enip_adapter_begin(enip_adapter *adapter, uint32_t *peer);
 
 /*
- * Hands over a piece of a peer's stream at a moment. now is in microseconds, from any beginning; the greatest so far
- * counts, and connections whose deadline is at or before it end first. bytes has 1 byte or more. The bytes up to the
- * end of one frame are taken; the frame is served, and its answer, if any, written to room, which has ENIP_ANSWER_ROOM
- * bytes or more. Of a piece some bytes are taken, or fed->close is 1: hand the rest over in the next call.
- * A peer that is closed, ended or was never begun has fed->close 1 and nothing taken.
+ * Passes a piece of a peer's stream, 1 byte or more, that was read at the time now. The greatest time so far counts:
+ * connections whose deadline is at or before it end first. The call then takes the bytes up to the end of one frame,
+ * executes the frame, and writes its answer, if any, to buffer, whose size is at least ENIP_ANSWER_ROOM. Pass the rest
+ * of the piece in the next call. Each call takes at least one byte, unless fed->close is 1. For a peer that is closed,
+ * ended or unknown the call takes nothing, and fed->close is 1.
  * ENIP_OK, ENIP_ROOM, ENIP_MISUSE.
  */
 ENIP_API int enip_adapter_feed(enip_adapter *adapter, uint64_t now, uint32_t peer, const void *bytes, size_t length,
-                               void *room, size_t size, enip_fed *fed);
+                               void *buffer, size_t size, enip_fed *fed);
 
-/* A moment comes, in microseconds: connections whose deadline is at or before it end. ENIP_OK, ENIP_MISUSE. */
+/* Sets the time: connections whose deadline is at or before the greatest time so far end. ENIP_OK, ENIP_MISUSE. */
 ENIP_API int enip_adapter_tick(enip_adapter *adapter, uint64_t now);
 
 /*
- * The moment at which the first connection ends if no item comes on it, in microseconds: call enip_adapter_tick then.
- * ENIP_OK; ENIP_ABSENT where no connection is open; ENIP_MISUSE.
+ * Gives the earliest deadline of the open connections: call enip_adapter_tick then.
+ * ENIP_OK; ENIP_ABSENT if no connection is open; ENIP_MISUSE.
  */
-ENIP_API int enip_adapter_deadline(enip_adapter *adapter, uint64_t *deadline);
+ENIP_API int enip_adapter_deadline(const enip_adapter *adapter, uint64_t *deadline);
 
 /*
- * A peer's TCP connection is over: its session and connections end, and its place is free. A peer that is not held
- * changes nothing. ENIP_OK, ENIP_MISUSE.
+ * Removes a peer whose TCP connection is closed: its session and connections end, and its slot is free. If there is no
+ * such peer, changes nothing. ENIP_OK, ENIP_MISUSE.
  */
 ENIP_API int enip_adapter_end(enip_adapter *adapter, uint32_t peer);
 
 /*
- * The bytes of an attribute, as a peer would get them, least byte first: into room, *count of them. The data of
- * assembly N are class 4, instance N, attribute 3. An attribute has at most 4,000 bytes.
- * ENIP_OK; ENIP_ABSENT where there is no such attribute; ENIP_ROOM; ENIP_MISUSE.
+ * Reads an attribute: writes the bytes that a peer would get, least significant byte first, to buffer, and their
+ * number to *count. The data of assembly N are class 4, instance N, attribute 3. An attribute has at most 4,000 bytes.
+ * ENIP_OK; ENIP_ABSENT if there is no such attribute; ENIP_ROOM; ENIP_MISUSE.
  */
-ENIP_API int enip_adapter_read(enip_adapter *adapter, uint16_t class_code, uint32_t instance, uint16_t attribute,
-                               void *room, size_t size, size_t *count);
+ENIP_API int enip_adapter_read(const enip_adapter *adapter, uint16_t class_code, uint32_t instance, uint16_t attribute,
+                               void *buffer, size_t size, size_t *count);
 
-/* How many places are free, for peers and for class 3 connections. ENIP_OK, ENIP_MISUSE. */
-ENIP_API int enip_adapter_places(enip_adapter *adapter, uint16_t *peers, uint16_t *connections);
+/* Gives the number of free slots for peers and for class 3 connections. ENIP_OK, ENIP_MISUSE. */
+ENIP_API int enip_adapter_places(const enip_adapter *adapter, uint16_t *peers, uint16_t *connections);
 
 /*
- * The device writes length bytes, 1 or more, into the data of its own assembly from offset on, whether peers may set it
- * or not. Peers read them from now on. ENIP_OK; ENIP_ABSENT where there is no such assembly, or the bytes go past the
- * end of its data; ENIP_MISUSE.
+ * Writes length bytes, 1 or more, to the data of an assembly from offset on, whether peers may set it or not. Peers
+ * read them from now on.
+ * ENIP_OK; ENIP_ABSENT if there is no such assembly, or the bytes do not fit in its data; ENIP_MISUSE.
  */
 ENIP_API int enip_adapter_write(enip_adapter *adapter, uint32_t instance, size_t offset, const void *bytes,
                                 size_t length);
 
 /*
- * How often peers have written data of an assembly: *changes goes up by 1, and begins again at 2^32, with each such
- * request that was executed; not with one that was refused, the repeat of one, or enip_adapter_write. It begins at 0.
- * ENIP_OK; ENIP_ABSENT where there is no such assembly; ENIP_MISUSE.
+ * Gives the number of times that peers have written data of an assembly, from 0 on, modulo 2^32. Each request that
+ * was executed and wrote data counts once. A refused request, a repeat and enip_adapter_write do not count.
+ * ENIP_OK; ENIP_ABSENT if there is no such assembly; ENIP_MISUSE.
  */
-ENIP_API int enip_adapter_changes(enip_adapter *adapter, uint32_t instance, uint32_t *changes);
+ENIP_API int enip_adapter_changes(const enip_adapter *adapter, uint32_t instance, uint32_t *changes);
 
-/* The device's status (attribute 5 of Identity) is this one from now on. ENIP_OK, ENIP_MISUSE. */
+/* Sets the device's status (Identity, attribute 5). ENIP_OK, ENIP_MISUSE. */
 ENIP_API int enip_adapter_set_status(enip_adapter *adapter, uint16_t status);
 
-/* The device's state (attribute 8 of Identity, and ListIdentity) is this one from now on. ENIP_OK, ENIP_MISUSE. */
+/* Sets the device's state (Identity, attribute 8, and ListIdentity). ENIP_OK, ENIP_MISUSE. */
 ENIP_API int enip_adapter_set_state(enip_adapter *adapter, uint8_t state);
 
-/* ---- which connections of an adapter ended ---- */
+/* ---- connections of an adapter that ended ---- */
 
 typedef struct enip_endings enip_endings;
 
 /* Why a connection ended. */
 enum {
-    ENIP_ENDED_TIMED_OUT = 1, /* no item came in time */
-    ENIP_ENDED_PEER = 2,      /* enip_adapter_end was called for its peer */
-    ENIP_ENDED_SESSION = 3,   /* its peer was closed, as by UnRegisterSession */
-    ENIP_ENDED_CLOSED = 4     /* its originator asked for Forward_Close */
+    ENIP_ENDED_TIMED_OUT = 1, /* no item came before its deadline */
+    ENIP_ENDED_PEER = 2,      /* enip_adapter_end removed its peer */
+    ENIP_ENDED_SESSION = 3,   /* its session ended, for example by UnRegisterSession */
+    ENIP_ENDED_CLOSED = 4     /* its originator closed it by Forward_Close */
 };
 
 typedef struct enip_ended {
-    uint32_t connection; /* its O->T connection ID, which never comes again */
+    uint32_t connection; /* its O->T connection ID; no ID is used twice */
     uint32_t peer;       /* the peer that opened it */
-    uint32_t why;        /* one of ENIP_ENDED_TIMED_OUT and the others */
+    uint32_t why;        /* one of ENIP_ENDED_TIMED_OUT and the following */
 } enip_ended;
 
 /*
- * Makes what remembers the open connections of one adapter; none at first. Takes all memory that it will ever need.
- * *endings is freed by enip_endings_free. ENIP_OK, ENIP_MEMORY, ENIP_MISUSE.
+ * Makes an object that remembers the open connections of one adapter, none at first. Allocates all the memory that it
+ * will ever need. Free *endings with enip_endings_free. ENIP_OK, ENIP_MEMORY, ENIP_MISUSE.
  */
 ENIP_API int enip_endings_new(enip_endings **endings);
 
-/* Frees it. Null is none, and nothing is done. ENIP_OK, ENIP_MISUSE. */
+/* Frees it. If endings is NULL, does nothing. ENIP_OK, ENIP_MISUSE. */
 ENIP_API int enip_endings_free(enip_endings *endings);
 
 /*
- * Looks at the adapter, the same at each look. Those connections that were open at the last look and are open no more
- * have ended, each told once: by enip_endings_at until the next look. Look after each enip_adapter_feed, _tick and
- * _end; later looks may tell a later reason, and nothing of a connection that was opened and ended in between.
- * The adapter is unchanged. ENIP_OK, ENIP_MISUSE.
+ * Compares the open connections of the adapter with those of the last update, and lists each that has ended since for
+ * enip_endings_at, until the next update. Always pass the same adapter. Update after each enip_adapter_feed, _tick and
+ * _end. If you update less often, the list may give a later reason, and misses a connection that was opened and
+ * ended between two updates.
+ * ENIP_OK, ENIP_MISUSE.
  */
-ENIP_API int enip_endings_update(enip_endings *endings, enip_adapter *adapter);
+ENIP_API int enip_endings_update(enip_endings *endings, const enip_adapter *adapter);
 
 /*
- * The connection at a place of those that had ended at the last look, counted from 0, in the order of their opening.
- * ENIP_OK; ENIP_ABSENT where there are no more; ENIP_MISUSE.
+ * Gives entry index, counted from 0, of the connections that had ended at the last update, in the order of their
+ * opening.
+ * ENIP_OK; ENIP_ABSENT if the list has no such entry; ENIP_MISUSE.
  */
-ENIP_API int enip_endings_at(enip_endings *endings, size_t place, enip_ended *ended);
+ENIP_API int enip_endings_at(const enip_endings *endings, size_t index, enip_ended *ended);
 
 /* ---- the client ---- */
 
 typedef struct enip_client enip_client;
 
-/* What a client asks of the class 3 connection that it opens. */
+/* The class 3 connection that a client opens. */
 typedef struct enip_wants {
     uint32_t originator_serial; /* the client's serial number */
-    uint32_t t_to_o_id;         /* the connection ID with which the target sends */
-    uint32_t rpi;               /* the requested interval both ways, in microseconds */
-    uint16_t originator_vendor; /* the client's vendor */
-    uint16_t connection_serial; /* the client's number of the connection */
-    uint16_t o_to_t_size;       /* the size of an item that is sent, with its count of 2 bytes: 4 to 4,002 */
-    uint16_t t_to_o_size;       /* the same of an item that comes: 10 to 4,002 */
+    uint32_t t_to_o_id;         /* the connection ID that the target uses when it sends */
+    uint32_t rpi;               /* the requested packet interval in both directions, in microseconds */
+    uint16_t originator_vendor; /* the client's vendor ID */
+    uint16_t connection_serial; /* the client's number for the connection */
+    uint16_t o_to_t_size;       /* the size of an item sent to the target, with its count of 2 bytes: 4 to 4,002 */
+    uint16_t t_to_o_size;       /* the size of an item sent to the client, with its count of 2 bytes: 10 to 4,002 */
     uint16_t first_count;       /* the sequence count of the first request */
-    uint8_t timeout_multiplier; /* 0 to 7: the connection times out after the interval times 4 times 2 to it */
+    uint8_t timeout_multiplier; /* 0 to 7: the connection times out after rpi x 4 x 2^multiplier */
 } enip_wants;
 
-/* What was heard. */
+/* What enip_client_feed received. */
 enum {
-    ENIP_HEARD_NOTHING = 0,    /* nothing that was awaited */
+    ENIP_HEARD_NOTHING = 0,    /* nothing that the client awaits */
     ENIP_HEARD_REGISTERED = 1, /* the session is registered */
     ENIP_HEARD_OPENED = 2,     /* the connection is open */
     ENIP_HEARD_REPLY = 3,      /* the reply to an unconnected request */
-    ENIP_HEARD_ACCEPTED = 4,   /* the reply to the request that waited on the connection */
-    ENIP_HEARD_REFUSED = 5,    /* an open or a close is refused */
+    ENIP_HEARD_ACCEPTED = 4,   /* the reply to the pending request on the connection */
+    ENIP_HEARD_REFUSED = 5,    /* the device refused an open or a close */
     ENIP_HEARD_CLOSED = 6      /* the connection is closed */
 };
 
+/* The result of enip_client_feed. */
 typedef struct enip_heard {
-    size_t taken;      /* how many bytes of the piece were taken, from its front */
-    size_t reply;      /* how many bytes of the room are the reply, which begins with its service */
-    uint32_t kind;     /* one of ENIP_HEARD_NOTHING and the others */
-    uint32_t general;  /* the general status of a reply, or of what is refused, else 0 */
-    uint32_t extended; /* the first additional status word, or 0 */
+    size_t taken;      /* the number of bytes taken from the front of the piece */
+    size_t reply;      /* the number of bytes in the buffer that are the reply, which begins with its service */
+    uint32_t kind;     /* one of ENIP_HEARD_NOTHING and the following */
+    uint32_t general;  /* the general status of the reply or of the refusal, otherwise 0 */
+    uint32_t extended; /* the first word of additional status, or 0 */
 } enip_heard;
 
 /*
- * Makes a client that is not registered and has no connection. Takes all memory that it will ever need. *client is
- * freed by enip_client_free. ENIP_OK, ENIP_WANTS, ENIP_MEMORY, ENIP_MISUSE.
+ * Makes a client that has no session and no connection. Allocates all the memory that it will ever need. Free *client
+ * with enip_client_free. ENIP_OK, ENIP_WANTS, ENIP_MEMORY, ENIP_MISUSE.
  */
 ENIP_API int enip_client_new(const enip_wants *wants, enip_client **client);
 
-/* Frees a client. Null is none, and nothing is done. ENIP_OK, ENIP_MISUSE. */
+/* Frees a client. If client is NULL, does nothing. ENIP_OK, ENIP_MISUSE. */
 ENIP_API int enip_client_free(enip_client *client);
 
 /*
- * Each of the following calls writes one frame to send to room, which has ENIP_FRAME_ROOM bytes or more, *count bytes
- * of it. Each answers ENIP_FAILED, ENIP_TOO_LONG or ENIP_MALFORMED where the client is over, ENIP_STATE where it is
- * not possible now, ENIP_ROOM or ENIP_MISUSE.
+ * Each of the next seven calls writes one frame to buffer, whose size is at least ENIP_FRAME_ROOM, and its length to
+ * *count: send it. Besides ENIP_OK each returns ENIP_FAILED, ENIP_TOO_LONG or ENIP_MALFORMED once the client has failed
+ * for good, ENIP_STATE if the call is not possible in this state, ENIP_ROOM or ENIP_MISUSE.
  */
 
-/* RegisterSession. Possible once, before all else. */
-ENIP_API int enip_client_register(enip_client *client, void *room, size_t size, size_t *count);
+/* Writes the RegisterSession. Possible once, before any other frame. */
+ENIP_API int enip_client_register(enip_client *client, void *buffer, size_t size, size_t *count);
 
-/* Forward_Open. Possible once, where the session is registered and nothing is awaited. */
-ENIP_API int enip_client_open(enip_client *client, void *room, size_t size, size_t *count);
+/* Writes the Forward_Open. Possible once, when the session is registered and no reply is awaited. */
+ENIP_API int enip_client_open(enip_client *client, void *buffer, size_t size, size_t *count);
 
 /*
- * An unconnected request of 2 to 504 bytes: service, path size in words, path, data. Possible where the session is
- * registered and nothing is awaited. Also ENIP_REQUEST: another length, or a service with bit 7.
+ * Writes an unconnected request of 2 to 504 bytes: service, path size in words, path, data. Possible when the session
+ * is registered and no reply is awaited. Also ENIP_REQUEST: its length is out of range, or bit 7 of its service is set.
  */
-ENIP_API int enip_client_ask(enip_client *client, const void *request, size_t length, void *room, size_t size,
+ENIP_API int enip_client_ask(enip_client *client, const void *request, size_t length, void *buffer, size_t size,
                              size_t *count);
 
 /*
- * A request on the connection, which waits for its reply from then on. Possible where the connection is open. Also
- * ENIP_WAITING, ENIP_LONG_REQUEST, ENIP_REQUEST, ENIP_ABANDONED.
+ * Writes a request on the connection. The request is pending until its reply is accepted or enip_client_give_up.
+ * Possible when the connection is open. Also ENIP_WAITING, ENIP_LONG_REQUEST, ENIP_REQUEST, ENIP_ABANDONED.
  */
-ENIP_API int enip_client_submit(enip_client *client, const void *request, size_t length, void *room, size_t size,
+ENIP_API int enip_client_submit(enip_client *client, const void *request, size_t length, void *buffer, size_t size,
                                 size_t *count);
 
-/* The frame of the request that waits, once more: the target executes it once. ENIP_ABSENT where none waits. */
-ENIP_API int enip_client_resend(enip_client *client, void *room, size_t size, size_t *count);
+/*
+ * Writes the frame of the pending request again. If the target is this project's adapter, it executes the request once,
+ * however often the frame comes. ENIP_ABSENT if no request is pending.
+ */
+ENIP_API int enip_client_resend(enip_client *client, void *buffer, size_t size, size_t *count);
 
-/* Forward_Close. The connection is over at once. Possible where it is open and nothing is awaited. */
-ENIP_API int enip_client_close(enip_client *client, void *room, size_t size, size_t *count);
+/* Writes the Forward_Close. The connection is over at once. Possible when it is open and no reply is awaited. */
+ENIP_API int enip_client_close(enip_client *client, void *buffer, size_t size, size_t *count);
 
-/* UnRegisterSession, which has no reply. Possible where the session is registered and nothing is awaited. */
-ENIP_API int enip_client_unregister(enip_client *client, void *room, size_t size, size_t *count);
+/* Writes the UnRegisterSession, which has no reply. Possible when the session is registered and no reply is awaited. */
+ENIP_API int enip_client_unregister(enip_client *client, void *buffer, size_t size, size_t *count);
 
 /*
- * Gives the request up that waits on the connection: it is executed once or not at all, and its reply is never
- * accepted. ENIP_OK; ENIP_ABSENT where none waits; ENIP_MISUSE.
+ * Gives up the pending request on the connection: it is executed once or not at all, and its reply is never accepted.
+ * The next request can be submitted. ENIP_OK; ENIP_ABSENT if no request is pending; ENIP_MISUSE.
  */
 ENIP_API int enip_client_give_up(enip_client *client);
 
 /*
- * Hands over a piece of what came back, of 1 byte or more. The bytes up to the end of one frame are taken, and *heard
- * says what the frame told. A reply's bytes are written to room, which has ENIP_REPLY_ROOM bytes or more. Where the
- * client is over nothing is taken. ENIP_OK, ENIP_ROOM, ENIP_MISUSE.
+ * Passes a piece of what came back, 1 byte or more. The call takes the bytes up to the end of one frame and describes
+ * the frame in *heard. It writes a reply to buffer, whose size is at least ENIP_REPLY_ROOM. Once the client has failed
+ * for good, the call takes nothing.
+ * ENIP_OK, ENIP_ROOM, ENIP_MISUSE.
  */
-ENIP_API int enip_client_feed(enip_client *client, const void *bytes, size_t length, void *room, size_t size,
+ENIP_API int enip_client_feed(enip_client *client, const void *bytes, size_t length, void *buffer, size_t size,
                               enip_heard *heard);
 
 #ifdef __cplusplus

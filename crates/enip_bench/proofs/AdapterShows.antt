@@ -1,4 +1,4 @@
--- What the adapter is while a connection's items go through it, and how each event moves it.
+-- The adapter while it serves a connection's items, and how each event changes it.
 use Rattle.std.proofs.Common.{◌≡◌, ◌≢◌, ℕ, ◌<◌, ◌≤◌, ◌^◌, max, Bool, true, false, not, ◌&&◌, cond, eqb, ltb, Option, Some, None, option_map, List, [], ◌∷◌, length, refl, ap, sym, ◌∙◌, subst, arith}
 use Rattle.std.specs.Prelude.{filter}
 use Rattle.std.proofs.lemmas.Bool.{eq-eqb, lt-ltb, le-ltb}
@@ -37,7 +37,7 @@ use Rattle.enip_bench.proofs.FeedLemmas.{IsReady, IsServed, served_at, adapter-f
 use Rattle.enip_bench.proofs.NamedLemmas.{named-none, IsNamedAlone, named-alone}
 use Rattle.enip_bench.proofs.RoutedLemmas.{IsRouted, routed-objects}
 
--- what the client asked, both peers' handles, and the connection's O->T ID
+-- what the client wants, both peers' handles, and the connection's O->T ID
 pub record Wire : Type 0 where
   pub wants : Wants
   pub peer : ℕ
@@ -74,7 +74,7 @@ pub record Serves (wire : Wire) (shared : Shared) (target : TargetState) : Type 
   pub last : connection.deadline ≤ 18446744073709551615
   pub timeout : 0 < connection.timeout
 
--- it is there while it is open, and then the client has none
+-- the client has the connection while it is open, and none afterwards
 abbrev pub Connected : Wire → Shared → TargetState → Bool → Type 0
 Connected wire shared target true = Serves wire shared target
 Connected wire shared target false = of_session wire.peer shared.manager.connections ≡ []
@@ -85,7 +85,7 @@ pub record AdapterShows (wire : Wire) (a : AdapterState) (target : TargetState) 
   pub objects : a.state.shared.objects ≡ router
   pub connected : Connected wire a.state.shared target is_open
 
--- what a frame leaves that is served so
+-- the adapter after a frame with this result
 pub record IsOwnFed (a : AdapterState) (peer : ℕ) (session : Session) (f : Frame) (served : Served) : Type 0 where
   pub shared : (after_call a (Feeds 0 peer (frame f))).state.shared ≡ served.shared
   pub ready : IsReady (after_call a (Feeds 0 peer (frame f))) peer (session_after session served)
@@ -103,7 +103,7 @@ own-fed a peer session f served ready ok same stays =
       output = is.output;
     }
 
--- the other peer is as it was
+-- the other peer is unchanged
 pub other-ready : (a : AdapterState) (peer other : ℕ) (session : Session) (piece : List ℕ) → other ≢ peer →
     IsReady a peer session → IsReady (after_call a (Feeds 0 other piece)) peer session
 other-ready a peer other session piece apart ready = record {
@@ -112,7 +112,7 @@ other-ready a peer other session piece apart ready = record {
   blank = held-call peer a (Feeds 0 other piece) apart ∙ ready.blank;
 }
 
--- at moment 0 nothing ends
+-- at moment 0 no connection ends
 pub at-zero : (wire : Wire) (shared : Shared) (target : TargetState) (is_open : Bool) →
     Connected wire shared target is_open → Connected wire (at_moment shared 0) target is_open
 at-zero wire shared target true serves =
@@ -183,7 +183,7 @@ answer-same wire item c new step id same = go step.received
     go Repeated = same_bytes
     go Executed = same_bytes
 
--- the deadline moves with an item that is answered, and is still to come
+-- the deadline moves with an item that is answered, and is still in the future
 deadline-moves : (b : Bool) (timeout deadline : ℕ) → 0 < timeout → 0 < deadline → deadline ≤ 18446744073709551615 →
     (0 < cond b (deadline_at_item 0 timeout) deadline)
     × (cond b (deadline_at_item 0 timeout) deadline ≤ 18446744073709551615)
@@ -216,7 +216,7 @@ serves-item wire shared target item serves =
       timeout = serves.timeout;
     }
 
--- an item's frame at the open connection
+-- an item's frame at an open connection
 reached-connection : (wire : Wire) (a : AdapterState) (target : TargetState) (router : Contents) (item : List ℕ) →
     IsWire wire → AdapterShows wire a target router true → length item ≤ LARGEST_CONNECTION_SIZE →
     (serves : Serves wire (at_moment a.state.shared 0) target) →
@@ -258,7 +258,7 @@ reached-open wire a target router item is shows small =
     IsReached wire a item step.target step.router true (answer_to step))) shows.objects
     (reached-connection wire a target router item is shows small serves))
 
--- once it is over, nothing answers it
+-- after the connection has ended, nothing is answered
 pub reached-shut : (wire : Wire) (a : AdapterState) (target : TargetState) (router : Contents) (item : List ℕ) →
     IsWire wire → AdapterShows wire a target router false → length item ≤ LARGEST_CONNECTION_SIZE →
     IsReached wire a item target router false None
@@ -302,7 +302,7 @@ request-served shared peer number request least small =
     ∙ (ap (reply_to_body shared session f) (rr_again request (omega (arith, small)))
     ∙ otherwise (ltb (length request) 2) _ _ (le-ltb (length request) 2 least))
 
--- the connection is spared by calls for another session at moment 0
+-- calls for another session at moment 0 don't change the connection
 spared : (wire : Wire) (a : AdapterState) (piece : List ℕ) (target : TargetState) (is_open : Bool) (now : Shared) →
     wire.second ≢ wire.peer → Connected wire a.state.shared target is_open →
     now ≡ (after_call a (Feeds 0 wire.second piece)).state.shared →
@@ -355,7 +355,7 @@ asked-other wire a target router is_open request is shows least most =
           is.apart shows.connected refl (ap (λ (s : Shared). s.moment) fed.shared ∙ done.moment);
     }
 
--- the last moment ends it
+-- the last moment ends the connection
 ends : (wire : Wire) (shared : Shared) (target : TargetState) (is_open : Bool) → Connected wire shared target is_open →
     of_session wire.peer (at_moment shared LAST_MOMENT).manager.connections ≡ []
 ends wire shared target true serves =

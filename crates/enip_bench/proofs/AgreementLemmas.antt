@@ -1,4 +1,4 @@
--- From the opening, both worlds show the same.
+-- From the opening on, both worlds show the same.
 use Rattle.std.proofs.Common.{◌≡◌, ℕ, ◌≤◌, ◌<◌, ◌^◌, List, length, ap, sym, ◌∙◌}
 use Rattle.cip_class3.specs.OriginatorRule.{Idle}
 use Rattle.cip_objects.specs.Router.{IsReplyTo}

@@ -1,4 +1,4 @@
--- What is answered and accepted, request by request.
+-- The answers and the accepted replies, request by request.
 use Rattle.std.proofs.Common.{◌≡◌, ℕ, true, ◌≤◌, ◌<◌, ◌^◌, Option, Some, None, option_map, List, map, length, slice_get, refl, ap, sym, ◌∙◌, subst, subst₂}
 use Rattle.std.proofs.lemmas.Option.{same_Some, slice_get-map}
 use Rattle.cip_class3.specs.Item.{item}
@@ -31,7 +31,7 @@ module _ {M : Type 0} (after : M → ℕ → List ℕ → M) (answer : M → ℕ
     IsReplyTo request (answer router room request))
     (within : (router : M) (room : ℕ) (request : List ℕ) → 8 ≤ room → 2 ≤ length request →
     length (answer router room request) ≤ room) where
-  -- the reply that the log gives to an executed number is that of its only execution
+  -- the log's reply to an executed number is that of its only execution
   logged-reply : (first o_to_t_size t_to_o_size : ℕ) (router : M) (events : List Event) (number : ℕ) →
       is_logged number (tracked o_to_t_size events).log ≡ true →
       IsReplyOf after answer o_to_t_size t_to_o_size router events number

@@ -1,4 +1,4 @@
--- The log has the numbers that reached the open target, and no other.
+-- The log has exactly the numbers that reached the open target.
 use Rattle.std.proofs.Common.{◌≡◌, ℕ, ◌⊎◌, inl, inr, Bool, true, false, cond, ◌==◌, Option, Some, None, List, [], ◌∷◌, ◌++◌, refl, ap, sym, ◌∙◌, subst, eqb-true, eq-eqb}
 use Rattle.std.proofs.lemmas.Bool.{or_cases, or_left, or_right}
 use Rattle.std.proofs.lemmas.Option.{same_Some}
@@ -9,7 +9,7 @@ use Rattle.enip_bench.specs.NumberedWorld.{Entry, OwnRequest, OtherRequest, Numb
 use Rattle.enip_bench.specs.WorldLaws.{arrival_law}
 use Rattle.enip_bench.proofs.PlainLemmas.{stands-own, stands-other}
 
--- the log after an event: as it was, but for an arrival and another session's request
+-- the log after an event: unchanged, except by an arrival and another session's request
 submit-log : (why : Option Refused) (world : NumberedWorld) (request : List ℕ) → (after_submit why world request).log
     ≡ world.log
 submit-log None world request = refl
@@ -26,7 +26,7 @@ back-log : (found : Option ℕ) (world : NumberedWorld) (position : ℕ) → (af
 back-log None world position = refl
 back-log (Some number) world position = came-log (is_awaited world.progress number) world position number
 
--- what stands after an arrival stood before, or is the one that arrived
+-- what is in the log after an arrival was there before, or is the one that arrived
 execution-before : (log : List Entry) (own number : ℕ) (is : Bool) → stands own log ≡ is →
     stands number (cond is log (log ++ OwnRequest own ∷ [])) ≡ true → (stands number log ≡ true) ⊎ (own ≡ number)
 execution-before log own number true e is = inl is
@@ -36,7 +36,7 @@ execution-before log own number false e is =
       | inr h ↦ inl h
     ]
 
--- what stood stands after it, and so does the one that arrived
+-- what was in the log is there after it, and so is the one that arrived
 execution-after : (log : List Entry) (own number : ℕ) (is : Bool) → stands own log ≡ is →
     (stands number log ≡ true) ⊎ (own ≡ number) →
     stands number (cond is log (log ++ OwnRequest own ∷ [])) ≡ true

@@ -1,4 +1,4 @@
--- How the bench's code moves as the counting world does.
+-- The code of the bench follows the counting world.
 use Rattle.std.proofs.Common.{◌≡◌, ℕ, zero, suc, ◌+◌, ◌-◌, ◌<◌, ◌≤◌, true, cond, Option, Some, None, option_map, List, [], ◌∷◌, ◌++◌, length, take, map, slice_index_or, slice_get, Result, Ok, Err, refl, ap, ap₂, sym, ◌∙◌, subst, arith}
 use Rattle.std.proofs.Math.Seq.{take-suc}
 use Rattle.std.proofs.lemmas.List.{take-map, take_all}
@@ -47,7 +47,7 @@ other_told world request bytes adapter is framed went = record {
   result_is = sym (ap (λ b. cond b Done Impossible) is);
 }
 
--- what is put at the end is the last
+-- what is appended is the last
 pub last-push : (xs : List (ℕ × List ℕ)) (x : ℕ × List ℕ) → last_reply (xs ++ x ∷ []) ≡ x.1
 last-push [] x = refl
 last-push (y ∷ []) x = refl
@@ -147,7 +147,7 @@ sent_told world request bytes client sent position reached lent went put at =
       result_is = ap (λ p. Sends world.submits p) at ∙ sym (ap (submit_result world) is);
     }
 
--- it came of an opening still
+-- the world is still reached from an opening
 pub told_reached : (old new : CountingWorld) (event : Event) (step_kind : StepKind) → IsReached old → IsStepDone old event new step_kind →
     IsReached new
 told_reached old new event step_kind reached is = subst IsReached (sym is.world) (reached_again old event reached)
@@ -157,7 +157,7 @@ pub stepped_reached : {E : Type 0} (old new : CountingWorld) (event : Event) (r 
 stepped_reached old new event (Ok step_kind) reached is = told_reached old new event step_kind reached is
 stepped_reached old new event (Err error) reached is = subst IsReached (sym is) reached
 
--- so many of the events were done
+-- the first events, up to this number, were done
 pub record RunsTo (old : CountingWorld) (events : List EventInCode) (count : ℕ) (world : World) : Type 0 where
   pub run : world_in world ≡ counting_run old (take count (events_in events))
   pub is : IsOfOpening world
@@ -219,7 +219,7 @@ opened_so adapter one two three four five client registered opened peer second b
     ∙ ap (λ a. (let x : Result CountingWorld Setup = Ok (world_opened a opened (peer, second)) in x))
     (sym (a5 ∙ ap₂ (λ a b. after_call a (Feeds 0 second b)) a4 f)))))
 
--- the same, where nothing lies between the ends
+-- the same, with nothing between the ends
 pub opened_between : (opened : Result CountingWorld Setup) (adapter : AdapterState) (client : ClientState)
     (peers : ℕ × ℕ) (sent back : List (List ℕ)) (accepted : List (ℕ × List ℕ)) →
     opened ≡ Ok (world_opened adapter client peers) → sent ≡ [] → back ≡ [] → accepted ≡ [] →

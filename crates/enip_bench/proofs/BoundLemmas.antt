@@ -1,4 +1,4 @@
--- Where the bound on going on after giving up lies, and what one request more would do.
+-- The bound on abandoned requests, and what one more request would do.
 use Rattle.std.proofs.Common.{◌≡◌, ℕ, zero, suc, ◌+◌, ◌-◌, ◌^◌, ◌<◌, ◌≤◌, Bool, true, false, cond, Option, Some, None, option_map, List, [], ◌∷◌, ◌++◌, length, slice_get, slice_index, nat_lt, nat_le, refl, ap, ap₂, sym, ◌∙◌, arith, le-leb, eq-eqb}
 use Rattle.std.proofs.lemmas.Bool.{lt-ltb, le-ltb, ltb-false}
 use Rattle.std.proofs.lemmas.List.{length_push}
@@ -28,7 +28,7 @@ use Rattle.enip_bench.proofs.StepLemmas.{at_submit, refusal-same, repeats, is_re
 use Rattle.enip_bench.proofs.TrackedSteps.{after_submit, tracked_step, tracked_run}
 use Rattle.enip_bench.proofs.TrackedWorld.{Own, OwnLogged, Course, Resting, Abandoned, TrackedWorld, tracked_at_opening}
 
--- The form of a request is no reason of this kind.
+-- A refusal for the form is never "too many abandoned".
 formed_otherwise : (is fits : Bool) →
     cond is (cond fits None (Some refusals.TooLong)) (Some refusals.NoRequest) ≡ Some refusals.TooManyAbandoned → ⊥
 formed_otherwise true true e = absurd (cc)
@@ -63,7 +63,7 @@ bound o_to_t_size events request =
 abbrev numbered : List ℕ → ℕ → Own
 numbered request number = record { number = number; request = request }
 
--- the submits, and what was sent, once so many were given up
+-- the submits, and what was sent, after n were given up
 abbrev submitted : List ℕ → ℕ → List (List ℕ)
 submitted request zero = request ∷ []
 submitted request (suc n) = submitted request n ++ request ∷ []
@@ -76,7 +76,7 @@ abbrev course : ℕ → Course
 course zero = Resting
 course (suc n) = Abandoned
 
--- the world after an accepted reply, once so many were given up and lost
+-- the world after an accepted reply and n requests given up and lost
 abbrev abandoned_world : List ℕ → ℕ → TrackedWorld
 abandoned_world request n = record {
   submits = submitted request n;
@@ -167,7 +167,7 @@ module _ {M : Type 0} (after : M → ℕ → List ℕ → M) (answer : M → ℕ
     abbrev old_reply : List ℕ
     old_reply = answer router (t_to_o_size - 2) request
 
-    -- one request more was taken, and its number
+    -- the number of the one more request
     abbrev last : ℕ
     last = length (submitted request n)
 
@@ -185,7 +185,7 @@ module _ {M : Type 0} (after : M → ℕ → List ℕ → M) (answer : M → ℕ
     repeated : is_held (held_of after answer first t_to_o_size router beyond.log) (count_of first last) ≡ true
     repeated = eq-eqb (count_of first 0) (count_of first last) (sym same_count)
 
-    -- the first one's reply is taken for the last one's
+    -- the first one's reply is accepted as the last one's
     old_accepted : answers t_to_o_size (count_of first last) (slice_index request 0) (item (count_of first 0) old_reply)
         ≡ true
     old_accepted =
@@ -195,7 +195,7 @@ module _ {M : Type 0} (after : M → ℕ → List ℕ → M) (answer : M → ℕ
         (answered-now after answer first t_to_o_size router roomy begins within (request ∷ []) router
         (numbered request 0) refl ((has_form o_to_t_size request formed).least)) refl (omega arith) (omega arith)
 
-    -- what is seen where the target did this with it, and by whether what came of it was accepted
+    -- what is seen after this step of the target, if the answer was accepted or not
     abbrev seen_after : TargetStep M → Seen M
     seen_after step =
         items_seen (item_step after answer (with_step (record (show beyond) { last_reached = Some (n + 1) }) step)

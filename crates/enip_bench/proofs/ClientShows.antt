@@ -1,4 +1,4 @@
--- What the client is while its connection is open, and how each of its calls moves it.
+-- The client while its connection is open, and how each of its calls changes it.
 use Rattle.std.proofs.Common.{◌≡◌, ℕ, ◌≤◌, Bool, true, false, ◌&&◌, cond, eqb, Option, Some, None, option_map, List, [], length, refl, ap, sym, ◌∙◌, arith}
 use Rattle.std.proofs.lemmas.Bool.{eq-eqb}
 use Rattle.cip_bytes.specs.declared.protocol.TheConstants.{LARGEST_CONNECTION_SIZE}
@@ -13,7 +13,7 @@ use Rattle.enip_client.specs.State.{is_registered, session_in, is_open, o_to_t_i
 use Rattle.enip_bench.proofs.AdapterShows.{Wire, IsWire, frame_out, frame_back}
 use Rattle.enip_bench.proofs.FeedLemmas.{IsHeardWhole, client-fed, is_unit}
 
--- the session is registered and the connection open, nothing is awaited or held, and no fault lasts
+-- the session is registered and the connection open, nothing is awaited or held, and there is no fault
 pub record ClientShows (wire : Wire) (c : ClientState) (end : OriginatorState) : Type 0 where
   pub held : c.held ≡ []
   pub registered : is_registered c.state.registration ≡ true
@@ -62,7 +62,7 @@ pub connected : (wire : Wire) (c : ClientState) (originator : OriginatorState) �
     is_connected c.state ≡ true
 connected wire c originator shows = rw (shows.fault, shows.is_open) refl
 
--- the frame of the item that waits, if one waits
+-- the frame of the pending item, if one is pending
 pub resends-waiting : (wire : Wire) (c : ClientState) (originator : OriginatorState) → ClientShows wire c originator →
     option_map frame (resends c.state) ≡ option_map (frame_out wire) (waiting_item originator.phase)
 resends-waiting wire c originator shows =
@@ -81,7 +81,7 @@ gives-up wire c originator shows =
     ap (λ b. cond b (record c.state { originator = after_give_up c.state.originator }) c.state)
     (connected wire c originator shows)
 
--- a frame with an item of the connection, heard
+-- the client after a frame with an item of the connection
 pub record IsHeardItem (c : ClientState) (item : List ℕ) (fed : Fed) : Type 0 where
   pub client : fed.client ≡ with_originator c (after_item c.state.originator item)
   pub heard_event : fed.heard_event ≡ accepted (accepted_reply c.state.originator item)

@@ -1,4 +1,4 @@
--- A whole frame, fed at once to an end that holds no byte.
+-- A whole frame, fed at once to an end that holds no bytes.
 use Rattle.std.proofs.Common.{◌≡◌, ℕ, ◌+◌, ◌<◌, ◌≤◌, ◌^◌, Bool, true, false, cond, eqb, Some, None, List, [], ◌∷◌, length, refl, ap, sym, ◌∙◌, append-nil, arith}
 use Rattle.std.proofs.lemmas.Bool.{eq-eqb}
 use Rattle.std.proofs.lemmas.List.{take_all}
@@ -44,7 +44,7 @@ command-fits commands.UnRegisterSession = omega arith
 command-fits commands.SendRRData = omega arith
 command-fits commands.SendUnitData = omega arith
 
--- a frame of which the client's calls lend is one
+-- a frame that the client's calls lend is valid
 pub is_framed : (command : Command) (session number : ℕ) (body : List ℕ) → session < 2 ^ 32 →
     length body ≤ 65511 → IsFrame (framed command session number body)
 is_framed command session number body s l = record {
@@ -76,7 +76,7 @@ joined-frame f ok =
     = ap (bytes_taken []) (sym (append-nil (frame f))) ∙ bytes_taken-frame f [] ok in
     take_all (bytes_taken [] (frame f)) (frame f) (omega (arith, all))
 
--- what the client is and has heard after a whole frame
+-- the client after a whole frame, and what it heard
 pub record IsHeardWhole (c : ClientState) (f : Frame) (fed : Fed) : Type 0 where
   pub client : fed.client ≡ record { state = (hears c.state f).state; held = [] }
   pub heard_event : fed.heard_event ≡ (hears c.state f).heard_event
@@ -95,7 +95,7 @@ client-fed c f blank fine ok =
           ∙ ap (λ s. (hears_parsed c.state s).heard_event) (parsed-written f ok));
     }
 
--- a peer is held, and no byte of it
+-- the adapter has this peer, and holds no bytes of it
 pub record IsReady (a : AdapterState) (peer : ℕ) (session : Session) : Type 0 where
   pub found : session_of a.state peer ≡ Some session
   pub alive : session.closed ≡ false
@@ -104,11 +104,11 @@ pub record IsReady (a : AdapterState) (peer : ℕ) (session : Session) : Type 0 
 abbrev pub no_bytes : ℕ → Held
 no_bytes peer = record { peer = peer; bytes = [] }
 
--- what a frame of a session leaves at moment 0
+-- the result of a session's frame at moment 0
 abbrev pub served_at : AdapterState → Session → Frame → Served
 served_at a session f = command_served (at_moment a.state.shared 0) session f
 
--- the adapter after a whole frame, and what it says
+-- the adapter after a whole frame, and its answer
 pub record IsServed (a : AdapterState) (peer : ℕ) (session : Session) (f : Frame) (served : Served) : Type 0 where
   pub adapter : after_call a (Feeds 0 peer (frame f)) ≡ record {
     state = record a.state {
@@ -169,7 +169,7 @@ adapter-fed a peer session f ready ok =
       output = ap (λ m. (answer_of a.state m).output) meant ∙ ap (λ (t : TurnResult). t.answer.output) turn;
     }
 
--- no byte of the peer is held after it
+-- no bytes of the peer are held after it
 pub blank-again : (peer : ℕ) (held : List Held) →
     bytes_held (with_first (λ h. h.peer) peer (no_bytes peer) held) peer ≡ []
 blank-again peer [] = refl
@@ -184,7 +184,7 @@ blank-again peer (x ∷ held) = go (eqb x.peer peer) refl (blank-again peer held
         (first_with (λ h. h.peer) peer (with_first (λ h. h.peer) peer (no_bytes peer) held)))) e
         ∙ rest
 
--- the peer is held after a frame, and no byte of it
+-- after a frame the adapter still has the peer, and holds no bytes of it
 pub ready-again : (a : AdapterState) (peer : ℕ) (session : Session) (f : Frame) (served : Served) →
     IsReady a peer session → IsServed a peer session f served → served.reaction.close ≡ false →
     IsReady (after_call a (Feeds 0 peer (frame f))) peer (session_after session served)

@@ -1,4 +1,4 @@
--- From the opening, the counting world of whole frames shows the numbered world.
+-- From the opening on, the counting world of whole frames shows the numbered world.
 use Rattle.std.proofs.Common.{◌≡◌, map, ap, ap₂, sym, ◌∙◌}
 use Rattle.cip_class3.specs.OriginatorRule.{stage_of}
 use Rattle.cip_objects.specs.Contents.{Contents}

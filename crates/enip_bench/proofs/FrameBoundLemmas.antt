@@ -1,4 +1,4 @@
--- What one request more would do, over whole frames.
+-- What one more request would do, over whole frames.
 use Rattle.std.proofs.Common.{◌≡◌, ℕ, ◌+◌, None, List, [], ◌∷◌, ap, ap₂, sym, ◌∙◌, subst}
 use Rattle.cip_class3.specs.OriginatorRule.{submit_refusal, form_refusal}
 use Rattle.cip_objects.specs.Contents.{Contents}
@@ -22,7 +22,7 @@ use Rattle.enip_bench.proofs.FrameSteps.{Shows, run_shows, at_taken}
 use Rattle.enip_bench.proofs.OpenedLemmas.{IsOpened}
 use Rattle.enip_bench.proofs.OpeningRun.{opening_shows}
 
--- a request of the right form is taken in both worlds
+-- a request of a valid form is taken in both worlds
 taken-shows : (wire : Wire) (world : CountingWorld) (item_world : ItemWorld Contents) (request : List ℕ) →
     form_refusal item_world.originator.o_to_t_size request ≡ None → Shows wire world item_world →
     Shows wire (taken_all_the_same world request) (items.after_submit None item_world request)

@@ -1,4 +1,4 @@
--- What comes of each request over whole frames: from what both worlds show, and from the numbered world.
+-- What becomes of each request over whole frames, from what both worlds show and from the numbered world.
 use Rattle.std.proofs.Common.{◌≡◌, ℕ, ◌-◌, ◌≤◌, Bool, true, false, cond, Option, Some, None, option_map, List, [], ◌∷◌, ◌++◌, map, length, slice_get, Result, Ok, Err, refl, ap, ap₂, sym, ◌∙◌, subst}
 use Rattle.std.proofs.lemmas.Option.{same_Some, slice_get-map, get_or_from_slice_get}
 use Rattle.cip_class3.specs.Item.{item}
@@ -44,7 +44,7 @@ use Rattle.enip_bench.proofs.Soundness.{IsSound}
 use Rattle.enip_bench.proofs.TrackedSteps.{tracked_run}
 use Rattle.enip_bench.proofs.TrackedWorld.{Own, TrackedWorld, tracked_at_opening}
 
--- the objects' replies have the form of one
+-- the objects' replies have the form of a reply
 begins : (objects : Contents) (room : ℕ) (request : List ℕ) → 8 ≤ room → 2 ≤ length request →
     IsReplyTo request (exec_answer objects room request)
 begins objects room request roomy least = exec_begins objects room request
@@ -73,7 +73,7 @@ module _ {world : CountingWorld} (by : IsReached world) where
   accepted-same : world.accepted ≡ items_of.accepted
   accepted-same = ap (λ (w : CountingWorld). w.accepted) shows_of.is
 
-  -- an item to the client, in its frame
+  -- an item to the client, in a frame
   abbrev framed : List ℕ → List ℕ
   framed item = frame (item_frame by.begun.peer by.wants.t_to_o_id item)
 
@@ -108,7 +108,7 @@ accepted_order_framed world by =
     by.wants.first_count by.wants.o_to_t_size by.wants.t_to_o_size by.objects by.events
     by.wanted.first_count by.wanted.t_to_o_from)
 
--- what is sent back at a position has a number there
+-- the frame sent back at a position has a number in the numbered world
 answer_found : {world : CountingWorld} (by : IsReached world) (position : ℕ) (bytes : List ℕ) (found : Option ℕ) →
     slice_get (numbers_of by).back position ≡ found → slice_get world.back position ≡ Some bytes →
     IsAnswer by position bytes
@@ -159,7 +159,7 @@ module _ {world : CountingWorld} (by : IsReached world) where
   abbrev tracked : TrackedWorld
   tracked = tracked_run by.wants.o_to_t_size tracked_at_opening by.events
 
-  -- a request that was submitted, in its frame
+  -- a submitted request, in its frame
   sent-frame : (own : Own) → IsSubmitted (numbers_of by).submits own →
       frame_out (opened_of by).wire (item_of by.wants.first_count own) ≡ request_frame by own.number
   sent-frame own e =
@@ -237,13 +237,13 @@ module _ {world : CountingWorld} (by : IsReached world) where
   not_stood number never =
       not_true (stands number (numbers_of by).log) (λ is. never ((arrival by.wants.o_to_t_size number by.events).0 is))
 
-  -- the target got this number
+  -- the world after the target got this number
   abbrev got : ℕ → ℕ → Bool → NumberedWorld
   got number position is_open =
       let moved : NumberedWorld = record (numbers_of by) { last_reached = Some position } in
       cond is_open (with_number moved number) moved
 
-  -- what reaches the target, where it is no first arrival, changes no log
+  -- an arrival that is not the first does not change the objects
   got-unchanged : (number position : ℕ) (is_open : Bool) →
       (is_open ≡ true → stands number (numbers_of by).log ≡ false → ⊥) →
       objects_by (got number position is_open) ≡ objects_by (numbers_of by)

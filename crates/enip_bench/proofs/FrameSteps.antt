@@ -1,4 +1,4 @@
--- Each event moves the counting world as it moves the item world.
+-- Each event has the same effect on the counting world as on the item world.
 use Rattle.std.proofs.Common.{◌≡◌, ℕ, ◌+◌, ◌-◌, Bool, true, false, cond, Option, Some, None, option_map, List, [], ◌∷◌, ◌++◌, map, length, refl, ap, ap₂, sym, ◌∙◌, subst, leb, leb-true}
 use Rattle.std.proofs.lemmas.Bool.{and_parts}
 use Rattle.std.proofs.lemmas.Option.{same_Some}
@@ -27,7 +27,7 @@ use Rattle.enip_bench.proofs.ClientShows.{ClientShows, with_originator, shows-or
 use Rattle.enip_bench.proofs.PositionLemmas.{Each, delivered, delivery-map, map-push, map-with_any}
 use Rattle.enip_bench.proofs.SmallLemmas.{IsShort, IsSmallOriginator, IsSmallTarget, each-any, allowed-formed, submitted-short, small-submit, small-item, small-give_up, small-step, answer-short}
 
--- the counting world with these ends, and the item world's items in their frames
+-- the counting world with these ends, and the items of the item world in their frames
 abbrev pub shown : Wire → AdapterState → ClientState → ItemWorld Contents → CountingWorld
 shown wire adapter client world = record {
   adapter = adapter;
@@ -42,14 +42,14 @@ shown wire adapter client world = record {
   accepted = world.accepted;
 }
 
--- each end and each item fits
+-- each end and each item is within the sizes
 pub record IsSmall (world : ItemWorld Contents) : Type 0 where
   pub ours : IsSmallOriginator world.originator
   pub theirs : IsSmallTarget world.target
   pub sent : Each IsShort world.sent
   pub back : Each IsShort world.back
 
--- both ends are where the item world says
+-- both ends agree with the item world
 pub record Agrees (wire : Wire) (adapter : AdapterState) (client : ClientState) (world : ItemWorld Contents) : Type 0 where
   pub adapter_shows : AdapterShows wire adapter world.target world.router world.is_open
   pub client_shows : ClientShows wire client world.originator
@@ -62,7 +62,7 @@ pub record Shows (wire : Wire) (counting : CountingWorld) (world : ItemWorld Con
   pub is : counting ≡ shown wire ends_at starts_at world
   pub agrees : Agrees wire ends_at starts_at world
 
--- a request is taken, for which its form is enough
+-- a request is taken; for that its form is enough
 pub at_taken : (wire : Wire) (a : AdapterState) (c : ClientState) (world : ItemWorld Contents) (request : List ℕ) →
     form_refusal world.originator.o_to_t_size request ≡ None → Agrees wire a c world →
     Shows wire (counting.after_submit (submitted c.state request None) (shown wire a c world))
@@ -195,7 +195,7 @@ at_other wire a c world request true e ok agrees = record {
   };
 }
 
--- what an item's frame leaves, by whether the target's end is open
+-- after an item's frame, at an open or a closed target
 at_reached : (wire : Wire) (a : AdapterState) (c : ClientState) (world : ItemWorld Contents) (bytes : List ℕ) (position : ℕ)
     (is_open : Bool) → world.is_open ≡ is_open → IsWire wire → IsShort bytes → Agrees wire a c world →
     Shows wire (counting.after_reach (Some (frame_out wire bytes)) (shown wire a c world) position)
@@ -261,7 +261,7 @@ at_reach wire a c world position None short ok agrees =
 at_reach wire a c world position (Some bytes) short ok agrees =
     at_reached wire a c world bytes position world.is_open refl ok (short bytes refl) agrees
 
--- a reply that the client accepts is the item world's
+-- a reply that the client accepts is the one of the item world
 acceptance-same : (submits : ℕ) (o : Option (List ℕ)) →
     counting.acceptance submits (accepted o) ≡ option_map (λ reply. (submits - 1, reply)) o
 acceptance-same submits None = refl
@@ -307,7 +307,7 @@ at_back wire a c world position (Some bytes) short ok agrees =
       };
     }
 
--- each event
+-- this holds for each event
 step-shown : (wire : Wire) (a : AdapterState) (c : ClientState) (world : ItemWorld Contents) (event : Event) → IsWire wire →
     Agrees wire a c world →
     Shows wire (counting_step (shown wire a c world) event) (item_step after_exec exec_answer world event)
@@ -341,7 +341,7 @@ step_shows wire world item_world event ok shows =
     subst (λ w. Shows wire (counting_step w event) (item_step after_exec exec_answer item_world event)) (sym shows.is)
     (step-shown wire shows.ends_at shows.starts_at item_world event ok shows.agrees)
 
--- and events
+-- and for any list of events
 pub run_shows : (wire : Wire) (events : List Event) (world : CountingWorld) (item_world : ItemWorld Contents) → IsWire wire →
     Shows wire world item_world →
     Shows wire (counting_run world events) (item_run after_exec exec_answer item_world events)

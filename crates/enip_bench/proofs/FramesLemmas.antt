@@ -1,4 +1,4 @@
--- Frames that lie one behind another in a block.
+-- Frames that follow each other in one block.
 use Rattle.std.proofs.Common.{◌≡◌, ℕ, zero, suc, ◌+◌, ◌-◌, ◌≤◌, ◌<◌, Some, None, List, [], ◌∷◌, ◌++◌, map, length}
 use Rattle.std.proofs.Common.{take, drop, slice_get, get_or, refl, ap, ap₂, sym, ◌∙◌, subst, arith}
 use Rattle.std.proofs.Math.Seq.{drop-append_seam}
@@ -7,7 +7,7 @@ use Rattle.enip_bench.specs.Frames.{part_of, LieWithin}
 use Rattle.enip_bench.specs.declared.frames.Span.{Span}
 use Rattle.enip_bench.proofs.PositionLemmas.{map-push}
 
--- what lies within a block lies at the front of a longer one, with the same bytes
+-- a span within a block has the same bytes in a longer block
 part-kept : (block more : List ℕ) (span : Span) → span.start ≤ span.end → span.end ≤ length block →
     part_of (block ++ more) span ≡ part_of block span
 part-kept block more span rises within =
@@ -32,7 +32,7 @@ one-more-within block [] span lie rises within = (rises, within, lie)
 one-more-within block (first ∷ spans) span lie rises within =
     (lie.0, lie.1, one-more-within block spans span lie.2 rises within)
 
--- the part behind a block
+-- the bytes appended to a block
 part-behind : (block more : List ℕ) (span : Span) → span.start ≡ length block → span.end ≡ length block + length more →
     part_of (block ++ more) span ≡ more
 part-behind block more span start end =
@@ -40,7 +40,7 @@ part-behind block more span start end =
     ∙ ap (take (length block + length more - length block)) (drop-append_seam block more)
     ∙ take_all (length block + length more - length block) more (omega arith)
 
--- a frame is put behind the others
+-- a frame is appended
 pub frame_put : (block more all : List ℕ) (spans : List Span) (span : Span) → LieWithin block spans →
     all ≡ block ++ more → span.start ≡ length block → span.end ≡ length block + length more →
     map (part_of all) (spans ++ span ∷ []) ≡ map (part_of block) spans ++ more ∷ []
@@ -57,7 +57,7 @@ within_put block more all spans span lie is start end =
     (one-more-within (block ++ more) spans span (still-within block more spans lie) (omega (arith, start, end))
     (omega (arith, end, length-append block more)))
 
--- the span at a position lies within the block
+-- the span at a position is within the block
 pub lies_at : (block : List ℕ) (spans : List Span) (k : ℕ) (span : Span) → LieWithin block spans → k < length spans →
     span ≡ get_or spans k span → (span.start ≤ span.end) × (span.end ≤ length block)
 lies_at block [] k span lie below is = absurd (omega (arith, below))

@@ -1,4 +1,4 @@
--- What is held, and what the replies are, by the log.
+-- What is held, and what the replies are, as the log gives them.
 use Rattle.std.proofs.Common.{◌≡◌, ℕ, ◌+◌, ◌-◌, ◌<◌, ◌≤◌, inl, inr, Bool, true, false, cond, ◌||◌, ◌==◌, Some, None, List, [], ◌∷◌, length, slice_get, slice_index, refl, ap, ap₂, sym, ◌∙◌, subst, arith, leb, ltb, leb-true, eqb-true, eq-eqb, ne_eqb}
 use Rattle.std.proofs.lemmas.Bool.{or_left, or_from, both_ways, cases_order, cond-true, cond-false, and_parts}
 use Rattle.cip_class3.specs.Item.{item}
@@ -13,7 +13,7 @@ use Rattle.enip_bench.proofs.LogLemmas.{next_logged, Falls, IsSubmitted, AreSubm
 use Rattle.enip_bench.proofs.Soundness.{HaveForm}
 use Rattle.enip_bench.proofs.TrackedWorld.{Own, Logged, OwnLogged, OtherLogged, is_logged}
 
--- what a request's form says of its size
+-- the limits that a valid form sets on a request's size
 pub record IsOfForm (o_to_t_size : ℕ) (request : List ℕ) : Type 0 where
   pub least : 2 ≤ length request
   pub fits : length request + 2 ≤ o_to_t_size
@@ -44,8 +44,8 @@ pub record IsAnswered (t_to_o_size : ℕ) (submits : List (List ℕ)) (number : 
 
 module _ {M : Type 0} (after : M → ℕ → List ℕ → M) (answer : M → ℕ → List ℕ → List ℕ) (first t_to_o_size : ℕ)
     (start : M) where
-  -- Counts are equal exactly where the number is in the log: a number that is not below the newest one, and less
-  -- than 65,536 above it, has the held count exactly where it was executed.
+  -- Take a number that is not below the newest one, and less than 65,536 above it. Its count is the held one if and
+  -- only if the number is in the log.
   pub held-logged : (log : List Logged) (number : ℕ) → Falls log → next_logged log ≤ number + 1 →
       number < next_logged log + 65535 →
       is_held (held_of after answer first t_to_o_size start log) (count_of first number) ≡ is_logged number log
@@ -61,7 +61,7 @@ module _ {M : Type 0} (after : M → ℕ → List ℕ → M) (answer : M → ℕ
   ]
   held-logged (OtherLogged request ∷ log) number falls above near = held-logged log number falls above near
 
-  -- what is held for the newest number is the item with its reply
+  -- the item that is held is the newest number's, with its reply
   pub kept-newest : (log : List Logged) (number : ℕ) → Falls log → next_logged log ≤ number + 1 → is_logged number log
       ≡ true →
       kept_bytes (held_of after answer first t_to_o_size start log)
@@ -83,7 +83,7 @@ module _ {M : Type 0} (after : M → ℕ → List ℕ → M) (answer : M → ℕ
       (answer (router_of after answer first t_to_o_size start log) (t_to_o_size - 2) own.request)
       (reply_of after answer first t_to_o_size start log own.number) (eq-eqb own.number own.number refl)
 
-  -- earlier replies stay as they are
+  -- earlier replies don't change
   pub reply-kept : (log : List Logged) (own : Own) (number : ℕ) → is_logged own.number log ≡ false →
       is_logged number log ≡ true →
       reply_of after answer first t_to_o_size start log number
@@ -126,7 +126,7 @@ module _ {M : Type 0} (after : M → ℕ → List ℕ → M) (answer : M → ℕ
       (eqb-true own.number number e) now
   by_test submits log own number false e now before is = before is
 
-  -- whatever was executed has a reply to its submit, within the T->O size
+  -- each executed request has a reply to its submit, within the T->O size
   pub reply-answers : (o_to_t_size : ℕ) (submits : List (List ℕ)) (log : List Logged) (number : ℕ) →
       HaveForm o_to_t_size submits →
       AreSubmitted submits log → is_logged number log ≡ true →

@@ -1,4 +1,4 @@
--- The item world that a tracked world stands for: what is held, the router's state and every reply follow from the log.
+-- The item world that a tracked world describes: what is held, the router's state and every reply follow from the log.
 use Rattle.std.proofs.Common.{ℕ, ◌-◌, ◌==◌, if◌then◌else◌, Option, Some, None, List, [], ◌∷◌, length, map}
 use Rattle.cip_class3.specs.Item.{item}
 use Rattle.cip_class3.specs.TargetRule.{KeptReply}
@@ -46,7 +46,7 @@ module _ {M : Type 0} (after : M → ℕ → List ℕ → M) (answer : M → ℕ
   abbrev pub answer_of : List Logged → Own → List ℕ
   answer_of log own = item (count_of first own.number) (reply_of log own.number)
 
-  -- a number with the reply to it
+  -- a number with its reply
   abbrev pub acceptance_of : List Logged → Own → ℕ × List ℕ
   acceptance_of log own = (own.number, reply_of log own.number)
 

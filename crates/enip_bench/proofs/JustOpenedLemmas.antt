@@ -1,4 +1,4 @@
--- What stands right after an opening is what the proofs of the opening carry.
+-- Both ends right after an opening, from the proofs of the opening.
 use Rattle.std.proofs.Common.{◌≡◌, Ok, refl, ap, ap₂, sym, ◌∙◌, subst}
 use Rattle.cip_objects.specs.Contents.{Contents}
 use Rattle.enip_adapter.specs.Calls.{AdapterState}

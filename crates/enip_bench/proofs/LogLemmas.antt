@@ -1,11 +1,11 @@
--- The log of the tracked world: its own numbers fall from the newest on.
+-- The log of the tracked world, newest first: the connection's numbers fall.
 use Rattle.std.proofs.Common.{◌≡◌, ℕ, ◌+◌, ◌<◌, ◌≤◌, inl, inr, true, false, ◌==◌, Some, List, [], ◌∷◌, ◌++◌, length, slice_get, eqb-true, eq-eqb, arith}
 use Rattle.std.proofs.lemmas.Bool.{or_cases, or_left, or_right, both_ways, cases_lt, false_from_ne_true}
 use Rattle.std.proofs.lemmas.Option.{slice_get_within}
 use Rattle.enip_bench.proofs.PositionLemmas.{get-kept}
 use Rattle.enip_bench.proofs.TrackedWorld.{Own, Logged, OwnLogged, OtherLogged, is_logged}
 
--- one more than the newest own number, or 0 where there is none
+-- one more than the newest own number, or 0 if there is none
 abbrev pub next_logged : List Logged → ℕ
 next_logged [] = 0
 next_logged (OwnLogged own ∷ log) = own.number + 1
@@ -33,7 +33,7 @@ logged_below (OwnLogged own ∷ log) number falls e = elim (or_cases (own.number
 ]
 logged_below (OtherLogged request ∷ log) number falls e = logged_below log number falls e
 
--- a number at or above the newest one's successor is not there
+-- a number above the newest one is not in the log
 pub not_logged : (log : List Logged) (number : ℕ) → Falls log → next_logged log ≤ number → is_logged number log ≡ false
 not_logged log number falls above =
     false_from_ne_true (is_logged number log) (λ e. omega (arith, logged_below log number falls e))
@@ -44,7 +44,7 @@ newest_logged (OwnLogged own ∷ log) number e =
     or_left (own.number == number) (is_logged number log) (eq-eqb own.number number (omega arith))
 newest_logged (OtherLogged request ∷ log) number e = newest_logged log number e
 
--- a number that is not there, and not below the newest one, is above it
+-- a number that is not in the log, and not below the newest one, is above it
 pub new_above : (log : List Logged) (number : ℕ) → next_logged log ≤ number + 1 → is_logged number log ≡ false →
     next_logged log ≤ number
 new_above log number near e = elim (cases_lt number (next_logged log)) [
@@ -66,7 +66,7 @@ submitted-kept submits request (OwnLogged own ∷ log) are =
     (get-kept submits request own.request own.number are.0, submitted-kept submits request log are.1)
 submitted-kept submits request (OtherLogged other ∷ log) are = submitted-kept submits request log are
 
--- what was executed stays so, whatever is executed next
+-- what is in the log stays there when another is executed
 pub logged-kept : (log : List Logged) (own : Own) (number : ℕ) → is_logged number log ≡ true →
     is_logged number (OwnLogged own ∷ log) ≡ true
 logged-kept log own number e = or_right (own.number == number) (is_logged number log) e

@@ -1,4 +1,4 @@
--- The connection that a session and an ID name, where the session has one connection, or none.
+-- The connection that a session and an ID name, if the session has one connection or none.
 use Rattle.std.proofs.Common.{◌≡◌, ℕ, Bool, true, false, cond, eqb, ◌&&◌, Some, None, List, [], ◌∷◌, refl, ap, ◌∙◌}
 use Rattle.std.specs.Prelude.{find}
 use Rattle.std.proofs.lemmas.Bool.{eq-eqb}

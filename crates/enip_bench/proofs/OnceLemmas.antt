@@ -1,4 +1,4 @@
--- Numbers rise in the log, so each is executed once, and its reply is that of this execution.
+-- Numbers rise in the log, so each is executed once, and its reply is that of its execution.
 use Rattle.std.proofs.Common.{◌≡◌, ℕ, zero, suc, ◌+◌, ◌-◌, ◌<◌, ◌≤◌, Bool, true, false, cond, ◌||◌, ◌==◌, Some, List, [], ◌∷◌, ◌++◌, map, slice_get, append_assoc, refl, ap, sym, ◌∙◌, subst, arith, eqb-true, ap₂}
 use Rattle.std.proofs.lemmas.Bool.{or_from}
 use Rattle.std.proofs.lemmas.Option.{get_or_from_slice_get}
@@ -102,7 +102,7 @@ window o_to_t_size events =
     subst (λ w. submits_since_accepted w ≤ 65535) (sym (run_plain o_to_t_size events tracked_at_opening))
     (omega (arith, sound.window.since, sound.window.bound))
 
--- a list in order is one that rises
+-- a list in order is rising
 below_all : (number : ℕ) (owns : List Own) → Each (λ own. number < own.number) owns →
     AllByRecursion (λ later. number < later) (map number_of owns)
 below_all number [] below = tt
@@ -122,7 +122,7 @@ module _ {M : Type 0} (after : M → ℕ → List ℕ → M) (answer : M → ℕ
   abbrev IsOnly : List Entry → ℕ → List ℕ → Type 0
   IsOnly log number reply = IsOnlyExecution after answer t_to_o_size submits start log number reply
 
-  -- one more entry behind it, of something else
+  -- one more entry, of something else, is appended
   only-push : (log : List Entry) (entry : Entry) (number : ℕ) (reply : List ℕ) (only : IsOnly log number reply) →
       stands number (only.later ++ entry ∷ []) ≡ false → IsOnly (log ++ entry ∷ []) number reply
   only-push log entry number reply only not_later = record {
@@ -164,7 +164,7 @@ module _ {M : Type 0} (after : M → ℕ → List ℕ → M) (answer : M → ℕ
       (stands-own one.later own.number number
       ∙ or_from (own.number == number) (stands number one.later) e one.not_later)
 
-  -- whatever was executed was executed once, and its reply is that of this execution
+  -- each executed request was executed once, and its reply is that of its execution
   pub only_execution : (log : List Logged) (number : ℕ) → Falls log → AreSubmitted submits log → is_logged number log
       ≡ true →
       IsOnly (entries_of log) number (reply_of after answer first t_to_o_size start log number)

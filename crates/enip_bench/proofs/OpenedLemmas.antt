@@ -1,4 +1,4 @@
--- The counting world at its opening shows the item world at its.
+-- The counting world at its opening shows the item world at its opening.
 use Rattle.std.proofs.Common.{◌≡◌, ℕ, ◌+◌, ◌*◌, ◌<◌, ◌^◌, true, false, cond, eqb, Some, None, [], ◌∷◌, Ok, refl, ap, ap₂, sym, subst, arith}
 use Rattle.std.proofs.lemmas.Bool.{eq-eqb, ne_eqb}
 use Rattle.std.proofs.lemmas.Nat.{mul-lt, pow_pos}
@@ -36,7 +36,7 @@ use Rattle.enip_bench.proofs.OpeningLemmas.{asked, decided, opened}
 use Rattle.enip_bench.proofs.OpeningParts.{single, register-served}
 use Rattle.cip_manager.proofs.CheckLemmas.{PassesChecks, passes_checks}
 
--- the connection's RPI is not 0, and its ID is one
+-- the connection's RPI is not 0, and its ID has 32 bits
 pub record IsChecked (rpi next_id : ℕ) : Type 0 where
   pub some : 0 < rpi
   pub id : next_id < 2 ^ 32
@@ -50,7 +50,7 @@ is_checked manager asked e =
     let passes : PassesChecks manager asked = passes_checks manager asked e in
     record { some = passes.fields.rpi; id = passes.room.id_left }
 
--- an opening that nothing refused
+-- an opening without a refusal
 pub record IsOpened (objects : Contents) (wants : Wants) (world : CountingWorld) : Type 0 where
   pub wire : Wire
   pub ok : IsWire wire
@@ -71,7 +71,7 @@ module _ (objects : Contents) (listen : Listen) (limits : Limits) (wants : Wants
   abbrev pub wire : Wire
   wire = record { wants = wants; peer = peer; second = next; id = id }
 
-  -- the shared state, the adapter and the client once the connection is open
+  -- the shared state, the adapter and the client after the connection opened
   abbrev pub shared : Shared
   shared = (managed (new_shared objects listen limits) (decided objects listen limits wants next peer (Ok tt))).shared
 
@@ -116,7 +116,7 @@ module _ (objects : Contents) (listen : Listen) (limits : Limits) (wants : Wants
     t_to_o_id = refl;
   }
 
-  -- the adapter when the second peer has begun, and when it is registered
+  -- the adapter after the second peer began, and after it registered
   abbrev pub both_begun : AdapterState
   both_begun = record {
     state = with_peer adapter.state;

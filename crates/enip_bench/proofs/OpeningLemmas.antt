@@ -1,4 +1,4 @@
--- An opening that nothing refuses leaves the item world's opening.
+-- An opening without a refusal leads to the opening of the item world.
 use Rattle.std.proofs.Common.{◌≡◌, ℕ, ◌<◌, ◌≤◌, ◌^◌, false, Some, List, [], length, Result, Ok, Err, refl, ap, ◌∙◌, subst, arith}
 use Rattle.cip_bytes.specs.declared.protocol.ExtendedStatus.{ExtendedStatus}
 use Rattle.cip_message.specs.Reply.{reply_of, reply_of_fields, reply_service}
@@ -35,7 +35,7 @@ use Rattle.enip_bench.proofs.AdapterShows.{registered_as, request-served}
 use Rattle.enip_bench.proofs.FeedLemmas.{IsHeardWhole, client-fed, is_framed, is_rr}
 use Rattle.enip_bench.proofs.OpeningParts.{single, IsSingleFed, single-fed, heard-done, heard-refused, register-served, goes-to-manager, open-read, request-size, wanted, asked-is}
 
--- the client that waits for its session, and the one that has it
+-- the client that awaits its session, and the one that has it
 abbrev pub registering : Wants → ClientState
 registering wants = with_state (new_client wants) (after_lending (new_client wants).state (registers (new_client wants).state))
 
@@ -69,7 +69,7 @@ module _ (objects : Contents) (listen : Listen) (limits : Limits) (wants : Wants
       (registered wants peer) (Feeds 0 peer (frame (register_frame 1))) (frame answer) Registered done.adapter done.output
       whole.client whole.heard_event refl
 
-  -- the client that waits for its connection
+  -- the client that awaits its connection
   abbrev pub connecting : ClientState
   connecting = with_state (registered wants peer)
       (after_lending (registered wants peer).state (opens (registered wants peer).state))
@@ -83,7 +83,7 @@ module _ (objects : Contents) (listen : Listen) (limits : Limits) (wants : Wants
   abbrev pub checked : Result (Unit {0}) ExtendedStatus
   checked = opening_check (new_shared objects listen limits).manager asked
 
-  -- what the Connection Manager does with the client's request, by what the checks said
+  -- what the Connection Manager does with the client's request, by the outcome of the checks
   abbrev pub decided : Result (Unit {0}) ExtendedStatus → Turn
   decided r = decided_opening (service_in layout) (new_shared objects listen limits).manager 0 peer asked r
 
@@ -108,7 +108,7 @@ module _ (objects : Contents) (listen : Listen) (limits : Limits) (wants : Wants
       (replied (registered_as peer) (request_frame peer 2 (open_request wants)).header (rr_body_bytes x.reply))) (routed-open is))
       refl
 
-  -- the reply to an opening that succeeds, and as it is read
+  -- the reply to an opening that succeeds, as written and as read
   abbrev pub success_data : List ℕ
   success_data =
       open_success_data (new_shared objects listen limits).manager.next_id asked.t_to_o_id asked.triad asked.o_to_t.rpi asked.t_to_o.rpi

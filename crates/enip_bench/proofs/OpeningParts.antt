@@ -32,7 +32,7 @@ use Rattle.enip_bench.specs.CountingOpening.{ARefusal, IsWanted, begins, handle_
 use Rattle.enip_bench.specs.CountingWorld.{output_bytes}
 use Rattle.enip_bench.proofs.FeedLemmas.{IsReady, IsServed, adapter-fed, no_bytes}
 
--- a peer that begins has the next handle, and holds no byte
+-- a peer that begins gets the next handle, and no bytes of it are held
 pub record IsBegun (a : AdapterState) (handle : ℕ) : Type 0 where
   pub next : handle ≡ a.state.next_handle
   pub below : handle < 2 ^ 32
@@ -74,7 +74,7 @@ begun-ok a handle output =
       adapter = ap₂ (λ s h. (let x : AdapterState = record { state = s; held = h } in x)) are.state are.held;
     }
 
--- an adapter with one peer, of which no byte is held
+-- an adapter with one peer, of which no bytes are held
 abbrev pub single : ℕ → ℕ → Shared → Session → AdapterState
 single places next shared session = record {
   state = record { places = places; next_handle = next; shared = shared; peers = session ∷ [] };
@@ -117,7 +117,7 @@ single-fed places next shared session f served alive ok same stays =
       output = is.output;
     }
 
--- an exchange in which the client heard what it has to hear, and one in which it did not
+-- an exchange in which the client heard what it has to, and one in which it did not
 pub heard-done : (is_wanted : HeardEvent → Bool) (a after : AdapterState) (c then : ClientState) (call : Call) (bytes : List ℕ)
     (heard_event : HeardEvent) → after_call a call ≡ after → (call_answer a call).output ≡ Sends bytes → (fed c bytes).client ≡ then →
     (fed c bytes).heard_event ≡ heard_event → is_wanted heard_event ≡ true →
@@ -137,13 +137,13 @@ heard-refused is_wanted a c call bytes heard_event output heard wanted =
     ∙ ap (λ b. cond b (Ok (record { adapter = after_call a call; client = (fed c bytes).client })) (Err ARefusal))
     (ap is_wanted heard ∙ wanted)
 
--- a RegisterSession is answered as one
+-- the answer to a RegisterSession
 pub register-served : (shared : Shared) (session : Session) (number : ℕ) →
     command_served shared session (register_frame number) ≡ leaving shared (register_session session (register_frame number))
 unfolding command_served
 register-served shared session number = refl
 
--- the opening goes to the Connection Manager, and is read as it was written
+-- the open request is routed to the Connection Manager, and read as it was written
 pub goes-to-manager : (layout : Layout) (wants : Wants) →
     destination_of (open_request_in layout wants) ≡ Opens layout (open_data_in layout wants)
 unfolding request_of path_of class_of instance_of attribute_of member_of whole_of segment_of
@@ -172,13 +172,13 @@ open-read small wants is =
     (le2_again (0x4200 + wants.o_to_t_size % 512) (omega arith) []) (le4_again wants.rpi is.rpi [])
     (le2_again (0x4200 + wants.t_to_o_size % 512) (omega arith) []) refl refl)
 
--- how many bytes the opening has
+-- the size of the open request
 pub request-size : (layout : Layout) (wants : Wants) →
     (2 ≤ length (open_request_in layout wants)) × (length (open_request_in layout wants) ≤ 50)
 request-size small wants = (omega arith, omega arith)
 request-size large wants = (omega arith, omega arith)
 
--- what the client asks for, whichever its layout is
+-- what the client asks for, in either layout
 abbrev pub wanted_direction : Wants → ℕ → Direction
 wanted_direction wants size = record { rpi = wants.rpi; connection_type = 2; size = size }
 

@@ -1,4 +1,4 @@
--- Whatever opens without a refusal is an opening: step by step, as it is defined.
+-- An opening without a refusal, step by step, as it is defined.
 use Rattle.std.proofs.Common.{◌≡◌, ℕ, ◌+◌, ◌<◌, ◌^◌, Result, Ok, Err, refl, ap, ap₂, sym, ◌∙◌, subst, arith}
 use Rattle.cip_bytes.specs.declared.protocol.ExtendedStatus.{ExtendedStatus}
 use Rattle.cip_bytes.specs.Reading.{◌>>=◌}
@@ -23,7 +23,7 @@ use Rattle.enip_bench.proofs.OpenedLemmas.{IsChecked, is_checked, IsOpened, wire
 use Rattle.enip_bench.proofs.OpeningLemmas.{registered, begun_single, first-exchange, asked, checked, second-exchange}
 use Rattle.enip_bench.proofs.OpeningParts.{IsBegun, begun-ok}
 
--- what follows once the connection is open, once the session is registered, and once the peer has begun
+-- what follows after the connection opened, after the session registered, and after the peer began
 abbrev third : Ends → ℕ → Result CountingWorld Setup
 third ends peer = begins ends.adapter >>= λ second. Ok (counting_at_opening ends peer second)
 
@@ -78,7 +78,7 @@ module _ (objects : Contents) (listen : Listen) (limits : Limits) (wants : Wants
         };
       })
 
-  -- by what the checks of the Forward_Open say
+  -- by the outcome of the checks of the Forward_Open
   by_checks : (r : Result (Unit {0}) ExtendedStatus) → checked objects listen limits wants next peer ≡ r → peer < 2 ^ 32 →
       second (record { adapter = begun_single objects listen limits wants next peer (registered_as peer); client = registered wants peer }) peer
       ≡ Ok world → IsOpened objects wants world

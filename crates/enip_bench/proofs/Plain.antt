@@ -1,4 +1,4 @@
--- The numbered world that a tracked world stands for: numbers alone, and the log oldest first.
+-- The numbered world that a tracked world describes: numbers only, and the log oldest first.
 use Rattle.std.proofs.Common.{ℕ, List, [], ◌∷◌, ◌++◌, map}
 use Rattle.enip_bench.specs.NumberedWorld.{Entry, OwnRequest, OtherRequest, Progress, Idle, WaitingFor, GivenUp, NumberedWorld}
 use Rattle.enip_bench.proofs.TrackedWorld.{Own, Logged, OwnLogged, OtherLogged, Course, Resting, Awaiting, Abandoned, TrackedWorld}

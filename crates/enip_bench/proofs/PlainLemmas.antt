@@ -1,4 +1,4 @@
--- Each event moves the numbered world as it moves the tracked world.
+-- Each event has the same effect on the numbered world as on the tracked world.
 use Rattle.std.proofs.Common.{◌≡◌, ℕ, Bool, true, false, cond, ◌||◌, ◌==◌, Option, Some, None, option_map, List, [], ◌∷◌, ◌++◌, map, refl, ap, sym, ◌∙◌}
 use Rattle.cip_class3.specs.declared.originator.Refused.{Refused}
 use Rattle.enip_bench.specs.Events.{Event, Submit, Resend, Reach, Back, Other, Shut, GiveUp, delivery, is_unconnected_request, with_any}

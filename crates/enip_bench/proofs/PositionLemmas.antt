@@ -3,7 +3,7 @@ use Rattle.std.proofs.Common.{◌≡◌, ℕ, zero, suc, ◌<◌, ◌≤◌, ◌
 use Rattle.std.proofs.lemmas.Option.{slice_get-map, slice_get_within, same_Some}
 use Rattle.enip_bench.specs.Events.{is_in_order, delivery, with_any}
 
--- what stands in a list keeps its position, with one more behind it
+-- an element keeps its position when one more is appended
 pub get-kept : {X : Type 0} (xs : List X) (x y : X) (i : ℕ) → slice_get xs i ≡ Some y → slice_get (xs ++ x ∷ []) i
     ≡ Some y
 get-kept [] x y i e = absurd (cc)
@@ -14,7 +14,7 @@ pub get-last : {X : Type 0} (xs : List X) (x : X) → slice_get (xs ++ x ∷ [])
 get-last [] x = refl
 get-last (z ∷ xs) x = get-last xs x
 
--- what stands in a list with one more at the end stood there, or is that one
+-- an element after one more was appended was there before, or is that one
 pub get-push : {X : Type 0} (xs : List X) (x y : X) (i : ℕ) → slice_get (xs ++ x ∷ []) i ≡ Some y →
     (slice_get xs i ≡ Some y) ⊎ ((length xs ≡ i) × (x ≡ y))
 get-push [] x y zero e = inr (refl, same_Some x y e)
@@ -22,14 +22,14 @@ get-push [] x y (suc i) e = absurd (cc)
 get-push (z ∷ xs) x y zero e = inl e
 get-push (z ∷ xs) x y (suc i) e = elim (get-push xs x y i e) [ inl h ↦ inl h | inr h ↦ inr (ap suc h.0, h.1) ]
 
--- P holds of whatever stands in a list
+-- P holds for every element of a list
 abbrev pub Each : {X : Type 0} → (X → Type 0) → List X → Type 0
 Each P xs = (i : ℕ) (x : _) → slice_get xs i ≡ Some x → P x
 
 pub each-push : {X : Type 0} (P : X → Type 0) (xs : List X) (x : X) → Each P xs → P x → Each P (xs ++ x ∷ [])
 each-push P xs x each here i y e = elim (get-push xs x y i e) [ inl h ↦ each i y h | inr h ↦ subst P h.1 here ]
 
--- R holds of any two, the first before the second
+-- R holds for any two elements, the first before the second
 abbrev pub Ordered : {X : Type 0} → (X → X → Type 0) → List X → Type 0
 Ordered R xs = (i j : ℕ) (x y : _) → i < j → slice_get xs i ≡ Some x → slice_get xs j ≡ Some y → R x y
 
@@ -73,7 +73,7 @@ map-cond : {X Y : Type 0} (f : X → Y) (b : Bool) (o : Option X) → cond b (op
 map-cond f true o = refl
 map-cond f false o = refl
 
--- a delivery brings what stands at its position
+-- a delivery brings the element at its position
 pub delivered : {X : Type 0} (last : Option ℕ) (xs : List X) (k : ℕ) (x : X) → delivery last xs k ≡ Some x →
     slice_get xs k ≡ Some x
 delivered last xs k x e = (some_of_cond (is_in_order last k) (slice_get xs k) x e).1
@@ -82,7 +82,7 @@ in_order_later : (last : Option ℕ) (k j : ℕ) → is_in_order last k ≡ true
 in_order_later None k j e le = refl
 in_order_later (Some last) k j e le = le-leb last j (omega (arith, leb-true last k e))
 
--- what can be delivered behind a delivery could be delivered before it
+-- what can be delivered after a delivery could be delivered before it
 pub delivered_later : {X : Type 0} (last : Option ℕ) (xs : List X) (k j : ℕ) (x y : X) → delivery last xs k ≡ Some x →
     delivery (Some k) xs j ≡ Some y → (k ≤ j) × (delivery last xs j ≡ Some y)
 delivered_later last xs k j x y e f =
@@ -97,7 +97,7 @@ in_order-push : {X : Type 0} (last : Option ℕ) (xs : List X) (k : ℕ) (x y : 
 in_order-push last xs k x y e (inl h) = inl (ap (λ t. cond t (slice_get xs k) None) e ∙ h)
 in_order-push last xs k x y e (inr h) = inr h
 
--- a delivery from a list with one more at the end brings what it did before, or that one
+-- after one more was appended, a delivery brings what it brought before, or that one
 pub delivered-push : {X : Type 0} (last : Option ℕ) (xs : List X) (x y : X) (k : ℕ) → delivery last (xs ++ x ∷ []) k
     ≡ Some y →
     (delivery last xs k ≡ Some y) ⊎ ((length xs ≡ k) × (x ≡ y))
@@ -110,7 +110,7 @@ pub delivery-map : {X Y : Type 0} (f : X → Y) (last : Option ℕ) (xs : List X
 delivery-map f last xs k =
     ap (λ o. cond (is_in_order last k) o None) (slice_get-map f xs k) ∙ map-cond f (is_in_order last k) (slice_get xs k)
 
--- what stands at a later position, or at the same, is not lower
+-- the element at the same or a later position is not lower
 pub not_lower : {X : Type 0} (f : X → ℕ) (xs : List X) → Ordered (λ x y. f x ≤ f y) xs → (i j : ℕ) (x y : X) → i ≤ j →
     slice_get xs i ≡ Some x → slice_get xs j ≡ Some y → (i < j) ⊎ (j ≤ i) → f x ≤ f y
 not_lower f xs ordered i j x y le d e (inl lt) = ordered i j x y lt d e

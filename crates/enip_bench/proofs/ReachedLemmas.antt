@@ -1,4 +1,4 @@
--- What holds of every world that came of an opening.
+-- What holds for every world reached from an opening.
 use Rattle.std.proofs.Common.{◌≡◌, ℕ, ◌≤◌, Bool, true, false, cond, Option, Some, None, option_map, List, [], ◌∷◌, ◌++◌, length, Err, append-nil, refl, ap, sym, ◌∙◌, subst, arith}
 use Rattle.std.proofs.lemmas.List.{length-drop}
 use Rattle.std.proofs.lemmas.Option.{same_Some}
@@ -35,7 +35,7 @@ pub run_joined : (world : CountingWorld) (events later : List Event) →
 run_joined world [] later = refl
 run_joined world (event ∷ events) later = run_joined (counting_step world event) events later
 
--- one event more
+-- one more event
 pub reached_again : (world : CountingWorld) (event : Event) → IsReached world → IsReached (counting_step world event)
 reached_again world event reached = record {
   objects = reached.objects;
@@ -70,7 +70,7 @@ item_of world reached =
           (run_shows opened.wire reached.events reached.begun start opened.ok opened.shows);
     }
 
--- the client of a world is one that has its connection open
+-- the client of a world has its connection open
 record Connected (world : CountingWorld) : Type 0 where
   wire : Wire
   originator : OriginatorState
@@ -86,7 +86,7 @@ connected_in world reached =
           item.shows.agrees.client_shows;
     }
 
--- a request is refused by the originator's rule alone
+-- a request is refused only by the originator's rule
 pub submits_as_ruled : (world : CountingWorld) (request : List ℕ) → IsReached world →
     submits world.client.state request
     ≡ submitted world.client.state request (submit_refusal world.client.state.originator request)
@@ -95,7 +95,7 @@ submits_as_ruled world request reached =
     submits-allowed c.wire world.client c.originator request c.shows
     ∙ ap (λ (o : OriginatorState). submitted world.client.state request (submit_refusal o request)) (sym c.shows.originator)
 
--- so no fault of the client comes of a submit
+-- so a submit never returns a fault of the client
 not_of_client : (s : State) (request : List ℕ) (why : Option Refused) (fault : ClientFault) →
     bytes_lent (submitted s request why) ≡ Err (submit_faults.Client fault) → ⊥
 not_of_client s request (Some why) fault e = absurd (cc)
@@ -107,7 +107,7 @@ no_client_fault world request fault reached e =
     not_of_client world.client.state request (submit_refusal world.client.state.originator request) fault
     (sym (ap bytes_lent (submits_as_ruled world request reached)) ∙ e)
 
--- the client stands somewhere
+-- the client has a stage
 pub stage_there : (world : CountingWorld) → IsReached world →
     stage_in world.client.state ≡ Some (stage_of world.client.state.originator.phase)
 stage_there world reached =
@@ -125,7 +125,7 @@ reply-within originator bytes reply e = go (is_reply originator.t_to_o_size orig
     go true e = subst (λ r. length r ≤ length bytes) (same_Some (message_of bytes) reply e) (omega (arith, length-drop 2 bytes))
     go false e = absurd (cc)
 
--- a reply that is accepted is no longer than the frame that it came in
+-- an accepted reply is not longer than its frame
 shown-fits : (wire : Wire) (a : AdapterState) (c : ClientState) (world : ItemWorld Contents) (position : ℕ) (bytes reply : List ℕ) →
     IsWire wire → Agrees wire a c world →
     delivery world.last_back (shown wire a c world).back position ≡ Some bytes → reply_heard (fed c bytes).heard_event ≡ Some reply →
@@ -153,14 +153,14 @@ accepted_fits world position bytes reached e reply heard_event =
     (subst (λ (w : CountingWorld). delivery w.last_back w.back position ≡ Some bytes) item.shows.is e)
     (subst (λ (w : CountingWorld). reply_heard (fed w.client bytes).heard_event ≡ Some reply) item.shows.is heard_event)
 
--- the headline, of a world that went on by these events
+-- the headline, for a world after these events
 pub headline_holds : (old : CountingWorld) (events : List Event) (new : CountingWorld) → new ≡ counting_run old events →
     headline old events new
 headline_holds old events new went objects listen limits wants opened before is e come =
     ap counting_seen (went ∙ (ap (λ w. counting_run w events) come ∙ sym (run_joined opened before events)))
     ∙ frames_agree objects listen limits wants opened (before ++ events) is e
 
--- the headline, of what a world shows now
+-- the headline, for what a world shows now
 pub shows_numbers : (world : CountingWorld) (seen : Seen Contents) → IsReached world → seen ≡ counting_seen world →
     ShowsNumbers world seen
 shows_numbers world seen reached is = record {

@@ -1,4 +1,4 @@
--- What an unconnected request leaves of what the adapter's peers share.
+-- What an unconnected request changes in the state that the adapter's peers share.
 use Rattle.std.proofs.Common.{◌≡◌, ℕ, ◌⊎◌, inl, inr, Bool, true, false, cond, eqb, ◌&&◌, List, Result, Ok, Err, refl, ap, sym, ◌∙◌}
 use Rattle.std.proofs.lemmas.Bool.{eqb-true}
 use Rattle.cip_message.specs.declared.path.Path.{Path}
@@ -63,7 +63,7 @@ refused-same m room text refused = go (exec_left m room text)
         let bad : false ≡ true = sym (ap (λ r. fails r) left.1) ∙ refused in
         absurd (cc)
 
--- wherever a request goes, the objects are those after its execution, and the moment is the same
+-- wherever a request is routed, the objects are those after its execution, and the moment is unchanged
 pub record IsRouted (shared : Shared) (request : List ℕ) (done : Routed) : Type 0 where
   pub objects : done.shared.objects ≡ after_exec shared.objects UNCONNECTED_LIMIT request
   pub moment : done.shared.moment ≡ shared.moment

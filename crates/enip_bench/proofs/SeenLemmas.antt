@@ -49,7 +49,7 @@ module _ {M : Type 0} (after : M → ℕ → List ℕ → M) (answer : M → ℕ
   abbrev reply_by : M → List Entry → ℕ → List ℕ
   reply_by router log number = reply_to after answer t_to_o_size submits router log number
 
-  -- a run is done entry by entry, also from the end
+  -- a run can also be split at its last entry
   pub router_after-push : (router : M) (log : List Entry) (entry : Entry) →
       router_by router (log ++ entry ∷ [])
       ≡ after (router_by router log) ((execution_of t_to_o_size submits entry).0)
@@ -59,7 +59,7 @@ module _ {M : Type 0} (after : M → ℕ → List ℕ → M) (answer : M → ℕ
       router_after-push (after router ((execution_of t_to_o_size submits before).0)
       ((execution_of t_to_o_size submits before).1)) log entry
 
-  -- a number that stands keeps its reply
+  -- a number in the log keeps its reply
   pub reply_to-kept : (router : M) (log : List Entry) (entry : Entry) (number : ℕ) → stands number log ≡ true →
       reply_by router (log ++ entry ∷ []) number ≡ reply_by router log number
   reply_to-kept router [] entry number is = absurd (cc)
@@ -72,7 +72,7 @@ module _ {M : Type 0} (after : M → ℕ → List ℕ → M) (answer : M → ℕ
   reply_to-kept router (OtherRequest request ∷ log) entry number is =
       reply_to-kept (after router UNCONNECTED_LIMIT request) log entry number is
 
-  -- and one that is new gets its reply now
+  -- and a new one gets its reply now
   pub reply_to-new : (router : M) (log : List Entry) (own number : ℕ) → stands number log ≡ false → own ≡ number →
       reply_by router (log ++ OwnRequest own ∷ []) number
       ≡ answer (router_by router log) (t_to_o_size - 2) (request_of submits own)

@@ -1,4 +1,4 @@
--- No item of a connection is longer than its sizes, so each fits a frame.
+-- No item of a connection is longer than the connection's sizes, so each fits a frame.
 use Rattle.std.proofs.Common.{◌≡◌, ℕ, ◌-◌, ◌≤◌, Bool, true, false, cond, Option, Some, None, List, length, refl, subst, arith}
 use Rattle.std.proofs.lemmas.Option.{same_Some}
 use Rattle.cip_class3.proofs.Counts.{IsAllowed, first_refusal-none}
@@ -19,7 +19,7 @@ use Rattle.enip_bench.proofs.PositionLemmas.{Each, each-push}
 abbrev pub IsShort : List ℕ → Type 0
 IsShort bytes = length bytes ≤ LARGEST_CONNECTION_SIZE
 
--- the originator's O->T size, and the item that waits
+-- the originator's O->T size, and the pending item
 pub record IsSmallOriginator (originator : OriginatorState) : Type 0 where
   pub o_to_t_to : originator.o_to_t_size ≤ LARGEST_CONNECTION_SIZE
   pub waiting : (bytes : List ℕ) → waiting_item originator.phase ≡ Some bytes → IsShort bytes
@@ -35,8 +35,8 @@ pub each-any : (o : Option (List ℕ)) (xs : List (List ℕ)) → Each IsShort x
 each-any None xs each one = each
 each-any (Some x) xs each one = each-push IsShort xs x each (one x refl)
 
--- an item that is submitted
--- what is not refused has the form of a request
+-- a submitted item
+-- a request that is not refused has a valid form
 pub allowed-formed : (originator : OriginatorState) (request : List ℕ) → submit_refusal originator request ≡ None →
     form_refusal originator.o_to_t_size request ≡ None
 allowed-formed originator request e =
@@ -102,7 +102,7 @@ small-step target router bytes small =
     go true false = executed
     go false held = small
 
--- what answers an item
+-- the answer to an item
 pub answer-short : (step : TargetStep Contents) → IsSmallTarget step.target → (bytes : List ℕ) →
     answer_to step ≡ Some bytes → IsShort bytes
 answer-short step small bytes e = go step.received e

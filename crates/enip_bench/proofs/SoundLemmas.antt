@@ -1,4 +1,4 @@
--- Each event keeps the tracked world sound.
+-- Each event keeps the invariants of the tracked world.
 use Rattle.std.proofs.Common.{◌≡◌, ℕ, ◌+◌, ◌<◌, ◌≤◌, ◌⊎◌, inl, inr, Bool, true, false, Option, Some, None, List, [], ◌∷◌, ◌++◌, length, map, refl, ap, arith, eqb-true, eq-eqb}
 use Rattle.std.proofs.lemmas.Bool.{cases_lt, or_left}
 use Rattle.std.proofs.lemmas.List.{length_push}
@@ -39,7 +39,7 @@ after_last-push [] number = refl
 after_last-push (before ∷ []) number = refl
 after_last-push (before ∷ next ∷ numbers) number = after_last-push (next ∷ numbers) number
 
--- A request is taken only where there is room for one more since the last accepted reply.
+-- A request is taken only if fewer than 65,535 were submitted since the last accepted reply.
 allowed : (o_to_t_size : ℕ) (world : TrackedWorld) (request : List ℕ) → IsSound o_to_t_size world →
     refusal o_to_t_size (plain world) request ≡ None →
     (form_refusal o_to_t_size request ≡ None) × (world.unaccepted < 65535)
@@ -50,7 +50,7 @@ allowed o_to_t_size world request sound e =
     (form_refusal o_to_t_size request) e in
     (is.formed, omega (arith, is.room, sound.window.since))
 
--- a number that was sent is sent once more, or the next one is
+-- a number is sent again, or the next one is sent
 sent-push : (submits : List (List ℕ)) (sent : List Own) (last : Option ℕ) (log : List Logged) (own : Own) →
     IsSentSound submits sent last log → AreSubmitted submits log → IsSubmitted submits own → length submits
     ≡ own.number + 1 →
@@ -65,7 +65,7 @@ sent-push submits sent last log own sound are is end = record {
   ];
 }
 
--- a new submit leaves what was sent
+-- what was sent stays valid after a new submit
 sent-submit : (submits : List (List ℕ)) (sent : List Own) (last : Option ℕ) (log : List Logged) (request : List ℕ) →
     IsSentSound submits sent last log → IsSentSound (submits ++ request ∷ []) sent last log
 sent-submit submits sent last log request sound = record {
@@ -134,7 +134,7 @@ at_resend o_to_t_size world (Awaiting own) sound = record {
 }
 at_resend o_to_t_size world Abandoned sound = sound
 
--- what can be delivered behind a delivery is not below it
+-- what can be delivered after a delivery is not below it
 sent-reached : (submits : List (List ℕ)) (sent : List Own) (last : Option ℕ) (log later : List Logged) (own : Own)
     (position : ℕ) →
     IsSentSound submits sent last log → delivery last sent position ≡ Some own →
@@ -167,7 +167,7 @@ back-push submits back last log unaccepted own sound falls is near span = record
   ];
 }
 
--- a further execution leaves what was sent back
+-- what was sent back stays valid after another execution
 back-kept : (submits : List (List ℕ)) (back : List Own) (last : Option ℕ) (log : List Logged) (unaccepted : ℕ) (own : Own) →
     IsBackSound submits back last log unaccepted → IsBackSound submits back last (OwnLogged own ∷ log) unaccepted
 back-kept submits back last log unaccepted own sound = record {
@@ -246,7 +246,7 @@ at_reach o_to_t_size world position None sound e = sound
 at_reach o_to_t_size world position (Some own) sound e =
     reached_sound o_to_t_size world own position world.is_open sound e
 
--- what can come back behind a delivery could come back before it
+-- what can come back after a delivery could come back before it
 back-came : (submits : List (List ℕ)) (back : List Own) (last : Option ℕ) (log : List Logged) (unaccepted : ℕ) (own : Own)
     (position : ℕ) →
     IsBackSound submits back last log unaccepted → delivery last back position ≡ Some own →
@@ -257,7 +257,7 @@ back-came submits back last log unaccepted own position sound found = record {
   near = λ k x e. sound.near k x (delivered_later last back position k own x found e).1;
 }
 
--- behind the last submit nothing is far behind
+-- nothing is far below the last submit
 back-last : (submits : List (List ℕ)) (back : List Own) (last : Option ℕ) (log : List Logged) (unaccepted : ℕ) (own : Own)
     (position : ℕ) →
     IsBackSound submits back last log unaccepted → delivery last back position ≡ Some own → length submits ≡ own.number + 1 →

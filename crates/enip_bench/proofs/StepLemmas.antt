@@ -1,4 +1,4 @@
--- Each event moves the item world as it moves the tracked world.
+-- Each event has the same effect on the item world as on the tracked world.
 use Rattle.std.proofs.Common.{◌≡◌, ℕ, ◌+◌, ◌-◌, ◌<◌, ◌≤◌, Bool, true, false, cond, ◌==◌, Option, Some, None, option_map, List, [], ◌∷◌, ◌++◌, map, length, slice_get, slice_index, refl, ap, ap₂, sym, ◌∙◌, arith, eqb-true, eq-eqb, ne_eqb, le-leb}
 use Rattle.std.proofs.lemmas.Bool.{and_from, and_right, and_left, both_ways}
 use Rattle.std.proofs.lemmas.List.{length_push}
@@ -62,7 +62,7 @@ module _ {M : Type 0} (after : M → ℕ → List ℕ → M) (answer : M → ℕ
   waiting-same (Awaiting own) = refl
   waiting-same Abandoned = refl
 
-  -- the submits since the last accepted reply, as they are counted
+  -- the submits since the last accepted reply, by the counter
   unaccepted-since : (world : TrackedWorld) → IsSound o_to_t_size world → world.unaccepted ≡ submits_since_accepted (plain world)
   unaccepted-since world sound = omega (arith, sound.window.since)
 
@@ -145,7 +145,7 @@ module _ {M : Type 0} (after : M → ℕ → List ℕ → M) (answer : M → ℕ
       (sequence_count_of-item (count_of first own.number) own.request (count_of-below first own.number)) ∙ same in
       rw (sized, held) refl
 
-  -- what the open target does with a number
+  -- what the open target does when a number arrives
   at_target : (world : TrackedWorld) (own : Own) (position : ℕ) (is : Bool) → IsSound o_to_t_size world →
       IsOfForm o_to_t_size own.request →
       is_held (held_of after answer first t_to_o_size start world.log) (count_of first own.number) ≡ is →
@@ -217,7 +217,7 @@ module _ {M : Type 0} (after : M → ℕ → List ℕ → M) (answer : M → ℕ
   at_reach world position None sound e = refl
   at_reach world position (Some own) sound e = at_reached world own position world.is_open sound e
 
-  -- the waiting request's reply is taken as such
+  -- an item is taken as the pending request's reply if and only if it has the pending number
   pub is_reply-same : (submits : List (List ℕ)) (waiting : Own) (number : ℕ) (reply : List ℕ) (is : Bool) →
       (waiting.number == number) ≡ is →
       IsAnswered t_to_o_size submits number reply → IsSubmitted submits waiting → number ≤ waiting.number →
@@ -259,7 +259,7 @@ module _ {M : Type 0} (after : M → ℕ → List ℕ → M) (answer : M → ℕ
       (omega (arith, course.0, sound.back.near position own found, sound.window.bound))
   is_reply-awaited world Abandoned own position sound course found = refl
 
-  -- the item world after an item came back, by whether it was the waiting request's reply
+  -- the item world after an item came back, which was the pending request's reply or not
   abbrev came : Bool → TrackedWorld → Own → ℕ → ItemWorld M
   came is world own position = record (show world) {
     last_back = Some position;

@@ -37,7 +37,7 @@ after_submit None world request = record world {
 }
 after_submit (Some why) world request = world
 
--- the log with the request of a number, where it was not executed yet
+-- the log with the request of a number, added if it was not executed yet
 abbrev pub with_execution : Bool → List Logged → Own → List Logged
 with_execution true log own = log
 with_execution false log own = OwnLogged own ∷ log

@@ -20,11 +20,11 @@ use Rattle.enip_client.specs.declared.wants.Wants.{Wants}
 use Rattle.enip_wire.specs.Frames.{frame}
 use Rattle.enip_bench.specs.CountingWorld.{CountingWorld, output_bytes}
 
--- a begin, a register or an open was refused
+-- a peer could not begin, or the client could not register or open its connection
 pub data Setup : Type 0 where
   ARefusal : Setup
 
--- what a client wants is in the range of its fields, and its sizes are a connection's
+-- each field of what a client wants is in range, and both sizes are those of a connection
 pub record IsWanted (wants : Wants) : Type 0 where
   pub originator_vendor : wants.originator_vendor < 2 ^ 16
   pub originator_serial : wants.originator_serial < 2 ^ 32
@@ -38,7 +38,7 @@ pub record IsWanted (wants : Wants) : Type 0 where
   pub t_to_o_to : wants.t_to_o_size ≤ LARGEST_CONNECTION_SIZE
   pub first_count : wants.first_count < 2 ^ 16
 
--- the handle that a begin gives out
+-- the handle of the peer that begins
 abbrev pub handle_in_output : Output → Result ℕ Setup
 handle_in_output (NoReply why) = Err ARefusal
 handle_in_output (Sends bytes) = Err ARefusal
@@ -53,7 +53,7 @@ pub record Ends : Type 0 where
   pub adapter : AdapterState
   pub client : ClientState
 
--- the client gets what the adapter sends, if it sends anything
+-- feeds the client what the adapter sends, if anything
 abbrev pub fed_any : ClientState → Option (List ℕ) → Fed
 fed_any client None = record { client = client; taken = 0; heard_event = Nothing }
 fed_any client (Some bytes) = fed client bytes
@@ -66,12 +66,12 @@ abbrev pub is_opened_event : HeardEvent → Bool
 is_opened_event Opened = true
 is_opened_event other = false
 
--- the client has to hear this
+-- the ends, if the client heard what it has to; otherwise a refusal
 abbrev pub if_heard : (HeardEvent → Bool) → AdapterState → Fed → Result Ends Setup
 if_heard is_wanted adapter fed =
     if is_wanted fed.heard_event then Ok (record { adapter = adapter; client = fed.client }) else Err ARefusal
 
--- a frame that the client lends goes to the adapter at moment 0, and its answer to the client
+-- a frame that the client lends goes to the adapter at moment 0, and the answer to the client
 abbrev pub exchange : Ends → ℕ → (HeardEvent → Bool) → Result Lent ClientFault → Result Ends Setup
 exchange ends peer is_wanted (Err fault) = Err ARefusal
 exchange ends peer is_wanted (Ok lent) =
@@ -79,7 +79,7 @@ exchange ends peer is_wanted (Ok lent) =
     if_heard is_wanted (after_call ends.adapter call)
     (fed_any (with_state ends.client lent.state) (output_bytes (call_answer ends.adapter call).output))
 
--- a connection that was just opened between these ends, and a second session, which is registered
+-- a connection just opened between these ends, and a second session, registered
 abbrev pub counting_at_opening : Ends → ℕ → ℕ → CountingWorld
 counting_at_opening ends peer second = record {
   adapter = after_call (after_call ends.adapter Begins_peer) (Feeds 0 second (frame (register_frame 0)));
@@ -94,11 +94,11 @@ counting_at_opening ends peer second = record {
   accepted = [];
 }
 
--- both ends as they are made, where the client's peer has begun
+-- both ends as given, after the client's peer began
 abbrev pub ends_at_beginning : AdapterState → ClientState → Ends
 ends_at_beginning adapter client = record { adapter = after_call adapter Begins_peer; client = client }
 
--- the opening between these ends, where nothing is refused
+-- the opening between these ends, up to the first refusal
 abbrev pub opening_between : AdapterState → ClientState → Result CountingWorld Setup
 opening_between adapter client = do
   peer ← begins adapter

@@ -1,4 +1,4 @@
--- The counting world: the adapter and the client, whole, and the bytes of whole frames between them.
+-- The counting world: the whole adapter, the whole client, and the bytes of whole frames between them.
 use Rattle.std.specs.Prelude.{ℕ, ◌+◌, ◌-◌, if◌then◌else◌, Option, Some, None, option_map, List, [], ◌∷◌, ◌++◌, Result, Ok, Err}
 use Rattle.cip_class3.specs.OriginatorRule.{stage_of}
 use Rattle.cip_objects.specs.Contents.{Contents}
@@ -16,9 +16,9 @@ use Rattle.enip_wire.specs.Frames.{Frame, frame}
 use Rattle.enip_bench.specs.Events.{Event, Submit, Resend, Reach, Back, Other, Shut, GiveUp, delivery, is_unconnected_request, with_any}
 use Rattle.enip_bench.specs.Seen.{Seen}
 
--- Both ends, the handles of the adapter's two peers, of which the client is the first, and what lies between: the
--- bytes of the frames sent and sent back, the position delivered last in each direction, how many submits were
--- accepted, which numbers them from 0, and the replies that were accepted, each with its request's number.
+-- Both ends; the handles of the adapter's two peers, the client's first; the bytes of the frames in each direction, and
+-- the last position delivered; how many submits were taken, which numbers them from 0; and the accepted replies, each
+-- with the number of its request.
 pub record CountingWorld : Type 0 where
   pub adapter : AdapterState
   pub client : ClientState
@@ -31,7 +31,7 @@ pub record CountingWorld : Type 0 where
   pub submits : ℕ
   pub accepted : List (ℕ × List ℕ)
 
--- a request that the client takes has the next number, and its frame is sent
+-- a request that the client takes gets the next number, and its frame is sent
 abbrev pub after_submit : Result Lent SubmitFault → CountingWorld → CountingWorld
 after_submit (Err fault) world = world
 after_submit (Ok lent) world = record world {
@@ -40,18 +40,18 @@ after_submit (Ok lent) world = record world {
   submits = world.submits + 1;
 }
 
--- a frame that the client lends is sent, if it lends one
+-- sends the frame that the client lends, if any
 abbrev pub after_resend : Option Frame → CountingWorld → CountingWorld
 after_resend lent world = record world { sent = with_any (option_map frame lent) world.sent }
 
--- the bytes that the adapter sends
+-- the bytes that the adapter sends, if any
 abbrev pub output_bytes : Output → Option (List ℕ)
 output_bytes (NoReply why) = None
 output_bytes (Sends bytes) = Some bytes
 output_bytes (Begins handle) = None
 output_bytes (Refuses full) = None
 
--- the adapter gets bytes of the client at moment 0, and what it sends is sent back
+-- the adapter gets the client's bytes at moment 0, and its answer is sent back
 abbrev pub after_reach : Option (List ℕ) → CountingWorld → ℕ → CountingWorld
 after_reach None world position = world
 after_reach (Some bytes) world position = record world {
@@ -60,16 +60,16 @@ after_reach (Some bytes) world position = record world {
   last_reached = Some position;
 }
 
--- the reply that was heard as accepted, if one was
+-- the reply that the client accepted, if any
 abbrev pub reply_heard : HeardEvent → Option (List ℕ)
 reply_heard (Accepted bytes) = Some bytes
 reply_heard other = None
 
--- an accepted reply is that to the last submit
+-- an accepted reply is the reply to the last submit
 abbrev pub acceptance : ℕ → HeardEvent → Option (ℕ × List ℕ)
 acceptance submits heard_event = option_map (λ reply. (submits - 1, reply)) (reply_heard heard_event)
 
--- the client is fed
+-- the world after the client was fed a frame
 abbrev pub with_fed : CountingWorld → ℕ → Fed → CountingWorld
 with_fed world position fed = record world {
   client = fed.client;
@@ -77,22 +77,22 @@ with_fed world position fed = record world {
   accepted = with_any (acceptance world.submits fed.heard_event) world.accepted;
 }
 
--- the client gets bytes of the adapter
+-- the client gets the adapter's bytes
 abbrev pub after_back : Option (List ℕ) → CountingWorld → ℕ → CountingWorld
 after_back None world position = world
 after_back (Some bytes) world position = with_fed world position (fed world.client bytes)
 
--- the second session has a request executed, unconnected, at moment 0; its answer is dropped
+-- the second session sends an unconnected request at moment 0; the answer is dropped
 abbrev pub after_other : CountingWorld → List ℕ → CountingWorld
 after_other world request = record world {
   adapter = after_call world.adapter (Feeds 0 world.second (frame (request_frame world.second 0 request)));
 }
 
--- at this moment every connection has ended
+-- the last moment: every connection has timed out by then
 abbrev pub LAST_MOMENT : ℕ
 LAST_MOMENT = 18446744073709551615
 
--- the world after an event; one that is not possible changes nothing
+-- the world after an event; an impossible one changes nothing
 abbrev pub counting_step : CountingWorld → Event → CountingWorld
 counting_step world (Submit request) = after_submit (submits world.client.state request) world
 counting_step world Resend = after_resend (resends world.client.state) world

@@ -1,4 +1,4 @@
--- What is told of an event.
+-- The outcome of an event.
 use Rattle.std.specs.Prelude.{ℕ, if◌then◌else◌, Option, Some, None, option_map, List, length}
 use Rattle.cip_class3.specs.OriginatorRule.{submit_refusal}
 use Rattle.cip_class3.specs.declared.originator.Refused.{Refused}
@@ -9,9 +9,9 @@ use Rattle.enip_client.specs.Client.{fed}
 use Rattle.enip_bench.specs.CountingWorld.{CountingWorld, output_bytes, reply_heard}
 use Rattle.enip_bench.specs.Events.{Event, Submit, Resend, Reach, Back, Other, Shut, GiveUp, delivery, is_unconnected_request}
 
--- a request is sent, with its number and its frame's position, or refused; a frame is sent again at this position, if
--- one waits; a frame is answered at this position, if it is; a reply is accepted, or nothing that was waited for is
--- heard; the event is not possible; or it was done
+-- a request was sent, with its number and its frame's position, or refused; a frame was sent again, with its position,
+-- or nothing was pending; a frame was answered, with the answer's position, or not answered; a reply was accepted, or
+-- nothing that the client waits for was heard; the event was impossible; or it was done
 pub data EventResult : Type 0 where
   Sends : (number position : ℕ) → EventResult
   Refuses : (why : Refused) → EventResult
@@ -22,12 +22,12 @@ pub data EventResult : Type 0 where
   Impossible : EventResult
   Done : EventResult
 
--- while its connection is open the client refuses a request by the originator's rule alone
+-- a client whose connection is open refuses a request only by the originator's rule
 abbrev pub submit_result : CountingWorld → Option Refused → EventResult
 submit_result world (Some why) = Refuses why
 submit_result world None = Sends world.submits (length world.sent)
 
--- the position of what is put at the end of a list, if anything is
+-- the position of what is appended to a list, if anything is
 abbrev pub position_of_any : {A : Type 0} → {B : Type 0} → Option A → List B → Option ℕ
 position_of_any x xs = option_map (λ _. length xs) x
 
@@ -44,7 +44,7 @@ abbrev pub back_result : CountingWorld → Option (List ℕ) → EventResult
 back_result world None = Impossible
 back_result world (Some bytes) = reply_result (reply_heard (fed world.client bytes).heard_event)
 
--- what is told of an event in this world
+-- the outcome of an event in this world
 abbrev pub event_result : CountingWorld → Event → EventResult
 event_result world (Submit request) = submit_result world (submit_refusal world.client.state.originator request)
 event_result world Resend = Resends (position_of_any (resends world.client.state) world.sent)

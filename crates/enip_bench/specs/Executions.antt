@@ -1,4 +1,4 @@
--- What the numbered world says of one request: when it is executed, how often, and with which reply.
+-- One request in the numbered world: when it is executed, how often, and with which reply.
 use Rattle.std.specs.Prelude.{◌≡◌, ℕ, ◌+◌, ◌-◌, ◌<◌, ◌⊎◌, true, false, if◌then◌else◌, Some, List, [], ◌∷◌, ◌++◌}
 use Rattle.std.specs.List.{AllByRecursion}
 use Rattle.enip_bench.specs.Events.{Event, Submit, Resend, Reach, Back, Other, Shut, GiveUp, delivery}
@@ -15,7 +15,7 @@ own_numbers [] = []
 own_numbers (OwnRequest number ∷ log) = number ∷ own_numbers log
 own_numbers (OtherRequest request ∷ log) = own_numbers log
 
--- each number is below all those behind it
+-- each number is below all later ones
 abbrev pub AreRising : List ℕ → Type 0
 AreRising [] = Unit {0}
 AreRising (number ∷ numbers) = AllByRecursion (λ later. number < later) numbers × AreRising numbers
@@ -31,14 +31,14 @@ IsArrival world (Other request) number = ⊥
 IsArrival world Shut number = ⊥
 IsArrival world GiveUp number = ⊥
 
--- one of the events, from this world on, brings this number to the open target
+-- one of the events, starting from this world, brings this number to the open target
 abbrev pub Arrives : ℕ → NumberedWorld → List Event → ℕ → Type 0
 Arrives o_to_t_size world [] number = ⊥
 Arrives o_to_t_size world (event ∷ events) number =
     IsArrival world event number ⊎ Arrives o_to_t_size (numbered_step o_to_t_size world event) events number
 
 module _ {M : Type 0} (after : M → ℕ → List ℕ → M) (answer : M → ℕ → List ℕ → List ℕ) where
-  -- the log has one execution of this number's request, and this reply is its reply
+  -- the log has exactly one execution of this number's request, and this is the reply of it
   pub record IsOnlyExecution (t_to_o_size : ℕ) (submits : List (List ℕ)) (router : M) (log : List Entry) (number : ℕ)
       (reply : List ℕ) : Type 0 where
     pub before : List Entry

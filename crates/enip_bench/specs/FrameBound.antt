@@ -1,4 +1,4 @@
--- The bound on going on after giving up, over whole frames: what one request more would do.
+-- The bound on abandoned requests, over whole frames: what one more request would do.
 use Rattle.std.specs.Prelude.{◌≡◌, ℕ, ◌+◌, None, List, [], ◌∷◌, Ok, Err}
 use Rattle.cip_class3.specs.OriginatorRule.{MOST_UNACCEPTED, form_refusal}
 use Rattle.cip_class3.specs.declared.originator.Refused.TheVariants.{TooManyAbandoned}
@@ -16,17 +16,16 @@ use Rattle.enip_bench.specs.FrameLaw.{in_frames}
 use Rattle.enip_bench.specs.ObjectsRun.{after_exec, exec_answer}
 use Rattle.enip_bench.specs.Seen.{Seen}
 
--- the client takes this request, whatever refuses it, and its frame is sent
+-- the client takes this request although it is refused, and its frame is sent
 abbrev pub taken_all_the_same : CountingWorld → List ℕ → CountingWorld
 taken_all_the_same world request = after_submit (submitted world.client.state request None) world
 
--- What both ends show where one request more was taken, and reached the adapter, and what came of it reached the
--- client.
+-- What both ends show if one more request is taken and reaches the adapter, and the answer reaches the client.
 abbrev pub one_more_shown : CountingWorld → List ℕ → ℕ → Seen Contents
 one_more_shown world request position =
     counting_seen (counting_run (taken_all_the_same world request) (Reach position ∷ Back 1 ∷ []))
 
--- One more is refused, and a client that took it all the same would accept the old reply to another request.
+-- One more request is refused. A client that took it would accept the old reply to another request.
 pub record IsOneTooManyInFrames (objects : Contents) (wants : Wants) (session : ℕ) (world : CountingWorld)
     (request : List ℕ) (last : ℕ) : Type 0 where
   pub refused : submits world.client.state request ≡ Err (Refused TooManyAbandoned)
@@ -34,8 +33,8 @@ pub record IsOneTooManyInFrames (objects : Contents) (wants : Wants) (session : 
       ≡ in_frames session wants.t_to_o_id
       (old_reply_seen after_exec exec_answer wants.first_count wants.t_to_o_size objects request last)
 
--- This is so from every opening that nothing refused, for every request that the client takes, after a request was
--- executed and its reply accepted, and as many were submitted, given up and lost as there may be.
+-- This holds from every opening without a refusal, for every request of a valid form, after a request was executed and
+-- its reply accepted, and the greatest number of requests was submitted, given up and lost.
 abbrev pub raised_in_frames : Type 0
 raised_in_frames =
     (objects : Contents) (listen : Listen) (limits : Limits) (wants : Wants) (world : CountingWorld) (abandoned : ℕ)

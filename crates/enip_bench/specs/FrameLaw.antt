@@ -15,26 +15,26 @@ use Rattle.enip_bench.specs.Reached.{IsReached}
 use Rattle.enip_bench.specs.Seen.{Seen}
 use Rattle.enip_bench.specs.WorldLaws.{numbers_after}
 
--- each item that was sent back is in a SendUnitData of this session and connection ID, with context 0
+-- each item sent back, in a SendUnitData frame of this session and connection ID, with context 0
 abbrev pub in_frames : ℕ → ℕ → Seen Contents → Seen Contents
 in_frames session id seen = record seen { back = map (λ item. frame (item_frame session id item)) seen.back }
 
--- what the numbered world shows after these events, over these objects, in the frames of this session
+-- what the numbered world shows after these events, over these objects, in frames of this session
 abbrev pub numbers_in_frames : Contents → Wants → ℕ → List Event → Seen Contents
 numbers_in_frames objects wants session events =
     in_frames session wants.t_to_o_id
     (numbers_seen after_exec exec_answer wants.first_count wants.t_to_o_size objects
     (numbers_after wants.o_to_t_size events))
 
--- For every list of events from an opening that nothing refused, over any objects and limits: the adapter and the
--- client, whole, show what the numbered world shows.
+-- For every list of events from an opening without a refusal, over any objects and limits: the whole adapter and the
+-- whole client show what the numbered world shows.
 abbrev pub frame_law : Type 0
 frame_law =
     (objects : Contents) (listen : Listen) (limits : Limits) (wants : Wants) (world : CountingWorld)
     (events : List Event) → IsWanted wants → opening objects listen limits wants ≡ Ok world →
     counting_seen (counting_run world events) ≡ numbers_in_frames objects wants world.peer events
 
--- The same of a world that came of an opening by some events, and then went on by others.
+-- The same for a world reached from an opening by some events, and what more events make of it.
 abbrev pub headline : CountingWorld → List Event → CountingWorld → Type 0
 headline old events new =
     (objects : Contents) (listen : Listen) (limits : Limits) (wants : Wants) (opened : CountingWorld)
@@ -42,8 +42,8 @@ headline old events new =
     old ≡ counting_run opened before →
     counting_seen new ≡ numbers_in_frames objects wants opened.peer (before ++ events)
 
--- The same of what a world shows now: it came of an opening by some events, and, whichever they are, it shows what the
--- numbered world shows after all of them.
+-- The same for what a world shows now: it is reached from an opening by some events, and for any such events it shows
+-- what the numbered world shows after all of them.
 pub record ShowsNumbers (world : CountingWorld) (seen : Seen Contents) : Type 0 where
   pub came : IsReached world
   pub shown : (by : IsReached world) → seen ≡ numbers_in_frames by.objects by.wants by.begun.peer by.events

@@ -1,4 +1,4 @@
--- What comes of each request over whole frames, in every world that came of an opening.
+-- What becomes of each request over whole frames, in every world reached from an opening.
 use Rattle.std.specs.Prelude.{◌≡◌, ℕ, ◌+◌, ◌-◌, ◌%◌, ◌≤◌, Some, option_map, List, map, slice_get}
 use Rattle.cip_class3.specs.Item.{item}
 use Rattle.cip_objects.specs.Contents.{Contents}
@@ -22,11 +22,11 @@ module _ {world : CountingWorld} (by : IsReached world) where
   abbrev pub numbers_of : NumberedWorld
   numbers_of = numbers_after by.wants.o_to_t_size by.events
 
-  -- the count of a request
+  -- the count of this number's request
   abbrev pub count_of : ℕ → ℕ
   count_of number = (by.wants.first_count + number) % 65536
 
-  -- the reply is that of the only execution of this number's request
+  -- this is the reply of the only execution of this number's request
   abbrev pub IsItsReply : ℕ → List ℕ → Type 0
   IsItsReply number reply =
       IsReplyOf after_exec exec_answer by.wants.o_to_t_size by.wants.t_to_o_size by.objects by.events number reply
@@ -49,34 +49,34 @@ module _ {world : CountingWorld} (by : IsReached world) where
     pub replied : IsItsReply number reply
     pub is : bytes ≡ answer_frame number reply
 
-  -- the event is the first to bring this number's request to the open adapter
+  -- this event is the first that brings this number's request to the open adapter
   pub record IsFirstArrival (event : Event) (number : ℕ) : Type 0 where
     pub arrives : IsArrival numbers_of event number
     pub not_before : Arrives by.wants.o_to_t_size numbers_at_opening by.events number → ⊥
 
-  -- The objects are those of the opening after the requests of the log, in which each request of the connection stands
-  -- at most once, in the order of the submits.
+  -- The objects are those of the opening after the requests of the log were executed. The log has each request of the
+  -- connection at most once, in the order of the submits.
   pub record AreExecutedOnce : Type 0 where
     pub objects : objects_in world
         ≡ router_after after_exec exec_answer by.wants.t_to_o_size numbers_of.submits by.objects numbers_of.log
     pub once : (number : ℕ) → executions_of number numbers_of.log ≤ 1
     pub order : AreRising (own_numbers numbers_of.log)
 
--- a reply that the client accepted is that of the only execution of its request
+-- a reply that the client accepted is the reply of its request's only execution
 abbrev pub accepted_in_frames : Type 0
 accepted_in_frames = (world : CountingWorld) (by : IsReached world) (position number : ℕ) (reply : List ℕ) →
     slice_get world.accepted position ≡ Some (number, reply) → IsItsReply by number reply
 
--- for each request at most one reply is accepted, in the order of the submits
+-- at most one reply is accepted for each request, in the order of the submits
 abbrev pub accepted_order_in_frames : Type 0
 accepted_order_in_frames = (world : CountingWorld) → IsReached world → AreRising (map (λ x. x.0) world.accepted)
 
--- every frame that was sent back answers a request with the reply of its only execution
+-- every frame sent back answers a request with the reply of its only execution
 abbrev pub answers_in_frames : Type 0
 answers_in_frames = (world : CountingWorld) (by : IsReached world) (position : ℕ) (bytes : List ℕ) →
     slice_get world.back position ≡ Some bytes → IsAnswer by position bytes
 
--- each time, a request is answered with the same frame
+-- a request is answered with the same frame each time
 abbrev pub same_frames : Type 0
 same_frames = (world : CountingWorld) (by : IsReached world) (one other number : ℕ) →
     slice_get (numbers_of by).back one ≡ Some number → slice_get (numbers_of by).back other ≡ Some number →
@@ -86,20 +86,20 @@ same_frames = (world : CountingWorld) (by : IsReached world) (one other number :
 abbrev pub once_in_frames : Type 0
 once_in_frames = (world : CountingWorld) (by : IsReached world) → AreExecutedOnce by
 
--- what a delivery brings to the adapter is the frame of a request, by its number
+-- a delivery brings the adapter the frame of the request whose number the numbered world delivers
 abbrev pub requests_in_frames : Type 0
 requests_in_frames = (world : CountingWorld) (by : IsReached world) (position : ℕ) →
     delivery world.last_reached world.sent position
     ≡ option_map (request_frame by) (delivery (numbers_of by).last_reached (numbers_of by).sent position)
 
--- a request is executed when the first frame of it reaches the open adapter
+-- a request is executed when its first frame reaches the open adapter
 abbrev pub first_in_frames : Type 0
 first_in_frames = (world : CountingWorld) (by : IsReached world) (event : Event) (number : ℕ) →
     IsFirstArrival by event number →
     objects_in (counting_step world event)
     ≡ after_exec (objects_in world) (by.wants.t_to_o_size - 2) (request_of (numbers_of by).submits number)
 
--- whatever else happens, but a request of another session, changes nothing in the objects
+-- nothing else changes the objects, except a request of another session
 abbrev pub unchanged_in_frames : Type 0
 unchanged_in_frames = (world : CountingWorld) (by : IsReached world) (event : Event) →
     ((number : ℕ) → IsFirstArrival by event number → ⊥) → ((request : List ℕ) → event ≡ Other request → ⊥) →

@@ -1,4 +1,4 @@
--- Worked rows of the counting world: an opening with handles and IDs from 1, and the frame of a request.
+-- Worked examples of the counting world: an opening with handles and IDs from 1, and the frame of a request.
 use Rattle.std.specs.Prelude.{◌≡◌, ℕ, List, [], ◌∷◌, Result, Ok, Err, refl}
 use Rattle.cip_objects.specs.Contents.{Contents}
 use Rattle.enip_adapter.specs.declared.adapter.Limits.{Limits}
@@ -16,11 +16,11 @@ use Rattle.enip_bench.specs.CountingWorld.{CountingWorld, counting_run}
 use Rattle.enip_bench.specs.Events.{Event, Submit}
 use Rattle.enip_bench.specs.Rows.{add}
 
--- a device with room for two peers and one connection
+-- an adapter for two peers and one connection
 abbrev pub limits : Limits
 limits = record { peers = 2; connections = 1; first_handle = 1; first_id = 1 }
 
--- connection serial 1, vendor 0x42, originator serial 0x12345678, T->O ID 0x11223344, RPI 2 seconds, sizes of 500
+-- connection serial 1, vendor 0x42, originator serial 0x12345678, T->O ID 0x11223344, RPI 2 seconds, T->O size 500
 abbrev pub wants : ℕ → Wants
 wants o_to_t_size = record {
   originator_vendor = 0x42;
@@ -34,29 +34,29 @@ wants o_to_t_size = record {
   first_count = 1;
 }
 
--- the frames sent after these events, from an opening that nothing refuses
+-- the frames sent by these events after an opening; none if it was refused
 abbrev pub sent_after : List Event → Result CountingWorld Setup → List (List ℕ)
 sent_after events (Err why) = []
 sent_after events (Ok world) = (counting_run world events).sent
 
--- the client's and the second session's handle
+-- the handles of the client's session and the second session
 abbrev pub handles : Result CountingWorld Setup → List ℕ
 handles (Err why) = []
 handles (Ok world) = world.peer ∷ world.second ∷ []
 
--- over any objects, session 1 opens its connection, and session 2 is registered
+-- over any objects: session 1 opens its connection, and session 2 is registered
 pub handles-opened : (objects : Contents) (listen : Listen) →
     handles (opening objects listen limits (wants 500)) ≡ 1 ∷ 2 ∷ []
 unfolding opening command_served rr_body_of request_of path_of class_of instance_of attribute_of member_of whole_of segment_of open_of open_fields open_path_of reply_of
 handles-opened objects listen = refl
 
--- a size of 3 is refused
+-- an O->T size of 3 is refused
 pub handles-refused : (objects : Contents) (listen : Listen) →
     handles (opening objects listen limits (wants 3)) ≡ []
 unfolding opening command_served rr_body_of request_of path_of class_of instance_of attribute_of member_of whole_of segment_of open_of open_fields open_path_of reply_of
 handles-refused objects listen = refl
 
--- service 0x32 with 5, on connection 1 of session 1, with count 1
+-- service 0x32 with the number 5, on connection 1 of session 1, with count 1
 pub sent-request : (objects : Contents) (listen : Listen) →
     sent_after (Submit (add 5) ∷ []) (opening objects listen limits (wants 500))
     ≡ (0x70 ∷ 0x00 ∷ 0x20 ∷ 0x00 ∷ 1 ∷ 0 ∷ 0 ∷ 0 ∷ 0 ∷ 0 ∷ 0 ∷ 0 ∷ 0 ∷ 0 ∷ 0 ∷ 0 ∷ 0 ∷ 0 ∷ 0 ∷ 0 ∷ 0 ∷ 0 ∷ 0 ∷ 0

@@ -1,4 +1,4 @@
--- What stands at both ends right after an opening.
+-- Both ends right after an opening.
 use Rattle.std.specs.Prelude.{◌≡◌, true, [], ◌∷◌, Ok}
 use Rattle.cip_class3.specs.OriginatorRule.{originator_at_opening}
 use Rattle.cip_class3.specs.TargetRule.{target_at_opening}
@@ -12,7 +12,7 @@ use Rattle.enip_bench.specs.CountingOpening.{opening_between}
 use Rattle.enip_bench.specs.CountingWorld.{CountingWorld}
 use Rattle.enip_bench.specs.Reached.{IsNewAdapter, IsNewClient}
 
--- the client's session has one connection at the adapter, with the client's IDs and sizes, and nothing is held there
+-- at the adapter, the client's session has one connection, with the client's IDs and sizes, and nothing is held
 pub record IsOpenAtAdapter (wants : Wants) (world : CountingWorld) : Type 0 where
   pub connection : Connection
   pub alone : of_session world.peer world.adapter.state.shared.manager.connections ≡ connection ∷ []
@@ -20,7 +20,7 @@ pub record IsOpenAtAdapter (wants : Wants) (world : CountingWorld) : Type 0 wher
   pub t_to_o_id : connection.t_to_o_id ≡ wants.t_to_o_id
   pub target : connection.target ≡ target_at_opening wants.o_to_t_size wants.t_to_o_size
 
--- the client is registered and its connection open; no request waits, none was submitted, and the first has this count
+-- the client is registered and its connection open; no request was submitted, and the next count is the first one
 pub record IsOpenAtClient (wants : Wants) (world : CountingWorld) : Type 0 where
   pub registered : is_registered world.client.state.registration ≡ true
   pub session : session_in world.client.state.registration ≡ world.peer
@@ -28,7 +28,7 @@ pub record IsOpenAtClient (wants : Wants) (world : CountingWorld) : Type 0 where
   pub originator : world.client.state.originator
       ≡ originator_at_opening wants.first_count wants.o_to_t_size wants.t_to_o_size
 
--- both ends have the connection open, the objects are as they were, and nothing was sent, sent back or accepted
+-- the connection is open at both ends, the objects are unchanged, and nothing was sent, sent back or accepted
 pub record IsJustOpened (adapter : AdapterState) (client : ClientState) (world : CountingWorld) : Type 0 where
   pub at_adapter : IsOpenAtAdapter client.state.wants world
   pub at_client : IsOpenAtClient client.state.wants world
@@ -37,7 +37,7 @@ pub record IsJustOpened (adapter : AdapterState) (client : ClientState) (world :
   pub back : world.back ≡ []
   pub accepted : world.accepted ≡ []
 
--- This is so after the opening of a new adapter and a new client, where nothing refused it.
+-- This holds after every opening of a new adapter and a new client without a refusal.
 abbrev pub opening_law : Type 0
 opening_law = (adapter : AdapterState) (client : ClientState) (world : CountingWorld) → IsNewAdapter adapter →
     IsNewClient client → opening_between adapter client ≡ Ok world → IsJustOpened adapter client world

@@ -14,15 +14,15 @@ pub data Entry : Type 0 where
   OwnRequest : (number : ℕ) → Entry
   OtherRequest : (request : List ℕ) → Entry
 
--- no request waits for its reply, the one of this number does, or the last one was given up
+-- no request is pending, the one of this number is, or the last one was given up
 pub data Progress : Type 0 where
   Idle : Progress
   WaitingFor : (number : ℕ) → Progress
   GivenUp : Progress
 
--- The accepted submits, numbered from 0; the numbers sent and sent back; the position delivered last in each
--- direction; what was executed, oldest first; whether the target's end is open; what waits; and the numbers whose
--- reply was accepted. No count and no kept bytes stand here.
+-- The requests taken, numbered from 0; the numbers in each direction, and the last position delivered; what was
+-- executed, oldest first; whether the target's end is open; which request is pending; and the numbers whose reply was
+-- accepted. This world has no counts and keeps no bytes.
 pub record NumberedWorld : Type 0 where
   pub submits : List (List ℕ)
   pub sent : List ℕ
@@ -34,7 +34,7 @@ pub record NumberedWorld : Type 0 where
   pub progress : Progress
   pub accepted : List ℕ
 
--- a connection that was just opened
+-- a connection just opened
 abbrev pub numbers_at_opening : NumberedWorld
 numbers_at_opening = record {
   submits = [];
@@ -48,78 +48,78 @@ numbers_at_opening = record {
   accepted = [];
 }
 
--- one more than the last of rising numbers, or 0 where there is none
+-- one more than the last of rising numbers, or 0 if there is none
 abbrev pub after_last : List ℕ → ℕ
 after_last [] = 0
 after_last (number ∷ []) = number + 1
 after_last (number ∷ next ∷ numbers) = after_last (next ∷ numbers)
 
--- how many requests were submitted since the last one whose reply was accepted, or since the opening
+-- how many requests were submitted after the last one whose reply was accepted, or since the opening
 abbrev pub submits_since_accepted : NumberedWorld → ℕ
 submits_since_accepted world = length world.submits - after_last world.accepted
 
--- a reply is awaited
+-- whether a reply is awaited
 abbrev pub is_awaiting : Progress → Bool
 is_awaiting Idle = false
 is_awaiting (WaitingFor number) = true
 is_awaiting GivenUp = false
 
--- why a request is not taken now, if it isn't: too many were submitted since the last accepted reply, one waits, or it
--- is of no such form
+-- why a request is refused now, if it is: too many were submitted since the last accepted reply, one is pending, or the
+-- form is invalid
 abbrev pub refusal : ℕ → NumberedWorld → List ℕ → Option Refused
 refusal o_to_t_size world request =
     first_refusal (submits_since_accepted world) (is_awaiting world.progress) (form_refusal o_to_t_size request)
 
--- the number whose reply is awaited
+-- the number whose reply is awaited, if any
 abbrev pub awaited : Progress → Option ℕ
 awaited Idle = None
 awaited (WaitingFor number) = Some number
 awaited GivenUp = None
 
--- this number's reply is awaited
+-- whether this number's reply is awaited
 abbrev pub is_awaited : Progress → ℕ → Bool
 is_awaited Idle number = false
 is_awaited (WaitingFor waiting) number = waiting == number
 is_awaited GivenUp number = false
 
--- what waits is given up
+-- the pending request, if any, is given up
 abbrev pub given_up : Progress → Progress
 given_up Idle = Idle
 given_up (WaitingFor number) = GivenUp
 given_up GivenUp = GivenUp
 
--- this number's request was executed
+-- whether this number's request was executed
 abbrev pub stands : ℕ → List Entry → Bool
 stands number [] = false
 stands number (OwnRequest own ∷ log) = (own == number) || stands number log
 stands number (OtherRequest request ∷ log) = stands number log
 
--- the awaited number is sent, if there is one
+-- sends the awaited number, if there is one
 abbrev pub with_awaited_sent : NumberedWorld → NumberedWorld
 with_awaited_sent world = record world { sent = with_any (awaited world.progress) world.sent }
 
--- an accepted request takes the next number, which is sent
+-- a request that is taken gets the next number, which is sent
 abbrev pub after_submit : Option Refused → NumberedWorld → List ℕ → NumberedWorld
 after_submit None world request =
     let number : ℕ = length world.submits in
     with_awaited_sent (record world { submits = world.submits ++ request ∷ []; progress = WaitingFor number })
 after_submit (Some why) world request = world
 
--- the open target got this number: its request is executed where it was not yet, and the number is sent back
+-- the open target gets this number: its request is executed unless it was before, and the number is sent back
 abbrev pub with_number : NumberedWorld → ℕ → NumberedWorld
 with_number world number = record world {
   log = if stands number world.log then world.log else world.log ++ OwnRequest number ∷ [];
   back = world.back ++ number ∷ [];
 }
 
--- the target gets a number; a closed one is silent
+-- the target gets a number; a closed target does nothing
 abbrev pub after_reach : Option ℕ → NumberedWorld → ℕ → NumberedWorld
 after_reach None world position = world
 after_reach (Some number) world position =
     let moved : NumberedWorld = record world { last_reached = Some position } in
     if world.is_open then with_number moved number else moved
 
--- the originator gets a number, and accepts the awaited one
+-- the originator gets a number, and accepts it if it is the awaited one
 abbrev pub after_back : Option ℕ → NumberedWorld → ℕ → NumberedWorld
 after_back None world position = world
 after_back (Some number) world position =
@@ -127,7 +127,7 @@ after_back (Some number) world position =
     let accepting : NumberedWorld = record moved { progress = Idle; accepted = world.accepted ++ number ∷ [] } in
     if is_awaited world.progress number then accepting else moved
 
--- the world after an event, at this O->T size; one that is not possible changes nothing
+-- the world after an event, at this O->T size; an impossible one changes nothing
 abbrev pub numbered_step : ℕ → NumberedWorld → Event → NumberedWorld
 numbered_step o_to_t_size world (Submit request) = after_submit (refusal o_to_t_size world request) world request
 numbered_step o_to_t_size world Resend = with_awaited_sent world
@@ -146,7 +146,7 @@ numbered_run o_to_t_size world [] = world
 numbered_run o_to_t_size world (event ∷ events) =
     numbered_run o_to_t_size (numbered_step o_to_t_size world event) events
 
--- where the originator stands
+-- the originator's stage
 abbrev pub stage_of : Progress → Stage
 stage_of Idle = stages.Idle
 stage_of (WaitingFor number) = stages.Waiting
@@ -156,12 +156,12 @@ stage_of GivenUp = stages.GivenUp
 abbrev pub request_of : List (List ℕ) → ℕ → List ℕ
 request_of submits number = slice_index_or submits number []
 
--- the room for the reply, at this T->O size, and the request of an entry
+-- the limit on the reply, at this T->O size, and the request of an entry
 abbrev pub execution_of : ℕ → List (List ℕ) → Entry → ℕ × List ℕ
 execution_of t_to_o_size submits (OwnRequest number) = (t_to_o_size - 2, request_of submits number)
 execution_of t_to_o_size submits (OtherRequest request) = (UNCONNECTED_LIMIT, request)
 
--- the entry is the execution of this number's request
+-- whether the entry is the execution of this number's request
 abbrev pub is_execution_of : ℕ → Entry → Bool
 is_execution_of number (OwnRequest own) = own == number
 is_execution_of number (OtherRequest request) = false
@@ -174,7 +174,7 @@ module _ {M : Type 0} (after : M → ℕ → List ℕ → M) (answer : M → ℕ
       let execution = execution_of t_to_o_size submits entry in
       router_after t_to_o_size submits (after router execution.0 execution.1) log
 
-  -- the reply to this number's request: what that run answers at its place
+  -- the reply to this number's request: what that run answers to it
   abbrev pub reply_to : ℕ → List (List ℕ) → M → List Entry → ℕ → List ℕ
   reply_to t_to_o_size submits router [] number = []
   reply_to t_to_o_size submits router (entry ∷ log) number =
@@ -182,8 +182,8 @@ module _ {M : Type 0} (after : M → ℕ → List ℕ → M) (answer : M → ℕ
       let later = reply_to t_to_o_size submits (after router execution.0 execution.1) log number in
       if is_execution_of number entry then answer router execution.0 execution.1 else later
 
-  -- What the numbered world shows, for a connection with this first count and T->O size, over this router: each
-  -- number is sent back with its count, modulo 65,536, and the reply of its one execution.
+  -- What the numbered world shows, for a connection with this first count and T->O size, over this router. Each number
+  -- is sent back with its count, modulo 65,536, and the reply of its only execution.
   abbrev pub numbers_seen : ℕ → ℕ → M → NumberedWorld → Seen M
   numbers_seen first t_to_o_size router world =
       let reply : ℕ → List ℕ = reply_to t_to_o_size world.submits router world.log in

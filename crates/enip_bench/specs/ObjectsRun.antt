@@ -4,23 +4,23 @@ use Rattle.cip_objects.specs.Contents.{Contents}
 use Rattle.cip_objects.specs.Execution.{exec, run, Ran}
 use Rattle.enip_bench.specs.NumberedWorld.{Entry, is_execution_of, execution_of, router_after, reply_to}
 
--- the place of this number's execution in the log
+-- the index of this number's execution in the log
 abbrev pub place_of : ℕ → List Entry → ℕ
 place_of number [] = 0
 place_of number (entry ∷ log) = if is_execution_of number entry then 0 else suc (place_of number log)
 
--- what the objects do with a request
+-- the objects after a request, and their answer to it
 abbrev pub after_exec : Contents → ℕ → List ℕ → Contents
 after_exec contents room request = (exec contents room request).after
 
 abbrev pub exec_answer : Contents → ℕ → List ℕ → List ℕ
 exec_answer contents room request = (exec contents room request).answer
 
--- the run of a log, each entry with its room and its request
+-- the run of a log, each entry with the limit on its reply and its request
 abbrev pub run_of : ℕ → List (List ℕ) → Contents → List Entry → Ran
 run_of t_to_o_size submits contents log = run contents (map (execution_of t_to_o_size submits) log)
 
--- the contents after the log are those after its run, and the reply to a number is what the run answers at its place
+-- the contents after the log are those after its run, and the reply to a number is what the run answers at its index
 pub record IsRun (t_to_o_size : ℕ) (submits : List (List ℕ)) (contents : Contents) (log : List Entry) : Type 0 where
   pub after : router_after after_exec exec_answer t_to_o_size submits contents log
       ≡ (run_of t_to_o_size submits contents log).after

@@ -1,4 +1,4 @@
--- The worlds that come of an opening.
+-- The worlds that can be reached from an opening.
 use Rattle.std.specs.Prelude.{◌≡◌, List, Ok}
 use Rattle.cip_objects.specs.Contents.{Contents}
 use Rattle.enip_adapter.specs.Adapter.{new_adapter}
@@ -11,20 +11,20 @@ use Rattle.enip_bench.specs.CountingOpening.{IsWanted, opening}
 use Rattle.enip_bench.specs.CountingWorld.{CountingWorld, counting_run}
 use Rattle.enip_bench.specs.Events.{Event}
 
--- an adapter as it is made
+-- a new adapter
 pub record IsNewAdapter (adapter : AdapterState) : Type 0 where
   pub objects : Contents
   pub listen : Listen
   pub limits : Limits
   pub is : adapter ≡ new_adapter objects listen limits
 
--- a client as it is made
+-- a new client
 pub record IsNewClient (client : ClientState) : Type 0 where
   pub wants : Wants
   pub wanted : IsWanted wants
   pub is : client ≡ new_client wants
 
--- both ends came here by these events, from an opening that nothing refused
+-- an opening without a refusal, and then these events, led to this world
 pub record IsReached (world : CountingWorld) : Type 0 where
   pub objects : Contents
   pub listen : Listen

@@ -1,4 +1,4 @@
--- Worked rows of the two worlds, over a router that keeps a sum.
+-- Worked examples of both worlds, over a router that keeps a sum.
 use Rattle.std.specs.Prelude.{◌≡◌, ℕ, ◌+◌, List, [], ◌∷◌, replicate, slice_index, refl}
 use Rattle.cip_bytes.specs.Numbers.{le}
 use Rattle.cip_class3.specs.declared.originator.Stage.TheVariants as stages
@@ -9,7 +9,7 @@ use Rattle.enip_bench.specs.NumberedWorld.{numbers_seen}
 use Rattle.enip_bench.specs.Seen.{Seen}
 use Rattle.enip_bench.specs.WorldLaws.{items_after, numbers_after}
 
--- service 0x32 at class 0x64, instance 1, with a number below 256
+-- service 0x32 of class 0x64, instance 1, with a number below 256
 abbrev pub add : ℕ → List ℕ
 add number = 0x32 ∷ 2 ∷ 0x20 ∷ 0x64 ∷ 0x24 ∷ 1 ∷ number ∷ 0 ∷ 0 ∷ 0 ∷ []
 
@@ -17,22 +17,22 @@ add number = 0x32 ∷ 2 ∷ 0x20 ∷ 0x64 ∷ 0x24 ∷ 1 ∷ number ∷ 0 ∷ 0 
 abbrev pub added : ℕ → List ℕ
 added sum = 0xb2 ∷ 0 ∷ 0 ∷ 0 ∷ le 4 sum
 
--- a router that adds whatever comes, and replies with the sum
+-- a router that adds each number, and replies with the sum
 abbrev pub sum_after : ℕ → ℕ → List ℕ → ℕ
 sum_after sum room request = sum + slice_index request 6
 
 abbrev pub sum_answer : ℕ → ℕ → List ℕ → List ℕ
 sum_answer sum room request = added (sum + slice_index request 6)
 
--- what both worlds show, with sizes of 500 bytes, from sum 0
+-- what each world shows, with sizes of 500 bytes, from sum 0
 abbrev pub by_items : ℕ → List Event → Seen ℕ
 by_items first events = items_seen (items_after sum_after sum_answer first 500 500 0 events)
 
 abbrev pub by_numbers : ℕ → List Event → Seen ℕ
 by_numbers first events = numbers_seen sum_after sum_answer first 500 0 (numbers_after 500 events)
 
--- A request reaches the target twice and is executed once; while it waits no other is taken; its reply is accepted, and
--- its late double is ignored.
+-- A request reaches the target twice and is executed once. While it is pending, no other is taken. Its reply is
+-- accepted, and the late duplicate of the reply is ignored.
 abbrev pub late_double : List Event
 late_double =
     Submit (add 5) ∷ Reach 0 ∷ Reach 0 ∷ Submit (add 7) ∷ Back 0 ∷ Submit (add 7) ∷ Back 1 ∷ Reach 1 ∷ Back 2 ∷ []
@@ -54,8 +54,8 @@ late_double-numbers = refl
 pub late_double-once : executions_of 0 (numbers_after 500 late_double).log ≡ 1
 late_double-once = refl
 
--- Equal bytes with the counts 65,535 and 0 are two requests. What was sent before the position that was delivered
--- last, or was not sent yet, can't be delivered.
+-- Equal bytes with the counts 65,535 and 0 are two requests. What was sent before the last position delivered, or was
+-- not sent yet, can't be delivered.
 abbrev pub wrap : List Event
 wrap = Submit (add 5) ∷ Reach 0 ∷ Back 0 ∷ Submit (add 5) ∷ Resend ∷ Reach 2 ∷ Reach 1 ∷ Reach 0 ∷ Reach 3 ∷ Back 1 ∷ []
 
@@ -73,8 +73,8 @@ wrap-items = refl
 pub wrap-numbers : by_numbers 65535 wrap ≡ wrap_seen
 wrap-numbers = refl
 
--- Count 0 is executed where nothing is held. A request that was given up can still be executed, and its reply is not
--- accepted. Unconnected requests are executed as often as they come, but for those of under 2 bytes or over 504.
+-- Count 0 is executed if nothing is held. A request that was given up can still be executed, and its reply is not
+-- accepted. Unconnected requests are executed as often as they come, except those under 2 or over 504 bytes.
 abbrev pub giving_up : List Event
 giving_up =
     Submit (add 5) ∷ GiveUp ∷ Submit (0x32 ∷ []) ∷ Resend ∷ Reach 0 ∷ Back 0 ∷ Other (add 20) ∷ Other (add 20)
@@ -89,7 +89,7 @@ giving_up-items = refl
 pub giving_up-numbers : by_numbers 0 giving_up ≡ giving_up_seen
 giving_up-numbers = refl
 
--- Who gave up goes on. The late reply to what was given up is not accepted; it was executed all the same.
+-- An originator that gave up goes on. The late reply to what it gave up is not accepted, although that was executed.
 abbrev pub going_on : List Event
 going_on = Submit (add 5) ∷ GiveUp ∷ Submit (add 7) ∷ Reach 0 ∷ Back 0 ∷ Reach 1 ∷ Back 1 ∷ []
 
@@ -107,7 +107,7 @@ going_on-items = refl
 pub going_on-numbers : by_numbers 1 going_on ≡ going_on_seen
 going_on-numbers = refl
 
--- One that was lost is never executed, and none is accepted before the one that is awaited.
+-- A lost request is never executed, and no reply is accepted but the awaited one.
 abbrev pub lost : List Event
 lost = Submit (add 5) ∷ GiveUp ∷ Submit (add 7) ∷ Reach 1 ∷ Reach 0 ∷ Back 0 ∷ GiveUp ∷ Submit (add 1) ∷ []
 
@@ -125,7 +125,7 @@ lost-items = refl
 pub lost-numbers : by_numbers 1 lost ≡ lost_seen
 lost-numbers = refl
 
--- a target that was closed is silent, and executes nothing; other sessions are still served
+-- a closed target does not answer and executes nothing; other sessions are still served
 abbrev pub closing : List Event
 closing = Submit (add 5) ∷ Shut ∷ Reach 0 ∷ Other (add 1) ∷ Back 0 ∷ []
 

@@ -1,4 +1,4 @@
--- How the code stands for the counting world, its events and what is told of them.
+-- The counting world, its events and their outcomes, as the code stores them.
 use Rattle.std.specs.Prelude.{◌≡◌, ◌<◌, ◌≤◌, ℕ, ⊤, Bool, if◌then◌else◌, map, take, length, Option, Some, None, List, [], ◌∷◌, Result, Ok, Err}
 use Rattle.cip_objects.specs.Contents.{Contents}
 use Rattle.enip_adapter.specs.Calls.{AdapterState, after_call}
@@ -56,13 +56,13 @@ event_in events.GiveUp = GiveUp
 abbrev pub events_in : List EventInCode → List Event
 events_in xs = map event_in xs
 
--- the reply that was accepted last
+-- the last accepted reply, or nothing if none was accepted
 abbrev pub last_reply : List (ℕ × List ℕ) → List ℕ
 last_reply [] = []
 last_reply (accepted ∷ []) = accepted.1
 last_reply (accepted ∷ next ∷ later) = last_reply (next ∷ later)
 
--- what is told, where an accepted reply has these bytes
+-- the outcome, if an accepted reply has these bytes
 abbrev pub event_result_with : List ℕ → StepKind → EventResult
 event_result_with reply (step_kinds.Sent number position) = Sends number position
 event_result_with reply (step_kinds.Refused why) = Refuses why
@@ -83,35 +83,35 @@ event_result_in steps.Ignored = Ignores
 event_result_in steps.Impossible = Impossible
 event_result_in steps.Done = Done
 
--- a reply that is heard as accepted fits this much room
+-- an accepted reply fits a buffer of this size
 abbrev pub IsCapacityFor : ℕ → HeardEvent → Type 0
 IsCapacityFor room heard_event = (bytes : List ℕ) → reply_heard heard_event ≡ Some bytes → length bytes ≤ room
 
--- the bytes, if there are any
+-- the bytes, if the flag is set
 abbrev pub reply_put : Bool → List ℕ → Option (List ℕ)
 reply_put is bytes = if is then Some bytes else None
 
--- the event was done, and this is told of it
+-- the event was done, with this outcome
 pub record IsStepDone (old : CountingWorld) (event : Event) (new : CountingWorld) (step_kind : StepKind) : Type 0 where
   pub world : new ≡ counting_step old event
   pub result_is : event_result_with (last_reply new.accepted) step_kind ≡ event_result old event
 
--- the event was done, or for want of memory nothing was
+-- the event was done, or memory was refused and nothing changed
 abbrev pub IsStepped : {E : Type 0} → CountingWorld → Event → CountingWorld → Result StepKind E → Type 0
 IsStepped old event new (Ok step_kind) = IsStepDone old event new step_kind
 IsStepped old event new (Err error) = new ≡ old
 
--- a peer began, or could not
+-- a peer began, or was refused
 abbrev pub HasBegun : AdapterState → AdapterState → Result ℕ BenchFault → Type 0
 HasBegun old new (Ok peer) = (begins old ≡ Ok peer) × (new ≡ after_call old Begins_peer)
 HasBegun old new (Err fault) = (fault ≡ faults.Setup) × (begins old ≡ Err ARefusal)
 
--- an exchange left the ends so, or was refused
+-- an exchange led to these ends, or was refused
 abbrev pub HasExchanged : Result Ends Setup → AdapterState → ClientState → Result (Unit {0}) BenchFault → Type 0
 HasExchanged exchanged adapter client (Ok done) = exchanged ≡ Ok (record { adapter = adapter; client = client })
 HasExchanged exchanged adapter client (Err fault) = (fault ≡ faults.Setup) × (exchanged ≡ Err ARefusal)
 
--- both ends, open, and their peers, before any frame
+-- both ends, open, and the two peers, before any frame
 abbrev pub world_opened : AdapterState → ClientState → ℕ × ℕ → CountingWorld
 world_opened adapter client peers = record {
   adapter = adapter;
@@ -126,12 +126,12 @@ world_opened adapter client peers = record {
   accepted = [];
 }
 
--- the opening left the ends so, or was refused
+-- the opening led to these ends and peers, or was refused
 abbrev pub HasOpened : Result CountingWorld Setup → AdapterState → ClientState → Result (ℕ × ℕ) BenchFault → Type 0
 HasOpened opened adapter client (Ok peers) = opened ≡ Ok (world_opened adapter client peers)
 HasOpened opened adapter client (Err fault) = (fault ≡ faults.Setup) × (opened ≡ Err ARefusal)
 
--- the world of these ends and of what lies between them, before any event
+-- the world of these ends and of what is between them, before any event
 abbrev pub world_between : AdapterState → ClientState → InFlight → CountingWorld
 world_between adapter client between = record (world_opened adapter client (between.peer, between.second)) {
   sent = between.sent.frames;
@@ -139,34 +139,34 @@ world_between adapter client between = record (world_opened adapter client (betw
   accepted = acceptances_in between.accepted.items;
 }
 
--- the same, where memory may be refused first
+-- the same, unless memory is refused first
 abbrev pub IsOpenBetween : Result CountingWorld Setup → AdapterState → ClientState → Result InFlight BenchFault → Type 0
 IsOpenBetween opened adapter client (Ok between) = opened ≡ Ok (world_between adapter client between)
 IsOpenBetween opened adapter client (Err faults.Setup) = opened ≡ Err ARefusal
 IsOpenBetween opened adapter client (Err faults.Memory) = ⊤
 
--- The opening; `Setup` only where it is refused.
+-- The opening. `Setup` only if it is refused.
 abbrev pub IsOpening : Result CountingWorld Setup → Result CountingWorld BenchFault → Type 0
 IsOpening opened (Ok world) = opened ≡ Ok world
 IsOpening opened (Err faults.Setup) = opened ≡ Err ARefusal
 IsOpening opened (Err faults.Memory) = ⊤
 
--- it came of an opening, and each request that was taken was sent
+-- the world is reached from an opening, and every request that was taken was sent
 pub record IsOfOpening (world : World) : Type 0 where
   pub reached : IsReached (world_in world)
   pub counted : world.submits ≤ length world.sent.frames
 
--- the world after an event; for want of memory the event is not done
+-- the world after an event; if memory is refused, the event is not done
 abbrev pub after_step : {A E : Type 0} → CountingWorld → Event → Result A E → CountingWorld
 after_step old event (Ok step_kind) = counting_step old event
 after_step old event (Err error) = old
 
--- the events that were done: those before the first that was not, for want of memory
+-- the events that were done: all, or those before the first for which memory was refused
 abbrev pub events_done : {E : Type 0} → List Event → Result (Unit {0}) (ℕ × E) → List Event
 events_done events (Ok done) = events
 events_done events (Err error) = take error.0 events
 
--- the first event that was not done is one of them
+-- the position of the first event that was not done is one of the list
 abbrev pub NamesAnEvent : {E : Type 0} → List Event → Result (Unit {0}) (ℕ × E) → Type 0
 NamesAnEvent events (Ok done) = ⊤
 NamesAnEvent events (Err error) = error.0 < length events

@@ -1,4 +1,4 @@
--- What the agreement of the two worlds means, over every list of events from the opening.
+-- The agreement of the two worlds, and what follows from it, over every list of events from the opening.
 use Rattle.std.specs.Prelude.{◌≡◌, ◌↔◌, ℕ, ◌+◌, ◌%◌, ◌^◌, ◌<◌, ◌≤◌, true, Some, List, map, slice_get}
 use Rattle.cip_class3.specs.Item.{item}
 use Rattle.enip_bench.specs.Events.{Event}
@@ -19,11 +19,11 @@ once_law = (o_to_t_size number : ℕ) (events : List Event) →
 abbrev pub order_law : Type 0
 order_law = (o_to_t_size : ℕ) (events : List Event) → AreRising (own_numbers (numbers_after o_to_t_size events).log)
 
--- since the last accepted reply fewer requests were submitted than there are counts
+-- fewer requests were submitted since the last accepted reply than there are counts
 abbrev pub window_law : Type 0
 window_law = (o_to_t_size : ℕ) (events : List Event) → submits_since_accepted (numbers_after o_to_t_size events) ≤ 65535
 
--- executed is what reached the open target, and nothing else
+-- a request is executed if and only if it reached the open target
 abbrev pub arrival_law : Type 0
 arrival_law = (o_to_t_size number : ℕ) (events : List Event) →
     (stands number (numbers_after o_to_t_size events).log ≡ true) ↔ Arrives o_to_t_size numbers_at_opening events number
@@ -34,21 +34,21 @@ module _ {M : Type 0} (after : M → ℕ → List ℕ → M) (answer : M → ℕ
   items_after first o_to_t_size t_to_o_size router events =
       item_run after answer (items_at_opening first o_to_t_size t_to_o_size router) events
 
-  -- For every list of events from the opening, with any first count, any sizes that have room for a reply, and any
-  -- router: the item world shows what the numbered world shows.
+  -- For every list of events from the opening, any first count, any O->T size, any T->O size from 10, and any router:
+  -- the item world shows what the numbered world shows.
   abbrev pub agreement_law : Type 0
   agreement_law =
       (first o_to_t_size t_to_o_size : ℕ) (router : M) (events : List Event) → first < 2 ^ 16 → 10 ≤ t_to_o_size →
       items_seen (items_after first o_to_t_size t_to_o_size router events)
       ≡ numbers_seen after answer first t_to_o_size router (numbers_after o_to_t_size events)
 
-  -- the reply is that of the only execution of this number's request
+  -- this is the reply of the only execution of this number's request
   abbrev pub IsReplyOf : ℕ → ℕ → M → List Event → ℕ → List ℕ → Type 0
   IsReplyOf o_to_t_size t_to_o_size router events number reply =
       let world : NumberedWorld = numbers_after o_to_t_size events in
       IsOnlyExecution after answer t_to_o_size world.submits router world.log number reply
 
-  -- a reply that the originator accepted is that of the only execution of its request
+  -- a reply that the originator accepted is the reply of its request's only execution
   abbrev pub accepted_law : Type 0
   accepted_law =
       (first o_to_t_size t_to_o_size : ℕ) (router : M) (events : List Event) (position number : ℕ) (reply : List ℕ) →
@@ -56,13 +56,13 @@ module _ {M : Type 0} (after : M → ℕ → List ℕ → M) (answer : M → ℕ
       slice_get (items_after first o_to_t_size t_to_o_size router events).accepted position ≡ Some (number, reply) →
       IsReplyOf o_to_t_size t_to_o_size router events number reply
 
-  -- for each request at most one reply is accepted, in the order of the submits
+  -- at most one reply is accepted for each request, in the order of the submits
   abbrev pub accepted_order_law : Type 0
   accepted_order_law =
       (first o_to_t_size t_to_o_size : ℕ) (router : M) (events : List Event) → first < 2 ^ 16 → 10 ≤ t_to_o_size →
       AreRising (map (λ x. x.0) (items_after first o_to_t_size t_to_o_size router events).accepted)
 
-  -- whatever answers a request has its count and the reply of its only execution
+  -- every answer to a request has the request's count and the reply of its only execution
   abbrev pub answer_law : Type 0
   answer_law = (first o_to_t_size t_to_o_size : ℕ) (router : M) (events : List Event) (position number : ℕ) →
       first < 2 ^ 16 → 10 ≤ t_to_o_size →
@@ -71,7 +71,7 @@ module _ {M : Type 0} (after : M → ℕ → List ℕ → M) (answer : M → ℕ
       × (slice_get (items_after first o_to_t_size t_to_o_size router events).back position
       ≡ Some (item ((first + number) % 65536) reply))
 
-  -- each time, a request is answered with the same bytes
+  -- a request is answered with the same bytes each time
   abbrev pub same_bytes_law : Type 0
   same_bytes_law = (first o_to_t_size t_to_o_size : ℕ) (router : M) (events : List Event) (one other number : ℕ) →
       first < 2 ^ 16 → 10 ≤ t_to_o_size →

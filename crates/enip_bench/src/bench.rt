@@ -1,4 +1,4 @@
-//! The bench: an adapter and a client side by side, and the frames in flight between them.
+//! The bench: an adapter and a client in one process, and the frames in flight between them.
 //! Text: docs/EXACTLY-ONCE.md, "The premises, and what goes wrong without each".
 
 ghost use Rattle.std.specs.Prelude.{◌≡◌, IfOk};
@@ -19,13 +19,13 @@ use std::alloc::{AllocError, Global};
 use std::marker::Model;
 use thiserror::Error;
 
-/// Why no bench was made.
+/// Why a bench could not be made.
 #[derive(Clone, Copy, Debug, PartialEq, Eq, Error)]
 pub enum BenchFault {
-    /// Memory was refused.
+    /// Out of memory.
     #[error("memory")]
     Memory = 1,
-    /// A begin, a register or an open was refused.
+    /// A peer could not begin, or the client could not register or open its connection.
     #[error("setup")]
     Setup = 2,
 }
@@ -40,29 +40,41 @@ impl From<AllocError> for BenchFault {
     }
 }
 
-/// What the two ends show.
+/// What both ends show to the outside.
 #[derive(Clone, Copy)]
 pub struct Seen<'a> {
     /// The adapter's objects.
     pub objects: &'a Objects,
-    /// Every frame that was sent back, by position.
+    /// Every frame from the adapter to the client, by position.
     pub back: &'a Frames,
-    /// Each reply that the client accepted, in order.
+    /// Every reply that the client accepted, in order.
     pub accepted: &'a [Accepted],
-    /// Where the client stands.
+    /// Whether the client is idle, waits for a reply, or has given up.
     pub stage: Stage,
 }
 
-/// How many frames each direction has places for from the start.
+/// How many frames each direction has capacity for at first.
 const FIRST_CAPACITY: usize = 16;
 
 /// An adapter and a client with an open connection, and a second session at the adapter.
+///
+/// A reply is lost, and the request is sent again. It is executed once:
+///
+/// ```
+/// fn lose_a_reply(bench: &mut Bench, request: Vec<u8>) -> Result<Stage, AllocError> {
+///     bench.step(&Event::Submit(request))?; // Step::Sent(0, 0)
+///     bench.step(&Event::Reach(0))?; // Step::Reached(Some(0)): executed
+///     bench.step(&Event::Resend)?; // Step::Resent(Some(1))
+///     bench.step(&Event::Reach(1))?; // Step::Reached(Some(1)): the same reply again
+///     bench.step(&Event::Back(1))?; // Step::Accepted(..)
+///     Ok(bench.seen().stage) // Stage::Idle
+/// }
+/// ```
 pub struct Bench {
     world: World,
 }
 
-/// Written out and not derived, so that whoever lets a bench go calls this, and need not prove the drop of each of its
-/// parts once more.
+/// Not derived, so that the caller's proof uses this one call instead of the drop of each part.
 impl Drop for Bench {
     fn drop(self) {
         let Bench { world: _ } = self;
@@ -95,12 +107,13 @@ impl Bench {
     ghost use Rattle.enip_bench.specs.EventResults.{event_result};
     ghost use Rattle.enip_bench.specs.contracts.bench.Bench.{the_row};
 
-    /// A bench of a new adapter and a new client. The client registers and opens its connection without loss at moment
-    /// 0, and a second session registers.
+    /// Makes a bench of a new adapter and a new client. The client registers and opens its connection without loss at
+    /// moment 0. Then a second session registers.
     ///
     /// # Errors
     ///
-    /// `Memory` where memory is refused, `Setup` where a begin, a register or an open is refused.
+    /// `Memory` if memory is refused. `Setup` if a peer cannot begin, or the client cannot register or open its
+    /// connection.
     pub fn new(alloc: Global, adapter: Adapter, client: Client) -> Result<Bench, BenchFault>
         requires adapter { IsNewAdapter adapter }
         requires client { IsNewClient client }
@@ -132,11 +145,11 @@ impl Bench {
         })
     }
 
-    /// Does an event, and tells what became of it. All room is made before an end is called.
+    /// Does an event and reports its outcome. All memory is reserved before either end is called.
     ///
     /// # Errors
     ///
-    /// `AllocError` where memory is refused. Nothing was done.
+    /// `AllocError` if memory is refused. Then nothing was done.
     pub fn step(&mut self, event: &Event) -> Result<Step<'_>, AllocError>
         ensures* moved { sem 𝓛 (Rests the_row self.entry (λ new. new
             ≡ after_step self.old (event_in event.now) result)) }
@@ -150,7 +163,7 @@ impl Bench {
     ///
     /// # Errors
     ///
-    /// The position of the first event that was not done for want of memory. Those before it were done, and no other.
+    /// The position of the first event that was not done, if memory is refused. Exactly the events before it were done.
     pub fn run(&mut self, events: &[Event]) -> Result<(), (usize, AllocError)>
         ensures moved { self.new ≡ counting_run self.old (events_done (events_in events.now) result) }
         ensures within { NamesAnEvent (events_in events.now) result }
@@ -164,7 +177,7 @@ impl Bench {
         Ok(())
     }
 
-    /// What the two ends show: what the numbered world shows after all events since the opening.
+    /// What both ends show, which is what the numbered world shows after all events since the opening.
     pub fn seen(&self) -> Seen<'_>
         ensures seen { seen_in result ≡ counting_seen self.now }
         ensures headline { ShowsNumbers self.now (seen_in result) }
@@ -173,13 +186,13 @@ impl Bench {
             objects: self.world.adapter.objects(),
             back: &self.world.back,
             accepted: &self.world.accepted,
-            // its connection stays open
+            // never `None`: the client's connection stays open
             stage: self.world.client.stage().unwrap_or(Stage::Idle),
         }
     }
 }
 
-/// What lies between both ends once they are open.
+/// The peers of two open ends, and what is between the ends.
 #[derive(Drop)]
 struct InFlight {
     peer: Peer,
@@ -190,7 +203,7 @@ struct InFlight {
 }
 
 impl InFlight {
-    /// Opens both ends, once there is room for what lies between them.
+    /// Opens both ends, after reserving memory for what is between them.
     fn open(
         alloc: Global,
         adapter: &mut Adapter,
@@ -212,7 +225,7 @@ impl InFlight {
     }
 }
 
-/// The reply that was accepted last.
+/// The last accepted reply. Empty if none was accepted.
 fn last_reply(accepted: &[Accepted]) -> &[u8]
     ensures { result.now ≡ last_reply (acceptances_in accepted.now) }
 {

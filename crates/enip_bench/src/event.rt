@@ -1,51 +1,51 @@
-//! What happens between the two ends, and what is told of it.
+//! The events between the two ends, and their outcomes.
 
 ghost use Rattle.std.specs.Prelude.{◌≡◌};
 ghost use Rattle.enip_bench.specs.Stored.{event_result_in, event_result_with};
 
 use cip_class3::Refused;
 
-/// What happens between the two ends.
+/// An event at or between the two ends. A position is an index into the frames of that direction, from 0.
 #[derive(Debug, Drop)]
 pub enum Event {
-    /// The client is given a request.
+    /// This request is submitted to the client.
     Submit(Vec<u8>),
-    /// The client sends the request that waits once more.
+    /// The client sends the pending request again.
     Resend,
-    /// The frame that was sent at this position reaches the adapter.
+    /// The client's frame at this position reaches the adapter.
     Reach(usize),
-    /// The frame that was sent back at this position reaches the client.
+    /// The adapter's frame at this position reaches the client.
     Back(usize),
-    /// The second session has a request of 2 to 504 bytes executed, unconnected.
+    /// The second session sends this request, of 2 to 504 bytes, as an unconnected message.
     Other(Vec<u8>),
-    /// The time of every connection is over.
+    /// Every connection times out.
     Shut,
-    /// The client gives the request that waits up.
+    /// The client gives up the pending request.
     GiveUp,
 }
 
-/// What is told of an event.
+/// The outcome of an event.
 #[derive(Clone, Copy, Debug, PartialEq, Eq)]
 pub enum Step<'a> {
-    /// The request has this number, from 0, and its frame was sent at this position.
+    /// The request has this number, from 0, and its frame has this position.
     Sent(u64, usize),
-    /// The client does not take the request.
+    /// The client refuses the request.
     Refused(Refused),
-    /// The frame was sent at this position; none was, where no request waits.
+    /// The frame sent again has this position. `None`: no request was pending, and nothing was sent.
     Resent(Option<usize>),
-    /// The answer was sent back at this position; there was none, where there is no position.
+    /// The adapter's answer has this position. `None`: the adapter did not answer.
     Reached(Option<usize>),
-    /// The client accepted this reply to the request that waited.
+    /// The client accepted this reply to the pending request.
     Accepted(&'a [u8]),
-    /// The client heard nothing that it waited for.
+    /// The frame held nothing that the client waited for.
     Ignored,
-    /// The event is not possible. Nothing changed.
+    /// The event is impossible: no such frame, one out of order, or a request of another size. Nothing changed.
     Impossible,
     /// The event was done.
     Done,
 }
 
-/// What is told of an event, apart from the bytes of a reply.
+/// The outcome of an event, without the bytes of a reply.
 #[derive(Clone, Copy)]
 pub(crate) enum StepKind {
     Sent(u64, usize),
@@ -59,7 +59,7 @@ pub(crate) enum StepKind {
 }
 
 impl StepKind {
-    /// What is told, where an accepted reply has these bytes.
+    /// The outcome, if an accepted reply has these bytes.
     pub(crate) fn step(self, reply: &[u8]) -> Step<'_>
         ensures { event_result_in result ≡ event_result_with reply.now self }
     {

@@ -1,7 +1,7 @@
-//! Frames by position. Their bytes lie one behind another in one block:
+//! Frames by position. Their bytes follow each other in one block:
 //!
 //! ```text
-//!  block    [ frame 0 | frame 1    | frame 2 | room          ]
+//!  block    [ frame 0 | frame 1    | frame 2 | spare         ]
 //!  spans    0..60, 60..118, 118..176
 //! ```
 
@@ -13,16 +13,16 @@ ghost use Rattle.enip_bench.specs.Frames.{part_of};
 use std::alloc::{AllocError, Global};
 use std::marker::Model;
 
-/// Where a frame lies in the block, in bytes.
+/// The bytes of a frame within the block.
 #[derive(Clone, Copy)]
 pub(crate) struct Span {
-    /// Where it begins, from 0.
+    /// The index of its first byte.
     start: usize,
-    /// Where it ends.
+    /// The index after its last byte.
     end: usize,
 }
 
-/// Frames by position, each of its own size.
+/// Frames by position, from 0, each of its own size.
 #[derive(Drop)]
 pub struct Frames {
     block: Vec<u8>,
@@ -45,11 +45,11 @@ impl Model for Frames {
 }
 
 impl Frames {
-    /// No frame, and places for so many.
+    /// No frames, with capacity for this many spans.
     ///
     /// # Errors
     ///
-    /// `AllocError` where memory is refused.
+    /// `AllocError` if memory is refused.
     pub(crate) fn with_capacity_for(alloc: Global, places: usize) -> Result<Frames, AllocError>
         ensures { IfOk result (λ made. made.frames ≡ []) }
     {
@@ -59,11 +59,11 @@ impl Frames {
         })
     }
 
-    /// Makes a place for one more frame, and room for so many bytes.
+    /// Reserves capacity for one more frame, of up to this many bytes.
     ///
     /// # Errors
     ///
-    /// `AllocError` where memory is refused.
+    /// `AllocError` if memory is refused.
     pub(crate) fn reserve_frame(&mut self, size: usize) -> Result<(), AllocError>
         ensures kept { self.new.frames ≡ self.old.frames }
         ensures place { OnOk result (0 < self.new.places) }
@@ -73,7 +73,7 @@ impl Frames {
         self.block.reserve(size)
     }
 
-    /// Puts a frame behind the others. Takes no memory.
+    /// Appends a frame within the reserved capacity. Allocates nothing.
     pub(crate) fn push(&mut self, frame: &[u8])
         requires place { 0 < self.old.places }
         requires room { length frame.now ≤ self.old.spare }
@@ -85,7 +85,7 @@ impl Frames {
         self.spans.push_reserved(Span { start, end });
     }
 
-    /// How many there are.
+    /// The number of frames.
     pub fn len(&self) -> usize
         ensures count { result ≡ length self.now.frames }
         ensures bound { result < 2 ^ 63 }
@@ -93,7 +93,7 @@ impl Frames {
         self.spans.len()
     }
 
-    /// The frame at this position, if there is one.
+    /// The frame at this position, from 0. `None` if there is no such frame.
     pub fn get(&self, position: usize) -> Option<&[u8]>
         ensures { option_map (λ (frame : _). frame.now) result ≡ slice_get self.now.frames position }
     {
@@ -104,7 +104,7 @@ impl Frames {
     }
 }
 
-/// Appends bytes that there is room for.
+/// Appends bytes within the capacity of a block.
 fn append(block: &mut Vec<u8>, bytes: &[u8])
     requires { vec_len block.old + length bytes.now ≤ vec_capacity block.old }
     ensures { block.new.items ≡ block.old.items ++ bytes.now }
@@ -114,7 +114,7 @@ fn append(block: &mut Vec<u8>, bytes: &[u8])
     };
 }
 
-/// The bytes at a span.
+/// The bytes of a span.
 fn part(block: &[u8], span: Span) -> &[u8]
     requires rises { span.start ≤ span.end }
     requires within { span.end ≤ length block.now }

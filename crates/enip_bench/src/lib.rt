@@ -1,10 +1,13 @@
 //! Exactly once, over both ends of a class 3 connection (ODVA CIP Networks Library, Volume 1, transport class 3).
 //!
-//! A list of events says what is submitted, sent again, delivered and lost between an originator and a target. Three
-//! worlds go by it: in the *counting world* the ends are the adapter and the client, whole, with the bytes of frames
-//! between them; in the *item world* both ends follow their rules, with counts of 16 bits and kept bytes; in the
-//! *numbered world* requests have numbers that never wrap, and each is executed once. [`laws`] says that all show the
-//! same.
+//! A list of events says what is submitted, resent, delivered and lost between an originator and a target. Three worlds
+//! get the same events:
+//!
+//! - the *counting world*: the whole adapter and the whole client, and the bytes of the frames between them;
+//! - the *item world*: both ends by their rules, with sequence counts of 16 bits and kept bytes;
+//! - the *numbered world*: requests have numbers that never wrap, and each is executed once.
+//!
+//! [`laws`] states that all three show the same. [`Bench`] runs the counting world.
 #![tactic(auto)]
 
 mod bench;

@@ -1,4 +1,4 @@
-//! How the two ends open: without loss, at moment 0.
+//! The opening of both ends: without loss, at moment 0.
 
 ghost use Rattle.std.specs.Prelude.{◌≡◌, ℕ, Bool, Option, MatchResult};
 ghost use Rattle.std.specs.Option.{option_map};
@@ -11,11 +11,12 @@ use crate::world::feed_unanswered;
 use enip_adapter::{Adapter, Peer};
 use enip_client::{Client, Heard, Sent, write_register};
 
-/// The client registers and opens its connection, and a second session registers. These are their peers.
+/// The client registers and opens its connection, then a second session registers. Returns both peers, the client's
+/// first.
 ///
 /// # Errors
 ///
-/// `Setup` where a begin, a register or an open is refused.
+/// `Setup` if a peer cannot begin, or the client cannot register or open its connection.
 pub(crate) fn open_both(
     adapter: &mut Adapter,
     client: &mut Client,
@@ -32,22 +33,22 @@ pub(crate) fn open_both(
     Ok((peer, second))
 }
 
-/// A peer begins.
+/// Begins a peer.
 ///
 /// # Errors
 ///
-/// `Setup` where it cannot.
+/// `Setup` if the adapter refuses it.
 fn begin(adapter: &mut Adapter) -> Result<Peer, BenchFault>
     ensures { HasBegun adapter.old adapter.new result }
 {
     adapter.begin().map_err(|_| BenchFault::Setup)
 }
 
-/// The client registers its session.
+/// Registers the client's session.
 ///
 /// # Errors
 ///
-/// `Setup` where it is refused.
+/// `Setup` if that is refused.
 fn register(adapter: &mut Adapter, client: &mut Client, peer: &Peer) -> Result<(), BenchFault>
     ensures { HasExchanged (exchange (record { adapter = adapter.old; client = client.old }) peer.now is_registered_event
         (registers client.old.state)) adapter.new client.new result }
@@ -64,11 +65,11 @@ fn register(adapter: &mut Adapter, client: &mut Client, peer: &Peer) -> Result<(
     }
 }
 
-/// The client opens its connection.
+/// Opens the client's connection.
 ///
 /// # Errors
 ///
-/// `Setup` where it is refused.
+/// `Setup` if that is refused.
 fn open(adapter: &mut Adapter, client: &mut Client, peer: &Peer) -> Result<(), BenchFault>
     ensures { HasExchanged (exchange (record { adapter = adapter.old; client = client.old }) peer.now is_opened_event
         (opens client.old.state)) adapter.new client.new result }

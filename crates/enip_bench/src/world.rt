@@ -1,4 +1,4 @@
-//! The two ends, what lies between them, and what each event does.
+//! Both ends, the frames between them, and what each event does.
 //! Text: docs/EXACTLY-ONCE.md, "The premises, and what goes wrong without each".
 //! Text: docs/PROTOCOL.md, "The client".
 //! Text: docs/PROTOCOL.md, "Connections: opened, closed, timed out".
@@ -23,16 +23,16 @@ use enip_adapter::{Adapter, LONGEST_ANSWER, Peer};
 use enip_client::{Client, Heard, LONGEST_SENT, Sent, SubmitFault, write_request};
 use std::alloc::{AllocError, Global};
 
-/// A reply that the client accepted, and the number of its request.
+/// An accepted reply, and the number of its request.
 #[derive(Drop)]
 pub struct Accepted {
-    /// The number of the request, from 0.
+    /// The number of the request: submitted requests are numbered from 0.
     pub number: u64,
-    /// The router's reply.
+    /// The reply of the router, without the sequence count.
     pub reply: BytesMut,
 }
 
-/// Both ends, the adapter's two peers, of which the client is the first, and what lies between.
+/// Both ends, the adapter's two peers, of which the first is the client's, and what is between the ends.
 #[derive(Drop)]
 pub(crate) struct World {
     pub(crate) alloc: Global,
@@ -40,20 +40,20 @@ pub(crate) struct World {
     pub(crate) client: Client,
     pub(crate) peer: Peer,
     pub(crate) second: Peer,
-    /// The frames that were sent, by position.
+    /// The frames from the client, by position.
     pub(crate) sent: Frames,
-    /// The frames that were sent back, by position.
+    /// The frames from the adapter, by position.
     pub(crate) back: Frames,
-    /// The position that was delivered last in each direction.
+    /// The last position that was delivered, in each direction.
     pub(crate) last_reached: Option<usize>,
     pub(crate) last_back: Option<usize>,
-    /// How many requests the client took.
+    /// How many submitted requests the client took.
     pub(crate) submits: u64,
     pub(crate) accepted: Vec<Accepted>,
 }
 
 impl World {
-    /// Does an event, or nothing for want of memory.
+    /// Does an event, or nothing if memory is refused.
     pub(crate) fn step(&mut self, event: &Event) -> Result<StepKind, AllocError>
         requires reached { IsReached (world_in self.old) }
         requires counted { self.old.submits ≤ length self.old.sent.frames }
@@ -71,7 +71,7 @@ impl World {
         }
     }
 
-    /// The client is given a request, and its frame is sent.
+    /// Submits a request to the client. If the client takes it, its frame is sent.
     fn submit(&mut self, request: &[u8]) -> Result<StepKind, AllocError>
         requires reached { IsReached (world_in self.old) }
         requires counted { self.old.submits ≤ length self.old.sent.frames }
@@ -82,7 +82,7 @@ impl World {
         let frame = match self.client.submit(request) {
             Ok(frame) => frame,
             Err(SubmitFault::Refused(why)) => return Ok(StepKind::Refused(why)),
-            // an open connection has no fault
+            // a client whose connection is open has no fault
             Err(SubmitFault::Client(_)) => unreachable!(),
         };
         let step_kind = StepKind::Sent(self.submits, self.sent.len());
@@ -91,7 +91,7 @@ impl World {
         Ok(step_kind)
     }
 
-    /// The client sends the request that waits once more.
+    /// Sends the pending request again, if one is pending.
     fn resend(&mut self) -> Result<StepKind, AllocError>
         ensures stepped { IsStepped (world_in self.old) Resend (world_in self.new) result }
         ensures counted { self.new.submits ≡ self.old.submits }
@@ -106,7 +106,7 @@ impl World {
         Ok(StepKind::Resent(Some(position)))
     }
 
-    /// A frame that was sent reaches the adapter, at moment 0, and what answers it is sent back.
+    /// Delivers a frame to the adapter, at moment 0. The answer is sent back.
     fn reach(&mut self, position: usize) -> Result<StepKind, AllocError>
         ensures stepped { IsStepped (world_in self.old) (Reach position) (world_in self.new) result }
         ensures submits { self.new.submits ≡ self.old.submits }
@@ -125,7 +125,7 @@ impl World {
         Ok(StepKind::Reached(Some(position)))
     }
 
-    /// A frame that was sent back reaches the client.
+    /// Delivers a frame to the client.
     fn deliver_back(&mut self, position: usize) -> Result<StepKind, AllocError>
         requires { IsReached (world_in self.old) }
         ensures stepped { IsStepped (world_in self.old) (Back position) (world_in self.new) result }
@@ -141,13 +141,13 @@ impl World {
         if !feed_client(&mut self.client, frame, &mut reply) {
             return Ok(StepKind::Ignored);
         }
-        // the reply to the last submit; none is accepted before the first
+        // the reply is that to the last submit, and no reply is accepted before the first submit
         let number = self.submits.saturating_sub(1);
         self.accepted.push_reserved(Accepted { number, reply });
         Ok(StepKind::Accepted)
     }
 
-    /// The second session has a request executed, unconnected, at moment 0. Its answer is dropped.
+    /// Executes an unconnected request of the second session, at moment 0. Its answer is dropped.
     fn execute_other(&mut self, request: &[u8]) -> StepKind
         ensures step_kind { IsStepDone (world_in self.old) (Other request.now) (world_in self.new) result }
         ensures submits { self.new.submits ≡ self.old.submits }
@@ -162,7 +162,7 @@ impl World {
         StepKind::Done
     }
 
-    /// Every connection ends by its time.
+    /// Times out every connection.
     fn shut(&mut self) -> StepKind
         ensures step_kind { IsStepDone (world_in self.old) Shut (world_in self.new) result }
         ensures submits { self.new.submits ≡ self.old.submits }
@@ -172,7 +172,7 @@ impl World {
         StepKind::Done
     }
 
-    /// The client gives the request that waits up.
+    /// Gives up the pending request, if one is pending.
     fn give_up(&mut self) -> StepKind
         ensures step_kind { IsStepDone (world_in self.old) GiveUp (world_in self.new) result }
         ensures submits { self.new.submits ≡ self.old.submits }
@@ -183,7 +183,7 @@ impl World {
     }
 }
 
-/// The client hears a frame. A reply that it accepts is put into `reply`. False where none is.
+/// Feeds a frame to the client. Returns whether the client accepted a reply, which is then in `reply`.
 fn feed_client(client: &mut Client, frame: &[u8], reply: &mut BytesMut) -> bool
     requires empty { reply.old.items ≡ [] }
     requires room { IsCapacityFor reply.old.spare (fed client.old frame.now).heard_event }
@@ -197,14 +197,14 @@ fn feed_client(client: &mut Client, frame: &[u8], reply: &mut BytesMut) -> bool
     true
 }
 
-/// A peer sends a whole frame at moment 0. What answers it is dropped.
+/// Feeds a peer's whole frame to the adapter at moment 0. The answer is dropped.
 pub(crate) fn feed_unanswered(adapter: &mut Adapter, peer: &Peer, frame: &[u8])
     ensures { adapter.new ≡ after_call adapter.old (Feeds 0 peer.now frame.now) }
 {
     adapter.feed(0, peer, frame);
 }
 
-/// What a delivery brings: the frame at this position, where it was sent and none behind it was delivered.
+/// The frame that a delivery brings. `None` if no frame has this position, or a later one was delivered already.
 fn delivered(last: Option<usize>, frames: &Frames, position: usize) -> Option<&[u8]>
     ensures { option_map (λ (frame : _). frame.now) result ≡ delivery last frames.now.frames position }
 {
@@ -214,7 +214,7 @@ fn delivered(last: Option<usize>, frames: &Frames, position: usize) -> Option<&[
     frames.get(position)
 }
 
-/// Whether these are as many bytes as an unconnected request has.
+/// Whether the size is that of an unconnected request: 2 to 504 bytes.
 fn is_unconnected(request: &[u8]) -> bool
     ensures { result ≡ is_unconnected_request request.now }
 {

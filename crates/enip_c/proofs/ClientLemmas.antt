@@ -1,4 +1,4 @@
--- A call of a client that C keeps, from the call of the client.
+-- From a call of a client to the call of a client that C keeps.
 use Rattle.std.proofs.Common.{◌≡◌, ℕ, List, sym, subst}
 use Rattle.std.specs.Prelude.{Option, Some}
 use Rattle.enip_client.specs.Client.{ClientState}

@@ -1,4 +1,4 @@
--- What C keeps of an adapter, of a client and of endings. Assumes `Logic`.
+-- What C keeps of an adapter, a client and endings. Assumes `Logic`.
 use Rattle.std.proofs.Common.{refl}
 use Rattle.enip_adapter.specs.contracts.adapter.Adapter as adapter
 use Rattle.enip_adapter.specs.contracts.endings.Endings as endings

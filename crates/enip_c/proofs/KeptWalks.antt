@@ -1,5 +1,5 @@
--- What C keeps, at any object and any struct of its pointer: the machine values of such a place, and the walks of the
--- functions that make it, take a box's pointer into it and hand that out again. Assumes `Logic`.
+-- What C keeps, for any object and any struct of one pointer: its machine values, and the walks of the functions that
+-- make it empty, move a box's pointer into it and move it out again. Assumes `Logic`.
 use Rattle.std.proofs.Common.{◌≡◌, List, [], ◌∷◌, ◌++◌, refl, sym, ap, ◌∙◌, subst, lit<}
 use lib.Dec.{T}
 use seplogic.Ra.Ura.{Ura}
@@ -51,12 +51,12 @@ pub lone_good : (ν : Sym) (p : Ptr) → Good (ty_struct ν (tcons ty_ptr tnil))
 lone_good ν (block_ptr b o) = (tt, (tt, tt))
 lone_good ν null_ptr = (tt, (record { fits = lit< tt }, tt))
 
--- What a live place has.
+-- The object of a live place.
 pub live_value : {A : Type 0} (v : Option A) → IsLive v → (x : A) × (v ≡ Some x)
 live_value None live = absurd live
 live_value (Some x) live = (x, refl)
 
--- What such a struct owns: its pointer, and what stands there.
+-- What such a struct owns: its pointer, and the object at it.
 module _ (ν : Sym) (R : RattleType) where
   abbrev pub pointer : Shape
   pointer = record { name = ν; args = []; types = []; fields = RawPtr ∷ [] }
@@ -76,7 +76,7 @@ module _ (ν : Sym) (R : RattleType) where
         nothing t $ feq_i t (List Val) (ptr_val p ∷ []) (ptr_val p ∷ []) refl $ fjoin t $ feq_i t (List Val) (v ∷ []) (v ∷ []) refl $ fjoin t $
         fpack t (Valss (RawPtr ∷ [])) (within pointer (p, tt) (v ∷ [])) (ptr_val p ∷ [], tt) $ fjoin t $ s)
 
--- A struct of a pointer to an object.
+-- A struct of one pointer to an object.
 pub record Place : Type 2 where
   pub name : Sym
   pub object : RattleType
@@ -132,7 +132,7 @@ module _ (P : Place) where
         use0 𝓛 (raw (fact 𝓤 (P.value d ≡ None))) (fact_i 𝓤 (P.value d ≡ None) (emp 𝓤) (P.value_made p None)) $ nothing ! $
         returns ! (look_at ! 0 refl) $ free_all ! refl $ keep ! (3 ∷ 0 ∷ 2 ∷ 1 ∷ []) $ by ! (leaves 𝓛 En hs c z (lone_val p) d tt tt)))
 
-  -- ---- `of_loose` gives what the box's pointer owns to the place.
+  -- ---- `of_loose` moves what the box's pointer owns into the place.
   abbrev pub of_loose_fn : Fn
   of_loose_fn = record {
     lifetimes = 0;
@@ -170,7 +170,7 @@ module _ (P : Place) where
         use0 𝓛 (raw (fact 𝓤 (P.value d ≡ Some v.value))) (fact_i 𝓤 (P.value d ≡ Some v.value) (emp 𝓤) (P.value_made p (Some v.value))) $ nothing ! $ nothing ! $ fjoin ! $
         returns ! (look_at ! 0 refl) $ free_all ! refl $ keep ! (5 ∷ 0 ∷ 2 ∷ 1 ∷ []) $ by ! (leaves 𝓛 En hs c z (lone_val p) d (tt, tt) (tt, tt)))))
 
-  -- ---- `into_loose` gives what a live place owns to the box's pointer.
+  -- ---- `into_loose` moves what a live place owns to the box's pointer.
   abbrev pub into_loose_fn : Fn
   into_loose_fn = record {
     lifetimes = 0;

@@ -1,4 +1,4 @@
--- What C is told of a call of an adapter.
+-- What a function of an adapter returns to C.
 use Rattle.std.specs.Prelude.{ℕ, List, [], ◌++◌, ◌≡◌, ◌-◌, length, Bool, true, false, Option, Some, None, ⊤}
 use Rattle.std.specs.Option.{IsSomeAnd}
 use Rattle.cip_manager.specs.Connection.{earliest_deadline}
@@ -20,7 +20,7 @@ use Rattle.enip_c.specs.declared.status.Status.{Status}
 use Rattle.enip_c.specs.declared.status.Status.TheVariants as status
 use Rattle.enip_c.specs.Room.{status_number, in_room}
 
--- Why there is no answer, as C is told it; 0 where there is one.
+-- The number of a reason in enip.h; 0 if there is an answer.
 abbrev pub no_reply_reason_number : NoReplyReason → ℕ
 no_reply_reason_number no_reply_reason.NoFrame = 1
 no_reply_reason_number no_reply_reason.Options = 2
@@ -36,7 +36,7 @@ abbrev pub silence_told : Output → ℕ
 silence_told (NoReply why) = no_reply_reason_number why
 silence_told other = 0
 
--- The bytes of an answer; none where there is no answer.
+-- The bytes of the answer; empty if there is no answer.
 abbrev pub answer_bytes : Output → List ℕ
 answer_bytes (Sends bytes) = bytes
 answer_bytes other = []
@@ -45,8 +45,8 @@ abbrev pub bool_number : Bool → ℕ
 bool_number true = 1
 bool_number false = 0
 
--- What C is told of a piece: how many bytes were taken, how many of its room are the answer, why there is none, and
--- whether the peer is closed.
+-- The result of a feed: the number of bytes taken, the length of the answer, why there is none, and whether the peer is
+-- closed.
 abbrev pub fed_told : AdapterState → Call → Fed
 fed_told a call = record {
   taken = (call_meaning a call).taken;
@@ -55,18 +55,18 @@ fed_told a call = record {
   close = bool_number (call_answer a call).close;
 }
 
--- A piece was fed to the adapter that stands there, its answer is in front of the room, and C was told of it.
+-- A piece was fed to an adapter: its answer is at the front of the buffer, and `fed` is the result.
 pub record IsFed (old new : AdapterState) (call : Call) (room_old room_new : List ℕ) (fed : Fed) : Type 0 where
   pub state : new ≡ after_call old call
   pub answer : room_new ≡ in_room (answer_bytes (call_answer old call).output) room_old
   pub told : fed ≡ fed_told old call
 
--- The same of what C keeps.
+-- The same for what C keeps.
 abbrev pub IsFedKept : Option AdapterState → Option AdapterState → Call → List ℕ → List ℕ → Fed → Type 0
 IsFedKept (Some old) (Some new) call room_old room_new fed = IsFed old new call room_old room_new fed
 IsFedKept old new call room_old room_new fed = ⊥
 
--- The status of a peer that began or did not, and its handle.
+-- The status of adding a peer, and the peer's number.
 abbrev pub full_status : Full → Status
 full_status Places = status.Places
 full_status Handles = status.Handles
@@ -80,11 +80,11 @@ abbrev pub IsBegunKept : Option AdapterState → ℕ → ℕ → ℕ → Type 0
 IsBegunKept None old new result = ⊥
 IsBegunKept (Some a) old new result = IsBegun (call_answer a Begins_peer).output old new result
 
--- A text is refused by the check of this number.
+-- The check with this number refuses the text.
 abbrev pub IsRefusedBy : List ℕ → ℕ → Type 0
 IsRefusedBy text number = (refusal : ConfigurationRefusal) × ((number ≡ refusal_number refusal) × IsRefused text refusal)
 
--- How many places for peers and for connections are free.
+-- The numbers of free slots for peers and for connections.
 pub record AreFree (a : AdapterState) (peers connections : ℕ) : Type 0 where
   pub peers_free : peers ≡ a.state.places - length a.state.peers
   pub connections_free : connections ≡ a.state.shared.manager.places - length a.state.shared.manager.connections
@@ -93,12 +93,12 @@ abbrev pub AreFreeKept : Option AdapterState → ℕ → ℕ → Type 0
 AreFreeKept None peers connections = ⊥
 AreFreeKept (Some a) peers connections = AreFree a peers connections
 
--- When the first connection ends, where one is open.
+-- The earliest deadline of the open connections, if one is open.
 abbrev pub deadline_kept : Option AdapterState → Option ℕ
 deadline_kept None = None
 deadline_kept (Some a) = earliest_deadline a.state.shared.manager.connections
 
--- The bytes of an attribute that can be read.
+-- The bytes of an attribute, if it can be read.
 abbrev pub attribute_kept : Option AdapterState → ℕ → ℕ → ℕ → Option (List ℕ)
 attribute_kept None class instance attribute = None
 attribute_kept (Some a) class instance attribute = value_at a.state.shared.objects class instance attribute

@@ -1,4 +1,4 @@
--- What C is told of a call of a client.
+-- What a function of a client returns to C.
 use Rattle.std.specs.Prelude.{ℕ, ◌+◌, ◌*◌, ◌==◌, List, [], ◌≡◌, nat_le, nat_lt, if◌then◌else◌, slice_index, length}
 use Rattle.std.specs.Prelude.{Bool, true, false, Option, Some, None, Result, Ok, Err}
 use Rattle.cip_class3.specs.declared.originator.Refused.{Refused}
@@ -20,7 +20,7 @@ use Rattle.enip_c.specs.declared.status.Status.{Status}
 use Rattle.enip_c.specs.declared.status.Status.TheVariants as status
 use Rattle.enip_c.specs.Room.{Told, told, status_number, in_room}
 
--- The status of a call that the client refuses.
+-- The status if the client refuses the call.
 abbrev pub fault_status : ClientFault → Status
 fault_status faults.State = status.State
 fault_status (faults.Status number) = status.Failed
@@ -30,7 +30,7 @@ fault_status faults.Memory = status.Memory
 fault_status faults.Malformed = status.Malformed
 fault_status faults.Request = status.Request
 
--- The status of a request that the connection refuses.
+-- The status if the connection refuses the request.
 abbrev pub refused_status : Refused → Status
 refused_status refusals.Busy = status.Waiting
 refused_status refusals.TooLong = status.LongRequest
@@ -42,7 +42,7 @@ abbrev pub submit_status : SubmitFault → Status
 submit_status (submit_faults.Client fault) = fault_status fault
 submit_status (submit_faults.Refused why) = refused_status why
 
--- What C is told of a frame that is lent, or of why none is.
+-- The frame that a call lends, in the buffer, or the status that says why there is none.
 abbrev pub lent_told : {E : Type 0} → (E → Status) → Result (List ℕ) E → ℕ → List ℕ → Told
 lent_told of_fault (Ok bytes) count room = told status.Done (length bytes) (in_room bytes room)
 lent_told of_fault (Err fault) count room = told (of_fault fault) count room
@@ -51,7 +51,7 @@ abbrev pub resent_told : Option (List ℕ) → ℕ → List ℕ → Told
 resent_told (Some bytes) count room = told status.Done (length bytes) (in_room bytes room)
 resent_told None count room = told status.Absent count room
 
--- A client after a call, and what C was told.
+-- A client after a call, and what the call returned.
 pub record Outcome : Type 0 where
   pub client : ClientState
   pub output : Told
@@ -62,7 +62,7 @@ lends of_fault c lent count room = record {
   output = lent_told of_fault (bytes_lent lent) count room;
 }
 
--- Each call that lends a frame.
+-- The calls that lend a frame.
 abbrev pub register_outcome : ClientState → ℕ → List ℕ → Outcome
 register_outcome c = lends fault_status c (registers c.state)
 
@@ -87,19 +87,19 @@ bytes_resent c = elim (resends c.state) [ Some f ↦ Some (frame f) | None ↦ N
 abbrev pub resend_outcome : ClientState → ℕ → List ℕ → Outcome
 resend_outcome c count room = record { client = c; output = resent_told (bytes_resent c) count room }
 
--- A call did what its outcome says, to the client and to C.
+-- A call did to the client what its outcome states, and returned what it states.
 pub record IsDone (outcome : Outcome) (new : ClientState) (result count : ℕ) (room : List ℕ) : Type 0 where
   pub client : new ≡ outcome.client
   pub output : ◌≡◌ {A = Told} (record { status = result; count = count; room = room }) outcome.output
 
--- The same of what C keeps.
+-- The same for what C keeps.
 abbrev pub IsDoneKept : (ClientState → ℕ → List ℕ → Outcome) → Option ClientState → Option ClientState → ℕ → ℕ → ℕ
     → List ℕ → List ℕ → Type 0
 IsDoneKept outcome (Some old) (Some new) result count_old count_new room_old room_new =
     IsDone (outcome old count_old room_old) new result count_new room_new
 IsDoneKept outcome old new result count_old count_new room_old room_new = ⊥
 
--- The room is too small, and nothing changed.
+-- The buffer is too small, and nothing changed.
 pub record IsTooSmall (old new : Option ClientState) (result count_old count_new : ℕ) (room_old room_new : List ℕ)
     : Type 0 where
   pub status : result ≡ status_number status.Room
@@ -107,7 +107,7 @@ pub record IsTooSmall (old new : Option ClientState) (result count_old count_new
   pub count : count_new ≡ count_old
   pub room : room_new ≡ room_old
 
--- The general status of a reply, its third byte, and its first additional word, where it has one; else 0.
+-- The general status of a reply, which is its third byte, and its first word of additional status; 0 if it has none.
 abbrev pub general_in : List ℕ → ℕ
 general_in reply = if nat_lt (length reply) 4 then 0 else slice_index reply 2
 
@@ -116,7 +116,7 @@ extended_in reply =
     if nat_lt (length reply) 6 then 0
     else if slice_index reply 3 == 0 then 0 else slice_index reply 4 + slice_index reply 5 * 256
 
--- What C is told of a piece, and its room. A reply that does not fit is told by its length alone.
+-- What a feed returns, and the buffer. A reply that does not fit is reported by its length alone.
 pub record HeardTold : Type 0 where
   pub heard : Heard
   pub room : List ℕ
@@ -148,7 +148,7 @@ news_told taken (Accepted bytes) room = reply_told taken 4 bytes room
 news_told taken (RefusedNews general extended) room = plainly taken 5 general extended room
 news_told taken Closed room = plainly taken 6 0 0 room
 
--- A piece was fed to a client, and C was told of it.
+-- A piece was fed to a client, and `heard` is the result.
 pub record IsHeardBy (old new : ClientState) (piece : List ℕ) (heard : Heard) (room_old room_new : List ℕ) : Type 0 where
   pub client : new ≡ (fed old piece).client
   pub told : ◌≡◌ {A = HeardTold} (record { heard = heard; room = room_new })
@@ -158,7 +158,7 @@ abbrev pub IsHeardKept : Option ClientState → Option ClientState → List ℕ 
 IsHeardKept (Some old) (Some new) piece heard room_old room_new = IsHeardBy old new piece heard room_old room_new
 IsHeardKept old new piece heard room_old room_new = ⊥
 
--- A request was given up, or there was none.
+-- The pending request was given up, or none was pending.
 pub record IsGivenUp (old new : ClientState) (result : ℕ) : Type 0 where
   pub client : new ≡ with_state old (after_giving_up old.state)
   pub status : result ≡ status_number (if gives_up old.state then status.Done else status.Absent)
@@ -167,7 +167,7 @@ abbrev pub IsGivenUpKept : Option ClientState → Option ClientState → ℕ →
 IsGivenUpKept (Some old) (Some new) result = IsGivenUp old new result
 IsGivenUpKept old new result = ⊥
 
--- What a client asks of its connection, as C says it.
+-- The connection that a client opens, from C's struct.
 abbrev pub wants_of : ConnectionWants → Wants
 wants_of w = record {
   originator_vendor = w.originator_vendor;

@@ -1,4 +1,4 @@
--- What C is told of what the device itself does with its adapter, and of the connections that ended.
+-- What the device's own calls of its adapter return to C, and the connections that ended.
 use Rattle.std.specs.Prelude.{ℕ, List, ◌≡◌, Bool, if◌then◌else◌, Option, Some, None, is_some, unwrap_or, slice_get}
 use Rattle.cip_objects.specs.Changes.{changes_of}
 use Rattle.cip_objects.specs.Contents.{Contents}
@@ -14,14 +14,14 @@ use Rattle.enip_c.specs.declared.status.Status.{Status}
 use Rattle.enip_c.specs.declared.status.Status.TheVariants as status
 use Rattle.enip_c.specs.Room.{status_number}
 
--- What the device leaves that writes into the data of an assembly.
+-- The objects after the device has written to the data of an assembly; none if they have no such data.
 abbrev pub device_written : AdapterState → ℕ → ℕ → List ℕ → Option Contents
 device_written a instance offset bytes = device_write a.state.shared.objects instance offset bytes
 
 abbrev pub write_status : Bool → Status
 write_status written = if written then status.Done else status.Absent
 
--- The device wrote, or there is no such place and nothing changed.
+-- The device wrote, or there is no such data and nothing changed.
 pub record IsWritten (old new : AdapterState) (instance offset : ℕ) (bytes : List ℕ) (result : ℕ) : Type 0 where
   pub state : new ≡ with_objects old (unwrap_or (device_written old instance offset bytes) old.state.shared.objects)
   pub told : result ≡ status_number (write_status (is_some (device_written old instance offset bytes)))
@@ -30,12 +30,12 @@ abbrev pub IsWrittenKept : Option AdapterState → Option AdapterState → ℕ �
 IsWrittenKept (Some old) (Some new) instance offset bytes result = IsWritten old new instance offset bytes result
 IsWrittenKept old new instance offset bytes result = ⊥
 
--- How often peers have written data of an assembly.
+-- The number of times that peers have written data of an assembly.
 abbrev pub changes_kept : Option AdapterState → ℕ → Option ℕ
 changes_kept None instance = None
 changes_kept (Some a) instance = changes_of instance a.state.shared.objects.changes
 
--- Why a connection ended, as C is told it.
+-- The number in enip.h of the reason why a connection ended.
 abbrev pub end_reason_number : EndReason → ℕ
 end_reason_number TimedOut = 1
 end_reason_number PeerEnded = 2
@@ -45,17 +45,17 @@ end_reason_number Closed = 4
 abbrev pub c_ended_connection : EndedConnection → CEndedConnection
 c_ended_connection e = record { id = e.id; peer = e.session; why = end_reason_number e.reason }
 
--- The endings after a look at the adapter.
+-- The endings after an update from the adapter.
 abbrev pub looked_kept : Option EndingsState → Option AdapterState → Option EndingsState
 looked_kept (Some e) (Some a) = Some (updated e a)
 looked_kept e a = e
 
--- The connection at a place of those that ended, counted from 0.
+-- An entry of the connections that ended, counted from 0.
 abbrev pub ended_kept : Option EndingsState → ℕ → Option EndedConnection
 ended_kept None place = None
 ended_kept (Some e) place = slice_get e.ended place
 
--- The status and the connection that C is told, where there is one.
+-- The status, and the connection if there is one.
 abbrev pub IsToldEnding : Option EndedConnection → CEndedConnection → CEndedConnection → ℕ → Type 0
 IsToldEnding None old new result = (result ≡ status_number status.Absent) × (new ≡ old)
 IsToldEnding (Some e) old new result = (result ≡ status_number status.Done) × (new ≡ c_ended_connection e)

@@ -1,9 +1,9 @@
--- What C is told: bytes in front of its room, a number, a status.
+-- What a function returns to C: bytes at the front of the buffer, a count, a status.
 use Rattle.std.specs.Prelude.{ℕ, List, [], ◌++◌, ◌≡◌, nat_le, if◌then◌else◌, drop, length, Option, Some, None}
 use Rattle.enip_c.specs.declared.status.Status.{Status}
 use Rattle.enip_c.specs.declared.status.Status.TheVariants as status
 
--- The number of a status, as C has it.
+-- The number of a status in enip.h.
 abbrev pub status_number : Status → ℕ
 status_number status.Done = 0
 status_number status.Misuse = 1
@@ -25,11 +25,11 @@ status_number status.GivenUp = 16
 status_number status.Abandoned = 17
 status_number status.Wants = 18
 
--- Bytes in front of a room, the rest of which stays.
+-- Bytes at the front of a buffer, whose rest stays as it was.
 abbrev pub in_room : List ℕ → List ℕ → List ℕ
 in_room bytes room = bytes ++ drop (length bytes) room
 
--- A room, and the number beside it, after a call.
+-- The status, the count and the buffer after a call.
 pub record Told : Type 0 where
   pub status : ℕ
   pub count : ℕ
@@ -38,7 +38,7 @@ pub record Told : Type 0 where
 abbrev pub told : Status → ℕ → List ℕ → Told
 told s count room = record { status = status_number s; count = count; room = room }
 
--- Bytes are told where they fit. Where there are none, or they do not fit, nothing changes.
+-- Bytes are copied if they fit. If there are none, or they do not fit, nothing changes.
 abbrev pub told_bytes : Option (List ℕ) → ℕ → List ℕ → Told
 told_bytes None count room = told status.Absent count room
 told_bytes (Some bytes) count room =
@@ -46,7 +46,7 @@ told_bytes (Some bytes) count room =
     then told status.Done (length bytes) (in_room bytes room)
     else told status.Room count room
 
--- The status and the number that C is told, where there is one.
+-- The status, and the number if there is one.
 abbrev pub IsToldNumber : Option ℕ → ℕ → ℕ → ℕ → Type 0
 IsToldNumber None old new result = (result ≡ status_number status.Absent) × (new ≡ old)
 IsToldNumber (Some n) old new result = (result ≡ status_number status.Done) × (new ≡ n)

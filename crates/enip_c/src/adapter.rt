@@ -1,4 +1,4 @@
-//! The calls of an adapter.
+//! The functions of an adapter.
 
 ghost use Rattle.std.specs.Prelude.{◌≡◌, ◌≤◌, ◌<◌, length, None, IfOk, IfErr};
 ghost use Rattle.std.specs.Option.{option_map, IsSomeAnd};
@@ -18,21 +18,21 @@ use enip_adapter::{Adapter, Full, LONGEST_ANSWER, NoReplyReason, Peer};
 use enip_config::{LoadFault, adapter_from, explain};
 use std::alloc::Global;
 
-/// What C is told of a piece that was fed.
+/// The result of a feed: `enip_fed` of `enip.h`.
 #[repr(C)]
 #[derive(Clone, Copy, Debug)]
 pub struct Fed {
-    /// How many bytes of the piece were taken.
+    /// The number of bytes taken from the front of the piece.
     pub taken: usize,
-    /// How many bytes of the room are the answer, 0 where there is none.
+    /// The number of bytes of the answer in the buffer, 0 if there is none.
     pub answer: usize,
-    /// Why there is no answer, 0 where there is one.
+    /// Why there is no answer, 0 if there is one.
     pub no_reply_reason: u32,
-    /// 1 where the peer is closed or not held, else 0.
+    /// 1 if the peer is closed or unknown, otherwise 0.
     pub close: u32,
 }
 
-/// Makes the adapter of a configuration. All its memory is taken here.
+/// Makes an adapter from the text of a configuration. Allocates all the memory that it will ever need.
 #[unsafe(no_mangle)]
 pub extern "C" fn enip_core_adapter_new(
     alloc: Global,
@@ -57,7 +57,7 @@ pub extern "C" fn enip_core_adapter_new(
     }
 }
 
-/// The adapter of a configuration, in a block of its own.
+/// The adapter of a configuration, in a box.
 fn boxed_adapter(alloc: Global, text: &[u8]) -> Result<Box<Adapter, Global>, LoadFault>
     ensures made { IfOk result (λ adapter. IsAdapterOf text.now adapter.value) }
     ensures refused { IfErr result (IsFaultOf text.now) }
@@ -76,7 +76,7 @@ pub extern "C" fn enip_core_adapter_free(alloc: Global, kept: &mut KeptAdapter)
     drop(kept.take(alloc));
 }
 
-/// A peer begins.
+/// Adds a peer.
 #[unsafe(no_mangle)]
 pub extern "C" fn enip_core_adapter_begin(
     alloc: Global,
@@ -115,7 +115,7 @@ fn status_of(full: Full) -> Status
     }
 }
 
-/// A piece of a peer's stream at a moment.
+/// Feeds a piece of a peer's stream, at the time `now`.
 #[unsafe(no_mangle)]
 pub extern "C" fn enip_core_adapter_feed(
     alloc: Global,
@@ -181,7 +181,7 @@ fn number_of(why: NoReplyReason) -> u32
     }
 }
 
-/// A moment comes.
+/// Sets the time.
 #[unsafe(no_mangle)]
 pub extern "C" fn enip_core_adapter_tick(alloc: Global, kept: &mut KeptAdapter, now: u64)
     requires { IsLive kept.old.value }
@@ -192,7 +192,7 @@ pub extern "C" fn enip_core_adapter_tick(alloc: Global, kept: &mut KeptAdapter, 
     *kept = KeptAdapter::of(adapter);
 }
 
-/// A peer ends.
+/// Removes a peer.
 #[unsafe(no_mangle)]
 pub extern "C" fn enip_core_adapter_end(alloc: Global, kept: &mut KeptAdapter, peer: u32)
     requires { IsLive kept.old.value }
@@ -203,7 +203,7 @@ pub extern "C" fn enip_core_adapter_end(alloc: Global, kept: &mut KeptAdapter, p
     *kept = KeptAdapter::of(adapter);
 }
 
-/// When the first connection ends, if no item comes on it.
+/// The earliest deadline of the open connections.
 #[unsafe(no_mangle)]
 pub extern "C" fn enip_core_adapter_deadline(
     alloc: Global,
@@ -226,7 +226,7 @@ pub extern "C" fn enip_core_adapter_deadline(
     status
 }
 
-/// The bytes of an attribute that can be read.
+/// The bytes of a readable attribute.
 #[unsafe(no_mangle)]
 pub extern "C" fn enip_core_adapter_read(
     alloc: Global,
@@ -265,7 +265,7 @@ fn read(
     }
 }
 
-/// How many places are free, of peers and of connections.
+/// The number of free slots for peers and for connections.
 #[unsafe(no_mangle)]
 pub extern "C" fn enip_core_adapter_places(
     alloc: Global,
@@ -282,8 +282,8 @@ pub extern "C" fn enip_core_adapter_places(
     *kept = KeptAdapter::of(adapter);
 }
 
-/// What is wrong with the text of a configuration, and in which line, in words. Answers how many bytes of the room they
-/// are, 0 where nothing is wrong, or where there is no memory or no room for them.
+/// Writes what is wrong with the text of a configuration, and in which line. Returns the length of this text, 0 if
+/// nothing is wrong, memory runs out or the text does not fit.
 #[unsafe(no_mangle)]
 pub extern "C" fn enip_core_explain(alloc: Global, text: &[u8], room: &mut [u8]) -> usize
     ensures { result ≤ length room.new }

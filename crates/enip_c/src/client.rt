@@ -1,4 +1,4 @@
-//! The calls of a client.
+//! The functions of a client.
 
 ghost use Rattle.std.specs.Prelude.{◌≡◌, ◌≤◌, ◌<◌, length, Some, None, IfOk, IfErr, IfSome};
 ghost use Rattle.std.specs.Option.{option_map};
@@ -20,16 +20,16 @@ use cip_class3::Refused;
 use enip_client::{Client, ClientFault, LONGEST_SENT, SubmitFault, Wants};
 use std::alloc::Global;
 
-/// The smallest size that can be wanted from originator to target, in bytes.
+/// The smallest connection size from originator to target, in bytes.
 const SMALLEST_OUT: u16 = 4;
 
-/// The smallest size that can be wanted from target to originator, in bytes.
+/// The smallest connection size from target to originator, in bytes.
 const SMALLEST_BACK: u16 = 10;
 
-/// The longest frame, in bytes, which no reply is longer than. (Volume 2, encapsulation header.)
+/// The longest frame, in bytes. No reply is longer. (Volume 2, encapsulation header.)
 const LONGEST_FRAME: usize = 65_535;
 
-/// What C asks of the connection that a client opens.
+/// The connection that a client opens: `enip_wants` of `enip.h`.
 #[repr(C)]
 #[derive(Clone, Copy, Debug)]
 pub struct ConnectionWants {
@@ -37,41 +37,41 @@ pub struct ConnectionWants {
     pub originator_serial: u32,
     /// The connection ID from target to originator.
     pub t_to_o_id: u32,
-    /// The requested interval of both directions, in microseconds.
+    /// The requested packet interval of both directions, in microseconds.
     pub rpi: u32,
-    /// The originator's vendor.
+    /// The originator's vendor ID.
     pub originator_vendor: u16,
-    /// The originator's number of the connection.
+    /// The originator's number for the connection.
     pub connection_serial: u16,
-    /// The size of an item from originator to target in bytes, its count included: 4 to 4,002.
+    /// The size of an item from originator to target in bytes, including its count: 4 to 4,002.
     pub o_to_t_size: u16,
-    /// The size of an item from target to originator in bytes, its count included: 10 to 4,002.
+    /// The size of an item from target to originator in bytes, including its count: 10 to 4,002.
     pub t_to_o_size: u16,
     /// The sequence count of the first request.
     pub first_count: u16,
-    /// The timeout multiplier: the time-out is the RPI times 4 times 2 to it.
+    /// The timeout multiplier: the timeout is RPI x 4 x 2^multiplier.
     pub timeout_multiplier: u8,
 }
 
-/// What C is told of a piece that came back.
+/// What a piece that came back contained: `enip_heard` of `enip.h`.
 #[repr(C)]
 #[derive(Clone, Copy, Debug)]
 pub struct Heard {
-    /// How many bytes of the piece were taken.
+    /// The number of bytes taken from the front of the piece.
     pub taken: usize,
-    /// How many bytes of the room are a reply.
+    /// The number of bytes of the reply in the buffer.
     pub reply: usize,
     /// What was heard: 0 nothing, 1 the session is registered, 2 the connection is open, 3 the reply to an unconnected
-    /// request, 4 the reply to the request that waited on the connection, 5 an open or a close is refused, 6 the
-    /// connection is closed.
+    /// request, 4 the reply to the pending request on the connection, 5 an open or a close is refused, 6 the connection
+    /// is closed.
     pub kind: u32,
-    /// The general status of a reply, or of what is refused.
+    /// The general status of the reply or of the refusal, otherwise 0.
     pub general: u32,
-    /// The first additional status word, or 0.
+    /// The first word of additional status, or 0.
     pub extended: u32,
 }
 
-/// Makes a client. All its memory is taken here.
+/// Makes a client. Allocates all the memory that it will ever need.
 #[unsafe(no_mangle)]
 pub extern "C" fn enip_core_client_new(
     alloc: Global,
@@ -161,7 +161,7 @@ fn status_not_submitted(fault: SubmitFault) -> Status
     }
 }
 
-/// Tells a frame that is lent, or why none is.
+/// Copies a frame to the buffer, or returns why there is none.
 fn tell_lent(lent: Result<&[u8], ClientFault>, room: &mut [u8], count: &mut usize) -> u32
     requires { IfOk lent (λ frame. length frame.now ≤ length room.old) }
     ensures { record { status = result; count = count.new; room = room.new }
@@ -176,7 +176,7 @@ fn tell_lent(lent: Result<&[u8], ClientFault>, room: &mut [u8], count: &mut usiz
     }
 }
 
-/// Tells a frame that is lent, or why none is.
+/// Copies the frame of a submitted request to the buffer, or returns why there is none.
 fn tell_submitted(lent: Result<&[u8], SubmitFault>, room: &mut [u8], count: &mut usize) -> u32
     requires { IfOk lent (λ frame. length frame.now ≤ length room.old) }
     ensures { record { status = result; count = count.new; room = room.new }
@@ -191,7 +191,7 @@ fn tell_submitted(lent: Result<&[u8], SubmitFault>, room: &mut [u8], count: &mut
     }
 }
 
-/// Tells a frame that is lent once more, or that there is none.
+/// Copies the frame of the pending request to the buffer, or returns that none is pending.
 fn tell_resent(lent: Option<&[u8]>, room: &mut [u8], count: &mut usize) -> u32
     requires { IfSome lent (λ frame. length frame.now ≤ length room.old) }
     ensures { record { status = result; count = count.new; room = room.new }
@@ -206,7 +206,7 @@ fn tell_resent(lent: Option<&[u8]>, room: &mut [u8], count: &mut usize) -> u32
     }
 }
 
-/// The RegisterSession to send.
+/// Writes the RegisterSession to send.
 #[unsafe(no_mangle)]
 pub extern "C" fn enip_core_client_register(
     alloc: Global,
@@ -236,7 +236,7 @@ fn register(client: &mut Client, room: &mut [u8], count: &mut usize) -> u32
     tell_lent(client.register(), room, count)
 }
 
-/// The Forward_Open to send.
+/// Writes the Forward_Open to send.
 #[unsafe(no_mangle)]
 pub extern "C" fn enip_core_client_open(
     alloc: Global,
@@ -266,7 +266,7 @@ fn open_connection(client: &mut Client, room: &mut [u8], count: &mut usize) -> u
     tell_lent(client.open(), room, count)
 }
 
-/// The frame of an unconnected request.
+/// Writes the frame of an unconnected request.
 #[unsafe(no_mangle)]
 pub extern "C" fn enip_core_client_ask(
     alloc: Global,
@@ -297,7 +297,7 @@ fn ask(client: &mut Client, request: &[u8], room: &mut [u8], count: &mut usize) 
     tell_lent(client.unconnected(request), room, count)
 }
 
-/// The frame of a request on the connection.
+/// Writes the frame of a request on the connection.
 #[unsafe(no_mangle)]
 pub extern "C" fn enip_core_client_submit(
     alloc: Global,
@@ -328,7 +328,7 @@ fn submit(client: &mut Client, request: &[u8], room: &mut [u8], count: &mut usiz
     tell_submitted(client.submit(request), room, count)
 }
 
-/// The frame of the request that waits, once more.
+/// Writes the frame of the pending request again.
 #[unsafe(no_mangle)]
 pub extern "C" fn enip_core_client_resend(
     alloc: Global,
@@ -358,7 +358,7 @@ fn resend(client: &mut Client, room: &mut [u8], count: &mut usize) -> u32
     tell_resent(client.resend(), room, count)
 }
 
-/// The Forward_Close to send.
+/// Writes the Forward_Close to send.
 #[unsafe(no_mangle)]
 pub extern "C" fn enip_core_client_close(
     alloc: Global,
@@ -388,7 +388,7 @@ fn close(client: &mut Client, room: &mut [u8], count: &mut usize) -> u32
     tell_lent(client.close(), room, count)
 }
 
-/// The UnRegisterSession to send.
+/// Writes the UnRegisterSession to send.
 #[unsafe(no_mangle)]
 pub extern "C" fn enip_core_client_unregister(
     alloc: Global,
@@ -418,7 +418,7 @@ fn unregister(client: &mut Client, room: &mut [u8], count: &mut usize) -> u32
     tell_lent(client.unregister(), room, count)
 }
 
-/// Gives the request that waits on the connection up.
+/// Gives up the pending request on the connection.
 #[unsafe(no_mangle)]
 pub extern "C" fn enip_core_client_give_up(alloc: Global, kept: &mut KeptClient) -> u32
     requires { IsLive kept.old.value }
@@ -440,7 +440,7 @@ fn give_up(client: &mut Client) -> u32
     }
 }
 
-/// A piece of what came back.
+/// Feeds a piece of what came back.
 #[unsafe(no_mangle)]
 pub extern "C" fn enip_core_client_feed(
     alloc: Global,

@@ -1,4 +1,4 @@
-//! What the device itself does with its adapter, and which connections ended.
+//! The device's own calls of its adapter, and the connections that ended.
 
 ghost use Rattle.std.specs.Prelude.{◌≡◌, Some, None, slice_get};
 ghost use Rattle.std.specs.Option.{option_map};
@@ -16,7 +16,7 @@ use crate::status::Status;
 use enip_adapter::{EndReason, Endings};
 use std::alloc::Global;
 
-/// A connection that ended, as C is told it.
+/// A connection that ended: `enip_ended` of `enip.h`.
 #[repr(C)]
 #[derive(Clone, Copy, Debug)]
 pub struct CEndedConnection {
@@ -24,11 +24,11 @@ pub struct CEndedConnection {
     pub id: u32,
     /// The peer that opened it.
     pub peer: u32,
-    /// Why it ended: 1 it timed out, 2 its peer ended, 3 its session ended, 4 it was closed.
+    /// Why it ended: 1 it timed out, 2 its peer was removed, 3 its session ended, 4 it was closed.
     pub why: u32,
 }
 
-/// The device writes bytes into the data of an assembly.
+/// Writes to the data of an assembly, as the device.
 #[unsafe(no_mangle)]
 pub extern "C" fn enip_core_adapter_write(
     alloc: Global,
@@ -56,7 +56,7 @@ fn status_of(written: bool) -> Status
     }
 }
 
-/// The device's status is this one from now on.
+/// Sets the device's status.
 #[unsafe(no_mangle)]
 pub extern "C" fn enip_core_adapter_set_status(alloc: Global, kept: &mut KeptAdapter, status: u16)
     requires { IsLive kept.old.value }
@@ -68,7 +68,7 @@ pub extern "C" fn enip_core_adapter_set_status(alloc: Global, kept: &mut KeptAda
     *kept = KeptAdapter::of(adapter);
 }
 
-/// The device's state is this one from now on.
+/// Sets the device's state.
 #[unsafe(no_mangle)]
 pub extern "C" fn enip_core_adapter_set_state(alloc: Global, kept: &mut KeptAdapter, state: u8)
     requires { IsLive kept.old.value }
@@ -80,7 +80,7 @@ pub extern "C" fn enip_core_adapter_set_state(alloc: Global, kept: &mut KeptAdap
     *kept = KeptAdapter::of(adapter);
 }
 
-/// How often peers have written data of an assembly.
+/// The number of times that peers have written data of an assembly.
 #[unsafe(no_mangle)]
 pub extern "C" fn enip_core_adapter_changes(
     alloc: Global,
@@ -104,7 +104,7 @@ pub extern "C" fn enip_core_adapter_changes(
     status
 }
 
-/// Makes endings: nothing was looked at.
+/// Makes endings that have not seen an adapter yet.
 #[unsafe(no_mangle)]
 pub extern "C" fn enip_core_endings_new(alloc: Global, kept: &mut KeptEndings) -> u32
     ensures made { result ≡ status_number Status.Done → kept.new.value ≡ Some no_endings }
@@ -126,7 +126,7 @@ pub extern "C" fn enip_core_endings_free(alloc: Global, kept: &mut KeptEndings)
     drop(kept.take(alloc));
 }
 
-/// Looks at an adapter.
+/// Updates endings from their adapter.
 #[unsafe(no_mangle)]
 pub extern "C" fn enip_core_endings_update(
     alloc: Global,
@@ -145,7 +145,7 @@ pub extern "C" fn enip_core_endings_update(
     *kept = KeptEndings::of(endings);
 }
 
-/// The connection at a place of those that ended between the last two looks, counted from 0.
+/// Entry `place`, counted from 0, of the connections that had ended at the last update.
 #[unsafe(no_mangle)]
 pub extern "C" fn enip_core_endings_at(
     alloc: Global,

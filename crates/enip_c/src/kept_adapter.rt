@@ -1,4 +1,4 @@
-//! An adapter that C keeps, by its pointer.
+//! The pointer to an adapter that C keeps.
 
 ghost use Rattle.std.specs.Prelude.{◌≡◌, Some, None, Option};
 ghost use Rattle.std.specs.Coded.{coded_option};
@@ -11,13 +11,13 @@ use enip_adapter::Adapter;
 use std::alloc::Global;
 use std::marker::Model;
 
-/// What C keeps of an adapter: the pointer to it, or to nothing. To C it is one pointer, null at first, which it hands
-/// in and neither reads nor writes.
+/// What C keeps of an adapter: a pointer to it, NULL if there is none. C passes it to each call, and neither reads nor
+/// writes it.
 #[repr(C)]
 #[derive(Drop)]
 pub struct KeptAdapter {
     at: *mut u8,
-    /// The adapter that stands there, if any.
+    /// The adapter at the pointer, if any.
     pub ghost value: { Option AdapterState } by { coded_option adapter_code },
 }
 
@@ -29,7 +29,7 @@ impl Model for KeptAdapter {
 }
 
 impl KeptAdapter {
-    /// Of no adapter.
+    /// Without an adapter.
     fn empty() -> KeptAdapter
         ensures { result.value ≡ None }
     {
@@ -56,14 +56,14 @@ impl KeptAdapter {
         }
     }
 
-    /// Of this adapter.
+    /// With this adapter.
     pub(crate) fn of(adapter: Box<Adapter, Global>) -> KeptAdapter
         ensures { result.value ≡ Some adapter.value }
     {
         KeptAdapter::of_loose(Loose::of(adapter))
     }
 
-    /// Hands the adapter out, and leaves nothing there.
+    /// Takes the adapter out.
     pub(crate) fn take(&mut self, alloc: Global) -> Box<Adapter, Global>
         requires { IsLive self.old.value }
         ensures taken { Some result.value ≡ self.old.value }

@@ -1,4 +1,4 @@
-//! A client that C keeps, by its pointer.
+//! The pointer to a client that C keeps.
 
 ghost use Rattle.std.specs.Prelude.{◌≡◌, Some, None, Option};
 ghost use Rattle.std.specs.Coded.{coded_option};
@@ -11,13 +11,13 @@ use enip_client::Client;
 use std::alloc::Global;
 use std::marker::Model;
 
-/// What C keeps of a client: the pointer to it, or to nothing. To C it is one pointer, null at first, which it hands
-/// in and neither reads nor writes.
+/// What C keeps of a client: a pointer to it, NULL if there is none. C passes it to each call, and neither reads nor
+/// writes it.
 #[repr(C)]
 #[derive(Drop)]
 pub struct KeptClient {
     at: *mut u8,
-    /// The client that stands there, if any.
+    /// The client at the pointer, if any.
     pub ghost value: { Option ClientState } by { coded_option (the_row.coded) },
 }
 
@@ -29,7 +29,7 @@ impl Model for KeptClient {
 }
 
 impl KeptClient {
-    /// Of no client.
+    /// Without a client.
     fn empty() -> KeptClient
         ensures { result.value ≡ None }
     {
@@ -56,14 +56,14 @@ impl KeptClient {
         }
     }
 
-    /// Of this client.
+    /// With this client.
     pub(crate) fn of(client: Box<Client, Global>) -> KeptClient
         ensures { result.value ≡ Some client.value }
     {
         KeptClient::of_loose(Loose::of(client))
     }
 
-    /// Hands the client out, and leaves nothing there.
+    /// Takes the client out.
     pub(crate) fn take(&mut self, alloc: Global) -> Box<Client, Global>
         requires { IsLive self.old.value }
         ensures taken { Some result.value ≡ self.old.value }

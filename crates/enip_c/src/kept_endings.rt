@@ -1,4 +1,4 @@
-//! Endings that C keeps, by its pointer.
+//! The pointer to endings that C keeps.
 
 ghost use Rattle.std.specs.Prelude.{◌≡◌, Some, None, Option};
 ghost use Rattle.std.specs.Coded.{coded_option};
@@ -11,13 +11,13 @@ use enip_adapter::Endings;
 use std::alloc::Global;
 use std::marker::Model;
 
-/// What C keeps of endings: the pointer to them, or to nothing. To C it is one pointer, null at first, which it hands
-/// in and neither reads nor writes.
+/// What C keeps of endings: a pointer to them, NULL if there are none. C passes it to each call, and neither reads nor
+/// writes it.
 #[repr(C)]
 #[derive(Drop)]
 pub struct KeptEndings {
     at: *mut u8,
-    /// Those that stand there, if any.
+    /// The endings at the pointer, if any.
     pub ghost value: { Option EndingsState } by { coded_option (the_row.coded) },
 }
 
@@ -29,7 +29,7 @@ impl Model for KeptEndings {
 }
 
 impl KeptEndings {
-    /// Of none.
+    /// Without endings.
     fn empty() -> KeptEndings
         ensures { result.value ≡ None }
     {
@@ -56,14 +56,14 @@ impl KeptEndings {
         }
     }
 
-    /// Of these endings.
+    /// With these endings.
     pub(crate) fn of(endings: Box<Endings, Global>) -> KeptEndings
         ensures { result.value ≡ Some endings.value }
     {
         KeptEndings::of_loose(Loose::of(endings))
     }
 
-    /// Hands the endings out, and leaves nothing there.
+    /// Takes the endings out.
     pub(crate) fn take(&mut self, alloc: Global) -> Box<Endings, Global>
         requires { IsLive self.old.value }
         ensures taken { Some result.value ≡ self.old.value }

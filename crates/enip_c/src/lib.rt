@@ -1,9 +1,9 @@
 //! The adapter and the client for C: each exported function is one call of `enip_adapter` or `enip_client`.
 //!
-//! What C may do wrong, as a null pointer or an object that was freed, is refused in front of these calls, by the thin
-//! layer of `library/enip.c`. All else is here: a call's contract says that it did what the call of the library below
-//! does, bytes and all, and which status C is told. An answer is written into the caller's room; where the room is too
-//! small, nothing changes.
+//! `library/enip.c`, a thin layer in C, is in front of these functions. It refuses what only C can get wrong, such as a
+//! NULL pointer or a handle that was freed. Everything else is here. The contract of a function states that it did what
+//! the call of the crate below does, down to the bytes, and which status it returned. A function writes its answer to
+//! the caller's buffer. If the buffer is too small, nothing changes.
 #![tactic(auto)]
 
 mod adapter;

@@ -1,11 +1,11 @@
-//! The room that C gives for bytes.
+//! The buffer that C passes for bytes.
 
 ghost use Rattle.std.specs.Prelude.{◌≡◌, ◌≤◌, length, Some};
 ghost use Rattle.enip_c.specs.Room.{in_room, told_bytes};
 
 use crate::status::Status;
 
-/// Copies bytes to the front of a room, and answers how many they are.
+/// Copies bytes to the front of the buffer, and returns their number.
 pub(crate) fn copy_front(bytes: &[u8], room: &mut [u8]) -> usize
     requires { length bytes.now ≤ length room.old }
     ensures count { result ≡ length bytes.now }
@@ -16,7 +16,7 @@ pub(crate) fn copy_front(bytes: &[u8], room: &mut [u8]) -> usize
     count
 }
 
-/// Tells bytes where they fit into the room. Where they do not, nothing changes.
+/// Copies bytes to the buffer, and their number to `count`. If they do not fit, nothing changes.
 pub(crate) fn tell_bytes(bytes: &[u8], room: &mut [u8], count: &mut usize) -> u32
     ensures { record { status = result; count = count.new; room = room.new }
         ≡ told_bytes (Some bytes.now) count.old room.old }

@@ -1,60 +1,60 @@
-//! The statuses that C is told.
+//! The status that each function returns to C.
 
 ghost use Rattle.std.specs.Prelude.{◌≡◌};
 ghost use Rattle.enip_c.specs.Room.{status_number};
 
 use thiserror::Error;
 
-/// What came of a call. To C it is a number, `ENIP_..` of `enip.h`.
+/// The outcome of a call. In `enip.h` each is a number, `ENIP_..`.
 #[derive(Clone, Copy, Debug, PartialEq, Eq, Error)]
 pub enum Status {
-    /// It was done.
-    #[error("done")]
+    /// Success.
+    #[error("success")]
     Done = 0,
-    /// C gave what it may not, so nothing was done.
-    #[error("the call was made as it may not be")]
+    /// An argument is not allowed, so nothing was done.
+    #[error("an argument is not allowed")]
     Misuse = 1,
-    /// The room is too small, so nothing was done.
-    #[error("the room is too small")]
+    /// The buffer is too small, so nothing was done.
+    #[error("the buffer is too small")]
     Room = 2,
-    /// Memory was refused.
-    #[error("memory was refused")]
+    /// Out of memory.
+    #[error("out of memory")]
     Memory = 3,
-    /// The text is no configuration.
-    #[error("the text is no configuration")]
+    /// The configuration is refused.
+    #[error("the configuration is refused")]
     Configuration = 4,
-    /// All places for peers are taken.
-    #[error("all places are taken")]
+    /// All peer slots are taken.
+    #[error("all peer slots are taken")]
     Places = 5,
-    /// All session handles were given out.
-    #[error("all session handles were given out")]
+    /// All session handles have been given out.
+    #[error("all session handles have been given out")]
     Handles = 6,
-    /// There is no such thing.
-    #[error("there is no such thing")]
+    /// It does not exist.
+    #[error("it does not exist")]
     Absent = 7,
-    /// The call is not possible now.
-    #[error("the call is not possible now")]
+    /// The call is not possible in this state.
+    #[error("the call is not possible in this state")]
     State = 8,
-    /// An awaited reply had an encapsulation status, which lasts.
-    #[error("an awaited reply has a status")]
+    /// An awaited reply had a nonzero encapsulation status. The client has failed for good.
+    #[error("an awaited reply has a nonzero encapsulation status")]
     Failed = 9,
-    /// An open or a close was refused.
-    #[error("an open or a close was refused")]
+    /// The device refused an open or a close.
+    #[error("the device refused an open or a close")]
     Refused = 10,
-    /// A header that is too long came, which lasts.
+    /// A header gave too great a length. The client has failed for good.
     #[error("a frame is too long")]
     TooLong = 11,
-    /// An awaited reply had another shape, which lasts.
-    #[error("an awaited reply has another shape")]
+    /// An awaited reply was malformed. The client has failed for good.
+    #[error("an awaited reply is malformed")]
     Malformed = 12,
-    /// This is no request.
-    #[error("this is no request")]
+    /// The bytes are not a request.
+    #[error("the bytes are not a request")]
     Request = 13,
-    /// Another request waits for its reply.
-    #[error("a request waits for its reply")]
+    /// Another request is waiting for its reply.
+    #[error("another request is waiting for its reply")]
     Waiting = 14,
-    /// The request is longer than the connection's size.
-    #[error("the request is longer than the connection's size")]
+    /// The request is longer than the connection's size allows.
+    #[error("the request is longer than the connection's size allows")]
     LongRequest = 15,
     /// A request was given up.
     #[error("a request was given up")]
@@ -62,13 +62,13 @@ pub enum Status {
     /// Too many requests were submitted since the last accepted reply.
     #[error("too many requests were submitted since the last accepted reply")]
     Abandoned = 17,
-    /// A size that is wanted of a connection is out of its range.
-    #[error("a size that is wanted of the connection is out of its range")]
+    /// A connection size in `enip_wants` is out of range.
+    #[error("a connection size in enip_wants is out of range")]
     Wants = 18,
 }
 
 impl Status {
-    /// The number that C is told.
+    /// The number in `enip.h`.
     pub(crate) fn number(self) -> u32
         ensures { result ≡ status_number self }
     {

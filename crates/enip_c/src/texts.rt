@@ -1,4 +1,4 @@
-//! The texts of the numbers that C is told.
+//! The texts of the numbers in `enip.h`.
 
 ghost use Rattle.std.specs.Prelude.{◌≤◌, length};
 
@@ -13,10 +13,10 @@ use std::fmt::{self, Write};
 /// The longest text, in bytes.
 const LONGEST_TEXT: usize = 160;
 
-/// A text.
+/// A buffer for a text.
 type Words = ArrayString<LONGEST_TEXT>;
 
-/// What a number is one of.
+/// The kind of a number.
 #[derive(Clone, Copy)]
 enum Kind {
     Call,
@@ -27,7 +27,7 @@ enum Kind {
 }
 
 impl Kind {
-    /// The kind that C says.
+    /// The kind with this number in `enip.h`.
     fn of(number: u32) -> Option<Kind> {
         Some(match number {
             0 => Kind::Call,
@@ -63,7 +63,7 @@ static STATUSES: [Status; 19] = [
     Status::Wants,
 ];
 
-/// The text of a number of this kind. Answers how many bytes of the room it is, 0 where there is none, or no room.
+/// Writes the text of a number of this kind. Returns its length, 0 if there is none or it does not fit.
 #[unsafe(no_mangle)]
 pub extern "C" fn enip_core_status_text(kind: u32, number: u32, room: &mut [u8]) -> usize
     ensures { result ≤ length room.new }
@@ -103,8 +103,8 @@ fn write_silence(number: u32, words: &mut Words) -> fmt::Result {
         3 => NoReplyReason::Status,
         4 => NoReplyReason::Nop,
         5 => NoReplyReason::AnotherSession,
-        // which fault of a packet it is, is not told
-        6 => return words.write_str("the data are no packet"),
+        // The number does not say which fault it is.
+        6 => return words.write_str("the data are malformed"),
         7 => NoReplyReason::NotTaken,
         8 => NoReplyReason::Unregistered,
         9 => NoReplyReason::NotServed,
@@ -135,12 +135,12 @@ fn write_extended(number: u32, words: &mut Words) -> fmt::Result {
     }
 }
 
-/// Why a connection ended, in words; none for another number.
+/// Why a connection ended; an empty text for an unknown number.
 fn ending_text(number: u32) -> &'static str {
     match number {
         1 => "no item came in time",
-        2 => "its peer was ended",
-        3 => "its session was ended",
+        2 => "its peer was removed",
+        3 => "its session ended",
         4 => "its originator closed it",
         _ => "",
     }

@@ -31,16 +31,16 @@ further place front bytes text at = (
 
 pub rr_place : (text bytes : List ℕ) → IsRrBody text bytes → LiesAt 16 bytes text
 rr_place text bytes b =
-    subst (LiesAt 16 bytes) (sym b.body.opens.spelled)
-    (behind (le 4 0 ++ le 2 b.body.opens.timeout ++ le 2
+    subst (LiesAt 16 bytes) (sym b.body.begins_body.spelled)
+    (behind (le 4 0 ++ le 2 b.body.begins_body.timeout ++ le 2
     (length (null_address ∷ unconnected_data bytes ∷ b.further)) ++ le 2 0 ++ le 2 0
     ++ le 2 0xb2 ++ le 2 (length bytes))
     bytes (flat_map item b.further))
 
 pub unit_place : (text bytes : List ℕ) (id : ℕ) → IsUnitBody text id bytes → LiesAt 20 bytes text
 unit_place text bytes id b =
-    subst (LiesAt 20 bytes) (sym b.body.opens.spelled)
-    (behind (le 4 0 ++ le 2 b.body.opens.timeout ++ le 2
+    subst (LiesAt 20 bytes) (sym b.body.begins_body.spelled)
+    (behind (le 4 0 ++ le 2 b.body.begins_body.timeout ++ le 2
     (length (connected_address id ∷ connected_data bytes ∷ b.further))
     ++ le 2 0xa1 ++ le 2 4 ++ le 4 id ++ le 2 0xb1 ++ le 2 (length bytes))
     bytes (flat_map item b.further))

@@ -13,7 +13,7 @@ not_true : (b : Bool) → (b ≡ true → ⊥) → b ≡ false
 not_true true never = absurd (never refl)
 not_true false never = refl
 
--- Texts that differ are told apart.
+-- Different texts compare as different.
 pub not_same : (k l : List ℕ) → (k ≡ l → ⊥) → bytes_eq k l ≡ false
 not_same k l differ = not_true (bytes_eq k l) (λ same. differ ((bytes_eq-Decides k l).0 same))
 
@@ -26,7 +26,7 @@ pub any_other_keys : (known : List (List ℕ)) (vs : List Value) → list_any (�
 any_other_keys known [] = refl
 any_other_keys known (v ∷ vs) = ap (λ rest. has_other_keys known (view v) || rest) (any_other_keys known vs)
 
--- A table that has a member.
+-- A table with a member.
 pub some_member : (b : Bool) (es : List Entry) → (IsTrue b ↔ (length es ≡ 0)) → not b ≡ has_key (table (members_view es))
 some_member true [] empty = refl
 some_member false [] empty = absurd (false≢true (empty.1 refl))

@@ -13,7 +13,7 @@ use Rattle.enip_config.specs.Documents.{number_in as held, IsKnown, IsDescribed,
 use Rattle.enip_config.specs.declared.key.NumberKey.{NumberKey}
 use Rattle.enip_config.specs.declared.key.NumberKey.TheVariants.{Vendor, DeviceType, ProductCode, Major, Minor, Serial, Status, State, Port, Peers, Connections, FirstHandle, FirstId, CounterValue, CounterLimit}
 
--- What the objects refuse of a configuration that is read.
+-- What the objects refuse of the values that were read.
 pub refused_by_objects : (bytes : List ℕ) (described : Members) (c : Configuration) (check : ConfigFault)
     → IsKnown bytes described → HasValues described c → fault_of c.objects ≡ Some check
     → IsFaultOf bytes (fault_of_objects check)
@@ -24,7 +24,7 @@ refused_by_objects bytes described c DoubleInstance known values fails = (descri
 refused_by_objects bytes described c Limit known values fails = (described, (c, (known, (values, rw fails refl))))
 refused_by_objects bytes described c Memory known values fails = tt
 
--- A number that is not read.
+-- A number that could not be read.
 pub unread_number : (key : NumberKey) (described : Members) (fault : LoadFault) → IsBad (number_of key described) fault → IsUnread described fault
 unread_number key described fault bad = rw bad.0 (refl, inl (key, bad.1))
 
@@ -36,7 +36,7 @@ pub unread_in : {A : Type 0} (key : NumberKey) (described table : Members) (r : 
 unread_in key described table r (Ok n) found same bad = tt
 unread_in key described table r (Err fault) found same bad = unread_number key described fault (bad.0, rw found (rw (sym same) bad.1))
 
--- A number that is read is in its range.
+-- A number that was read is in range.
 in_numbers : (least greatest : ℕ) (d : Data) (n : ℕ) → number_in least greatest d ≡ Some n → (least ≤ n) × (n ≤ greatest)
 in_numbers least greatest d n is = search (rules, is)
 
@@ -74,7 +74,7 @@ default_within CounterLimit = search arith
 pub all_in_range : (described : Members) (c : Configuration) → HasValues described c → IsInRange c
 all_in_range described c values key = in_found (row key) (table_with key described) (held c key) (default_within key) (values.numbers key)
 
--- The objects take what is read: only memory may fail.
+-- The objects accept what was read: only memory can fail.
 pub objects_fail : {T U : Type 0} (text : List ℕ) (described : Configuration) (r : Result T ConfigFault) (check : ConfigFault) (returned : Result U LoadFault)
     → IsDescribed text described → (fault_of described.objects ≡ None → IfErr r (λ f. f ≡ Memory))
     → r ≡ Err check → IsErr returned × IsErrAnd returned (λ f. f ≡ fault_of_objects check) → IfErr returned (IsFaultOf text)

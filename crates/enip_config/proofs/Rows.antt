@@ -1,4 +1,4 @@
--- Worked rows of what a configuration says.
+-- Worked examples of configurations.
 use Rattle.std.proofs.Common.{◌≡◌, codes, [], ◌∷◌, true, false, Some, None, option_map, option_and_then, refl}
 use Rattle.toml.specs.Parse.{parse_document}
 use Rattle.toml.proofs.OnLiterals.{toml_on_literals}
@@ -6,7 +6,7 @@ use Rattle.enip_config.specs.declared.key.NumberKey.TheVariants.{Vendor, Peers, 
 use Rattle.enip_config.specs.Known.{has_unknown_key}
 use Rattle.enip_config.specs.Keys.{number_of, assemblies_of, address_of}
 
--- the limit of a counter, its value by default, and a counter that is no table
+-- the limit of a counter, its default value, and a counter that is not a table
 pub limit-described : option_and_then (number_of CounterLimit) (parse_document (codes "[counter]\nlimit = 100\n")) ≡ Some 100
 unfolding toml_on_literals
 limit-described = refl
@@ -23,7 +23,7 @@ pub counter-no-table : option_and_then (number_of CounterValue) (parse_document 
 unfolding toml_on_literals
 counter-no-table = refl
 
--- an assembly that is settable, of three members
+-- a settable assembly of three members
 pub assembly-described : option_and_then assemblies_of (parse_document (codes "[[assembly]]\ninstance = 100\nsettable = true\nmembers = [1, 2, 1]\n"))
     ≡ Some ((100, (true, 1 ∷ 2 ∷ 1 ∷ [])) ∷ [])
 unfolding toml_on_literals
@@ -38,7 +38,7 @@ pub address-whole : option_and_then address_of (parse_document (codes "address =
 unfolding toml_on_literals
 address-whole = refl
 
--- a number that is out of its range, and one that is missing
+-- a number that is out of range, and one that is missing
 pub vendor-too-large : option_and_then (number_of Vendor) (parse_document (codes "vendor = 65536\n")) ≡ None
 unfolding toml_on_literals
 vendor-too-large = refl

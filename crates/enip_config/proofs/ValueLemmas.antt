@@ -38,14 +38,14 @@ pub each-more : {A : Type 0} (read : Data → Option A) (vs : List Value) (i : �
 each-more read vs i v a done all inside at reads before =
     moved done a (each read (items_view (drop (i + 1) vs))) ∙ ap (option_map (λ rest. done ++ rest)) (sym (each-drop read vs i v inside at ∙ rw reads refl)) ∙ before
 
--- A value is not read.
+-- A value could not be read.
 pub each-none : {A : Type 0} (read : Data → Option A) (vs : List Value) (i : ℕ) (v : Value) (done : List A) (all : Option (List A)) → i < length vs → get_or vs i v ≡ v
     → read (view v) ≡ None
     → option_map (λ rest. done ++ rest) (each read (items_view (drop i vs))) ≡ all
     → all ≡ None
 each-none read vs i v done all inside at unread before = sym before ∙ rw (each-drop read vs i v inside at, unread) refl
 
--- What is found is a table.
+-- The value that was found is a table.
 pub told_table : (found : Option (Bor Value)) (described : Option Data) (at : Bor Value) (members : BTreeMap (String Global) Value)
     → option_map (λ v. view v.now) found ≡ described → found ≡ Some at → at.now ≡ Table members
     → described ≡ Some (table (table_view members))

@@ -8,11 +8,11 @@ use Rattle.enip_adapter.specs.Calls.{AdapterState}
 use Rattle.enip_config.specs.declared.configuration.Configuration.{Configuration}
 use Rattle.enip_config.specs.Documents.{IsDescribed}
 
--- What ListIdentity shows of where it listens.
+-- the address and port that ListIdentity reports
 abbrev pub listen_of : Configuration → Listen
 listen_of c = record { address = c.address; port = c.port }
 
--- What it has room for, and its first numbers.
+-- how many peers and connections the adapter serves, and its first handle and ID
 abbrev pub limits_of : Configuration → Limits
 limits_of c = record {
   peers = c.peers;
@@ -21,12 +21,12 @@ limits_of c = record {
   first_id = c.first_id;
 }
 
--- The adapter that has just been made as a text tells it.
+-- a new adapter, as a text describes it
 abbrev pub IsAdapterOf : List ℕ → AdapterState → Type 0
 IsAdapterOf text adapter =
     (c : Configuration) × (IsDescribed text c
     × (adapter ≡ new_adapter (contents_of_config c.objects) (listen_of c) (limits_of c)))
 
--- The text is a configuration, which the objects take.
+-- the text is a configuration that the objects accept
 abbrev pub IsAccepted : List ℕ → Type 0
 IsAccepted text = (described : Configuration) × IsDescribed text described

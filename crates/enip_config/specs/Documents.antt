@@ -1,4 +1,4 @@
--- What a configuration says, and why one is refused: by the first check that fails, in the order 7, 9, 8, 1 to 5.
+-- What a configuration says, and why one is refused: the first check that fails, in the order 7, 9, 8, 1 to 5.
 use Rattle.std.specs.Prelude.{◌≡◌, ◌≤◌, ◌⊎◌, ⊤, ℕ, List, Bool, true, false, Option, Some, None, map, string_bytes}
 use Rattle.std.specs.Prelude.{IsUtf8}
 use Rattle.std.specs.Option.{IsSomeAnd}
@@ -20,7 +20,7 @@ use Rattle.enip_config.specs.Known.{has_unknown_key}
 use Rattle.enip_config.specs.Keys.{row, number_of, name_of, address_of, assemblies_of}
 use Rattle.enip_config.specs.Refusals.{fault_of_objects}
 
--- The number that a configuration has for a key.
+-- the number that a configuration has for a key
 abbrev pub number_in : Configuration → NumberKey → ℕ
 number_in c Vendor = c.objects.vendor
 number_in c DeviceType = c.objects.device_type
@@ -38,37 +38,37 @@ number_in c FirstId = c.first_id
 number_in c CounterValue = c.objects.counter.value
 number_in c CounterLimit = c.objects.counter.limit
 
--- An assembly's instance, whether it is settable, and the sizes of its members.
+-- an assembly's instance, whether it is settable, and the sizes of its members
 abbrev pub assembly_seen : AssemblyConfig → ℕ × (Bool × List ℕ)
 assembly_seen assembly = (assembly.instance, (assembly.settable, assembly.members.items))
 
--- A configuration has the value of each key.
+-- the configuration has the value of each key
 pub record HasValues (described : Members) (c : Configuration) : Type 0 where
   pub numbers : (key : NumberKey) → number_of key described ≡ Some (number_in c key)
   pub name : name_of described ≡ Some (string_bytes c.objects.name)
   pub address : address_of described ≡ Some c.address
   pub assemblies : assemblies_of described ≡ Some (map assembly_seen c.objects.assemblies.items)
 
--- The value of some key is missing, of another type or out of its range.
+-- a required value is missing, or a value has another type or is out of range
 abbrev pub HasBadValue : Members → Type 0
 HasBadValue described =
     ((key : NumberKey) × (number_of key described ≡ None))
     ⊎ ((name_of described ≡ None) ⊎ ((address_of described ≡ None) ⊎ (assemblies_of described ≡ None)))
 
--- Why there is no configuration of a table whose keys are known.
+-- why a table whose keys are all known gives no configuration
 abbrev pub IsUnread : Members → LoadFault → Type 0
 IsUnread described Memory = ⊤
 IsUnread described (Refused refusal) = (refusal ≡ BadValue) × HasBadValue described
 
--- What is read is missing, of another type or out of its range.
+-- the fault is BadValue, and nothing could be read
 abbrev pub IsBad : {A : Type 0} → Option A → LoadFault → Type 0
 IsBad read fault = (fault ≡ Refused BadValue) × (read ≡ None)
 
--- The same, or there was no memory.
+-- the same, or memory was refused
 abbrev pub IsBadOrMemory : {A : Type 0} → Option A → LoadFault → Type 0
 IsBadOrMemory read fault = (fault ≡ Memory) ⊎ IsBad read fault
 
--- The bytes are a TOML document, whose keys are known.
+-- the bytes are a TOML document; and one whose keys are all known
 pub record IsDocument (bytes : List ℕ) (described : Members) : Type 0 where
   pub text : IsUtf8 bytes
   pub parsed : parse_document bytes ≡ Some described
@@ -77,31 +77,31 @@ pub record IsKnown (bytes : List ℕ) (described : Members) : Type 0 where
   pub document : IsDocument bytes described
   pub known : has_unknown_key described ≡ false
 
--- The bytes are a configuration, which the objects take.
+-- the bytes are a configuration that the objects accept
 pub record IsDescribed (bytes : List ℕ) (c : Configuration) : Type 0 where
   pub described : Members
   pub known : IsKnown bytes described
   pub values : HasValues described c
   pub taken : fault_of c.objects ≡ None
 
--- Why bytes are refused.
+-- why bytes are refused
 abbrev pub IsRefused : List ℕ → ConfigurationRefusal → Type 0
--- 7: they are no TOML
+-- 7: they are not TOML, or not UTF-8
 IsRefused bytes NotToml = IsUtf8 bytes → parse_document bytes ≡ None
 -- 9: a key is unknown
 IsRefused bytes UnknownKey = (described : Members) × (IsDocument bytes described × (has_unknown_key described ≡ true))
--- 8: a key is missing, of another type or out of its range
+-- 8: a required value is missing, or a value has another type or is out of range
 IsRefused bytes BadValue = (described : Members) × (IsKnown bytes described × HasBadValue described)
 -- 1 to 5: the first check of the objects that fails
 IsRefused bytes refusal =
     (described : Members) × ((c : Configuration) × (IsKnown bytes described
     × (HasValues described c × IsSomeAnd (fault_of c.objects) (λ check. fault_of_objects check ≡ Refused refusal))))
 
--- Why bytes are not read.
+-- why bytes could not be loaded
 abbrev pub IsFaultOf : List ℕ → LoadFault → Type 0
 IsFaultOf bytes Memory = ⊤
 IsFaultOf bytes (Refused refusal) = IsRefused bytes refusal
 
--- Each number is in its range.
+-- each number is in range
 abbrev pub IsInRange : Configuration → Type 0
 IsInRange c = (key : NumberKey) → ((row key).least ≤ number_in c key) × (number_in c key ≤ (row key).greatest)

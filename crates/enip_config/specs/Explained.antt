@@ -1,7 +1,7 @@
--- What is said of a configuration that is refused.
+-- The explanation of a refused configuration.
 use Rattle.enip_config.specs.declared.explanation.Explanation.{Explanation}
 use Rattle.enip_config.specs.declared.fault.ConfigurationRefusal.{ConfigurationRefusal}
 
--- The check that is explained.
+-- the check that it explains
 abbrev pub refusal_of : Explanation → ConfigurationRefusal
 refusal_of explanation = explanation.refusal

@@ -1,4 +1,4 @@
--- The keys of a configuration: the name of each, its range, and what it is where it is left out.
+-- The keys of a configuration: their names, ranges and defaults.
 use Rattle.std.specs.Prelude.{ℕ, pos, List, [], ◌∷◌, Bool, false, ◌&&◌, if◌then◌else◌, nat_le, codes, Option, Some}
 use Rattle.std.specs.Prelude.{None, option_map, option_and_then, String}
 use Rattle.std.specs.Borrow.{Bor}
@@ -15,8 +15,7 @@ use Rattle.enip_config.specs.declared.key.NumberKey.TheVariants.{FirstId, Counte
 use Rattle.enip_config.specs.declared.key.NumberKey.TheVariants.{CounterLimit}
 use Rattle.enip_config.specs.declared.key.Row.{Row}
 
--- A row of the table: a key's name, its least and its greatest number, and its number where it is left out; None
--- where it has to be there.
+-- A row of the table: the name of a key, its least and greatest number, and its default. A required key has none.
 pub record KeyRow : Type 0 where
   pub name : List ℕ
   pub least : ℕ
@@ -30,7 +29,7 @@ abbrev optional : List ℕ → ℕ → ℕ → ℕ → KeyRow
 optional name least greatest default =
     record { name = name; least = least; greatest = greatest; default = Some default }
 
--- The table of the keys whose values are numbers. The last two stand in the table `counter`.
+-- The table of keys whose values are numbers. The last two are keys of the table `counter`.
 abbrev pub row : NumberKey → KeyRow
 row Vendor = required (codes "vendor") 0 0xffff
 row DeviceType = required (codes "device_type") 0 0xffff
@@ -48,56 +47,56 @@ row FirstId = optional (codes "first_id") 1 0xffffffff 1
 row CounterValue = optional (codes "value") 0 0xffffffff 0
 row CounterLimit = optional (codes "limit") 0 0xffffffff 0xffffffff
 
--- The instance number of a table `assembly`.
+-- the key `instance` of a table `assembly`
 abbrev pub instance_row : KeyRow
 instance_row = required (codes "instance") 0 0xffff
 
 abbrev pub row_seen : Row → KeyRow
 row_seen r = record { name = r.name.now; least = r.least; greatest = r.greatest; default = r.default }
 
--- The number that a value is, from the least to the greatest that is allowed.
+-- a value as a number within a range
 abbrev pub number_in : ℕ → ℕ → Data → Option ℕ
 number_in least greatest (integer (pos n)) = if nat_le least n && nat_le n greatest then Some n else None
 number_in least greatest _ = None
 
--- What a value is read as, and what is taken where there is none.
+-- a value as it is read, or the default if the key is left out
 abbrev pub read_or : {A : Type 0} → Option A → (Data → Option A) → Option Data → Option A
 read_or default read None = default
 read_or default read (Some value) = read value
 
--- The number of a key in a table.
+-- the number of a key in a table, or its default
 abbrev pub number_by : KeyRow → Members → Option ℕ
 number_by key described = read_or key.default (number_in key.least key.greatest) (get_member key.name described)
 
--- A table that is left out has no key.
+-- a table that is left out has no keys
 abbrev pub members_found : Option (Bor (BTreeMap (String Global) Value)) → Members
 members_found None = no_members
 members_found (Some found) = table_view found.now
 
--- The table `counter`.
+-- the table `counter`
 abbrev pub counter_table : Members → Option Members
 counter_table described = read_or (Some no_members) as_table (get_member (codes "counter") described)
 
--- The table in which a key stands.
+-- the table that a key belongs to
 abbrev pub table_with : NumberKey → Members → Option Members
 table_with CounterValue described = counter_table described
 table_with CounterLimit described = counter_table described
 table_with key described = Some described
 
--- The number of a key; None where it is missing, of another type or out of its range.
+-- The number of a key. None if it is required and missing, has another type or is out of range.
 abbrev pub number_of : NumberKey → Members → Option ℕ
 number_of key described = option_and_then (number_by (row key)) (table_with key described)
 
--- The product's name.
+-- the product name
 abbrev pub name_of : Members → Option (List ℕ)
 name_of described = read_or None as_str (get_member (codes "name") described)
 
--- What each value of an array is read as.
+-- each value of an array, as it is read
 abbrev pub each : {A : Type 0} → (Data → Option A) → Items → Option (List A)
 each read no_items = Some []
 each read (item value values) = option_and_then (λ a. option_map (λ rest. a ∷ rest) (each read values)) (read value)
 
--- The four bytes of an address.
+-- the four bytes of an address
 abbrev pub address_in : Data → Option (List ℕ)
 address_in (array (item a (item b (item c (item d no_items))))) =
     each (number_in 0 0xff) (item a (item b (item c (item d no_items))))
@@ -106,7 +105,7 @@ address_in _ = None
 abbrev pub address_of : Members → Option (List ℕ)
 address_of described = read_or (Some (0 ∷ 0 ∷ 0 ∷ 0 ∷ [])) address_in (get_member (codes "address") described)
 
--- The sizes of an assembly's members.
+-- the sizes of an assembly's members
 abbrev pub sizes_in : Data → Option (List ℕ)
 sizes_in (array values) = each (number_in 0 0xffff) values
 sizes_in _ = None
@@ -114,21 +113,21 @@ sizes_in _ = None
 abbrev pub sizes_of : Members → Option (List ℕ)
 sizes_of described = read_or None sizes_in (get_member (codes "members") described)
 
--- Whether an assembly's data can be set.
+-- whether clients can set an assembly's data
 abbrev pub settable_of : Members → Option Bool
 settable_of described = read_or (Some false) as_bool (get_member (codes "settable") described)
 
--- Two things that are read.
+-- two results as a pair; None if either is
 abbrev pub both : {A B : Type 0} → Option A → Option B → Option (A × B)
 both None second = None
 both (Some a) second = option_map (λ b. (a, b)) second
 
--- An assembly's instance, whether it is settable, and the sizes of its members.
+-- an assembly's instance, whether it is settable, and the sizes of its members
 abbrev pub assembly_in : Data → Option (ℕ × (Bool × List ℕ))
 assembly_in (table described) = both (number_by instance_row described) (both (settable_of described) (sizes_of described))
 assembly_in _ = None
 
--- Assemblies, in the text's order.
+-- the assemblies, in the order of the file
 abbrev pub assemblies_in : Data → Option (List (ℕ × (Bool × List ℕ)))
 assemblies_in (array values) = each assembly_in values
 assemblies_in _ = None

@@ -1,4 +1,4 @@
--- Which keys a configuration knows.
+-- The known keys of a configuration.
 use Rattle.std.specs.Prelude.{ℕ, List, [], ◌∷◌, ◌++◌, map, Bool, true, false, ◌||◌, not, codes, bytes_eq, if◌then◌else◌}
 use Rattle.std.specs.List.{list_any}
 use Rattle.enip_config.specs.declared.known.TableKind.{TableKind}
@@ -11,7 +11,7 @@ use Rattle.enip_config.specs.declared.key.NumberKey.TheVariants.{CounterLimit}
 use Rattle.enip_config.specs.Keys.{row, instance_row}
 use Rattle.toml.specs.Data.{Data, array, table, Items, no_items, item, Members, no_members, member}
 
--- Whether there is a key within a value, at any depth.
+-- whether there is a key within a value, at any depth
 abbrev mutual
   pub has_key : Data → Bool
   has_key (array values) = any_has_key values
@@ -23,50 +23,50 @@ abbrev mutual
   any_has_key no_items = false
   any_has_key (item value values) = has_key value || any_has_key values
 
--- Whether a key is one of these.
+-- whether a key is one of these
 abbrev pub is_among : List (List ℕ) → List ℕ → Bool
 is_among known key = list_any (bytes_eq key) known
 
--- Whether a table has other keys than these, or a key within one of its values.
+-- whether a table has a key that is not one of these, or any key within one of its values
 abbrev pub are_other_keys : List (List ℕ) → Members → Bool
 are_other_keys known no_members = false
 are_other_keys known (member key value more) = (not (is_among known key) || has_key value) || are_other_keys known more
 
--- The same, of a value; what is no table has no known key.
+-- the same for a value; in a value that is not a table every key is unknown
 abbrev pub has_other_keys : List (List ℕ) → Data → Bool
 has_other_keys known (table described) = are_other_keys known described
 has_other_keys known value = has_key value
 
--- The same, of the values of an array.
+-- the same for the values of an array
 abbrev pub any_has_other_keys : List (List ℕ) → Items → Bool
 any_has_other_keys known no_items = false
 any_has_other_keys known (item value values) = has_other_keys known value || any_has_other_keys known values
 
--- The same, of a value or an array of them.
+-- the same for a value or an array of values
 abbrev pub has_other_keys_within : List (List ℕ) → Data → Bool
 has_other_keys_within known (array values) = any_has_other_keys known values
 has_other_keys_within known value = has_other_keys known value
 
--- The keys of the text whose values are numbers.
+-- the keys at the top level whose values are numbers
 abbrev pub text_numbers : List NumberKey
 text_numbers =
     Vendor ∷ DeviceType ∷ ProductCode ∷ Major ∷ Minor ∷ Serial ∷ Status ∷ State ∷ Port ∷ Peers ∷ Connections
     ∷ FirstHandle ∷ FirstId ∷ []
 
--- The names of the keys that are known in a table, but for tables within it.
+-- the names of the known keys of a table, except tables within it
 abbrev pub keys_of : TableKind → List (List ℕ)
 keys_of Text = map (λ key. (row key).name) text_numbers ++ (codes "name" ∷ codes "address" ∷ [])
 keys_of Counter = map (λ key. (row key).name) (CounterValue ∷ CounterLimit ∷ [])
 keys_of Assembly = instance_row.name ∷ codes "settable" ∷ codes "members" ∷ []
 
--- Whether a key of the text is unknown, or one within its value.
+-- whether a key at the top level is unknown, or one within its value
 abbrev pub is_unknown : List ℕ → Data → Bool
 is_unknown key value =
     if bytes_eq key (codes "counter") then has_other_keys_within (keys_of Counter) value
     else if bytes_eq key (codes "assembly") then has_other_keys_within (keys_of Assembly) value
     else not (is_among (keys_of Text) key) || has_key value
 
--- Whether a key is unknown, at any depth.
+-- whether a key is unknown, at any depth
 abbrev pub has_unknown_key : Members → Bool
 has_unknown_key no_members = false
 has_unknown_key (member key value more) = is_unknown key value || has_unknown_key more

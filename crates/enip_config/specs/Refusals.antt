@@ -1,4 +1,4 @@
--- Why a configuration is refused, and the numbers by which that is printed.
+-- The checks that can refuse a configuration, and their numbers.
 use Rattle.std.specs.Prelude.{ℕ}
 use Rattle.cip_objects.specs.declared.config.ConfigFault.{ConfigFault}
 use Rattle.cip_objects.specs.declared.config.ConfigFault.TheVariants.{Name, Size, Members, DoubleInstance, Limit}
@@ -8,7 +8,7 @@ use Rattle.enip_config.specs.declared.fault.LoadFault.TheVariants.{Refused, Memo
 use Rattle.enip_config.specs.declared.fault.ConfigurationRefusal.{ConfigurationRefusal}
 use Rattle.enip_config.specs.declared.fault.ConfigurationRefusal.TheVariants as refused
 
--- The number that is printed.
+-- the number that is printed
 abbrev pub refusal_number : ConfigurationRefusal → ℕ
 refusal_number refused.Name = 1
 refusal_number refused.Size = 2
@@ -19,7 +19,7 @@ refusal_number refused.NotToml = 7
 refusal_number refused.BadValue = 8
 refusal_number refused.UnknownKey = 9
 
--- What the objects refuse.
+-- the check of the objects that fails, or Memory
 abbrev pub fault_of_objects : ConfigFault → LoadFault
 fault_of_objects Name = Refused refused.Name
 fault_of_objects Size = Refused refused.Size

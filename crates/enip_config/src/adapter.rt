@@ -1,4 +1,4 @@
-//! The adapter that a configuration tells.
+//! The adapter that a configuration describes.
 //! Text: docs/PROGRAM.md, "The configuration".
 
 ghost use Rattle.std.specs.Prelude.{◌≡◌, IfOk, IfErr};
@@ -12,12 +12,12 @@ use cip_objects::Objects;
 use enip_adapter::{Adapter, Limits, Listen};
 use std::alloc::{AllocError, Global};
 
-/// The adapter that the bytes of a configuration tell, of which no peer has begun.
+/// Makes the adapter that the bytes of a configuration describe. It has no peers yet.
 ///
 /// # Errors
 ///
-/// `LoadFault::Refused` where `Configuration::from_bytes` refuses the configuration, by the first check that fails.
-/// `LoadFault::Memory` where there is no memory.
+/// `LoadFault::Refused` if `Configuration::from_bytes` refuses the configuration, with the first check that fails.
+/// `LoadFault::Memory` if memory is refused.
 pub fn adapter_from(alloc: Global, config: &[u8]) -> Result<Adapter, LoadFault>
     ensures made { IfOk result (IsAdapterOf config.now) }
     ensures accepted { IfOk result (λ _. IsAccepted config.now) }
@@ -29,7 +29,7 @@ pub fn adapter_from(alloc: Global, config: &[u8]) -> Result<Adapter, LoadFault>
     Ok(adapter)
 }
 
-/// The adapter of a configuration, over its objects.
+/// Makes the adapter of a configuration, over its objects.
 fn adapter_of(
     alloc: Global,
     objects: Objects,

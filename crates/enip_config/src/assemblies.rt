@@ -14,7 +14,7 @@ use cip_objects::AssemblyConfig;
 use std::alloc::Global;
 use toml::{Table, Value};
 
-/// The assemblies, in the text's order.
+/// Reads the assemblies, in the order of the file. Empty if the key is left out.
 pub(crate) fn assemblies_of(alloc: Global, text: &Table) -> Result<Vec<AssemblyConfig>, LoadFault>
     ensures read { IfOk result (λ assemblies. assemblies_of (table_view text.now)
         ≡ Some (map assembly_seen assemblies.items)) }
@@ -27,7 +27,7 @@ pub(crate) fn assemblies_of(alloc: Global, text: &Table) -> Result<Vec<AssemblyC
     }
 }
 
-/// An assembly of each value.
+/// Reads each value as an assembly.
 fn each_assembly(alloc: Global, values: &[Value]) -> Result<Vec<AssemblyConfig>, LoadFault>
     ensures read { IfOk result (λ assemblies. each assembly_in (items_view values.now)
         ≡ Some (map assembly_seen assemblies.items)) }
@@ -40,7 +40,7 @@ fn each_assembly(alloc: Global, values: &[Value]) -> Result<Vec<AssemblyConfig>,
     Ok(assemblies)
 }
 
-/// One assembly.
+/// Reads one table `assembly`.
 fn assembly_of(alloc: Global, value: &Value) -> Result<AssemblyConfig, LoadFault>
     ensures read { IfOk result (λ assembly. assembly_in (view value.now) ≡ Some (assembly_seen assembly)) }
     ensures refused { IfErr result (IsBadOrMemory (assembly_in (view value.now))) }
@@ -55,7 +55,7 @@ fn assembly_of(alloc: Global, value: &Value) -> Result<AssemblyConfig, LoadFault
     })
 }
 
-/// Whether an assembly's data can be set.
+/// Whether clients can set the data of an assembly. False if the key is left out.
 fn settable_of(table: &Table) -> Result<bool, LoadFault>
     ensures read { IfOk result (λ settable. settable_of (table_view table.now) ≡ Some settable) }
     ensures refused { IfErr result (IsBad (settable_of (table_view table.now))) }
@@ -66,7 +66,7 @@ fn settable_of(table: &Table) -> Result<bool, LoadFault>
     }
 }
 
-/// The sizes of an assembly's members.
+/// The sizes of an assembly's members, in bytes.
 fn sizes_of(alloc: Global, table: &Table) -> Result<Vec<u16>, LoadFault>
     ensures read { IfOk result (λ sizes. sizes_of (table_view table.now) ≡ Some sizes.items) }
     ensures refused { IfErr result (IsBadOrMemory (sizes_of (table_view table.now))) }
@@ -77,7 +77,7 @@ fn sizes_of(alloc: Global, table: &Table) -> Result<Vec<u16>, LoadFault>
     }
 }
 
-/// A size of each value.
+/// Reads each value as a size.
 fn each_size(alloc: Global, values: &[Value]) -> Result<Vec<u16>, LoadFault>
     ensures read { IfOk result (λ sizes. each (number_in 0 0xffff) (items_view values.now) ≡ Some sizes.items) }
     ensures refused { IfErr result (IsBadOrMemory (each (number_in 0 0xffff) (items_view values.now))) }

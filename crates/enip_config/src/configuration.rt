@@ -1,4 +1,4 @@
-//! What is read of a configuration.
+//! The values of a configuration.
 //! Text: docs/PROGRAM.md, "The configuration".
 
 ghost use Rattle.std.specs.Prelude.{◌≡◌, IfOk, IfErr, None};
@@ -15,33 +15,49 @@ use cip_objects::{Config, CounterConfig};
 use std::alloc::Global;
 use toml::Table;
 
-/// A device, where it listens, and how much it has room for.
+/// A device as a configuration describes it: its objects, the address and port that it reports, and its limits.
+///
+/// ```
+/// const DEVICE: &[u8] = b"vendor = 1
+/// device_type = 43
+/// product_code = 7
+/// major = 2
+/// minor = 5
+/// serial = 42
+/// name = \"Demo\"
+/// ";
+///
+/// fn port(alloc: Global) -> Result<u16, LoadFault> {
+///     let configuration = Configuration::from_bytes(alloc, DEVICE)?;
+///     Ok(configuration.port) // 44818
+/// }
+/// ```
 #[derive(Debug, Drop)]
 pub struct Configuration {
     /// The device's identity, its counter and its assemblies.
     pub objects: Config,
-    /// The address that ListIdentity shows.
+    /// The IPv4 address that ListIdentity reports.
     pub address: [u8; 4],
-    /// The port that ListIdentity shows.
+    /// The TCP port that ListIdentity reports.
     pub port: u16,
-    /// How many peers there are places for, 1 to 16.
+    /// How many peers are served at once, 1 to 16.
     pub peers: u16,
-    /// How many connections there are places for, 1 to 64.
+    /// How many class 3 connections are open at once, 1 to 64.
     pub connections: u16,
-    /// The first session handle, 32 bits: at least 1.
+    /// The first session handle, from 1.
     pub first_handle: u32,
-    /// The first O->T connection ID, 32 bits: at least 1.
+    /// The first O->T connection ID, from 1.
     pub first_id: u32,
 }
 
 impl Configuration {
-    /// Reads a configuration from its bytes. A TOML document is UTF-8: other bytes are no TOML.
+    /// Reads a configuration from its bytes. Bytes that are not UTF-8 are not TOML.
     ///
     /// # Errors
     ///
-    /// `LoadFault::Refused` by the first check that fails: `NotToml` (7), `UnknownKey` (9) where any key is unknown,
-    /// `BadValue` (8) where a key is missing, or its value is of another type or out of its range, and then what the
-    /// objects refuse (1 to 5). `LoadFault::Memory` where there is no memory.
+    /// `LoadFault::Refused` with the first check that fails, in this order: `NotToml` (7); `UnknownKey` (9) if any key
+    /// is unknown; `BadValue` (8) if a required key is missing, or a value has another type or is out of range; the
+    /// checks of the objects (1 to 5). `LoadFault::Memory` if memory is refused.
     pub fn from_bytes(alloc: Global, bytes: &[u8]) -> Result<Configuration, LoadFault>
         ensures read { IfOk result (IsDescribed bytes.now) }
         ensures in_range { IfOk result IsInRange }
@@ -62,7 +78,7 @@ impl Configuration {
         }
     }
 
-    /// The configuration that a table tells, each of whose keys is known.
+    /// Reads the values of a table whose keys are all known.
     pub(crate) fn from_table(alloc: Global, text: &Table) -> Result<Configuration, LoadFault>
         ensures read { IfOk result (HasValues (table_view text.now)) }
         ensures refused { IfErr result (IsUnread (table_view text.now)) }

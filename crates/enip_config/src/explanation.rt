@@ -1,4 +1,4 @@
-//! What is wrong with a configuration that is refused, in words, and the line where it is.
+//! What is wrong with a refused configuration, as text, and the line with the fault.
 
 ghost use Rattle.std.specs.Prelude.{◌≡◌, IfOk, IfSome};
 ghost use Rattle.enip_config.specs.Explained.{refusal_of};
@@ -14,12 +14,12 @@ use std::fmt;
 use thiserror::Error;
 use toml::{Table, Value};
 
-/// How many bytes are read at most to find a line: the lines up to each one are read from the beginning, which are as many
-/// as this for some 300 lines of a configuration. Where that is not enough no line is told.
+/// How many bytes are parsed at most to find a line. To find a line, the front of the text up to each line is parsed,
+/// which adds up to this limit at some 300 lines of a configuration. Beyond it the text has no line number.
 const MOST_READ: usize = 1 << 20;
 
-/// What is wrong with a configuration that is refused. Its text is one line: the line of the file, where that is known,
-/// and what is wrong there.
+/// What is wrong with a refused configuration. It prints as one line of text: the line of the file, if known, and what
+/// is wrong there.
 #[derive(Debug, Drop)]
 pub struct Explanation {
     refusal: ConfigurationRefusal,
@@ -45,42 +45,43 @@ impl fmt::Display for Explanation {
     }
 }
 
-/// What is wrong.
+/// What is wrong with a configuration.
 #[derive(Debug, Drop, Error)]
 pub(crate) enum Problem {
     #[error("{}", .0.message())]
     NoToml(toml::de::Error),
-    #[error("{0} is no key")]
+    #[error("unknown key {0}")]
     NoKey(String),
-    #[error("{0} has keys, and takes none")]
+    #[error("{0} contains keys (none allowed)")]
     Keys(String),
     #[error("{0} is missing")]
     Missing(&'static str),
-    #[error("{0} is {1}, and goes from {2} to {3}")]
+    #[error("{0} is {1} (allowed: {2} to {3})")]
     Range(&'static str, i64, u32, u32),
-    #[error("{0} is no {1}")]
+    #[error("{0} is not {1}")]
     Type(&'static str, &'static str),
     #[error("settable is neither true nor false")]
     Settable,
-    #[error("name has {0} bytes, and takes up to 32, each from 0x20 to 0x7e")]
+    #[error("name has {0} bytes (allowed: up to 32, each from 0x20 to 0x7e)")]
     Name(usize),
-    #[error("there are {0} assemblies, and at most 16")]
+    #[error("there are {0} assemblies (allowed: up to 16)")]
     Assemblies(usize),
-    #[error("assembly {0} has {1} bytes, and takes 1 to 3900")]
+    #[error("assembly {0} has {1} bytes (allowed: 1 to 3900)")]
     Size(u16, u64),
-    #[error("assembly {0} has {1} members, and takes up to 64")]
+    #[error("assembly {0} has {1} members (allowed: up to 64)")]
     Members(u16, usize),
     #[error("assembly {0} has a member of 0 bytes")]
     EmptyMember(u16),
-    #[error("an assembly has instance 0, which is the class")]
+    #[error("an assembly has instance 0, which is the class itself")]
     NoInstance,
-    #[error("assembly {0} stands twice")]
+    #[error("assembly {0} is defined twice")]
     Twice(u16),
-    #[error("counter.value is {0}, and its limit {1}")]
+    #[error("counter.value is {0}, but counter.limit is {1}")]
     Limit(u32, u32),
 }
 
-/// Where something stands in a configuration: in the text, its table `counter`, or one of its tables `assembly`, from 0.
+/// A location in a configuration: a key at the top level, a key of the table `counter`, one of the tables `assembly`,
+/// from 0, or a key of one.
 #[derive(Clone, Copy)]
 pub(crate) enum Location<'a> {
     Text(&'a str),
@@ -90,7 +91,7 @@ pub(crate) enum Location<'a> {
 }
 
 impl Location<'_> {
-    /// Whether it stands in a text.
+    /// Whether a text has something at this location.
     fn is_in(self, text: &Table) -> bool {
         match self {
             Location::Text(key) => text.get(key).is_some(),
@@ -105,7 +106,7 @@ impl Location<'_> {
     }
 }
 
-/// The table `assembly` at a place, from 0.
+/// The table `assembly` with this index, from 0.
 pub(crate) fn assembly_at(text: &Table, place: usize) -> Option<&Value> {
     match text.get("assembly") {
         Some(Value::Array(values)) => values.get(place),
@@ -114,11 +115,11 @@ pub(crate) fn assembly_at(text: &Table, place: usize) -> Option<&Value> {
     }
 }
 
-/// What is wrong with the bytes of a configuration. `None` where nothing is.
+/// What is wrong with the bytes of a configuration. `None` if nothing is.
 ///
 /// # Errors
 ///
-/// `AllocError` where memory is refused.
+/// `AllocError` if memory is refused.
 pub fn explain(alloc: Global, bytes: &[u8]) -> Result<Option<Explanation>, AllocError>
     ensures { IfOk result (λ described. IfSome described (λ explanation. IsRefused bytes.now (refusal_of explanation))) }
 {
@@ -137,7 +138,7 @@ pub fn explain(alloc: Global, bytes: &[u8]) -> Result<Option<Explanation>, Alloc
     }))
 }
 
-/// What is first found to be wrong, and its line.
+/// The first fault that is found, and its line.
 fn problem_in(alloc: Global, bytes: &[u8]) -> Result<Option<(Option<usize>, Problem)>, AllocError> {
     let text = match toml::table_from_slice(alloc, bytes) {
         Ok(text) => text,
@@ -156,7 +157,7 @@ fn problem_in(alloc: Global, bytes: &[u8]) -> Result<Option<(Option<usize>, Prob
     }
 }
 
-/// The line, from 1, with which something stands in a configuration: the first lines that are a text in which it stands.
+/// The line of a location, from 1: the first one such that the lines up to it are a TOML document with something there.
 fn line_of(alloc: Global, bytes: &[u8], spot: Location<'_>) -> Option<usize> {
     let mut number: usize = 1;
     let mut read: usize = 0;
@@ -176,7 +177,7 @@ fn line_of(alloc: Global, bytes: &[u8], spot: Location<'_>) -> Option<usize> {
     None
 }
 
-/// Whether bytes are a text in which something stands.
+/// Whether the bytes are a TOML document that has something at this location.
 fn is_in_text(alloc: Global, bytes: &[u8], spot: Location<'_>) -> bool {
     match toml::table_from_slice(alloc, bytes) {
         Ok(text) => spot.is_in(&text),

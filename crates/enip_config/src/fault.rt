@@ -7,24 +7,24 @@ use cip_objects::ConfigFault;
 use std::alloc::{AllocError, AllocFailed};
 use thiserror::Error;
 
-/// Why a configuration is refused, each with the number by which it is printed (ours).
+/// The checks that can refuse a configuration. Each has a number, which is printed. The numbers are this project's own.
 #[derive(Clone, Copy, Debug, PartialEq, Eq)]
 pub enum ConfigurationRefusal {
-    /// The product's name is over 32 bytes, or has a byte outside 0x20 to 0x7e.
+    /// The product name is longer than 32 bytes, or has a byte outside 0x20 to 0x7e.
     Name = 1,
-    /// There are over 16 assemblies, or one has 0 or over 3,900 bytes.
+    /// There are over 16 assemblies, or an assembly has 0 or over 3,900 bytes.
     Size = 2,
-    /// An assembly has over 64 members, or one of 0 bytes.
+    /// An assembly has over 64 members, or a member of 0 bytes.
     Members = 3,
-    /// An assembly's instance is 0 or stands twice.
+    /// An assembly's instance number is 0, or used twice.
     DoubleInstance = 4,
     /// The counter's value is over its limit.
     Limit = 5,
-    /// The text is no TOML.
+    /// The text is not TOML, or not UTF-8.
     NotToml = 7,
-    /// A key is missing, or its value is of another type or out of its range.
+    /// A required key is missing, or a value has another type or is out of range.
     BadValue = 8,
-    /// A key is unknown.
+    /// A key is unknown in its table, at any depth.
     UnknownKey = 9,
 }
 
@@ -37,13 +37,13 @@ impl ConfigurationRefusal {
     }
 }
 
-/// Why a configuration is not read.
+/// Why a configuration could not be loaded.
 #[derive(Clone, Copy, Debug, PartialEq, Eq, Error)]
 pub enum LoadFault {
-    /// It is refused.
+    /// This check refuses it.
     #[error("configuration {}", .0.number())]
     Refused(ConfigurationRefusal),
-    /// There was no memory.
+    /// Out of memory.
     #[error("memory")]
     Memory,
 }
@@ -68,7 +68,7 @@ impl<T: Drop> From<AllocFailed<T>> for LoadFault {
     }
 }
 
-/// What the objects refuse.
+/// The check of the objects that fails.
 impl From<ConfigFault> for LoadFault {
     ghost use Rattle.enip_config.specs.Refusals.{fault_of_objects};
 

@@ -1,13 +1,13 @@
-//! The table of the keys whose values are numbers.
+//! The table of keys whose values are numbers.
 //! Text: docs/PROGRAM.md, "The configuration".
 
 ghost use Rattle.std.specs.Prelude.{◌≡◌, bytes_eq};
 ghost use Rattle.enip_config.specs.Keys.{row, row_seen};
 
-/// The port that is registered for EtherNet/IP. (Volume 2, TCP.)
+/// The port registered for EtherNet/IP. (Volume 2, TCP.)
 const REGISTERED_PORT: u32 = 44_818;
 
-/// A key of the text or of its table `counter` whose value is a number.
+/// A key whose value is a number, at the top level or in the table `counter`.
 #[derive(Clone, Copy, Debug)]
 pub enum NumberKey {
     /// `vendor`.
@@ -42,17 +42,17 @@ pub enum NumberKey {
     CounterLimit,
 }
 
-/// A row of the table: a key's name, the range of its number, and its number where it is left out.
+/// A row of the table: the name of a key, the range of its number, and the default.
 #[derive(Clone, Copy)]
 pub(crate) struct Row {
     pub(crate) name: &'static str,
     pub(crate) least: u32,
     pub(crate) greatest: u32,
-    /// `None` where the key has to be there.
+    /// `None` if the key is required.
     pub(crate) default: Option<u32>,
 }
 
-/// The instance number of a table `assembly`.
+/// The key `instance` of a table `assembly`.
 pub(crate) const INSTANCE: Row = Row {
     name: "instance",
     least: 0,

@@ -1,4 +1,4 @@
-//! The keys that a configuration knows, by the table in which they stand.
+//! The known keys of a configuration, table by table.
 //! Text: docs/PROGRAM.md, "The configuration".
 
 ghost use Rattle.std.specs.Prelude.{◌≡◌, map};
@@ -11,10 +11,10 @@ ghost use Rattle.enip_config.specs.Known.{are_other_keys, has_other_keys, has_ot
 use crate::key::{INSTANCE, NumberKey};
 use toml::{Table, Value};
 
-/// A kind of table, by where it stands.
+/// The kinds of tables in a configuration.
 #[derive(Clone, Copy)]
 pub(crate) enum TableKind {
-    /// The text itself, but for its tables.
+    /// The top level, without the tables in it.
     Text,
     /// The table `counter`.
     Counter,
@@ -22,7 +22,7 @@ pub(crate) enum TableKind {
     Assembly,
 }
 
-/// The keys of the text whose values are numbers.
+/// The keys at the top level whose values are numbers.
 pub(crate) static TEXT_NUMBERS: [NumberKey; 13] = [
     NumberKey::Vendor,
     NumberKey::DeviceType,
@@ -40,7 +40,7 @@ pub(crate) static TEXT_NUMBERS: [NumberKey; 13] = [
 ];
 
 impl TableKind {
-    /// Whether a key is known here.
+    /// Whether a key is known in this kind of table.
     pub(crate) fn knows(self, name: &str) -> bool
         ensures { result ≡ is_among (keys_of self) name.now }
     {
@@ -83,7 +83,7 @@ pub(crate) fn has_unknown_key(table: &Table) -> bool
     false
 }
 
-/// Whether a key of the text is unknown, or one within its value.
+/// Whether a key at the top level is unknown, or one within its value.
 fn is_unknown(key: &str, value: &Value) -> bool
     ensures { result ≡ is_unknown key.now (view value.now) }
 {
@@ -94,8 +94,7 @@ fn is_unknown(key: &str, value: &Value) -> bool
     }
 }
 
-/// Whether a value has other keys than these: itself where it is a table, or the tables in it where it is an
-/// array.
+/// Whether a value has a key that is unknown in this kind of table: in the table itself, or in the tables of an array.
 fn has_other_keys_within(value: &Value, kind: TableKind) -> bool
     ensures { result ≡ has_other_keys_within (keys_of kind) (view value.now) }
 {
@@ -105,7 +104,7 @@ fn has_other_keys_within(value: &Value, kind: TableKind) -> bool
     }
 }
 
-/// Whether one of these values has other keys.
+/// Whether one of these values has an unknown key.
 fn any_has_other_keys(values: &[Value], kind: TableKind) -> bool
     ensures { result ≡ list_any (λ value. has_other_keys (keys_of kind) (view value)) values.now }
 {
@@ -117,7 +116,7 @@ fn any_has_other_keys(values: &[Value], kind: TableKind) -> bool
     false
 }
 
-/// Whether a value has other keys.
+/// Whether a value has an unknown key.
 fn has_other_keys(value: &Value, kind: TableKind) -> bool
     ensures { result ≡ has_other_keys (keys_of kind) (view value.now) }
 {
@@ -127,7 +126,7 @@ fn has_other_keys(value: &Value, kind: TableKind) -> bool
     }
 }
 
-/// Whether a table has other keys, or keys within their values.
+/// Whether a table has an unknown key, or any key within a value of it.
 fn are_other_keys(table: &Table, kind: TableKind) -> bool
     ensures { result ≡ are_other_keys (keys_of kind) (table_view table.now) }
 {

@@ -1,10 +1,25 @@
-//! The configuration of an EtherNet/IP device, a TOML text: its identity, counter and assemblies, where it listens,
-//! and how much it has room for.
+//! The configuration of an EtherNet/IP device, as a TOML document: its identity, counter and assemblies, the address
+//! and port that it reports, and its limits.
 //!
-//! `Configuration::from_bytes` reads it by a table of keys, each with its name, its range and what it is where it is
-//! left out (`specs/Keys.antt`), and refuses it by the first check that fails, whose number is printed
-//! (`specs/Documents.antt`). A configuration that is read is one that the objects take. `adapter_from` makes its adapter
-//! (`specs/Configured.antt`). `explain` says in words what is wrong with one that is refused, and in which line.
+//! - [`Configuration::from_bytes`] reads a configuration, and refuses it by the first check that fails
+//!   (`specs/Documents.antt`). Each check has a number. Each key has a name, a range and, unless it is required, a
+//!   default (`specs/Keys.antt`). The objects accept every configuration that is read.
+//! - [`adapter_from`] makes the adapter of a configuration (`specs/Configured.antt`).
+//! - [`explain`] says what is wrong with a refused configuration, and in which line.
+//!
+//! An adapter, or one line of text that says why there is none:
+//!
+//! ```
+//! fn load(alloc: Global, text: &[u8], reason: &mut String) -> Result<Adapter, LoadFault> {
+//!     let loaded = adapter_from(alloc, text);
+//!     if let Err(LoadFault::Refused(_)) = loaded {
+//!         if let Some(explanation) = explain(alloc, text)? {
+//!             *reason = format!(in alloc; "{explanation}")?;
+//!         }
+//!     }
+//!     loaded
+//! }
+//! ```
 #![tactic(auto)]
 
 mod adapter;

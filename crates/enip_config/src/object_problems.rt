@@ -1,4 +1,4 @@
-//! What is wrong with the objects of a configuration whose values are right by themselves.
+//! What is wrong with the objects of a configuration whose values are each valid.
 
 use crate::configuration::Configuration;
 use crate::explanation::{Location, Problem};
@@ -6,7 +6,7 @@ use cip_objects::{AssemblyConfig, Config, ConfigFault};
 use std::alloc::{AllocError, Global};
 use toml::Table;
 
-/// What the objects refuse, by the first check that fails.
+/// What the objects refuse: the first check that fails.
 pub(crate) fn object_problem(
     alloc: Global,
     text: &Table,
@@ -29,7 +29,7 @@ pub(crate) fn object_problem(
     }
 }
 
-/// The first assembly at which a check fails: it holds of those before it.
+/// The first assembly at which a check fails: the check passes with only those before it.
 fn assembly_problem(
     config: Config,
     check: ConfigFault,
@@ -52,7 +52,7 @@ fn assembly_problem(
     Ok(None)
 }
 
-/// The key of an assembly that a check looks at.
+/// The key of an assembly that a check is about.
 fn key_of(check: ConfigFault) -> &'static str {
     match check {
         ConfigFault::DoubleInstance => "instance",
@@ -60,7 +60,7 @@ fn key_of(check: ConfigFault) -> &'static str {
     }
 }
 
-/// What is wrong with an assembly: where the check fails of it alone, and where it fails only with those before it.
+/// What is wrong with an assembly: if the check fails for it alone, and if it fails only together with those before it.
 fn problem_with(assembly: &AssemblyConfig, check: ConfigFault, count: usize) -> (Problem, Problem) {
     let instance = assembly.instance;
     let sizes = assembly.members.as_slice();

@@ -1,17 +1,17 @@
-//! What is wrong with a text that is no TOML, or has a key that is not known.
+//! What is wrong with a text that is not TOML, or that has an unknown key.
 
 use crate::explanation::{Location, Problem};
 use crate::known::{TableKind, has_key};
 use std::alloc::{AllocError, Global};
 use toml::{Table, Value};
 
-/// Why a text is no TOML, and the line where that is seen.
+/// Why a text is not TOML, and the line of the error.
 pub(crate) fn no_toml(bytes: &[u8], error: toml::de::Error) -> (Option<usize>, Problem) {
     let line = error.span().map(|span| line_at(bytes, span.start));
     (line, Problem::NoToml(error))
 }
 
-/// The line of a place in a text, from 1.
+/// The line, from 1, of the byte at an index.
 fn line_at(bytes: &[u8], place: usize) -> usize {
     let before = &bytes[..place.min(bytes.len())];
     before
@@ -21,7 +21,7 @@ fn line_at(bytes: &[u8], place: usize) -> usize {
         .saturating_add(1)
 }
 
-/// The first key that is not known, or that has keys where it takes none.
+/// The first key that is unknown, or whose value must not contain keys but does.
 pub(crate) fn unknown_key(
     alloc: Global,
     text: &Table,
@@ -70,7 +70,7 @@ fn unknown_within<'a>(
     }
 }
 
-/// The same of a table, and the key.
+/// The same in one table: the key, and what is wrong with it.
 fn unknown_in<'a>(
     alloc: Global,
     name: &str,
@@ -89,7 +89,7 @@ fn unknown_in<'a>(
     Ok(None)
 }
 
-/// The same of one key of a table of this name.
+/// The same for one key of the table with this name. The top level has an empty name.
 fn unknown_at(
     alloc: Global,
     table: &str,

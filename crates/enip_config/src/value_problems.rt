@@ -1,4 +1,4 @@
-//! What is wrong with a key's value: it is missing, of another type or out of its range.
+//! What is wrong with the value of a key: it is missing, has another type or is out of range.
 
 use crate::explanation::{Location, Problem};
 use crate::key::{INSTANCE, NumberKey, Row};
@@ -6,7 +6,7 @@ use crate::known::TEXT_NUMBERS;
 use crate::values::number_in;
 use toml::{Table, Value};
 
-/// The first value that is wrong: of the numbers, the name, the address, the counter and the assemblies.
+/// The first bad value, in this order: the numbers, the name, the address, the counter, the assemblies.
 pub(crate) fn bad_value(text: &Table) -> Option<(Location<'static>, Problem)> {
     for key in &TEXT_NUMBERS {
         let row = key.row();
@@ -42,14 +42,14 @@ fn out_of_range(name: &'static str, value: &Value, least: u32, greatest: u32) ->
     }
     Some(match value {
         Value::Integer(number) => Problem::Range(name, *number, least, greatest),
-        _ => Problem::Type(name, "number"),
+        _ => Problem::Type(name, "an integer"),
     })
 }
 
 fn bad_name(text: &Table) -> Option<Problem> {
     match text.get("name") {
         Some(Value::String(_)) => None,
-        Some(_) => Some(Problem::Type("name", "text")),
+        Some(_) => Some(Problem::Type("name", "a string")),
         None => Some(Problem::Missing("name")),
     }
 }
@@ -58,21 +58,22 @@ fn bad_address(text: &Table) -> Option<Problem> {
     let values = match text.get("address") {
         None => return None,
         Some(Value::Array(values)) => values.as_slice(),
-        Some(_) => return Some(Problem::Type("address", "list of four numbers")),
+        Some(_) => return Some(Problem::Type("address", "an array of four numbers")),
     };
     if values.len() != 4 {
-        return Some(Problem::Type("address", "list of four numbers"));
+        return Some(Problem::Type("address", "an array of four numbers"));
     }
-    values
-        .iter()
-        .find_map(|value| out_of_range("address", value, 0, 0xff))
+    values.iter().find_map(|value| out_of_range("a number in address", value, 0, 0xff))
 }
 
 fn bad_counter(text: &Table) -> Option<(Location<'static>, Problem)> {
     let table = match text.get("counter") {
         None => return None,
         Some(Value::Table(table)) => table,
-        Some(_) => return Some((Location::Text("counter"), Problem::Type("counter", "table"))),
+        Some(_) => return Some((
+            Location::Text("counter"),
+            Problem::Type("counter", "a table"),
+        )),
     };
     for key in [NumberKey::CounterValue, NumberKey::CounterLimit] {
         let row = key.row();
@@ -89,14 +90,14 @@ fn bad_assemblies(text: &Table) -> Option<(Location<'static>, Problem)> {
         Some(Value::Array(values)) => values.as_slice(),
         Some(_) => return Some((
             Location::Text("assembly"),
-            Problem::Type("assembly", "list of tables"),
+            Problem::Type("assembly", "an array of tables"),
         )),
     };
     for (place, value) in values.iter().enumerate() {
         let Value::Table(table) = value else {
             return Some((
                 Location::Assembly(place),
-                Problem::Type("assembly", "table"),
+                Problem::Type("assembly", "a table"),
             ));
         };
         if let Some((key, problem)) = bad_assembly(table) {
@@ -122,10 +123,13 @@ fn bad_assembly(table: &Table) -> Option<(&'static str, Problem)> {
     let sizes = match table.get("members") {
         None => return Some(("members", Problem::Missing("members"))),
         Some(Value::Array(values)) => values.as_slice(),
-        Some(_) => return Some(("members", Problem::Type("members", "list of sizes"))),
+        Some(_) => return Some(("members", Problem::Type("members", "an array of sizes"))),
     };
-    let problem = sizes
-        .iter()
-        .find_map(|value| out_of_range("members", value, 0, 0xffff))?;
+    let problem = sizes.iter().find_map(|value| out_of_range(
+        "a size in members",
+        value,
+        0,
+        0xffff,
+    ))?;
     Some(("members", problem))
 }

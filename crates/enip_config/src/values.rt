@@ -13,17 +13,17 @@ use crate::key::{NumberKey, Row};
 use crate::width::Width;
 use toml::{Table, Value};
 
-/// A key is missing, or its value is of another type or out of its range.
+/// A required key is missing, or a value has another type or is out of range.
 pub(crate) const BAD_VALUE: LoadFault = LoadFault::Refused(ConfigurationRefusal::BadValue);
 
-/// The value of a key.
+/// The value of a key, if the table has it.
 pub(crate) fn value_of<'a>(table: &'a Table, key: &str) -> Option<&'a Value>
     ensures { option_map (λ value. view value.now) result ≡ get_member key.now (table_view table.now) }
 {
     table.get(key)
 }
 
-/// The number that a value is, within a range.
+/// Reads a value as a number within a range, from `least` to `greatest`.
 pub(crate) fn number_in(value: &Value, least: u32, greatest: u32) -> Result<u32, LoadFault>
     ensures read { IfOk result (λ n. number_in least greatest (view value.now) ≡ Some n) }
     ensures refused { IfErr result (IsBad (number_in least greatest (view value.now))) }
@@ -38,7 +38,7 @@ pub(crate) fn number_in(value: &Value, least: u32, greatest: u32) -> Result<u32,
     }
 }
 
-/// The number of a key in a table.
+/// The number of a key in a table, or its default.
 pub(crate) fn number_by<N: Width>(table: &Table, key: Row) -> Result<N, LoadFault>
     requires fits { key.greatest ≤ N.most }
     requires default { IfSome key.default (λ n. n ≤ N.most) }
@@ -51,7 +51,7 @@ pub(crate) fn number_by<N: Width>(table: &Table, key: Row) -> Result<N, LoadFaul
     }
 }
 
-/// The number of a key that is left out.
+/// The default of a key that is left out. A required key has none.
 fn default_of<N: Width>(key: Row) -> Result<N, LoadFault>
     requires default { IfSome key.default (λ n. n ≤ N.most) }
     ensures read { IfOk result (λ n. key.default ≡ Some (N.number n)) }
@@ -63,7 +63,7 @@ fn default_of<N: Width>(key: Row) -> Result<N, LoadFault>
     }
 }
 
-/// The number of a key.
+/// The number of a key, from the table that it belongs to.
 #[tactic(auto, using(crate::proofs::Refused::unread_table, crate::proofs::Refused::unread_in))]
 pub(crate) fn number<N: Width>(text: &Table, key: NumberKey) -> Result<N, LoadFault>
     requires fits { (row key).greatest ≤ N.most }
@@ -77,7 +77,7 @@ pub(crate) fn number<N: Width>(text: &Table, key: NumberKey) -> Result<N, LoadFa
     }
 }
 
-/// The table in which a key stands, `None` where it is left out.
+/// The table that a key belongs to. `None` if that table is left out.
 fn table_with(text: &Table, key: NumberKey) -> Result<Option<&Table>, LoadFault>
     ensures read { IfOk result (λ found. table_with key (table_view text.now) ≡ Some (members_found found)) }
     ensures refused { IfErr result (IsBad (table_with key (table_view text.now))) }
@@ -88,7 +88,7 @@ fn table_with(text: &Table, key: NumberKey) -> Result<Option<&Table>, LoadFault>
     }
 }
 
-/// The table `counter`, `None` where it is left out.
+/// The table `counter`. `None` if it is left out.
 fn counter_table(text: &Table) -> Result<Option<&Table>, LoadFault>
     ensures read { IfOk result (λ found. counter_table (table_view text.now) ≡ Some (members_found found)) }
     ensures refused { IfErr result (IsBad (counter_table (table_view text.now))) }
@@ -99,7 +99,7 @@ fn counter_table(text: &Table) -> Result<Option<&Table>, LoadFault>
     }
 }
 
-/// The product's name.
+/// The product name.
 pub(crate) fn name_of(text: &Table) -> Result<String, LoadFault>
     ensures read { IfOk result (λ name. name_of (table_view text.now) ≡ Some (string_bytes name)) }
     ensures refused { IfErr result (IsUnread (table_view text.now)) }
@@ -110,7 +110,7 @@ pub(crate) fn name_of(text: &Table) -> Result<String, LoadFault>
     }
 }
 
-/// The address that ListIdentity shows.
+/// The address that ListIdentity reports. 0.0.0.0 if it is left out.
 pub(crate) fn address_of(text: &Table) -> Result<[u8; 4], LoadFault>
     ensures read { IfOk result (λ address. address_of (table_view text.now) ≡ Some address) }
     ensures refused { IfErr result (IsUnread (table_view text.now)) }
@@ -122,7 +122,7 @@ pub(crate) fn address_of(text: &Table) -> Result<[u8; 4], LoadFault>
     }
 }
 
-/// A byte of each of four values.
+/// Reads four values as bytes.
 fn four_bytes(values: &[Value]) -> Result<[u8; 4], LoadFault>
     ensures read { IfOk result (λ address. address_in (array (items_view values.now)) ≡ Some address) }
     ensures refused { IfErr result (IsBad (address_in (array (items_view values.now)))) }
@@ -133,7 +133,7 @@ fn four_bytes(values: &[Value]) -> Result<[u8; 4], LoadFault>
     Ok([byte(first)?, byte(second)?, byte(third)?, byte(last)?])
 }
 
-/// The byte that a value is.
+/// Reads a value as a byte.
 fn byte(value: &Value) -> Result<u8, LoadFault>
     ensures read { IfOk result (λ n. number_in 0 0xff (view value.now) ≡ Some n) }
     ensures refused { IfErr result (IsBad (number_in 0 0xff (view value.now))) }

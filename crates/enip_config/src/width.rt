@@ -1,16 +1,16 @@
-//! Numbers of the widths that keys have.
+//! The widths of the numbers in a configuration.
 
 ghost use Rattle.std.specs.Prelude.{◌≡◌, ◌≤◌, ℕ};
 
-/// A number of a fixed width.
+/// A number of a fixed width: 8, 16 or 32 bits.
 pub(crate) trait Width: Sized {
-    /// The number as such.
+    /// The value of the number.
     ghost number: { Self → ℕ };
 
     /// The greatest number of this width.
     ghost most: { ℕ };
 
-    /// A number that has this width.
+    /// The number in this width.
     fn of(wide: u32) -> Self
         requires { wide ≤ most }
         ensures { number result ≡ wide };

@@ -85,7 +85,7 @@ pub(super) fn send_rr_data(
     // a packet with a request of two bytes at least: 0x0003 (SendRRData)
     match rr_body(frame.body) {
         Ok(request) if request.len() >= 2 => {
-            route(shared, session, request, reply);
+            dispatch(shared, session, request, reply);
             write_rr_reply(&frame.header, reply.as_slice(), answer);
         }
         _ => refuse(frame.header, EncapsulationStatus::PoorlyFormedData, answer),
@@ -94,7 +94,7 @@ pub(super) fn send_rr_data(
 
 /// Hands a request to the Connection Manager or to the objects, and leaves the reply in `reply`.
 #[inline(always)]
-fn route(shared: &mut Shared, session: Session, request: &[u8], reply: &mut ReplyBuf)
+fn dispatch(shared: &mut Shared, session: Session, request: &[u8], reply: &mut ReplyBuf)
     requires { 2 ≤ length request.now }
     ensures shared { shared.new ≡ (routed shared.old session request.now).shared }
     ensures reply { reply.new.items ≡ (routed shared.old session request.now).reply }

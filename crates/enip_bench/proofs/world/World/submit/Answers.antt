@@ -5,7 +5,7 @@ use Rattle.enip_bench.proofs.BenchLemmas.{refused_told, sent_told}
 use Rattle.enip_bench.proofs.ReachedLemmas.{no_client_fault}
 use Rattle.enip_bench.proofs.world.World.submit.Goals as goal
 
--- an open connection has no fault
+-- a client whose connection is open has no fault
 pub unreachable-requires : goal.unreachable-requires
 unreachable-requires c =
     no_client_fault (world_in c.args.self.now) c.args.request.now c.in-Err-Client.field-0-0 c.requires.reached

@@ -1,9 +1,9 @@
-/* A device by hand in C, as one writes it without the library, behind those calls of enip.h that performance/library.c makes.
+/* A device written by hand in C, without the library, behind the calls of enip.h that library.c makes.
  *
- * It has what that configuration has: Identity, assembly 100 of 4 bytes and a counter, 16 peers and 64 connections. Of
- * the frames that are measured it checks what docs/PROTOCOL.md asks: header, session, items, path, object, size of the
- * data, the connection and whose it is, its count and its deadline. Whatever else it is asked is refused: it has no
- * lists of attributes, no large connections, no closing, and all connections are opened alike. */
+ * It has what the configuration of library.c describes: Identity, assembly 100 of 4 bytes and a counter, 16 peers and 64
+ * connections. It checks the measured frames as docs/PROTOCOL.md requires: header, session, items, path, object, data
+ * size, the connection and its session, its count and its deadline. It refuses every other request: it has no lists of
+ * attributes, no large connections and no closing, and it opens all connections alike. */
 #include <enip.h>
 #include <stdlib.h>
 #include <string.h>
@@ -56,7 +56,7 @@ struct path {
     uint32_t class_code, instance, attribute;
 };
 
-/* Logical segments of 8 and 16 bits. Answers whether there is no other. */
+/* Reads logical segments of 8 and 16 bits. Returns 0 if there is another segment. */
 static int read_path(const unsigned char *at, const unsigned char *end, struct path *path) {
     while (at < end) {
         int wide = *at & 3;
@@ -75,7 +75,7 @@ static int read_path(const unsigned char *at, const unsigned char *end, struct p
     return 1;
 }
 
-/* A request of the message router: its service, its path, and the data behind it. */
+/* A request to the message router: its service, its path, and its data. */
 struct request {
     unsigned char service;
     struct path path;
@@ -164,7 +164,7 @@ static size_t execute(enip_adapter *adapter, const struct request *asked, unsign
     return status_reply(reply, asked->service, 0x05);
 }
 
-/* Forward_Open: a connection of 500 bytes each way, for the first free ID. */
+/* Forward_Open: opens a connection of 500 bytes each way, with the first free ID. */
 static size_t open_connection(enip_adapter *adapter, struct peer *peer, const struct request *asked, unsigned char *reply) {
     struct connection *made = adapter->connections;
     unsigned char *at = reply + 4;
@@ -186,7 +186,7 @@ static size_t open_connection(enip_adapter *adapter, struct peer *peer, const st
     return data_reply(reply, asked->service, put16(at, 0));
 }
 
-/* The answer to an unconnected request: how many bytes the data of its frame have, 0 where it is no such packet. */
+/* Answers an unconnected request. Returns the size of the answer's data, 0 if the packet is malformed. */
 static size_t serve_unconnected(enip_adapter *adapter, struct peer *peer, const unsigned char *data, size_t size,
                                 unsigned char *answer) {
     struct request asked;
@@ -206,7 +206,7 @@ static size_t serve_unconnected(enip_adapter *adapter, struct peer *peer, const 
     return (size_t)(at - answer) + count;
 }
 
-/* An item of a connection, executed once: a repeat of its count gets the kept reply. 0 where there is no answer. */
+/* Executes an item of a connection once: a repeat of its count gets the kept reply. Returns 0 if there is no answer. */
 static size_t serve_connected(enip_adapter *adapter, struct peer *peer, const unsigned char *data, size_t size,
                               unsigned char *answer) {
     struct connection *on;
@@ -235,8 +235,9 @@ static size_t serve_connected(enip_adapter *adapter, struct peer *peer, const un
     return UNIT_FRONT + on->size;
 }
 
-/* Answers a whole frame: how many bytes of room that takes, 0 where there is no answer. */
-static size_t serve(enip_adapter *adapter, struct peer *peer, const unsigned char *frame, size_t whole, unsigned char *room) {
+/* Answers a whole frame. Returns the size of the answer in the buffer, 0 if there is none. */
+static size_t serve(enip_adapter *adapter, struct peer *peer, const unsigned char *frame, size_t whole,
+                    unsigned char *buffer) {
     uint32_t command = le16(frame), session = le32(frame + 4), status = 0;
     const unsigned char *data = frame + HEADER;
     size_t size = whole - HEADER, count = 0;
@@ -247,24 +248,24 @@ static size_t serve(enip_adapter *adapter, struct peer *peer, const unsigned cha
             status = NO_VERSION;
         peer->is_registered |= status == 0;
         session = status == 0 ? peer->handle : session;
-        memcpy(room + HEADER, data, count = size < 4 ? size : 4);
+        memcpy(buffer + HEADER, data, count = size < 4 ? size : 4);
     } else if (command != 0x6f && command != 0x70) {
         status = NO_COMMAND;
     } else if (!peer->is_registered || session != peer->handle) {
         status = NO_SESSION;
     } else if (command == 0x70) {
-        if ((count = serve_connected(adapter, peer, data, size, room + HEADER)) == 0)
+        if ((count = serve_connected(adapter, peer, data, size, buffer + HEADER)) == 0)
             return 0;
-    } else if ((count = serve_unconnected(adapter, peer, data, size, room + HEADER)) == 0) {
+    } else if ((count = serve_unconnected(adapter, peer, data, size, buffer + HEADER)) == 0) {
         status = NO_PACKET;
     }
-    put32(put32(put16(put16(room, command), (uint32_t)count), session), status);
-    memcpy(room + 12, frame + 12, 8);
-    put32(room + 20, 0);
+    put32(put32(put16(put16(buffer, command), (uint32_t)count), session), status);
+    memcpy(buffer + 12, frame + 12, 8);
+    put32(buffer + 20, 0);
     return HEADER + count;
 }
 
-/* Time goes on, and connections whose deadline is over end. */
+/* Sets the time, and ends the connections whose deadline it has reached. */
 static void advance(enip_adapter *adapter, uint64_t now) {
     if (now > adapter->now)
         adapter->now = now;
@@ -286,17 +287,17 @@ static struct peer *peer_of(enip_adapter *adapter, uint32_t handle) {
     return NULL;
 }
 
-/* How many bytes a frame has, of which so many are there: HEADER until its length is. */
+/* The size of a frame of which `size` bytes have come; HEADER if its length has not come yet. */
 static size_t whole_of(const unsigned char *bytes, size_t size) {
     return size < HEADER ? HEADER : HEADER + (size_t)le16(bytes + 2);
 }
 
-int enip_adapter_feed(enip_adapter *adapter, uint64_t now, uint32_t handle, const void *bytes, size_t length, void *room,
-                      size_t size, enip_fed *fed) {
+int enip_adapter_feed(enip_adapter *adapter, uint64_t now, uint32_t handle, const void *bytes, size_t length,
+                      void *buffer, size_t size, enip_fed *fed) {
     const unsigned char *frame = bytes;
     struct peer *peer;
     size_t whole;
-    if (adapter == NULL || bytes == NULL || length == 0 || room == NULL || fed == NULL)
+    if (adapter == NULL || bytes == NULL || length == 0 || buffer == NULL || fed == NULL)
         return ENIP_MISUSE;
     if (size < ENIP_ANSWER_ROOM)
         return ENIP_ROOM;
@@ -307,7 +308,7 @@ int enip_adapter_feed(enip_adapter *adapter, uint64_t now, uint32_t handle, cons
         return ENIP_OK;
     }
     if (peer->held == 0 && length >= HEADER && length >= (whole = whole_of(frame, length))) {
-        fed->taken = whole; /* it lies whole in the piece, and is read there */
+        fed->taken = whole; /* the frame is complete in the piece, and read there */
     } else {
         while (fed->taken < length && peer->held < whole_of(peer->bytes, peer->held))
             peer->bytes[peer->held++] = frame[fed->taken++];
@@ -317,7 +318,7 @@ int enip_adapter_feed(enip_adapter *adapter, uint64_t now, uint32_t handle, cons
         frame = peer->bytes;
         peer->held = 0;
     }
-    fed->answer = serve(adapter, peer, frame, whole, room);
+    fed->answer = serve(adapter, peer, frame, whole, buffer);
     return ENIP_OK;
 }
 

@@ -11,9 +11,9 @@ static const unsigned char registers[28] = {0x65, 0, 4, 0, [24] = 1};
 
 static int failure;
 
-/* Null where each session was answered. */
+/* Returns NULL if each registration was answered. */
 static void *serve(void *unused) {
-    unsigned char room[ENIP_ANSWER_ROOM];
+    unsigned char buffer[ENIP_ANSWER_ROOM];
     enip_adapter *adapter;
     void *failed = unused;
     if (enip_adapter_new(configuration, sizeof configuration - 1, &adapter, NULL) != ENIP_OK)
@@ -23,7 +23,7 @@ static void *serve(void *unused) {
         enip_fed fed;
         if (enip_adapter_begin(adapter, &peer) != ENIP_OK || peer != i)
             failed = &failure;
-        if (enip_adapter_feed(adapter, i, peer, registers, 28, room, sizeof room, &fed) != ENIP_OK || fed.answer != 28)
+        if (enip_adapter_feed(adapter, i, peer, registers, 28, buffer, sizeof buffer, &fed) != ENIP_OK || fed.answer != 28)
             failed = &failure;
         enip_adapter_end(adapter, peer);
     }
@@ -37,8 +37,8 @@ int main(void) {
     for (int i = 0; i < 2; i++)
         failed |= pthread_create(&threads[i], NULL, serve, NULL);
     for (int i = 0; i < 2; i++) {
-        void *told = NULL;
-        failed |= pthread_join(threads[i], &told) != 0 || told != NULL;
+        void *result = NULL;
+        failed |= pthread_join(threads[i], &result) != 0 || result != NULL;
     }
     return failed;
 }

@@ -1,4 +1,4 @@
-/* What the device does with its adapter, and which connections ended. Prints `N passed, M failed`. */
+/* The device's own writes, the count of changes, and the connections that ended. Prints `N passed, M failed`. */
 #include <enip.h>
 #include <stdio.h>
 #include <string.h>
@@ -10,7 +10,7 @@ static void is(const char *what, long long got, long long wanted) {
         passed++;
     } else {
         failed++;
-        printf("device_side: %s: %lld in place of %lld\n", what, got, wanted);
+        printf("device_side: %s: %lld instead of %lld\n", what, got, wanted);
     }
 }
 
@@ -29,7 +29,7 @@ static const unsigned char set_member[] = {0x19, 4, 0x20, 4, 0x24, 100, 0x30, 3,
 
 static enip_adapter *adapter;
 static enip_endings *endings;
-static unsigned char room[ENIP_ANSWER_ROOM];
+static unsigned char buffer[ENIP_ANSWER_ROOM];
 static enip_fed fed;
 static uint64_t now = 1000000;
 
@@ -41,7 +41,7 @@ static void put_header(unsigned char *frame, unsigned char command, size_t lengt
 }
 
 static void send_frame(const unsigned char *frame, size_t size, uint32_t peer) {
-    is("feed", enip_adapter_feed(adapter, now, peer, frame, size, room, sizeof room, &fed), ENIP_OK);
+    is("feed", enip_adapter_feed(adapter, now, peer, frame, size, buffer, sizeof buffer, &fed), ENIP_OK);
     is("a frame is taken", (long long)fed.taken, (long long)size);
 }
 
@@ -54,7 +54,7 @@ static int ask(uint32_t peer, const unsigned char *request, size_t size) {
     frame[38] = (unsigned char)size;
     memcpy(frame + 40, request, size);
     send_frame(frame, 40 + size, peer);
-    return fed.answer > 42 ? room[42] : -1;
+    return fed.answer > 42 ? buffer[42] : -1;
 }
 
 /* The general status of the reply to a request on a connection. */
@@ -70,9 +70,10 @@ static int submit(uint32_t peer, uint32_t connection, unsigned char count, const
     frame[44] = count;
     memcpy(frame + 46, request, size);
     send_frame(frame, 46 + size, peer);
-    return fed.answer > 48 ? room[48] : -1;
+    return fed.answer > 48 ? buffer[48] : -1;
 }
 
+/* Begins a peer, and registers its session. */
 static uint32_t registered(void) {
     unsigned char frame[28] = {0};
     uint32_t peer = 0;
@@ -103,20 +104,20 @@ static uint32_t changes_of(uint32_t instance) {
     return changes;
 }
 
-/* That a look tells these connections, of one peer, for one reason. */
+/* Checks that an update lists `count` connections of one peer, with IDs from `first` on, all ended for one reason. */
 static void ended(const char *what, size_t count, uint32_t first, uint32_t peer, uint32_t why) {
     enip_ended one = {77, 77, 77};
-    size_t place;
+    size_t index;
     is(what, enip_endings_update(endings, adapter), ENIP_OK);
-    for (place = 0; place < count; place++) {
-        is(what, enip_endings_at(endings, place, &one), ENIP_OK);
-        is(what, one.connection, first + (uint32_t)place);
+    for (index = 0; index < count; index++) {
+        is(what, enip_endings_at(endings, index, &one), ENIP_OK);
+        is(what, one.connection, first + (uint32_t)index);
         is(what, one.peer, peer);
         is(what, one.why, why);
     }
     one.why = 77;
     is(what, enip_endings_at(endings, count, &one), ENIP_ABSENT);
-    is("what is absent changes nothing", one.why, 77);
+    is("an absent entry changes nothing", one.why, 77);
 }
 
 static void writes(void) {
@@ -127,11 +128,11 @@ static void writes(void) {
     is("the rest of it", enip_adapter_write(adapter, 101, 1, bytes + 2, 1), ENIP_OK);
     is("past its end", enip_adapter_write(adapter, 101, 1, bytes, 2), ENIP_ABSENT);
     is("longer than it", enip_adapter_write(adapter, 101, 0, bytes, 3), ENIP_ABSENT);
-    is("none", enip_adapter_write(adapter, 77, 0, bytes, 1), ENIP_ABSENT);
-    is("read", enip_adapter_read(adapter, 4, 101, 3, room, sizeof room, &count), ENIP_OK);
-    is("what was written", count == 2 && room[0] == 1 && room[1] == 3, 1);
-    is("changes of none", enip_adapter_changes(adapter, 77, &changes), ENIP_ABSENT);
-    is("are none", changes, 5);
+    is("no such assembly", enip_adapter_write(adapter, 77, 0, bytes, 1), ENIP_ABSENT);
+    is("read", enip_adapter_read(adapter, 4, 101, 3, buffer, sizeof buffer, &count), ENIP_OK);
+    is("what was written", count == 2 && buffer[0] == 1 && buffer[1] == 3, 1);
+    is("changes of no assembly", enip_adapter_changes(adapter, 77, &changes), ENIP_ABSENT);
+    is("are not written", changes, 5);
     is("no peer has written", changes_of(101), 0);
     is("set", ask(peer, set_100, sizeof set_100), 0);
     is("set too short", ask(peer, set_100, sizeof set_100 - 1), 0x13);
@@ -142,25 +143,25 @@ static void writes(void) {
     open_connection(peer, 1);
     is("on a connection", submit(peer, 1, 1, set_100, sizeof set_100), 0);
     is("the same again", submit(peer, 1, 1, set_100, sizeof set_100), 0);
-    is("a repeat is no change", changes_of(100), 3);
+    is("a repeat does not count", changes_of(100), 3);
     is("the status", enip_adapter_set_status(adapter, 0x1234), ENIP_OK);
     is("the state", enip_adapter_set_state(adapter, 5), ENIP_OK);
-    is("read", enip_adapter_read(adapter, 1, 1, 5, room, sizeof room, &count), ENIP_OK);
-    is("the status is read", count == 2 && room[0] == 0x34 && room[1] == 0x12, 1);
-    is("read", enip_adapter_read(adapter, 1, 1, 8, room, sizeof room, &count), ENIP_OK);
-    is("the state is read", count == 1 && room[0] == 5, 1);
+    is("read", enip_adapter_read(adapter, 1, 1, 5, buffer, sizeof buffer, &count), ENIP_OK);
+    is("the status is read", count == 2 && buffer[0] == 0x34 && buffer[1] == 0x12, 1);
+    is("read", enip_adapter_read(adapter, 1, 1, 8, buffer, sizeof buffer, &count), ENIP_OK);
+    is("the state is read", count == 1 && buffer[0] == 5, 1);
 }
 
 static void ends(void) {
     unsigned char frame[24];
     uint32_t peer = 1;
-    ended("nothing was open at the first look", 0, 0, 0, 0);
+    ended("nothing was open at the first update", 0, 0, 0, 0);
     close_connection(peer, 1);
     ended("closed", 1, 1, peer, ENIP_ENDED_CLOSED);
-    ended("told once", 0, 0, 0, 0);
+    ended("listed once", 0, 0, 0, 0);
     open_connection(peer, 2);
     open_connection(peer, 3);
-    ended("an opening is no end", 0, 0, 0, 0);
+    ended("an opening is not listed", 0, 0, 0, 0);
     put_header(frame, 0x66, 0, peer);
     send_frame(frame, sizeof frame, peer);
     ended("unregistered", 2, 2, peer, ENIP_ENDED_SESSION);
@@ -173,8 +174,8 @@ static void ends(void) {
     peer = registered();
     open_connection(peer, 1);
     ended("open", 0, 0, 0, 0);
-    is("a moment before", enip_adapter_tick(adapter, now + 9999999), ENIP_OK);
-    ended("a moment before its deadline", 0, 0, 0, 0);
+    is("a microsecond before", enip_adapter_tick(adapter, now + 9999999), ENIP_OK);
+    ended("a microsecond before its deadline", 0, 0, 0, 0);
     is("its deadline", enip_adapter_tick(adapter, now + 10000000), ENIP_OK);
     ended("timed out", 1, 5, peer, ENIP_ENDED_TIMED_OUT);
 }
@@ -201,10 +202,25 @@ static void misused(void) {
     MISUSE(enip_endings_at(NULL, 0, &one));
     MISUSE(enip_endings_at(endings, 0, NULL));
     MISUSE(enip_endings_free((enip_endings *)foreign));
-    is("none is freed", enip_endings_free(NULL), ENIP_OK);
-    is("the words of an end", (long long)enip_status_text(ENIP_OF_ENDING, ENIP_ENDED_CLOSED, text, sizeof text), 24);
-    is("as they stand", strcmp(text, "its originator closed it"), 0);
-    is("no such end", (long long)enip_status_text(ENIP_OF_ENDING, 5, text, sizeof text), 0);
+    is("free NULL", enip_endings_free(NULL), ENIP_OK);
+    is("the text of an ending", (long long)enip_status_text(ENIP_OF_ENDING, ENIP_ENDED_CLOSED, text, sizeof text), 24);
+    is("is this one", strcmp(text, "its originator closed it"), 0);
+    is("no such ending", (long long)enip_status_text(ENIP_OF_ENDING, 5, text, sizeof text), 0);
+}
+
+/* The calls that only read take a const object. */
+static void reads(const enip_adapter *reader, const enip_endings *list) {
+    uint64_t deadline;
+    uint32_t changes;
+    uint16_t peers, connections;
+    size_t count;
+    enip_ended one;
+    is("no deadline", enip_adapter_deadline(reader, &deadline), ENIP_ABSENT);
+    is("the slots", enip_adapter_places(reader, &peers, &connections), ENIP_OK);
+    is("a read", enip_adapter_read(reader, 4, 101, 3, buffer, sizeof buffer, &count), ENIP_OK);
+    is("the changes", enip_adapter_changes(reader, 100, &changes), ENIP_OK);
+    is("an update", enip_endings_update(endings, reader), ENIP_OK);
+    is("an empty list", enip_endings_at(list, 0, &one), ENIP_ABSENT);
 }
 
 int main(void) {
@@ -212,6 +228,7 @@ int main(void) {
     is("endings", enip_endings_new(&endings), ENIP_OK);
     writes();
     ends();
+    reads(adapter, endings);
     misused();
     is("free", enip_endings_free(endings), ENIP_OK);
     is("free", enip_adapter_free(adapter), ENIP_OK);

@@ -1,5 +1,5 @@
-/* `enip answer CONFIG` through the library for C: the same lines in, the same lines out. Any other command is run by
- * the program that the environment names as ENIP, so that tests/run_rows can be given this in its place. */
+/* `enip answer CONFIG` through the library for C: the same lines in, the same lines out. It runs any other command by
+ * the program that the variable ENIP names, so that tests/run_rows can use it in place of `enip`. */
 #define _POSIX_C_SOURCE 200809L
 #include <enip.h>
 #include <errno.h>
@@ -8,22 +8,30 @@
 #include <string.h>
 #include <unistd.h>
 
-enum { SEATS = 10, LONGEST = 1 << 24 };
+enum { SLOTS = 10, LONGEST_LINE = 1 << 24 };
 
-static struct seat {
+static struct slot {
     int is_taken, is_closed;
     uint32_t peer;
-} seats[SEATS];
+} slots[SLOTS];
 
 static uint64_t now;
-static unsigned char piece[LONGEST / 2], room[ENIP_ANSWER_ROOM];
+static unsigned char piece[LONGEST_LINE / 2], buffer[ENIP_ANSWER_ROOM];
 
+/* The value of a hexadecimal digit; -1 if it is not one. */
 static int digit_of(char it) {
-    return it >= '0' && it <= '9' ? it - '0' : it >= 'a' && it <= 'f' ? it - 'a' + 10 : it >= 'A' && it <= 'F' ? it - 'A' + 10 : -1;
+    if (it >= '0' && it <= '9')
+        return it - '0';
+    if (it >= 'a' && it <= 'f')
+        return it - 'a' + 10;
+    if (it >= 'A' && it <= 'F')
+        return it - 'A' + 10;
+    return -1;
 }
 
-/* The bytes that digits spell, perhaps with spaces; 0 where they spell none. */
-static size_t bytes_of(const char *digits) {
+/* Writes the bytes that hexadecimal digits give to `piece`, and returns their number; 0 if they are malformed. Spaces are
+ * ignored. */
+static size_t read_hex(const char *digits) {
     size_t count = 0;
     int high = -1;
     for (; *digits != '\0'; digits++) {
@@ -32,39 +40,42 @@ static size_t bytes_of(const char *digits) {
             continue;
         if (value < 0)
             return 0;
-        if (high < 0)
+        if (high < 0) {
             high = value;
-        else
-            piece[count++] = (unsigned char)(high * 16 + value), high = -1;
+        } else {
+            piece[count++] = (unsigned char)(high * 16 + value);
+            high = -1;
+        }
     }
     return high < 0 ? count : 0;
 }
 
+/* Passes the piece to the peer of a slot, which begins with its first piece, and prints the answers. */
 static void feed(enip_adapter *adapter, int number, size_t size) {
-    struct seat *seat = &seats[number];
+    struct slot *slot = &slots[number];
     size_t at = 0;
-    if (seat->is_closed)
+    if (slot->is_closed)
         return;
-    if (!seat->is_taken) {
-        int status = enip_adapter_begin(adapter, &seat->peer);
+    if (!slot->is_taken) {
+        int status = enip_adapter_begin(adapter, &slot->peer);
         if (status != ENIP_OK) {
             printf("%d full %d\n", number, status == ENIP_PLACES ? 1 : 2);
             return;
         }
-        seat->is_taken = 1;
+        slot->is_taken = 1;
     }
     while (at < size) {
         enip_fed fed;
-        if (enip_adapter_feed(adapter, now, seat->peer, piece + at, size - at, room, sizeof room, &fed) != ENIP_OK)
+        if (enip_adapter_feed(adapter, now, slot->peer, piece + at, size - at, buffer, sizeof buffer, &fed) != ENIP_OK)
             exit(9);
         if (fed.answer > 0) {
             printf("%d ", number);
             for (size_t i = 0; i < fed.answer; i++)
-                printf("%02x", room[i]);
+                printf("%02x", buffer[i]);
             puts("");
         }
         if (fed.close) {
-            seat->is_closed = 1;
+            slot->is_closed = 1;
             printf("%d closed\n", number);
             return;
         }
@@ -72,6 +83,7 @@ static void feed(enip_adapter *adapter, int number, size_t size) {
     }
 }
 
+/* Runs a line. Returns 0 if it is malformed. */
 static int run(enip_adapter *adapter, char *line) {
     size_t size;
     line[strcspn(line, "\n")] = '\0';
@@ -83,28 +95,28 @@ static int run(enip_adapter *adapter, char *line) {
         return errno == 0;
     }
     if (strncmp(line, "end ", 4) == 0) {
-        struct seat *seat = &seats[digit_of(line[4])];
-        if (seat->is_taken)
-            enip_adapter_end(adapter, seat->peer);
-        *seat = (struct seat){0, 0, 0};
+        struct slot *slot = &slots[digit_of(line[4])];
+        if (slot->is_taken)
+            enip_adapter_end(adapter, slot->peer);
+        *slot = (struct slot){0, 0, 0};
         return 1;
     }
-    if (line[0] < '1' || line[0] > '9' || line[1] != ' ' || (size = bytes_of(line + 2)) == 0)
+    if (line[0] < '1' || line[0] > '9' || line[1] != ' ' || (size = read_hex(line + 2)) == 0)
         return 0;
     feed(adapter, line[0] - '0', size);
     return 1;
 }
 
-int main(int count, char **words) {
-    static char text[1 << 20], line[LONGEST];
+int main(int count, char **arguments) {
+    static char text[1 << 20], line[LONGEST_LINE];
     enip_adapter *adapter;
     enip_refusal why;
     unsigned long number = 0;
-    if (count != 3 || strcmp(words[1], "answer") != 0) {
-        execv(getenv("ENIP"), words);
+    if (count != 3 || strcmp(arguments[1], "answer") != 0) {
+        execv(getenv("ENIP"), arguments);
         return 9;
     }
-    FILE *file = fopen(words[2], "rb");
+    FILE *file = fopen(arguments[2], "rb");
     size_t size = file == NULL ? 0 : fread(text, 1, sizeof text, file);
     int status = enip_adapter_new(text, size, &adapter, &why);
     if (status == ENIP_CONFIGURATION)

@@ -1,4 +1,4 @@
-/* Feeds one frame to an adapter again and again, through the calls of enip.h, and prints its last answer.
+/* Feeds one frame to an adapter COUNT times and once more, through the calls of enip.h, and prints the last answer.
  * library COUNT FRAME: FRAME is get, set or repeat (the same item on a class 3 connection). */
 #include <enip.h>
 #include <stdio.h>
@@ -20,7 +20,7 @@ static const unsigned char opens[] = {0x54, 2, 0x20, 6, 0x24, 1, 0x0a, 1, 0,    
 static enip_adapter *adapter;
 static uint32_t peer;
 
-/* A frame of session 1 with a packet of one address item and one data item. */
+/* Writes a frame of session 1 with one address item and one data item, and returns its size. */
 static size_t frame_of(unsigned char *frame, unsigned char command, const unsigned char *bytes, size_t size, int connected) {
     size_t head = connected ? 20 : 16, at = 24 + 6;
     memset(frame, 0, 24 + head);
@@ -33,36 +33,36 @@ static size_t frame_of(unsigned char *frame, unsigned char command, const unsign
     return 24 + head + size;
 }
 
-static inline enip_fed feed(const unsigned char *frame, size_t size, unsigned char *room) {
+static inline enip_fed feed(const unsigned char *frame, size_t size, unsigned char *buffer) {
     enip_fed fed = {0, 0, 0, 1};
-    if (enip_adapter_feed(adapter, 1, peer, frame, size, room, ENIP_ANSWER_ROOM, &fed) != ENIP_OK || fed.answer == 0)
+    if (enip_adapter_feed(adapter, 1, peer, frame, size, buffer, ENIP_ANSWER_ROOM, &fed) != ENIP_OK || fed.answer == 0)
         exit(1);
     return fed;
 }
 
-int main(int words, char **word) {
-    unsigned char frame[128], room[ENIP_ANSWER_ROOM];
-    long count = words == 3 ? strtol(word[1], NULL, 10) : 0;
+int main(int argument_count, char **arguments) {
+    unsigned char frame[128], buffer[ENIP_ANSWER_ROOM];
+    long count = argument_count == 3 ? strtol(arguments[1], NULL, 10) : 0;
     size_t size;
-    if (words != 3 || enip_adapter_new(configuration, sizeof configuration - 1, &adapter, NULL) != ENIP_OK)
+    if (argument_count != 3 || enip_adapter_new(configuration, sizeof configuration - 1, &adapter, NULL) != ENIP_OK)
         return 2;
     enip_adapter_begin(adapter, &peer);
-    feed(registers, sizeof registers, room);
-    if (strcmp(word[2], "repeat") == 0) {
+    feed(registers, sizeof registers, buffer);
+    if (strcmp(arguments[2], "repeat") == 0) {
         size = frame_of(frame, 0x6f, opens, sizeof opens, 0);
-        feed(frame, size, room);
-        if (room[24 + 16 + 2] != 0)
+        feed(frame, size, buffer);
+        if (buffer[24 + 16 + 2] != 0)
             return 3;
         size = frame_of(frame, 0x70, add, sizeof add, 1);
-    } else if (strcmp(word[2], "set") == 0) {
+    } else if (strcmp(arguments[2], "set") == 0) {
         size = frame_of(frame, 0x6f, set, sizeof set, 0);
     } else {
         size = frame_of(frame, 0x6f, get, sizeof get, 0);
     }
     for (long i = 0; i < count; i++)
-        feed(frame, size, room);
-    size = feed(frame, size, room).answer;
+        feed(frame, size, buffer);
+    size = feed(frame, size, buffer).answer;
     for (size_t i = 0; i < size; i++)
-        printf("%02x", room[i]);
+        printf("%02x", buffer[i]);
     return enip_adapter_free(adapter);
 }
