@@ -1,5 +1,5 @@
-//! Values of the elementary data types, as words, bytes and text. (Volume 1, data type encoding: two's complement, IEEE 754
-//! singles, the least byte first.)
+//! Values of the elementary data types as arguments, bytes and printed text. (Volume 1, data type encoding: two's
+//! complement, IEEE 754 single precision, least byte first.)
 
 use cip_values::{
     ElementaryType, Value, ValueFault, ValueType, ValuesText, read_values, write_values,
@@ -8,7 +8,7 @@ use std::alloc::Global;
 use std::process::Abort;
 use std::test::Fail;
 
-/// A type, the words of values, their bytes, and the text of those where it isn't the words.
+/// A type, values as arguments, their bytes, and the printed text.
 type Row = (
     &'static str,
     &'static [&'static str],
@@ -20,7 +20,7 @@ fn type_of(name: &str) -> Result<ValueType, Fail> {
     Ok(ValueType::from_name(name).ok_or("no type")?)
 }
 
-/// Asserts what bytes are read as, and printed.
+/// Asserts what is printed for bytes.
 fn check_read(
     rt: &impl Abort,
     alloc: Global,
@@ -40,7 +40,7 @@ fn check_read(
     Ok(())
 }
 
-/// Asserts which bytes words are written as, and that those are printed as the words, or the text.
+/// Asserts the bytes of the arguments, and what is printed for these bytes.
 fn check(rt: &impl Abort, alloc: Global, row: Row) -> Result<(), Fail> {
     let (name, words, bytes, text) = row;
     let written = write_values(alloc, type_of(name)?, words)?;
@@ -170,13 +170,13 @@ fn rows(rt: HostRuntime) -> Result<(), Fail> {
     Ok(())
 }
 
-/// What is printed of one value is read as it again; a NaN's sign and payload are not printed.
+/// The sign and the payload of a NaN are not printed.
 #[test]
 fn other_nan(rt: HostRuntime) -> Result<(), Fail> {
     check_read(&rt, rt.alloc(), "REAL", &[1, 0, 0x80, 0xff], "NaN")
 }
 
-/// Every byte of a text, alone and in a list, is read again from what is printed of it.
+/// A text with any byte, alone and in a list, is read back from what is printed for it.
 #[test]
 fn every_byte_of_a_text(rt: HostRuntime) -> Result<(), Fail> {
     for byte in 0..=255u8 {
@@ -193,7 +193,7 @@ fn every_byte_of_a_text(rt: HostRuntime) -> Result<(), Fail> {
     Ok(())
 }
 
-/// A type, words, and why they are refused.
+/// A type, arguments, and why they are refused.
 type Refused = (&'static str, &'static [&'static str], &'static str);
 
 static REFUSED: [Refused; 50] = [
@@ -369,7 +369,7 @@ fn refused_words(rt: HostRuntime) -> Result<(), Fail> {
     Ok(())
 }
 
-/// A text of 255 bytes is written, one of 256 is refused.
+/// A text of 255 bytes is encoded, and one of 256 is refused.
 #[test]
 fn longest_text(rt: HostRuntime) -> Result<(), Fail> {
     let short_string = type_of("SHORT_STRING")?;
@@ -389,7 +389,7 @@ fn longest_text(rt: HostRuntime) -> Result<(), Fail> {
     Ok(())
 }
 
-/// A type, bytes, and why they are no values.
+/// A type, bytes, and why they are not values of the type.
 type Broken = (
     &'static str,
     &'static [u8],
@@ -501,7 +501,7 @@ fn refused_bytes(rt: HostRuntime) -> Result<(), Fail> {
     Ok(())
 }
 
-/// The names of the types, and what is none.
+/// The names of the types, and some that are not.
 #[test]
 fn names(rt: HostRuntime) -> Result<(), Fail> {
     let names = [
@@ -539,7 +539,7 @@ fn names(rt: HostRuntime) -> Result<(), Fail> {
     Ok(())
 }
 
-/// The values that bytes are read as.
+/// The values that are read from bytes.
 #[test]
 fn values_read(rt: HostRuntime) -> Result<(), Fail> {
     let signed = read_values(rt.alloc(), type_of("INT[]")?, &[0xfe, 0xff, 1, 2])?;

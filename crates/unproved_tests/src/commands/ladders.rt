@@ -7,7 +7,7 @@ use enip_replay::{ReplayFailure, draw_replay};
 use std::alloc::Global;
 use std::test::Fail;
 
-/// What is printed at the end where nothing was done.
+/// What is printed at the end if nothing was executed.
 const UNTOUCHED: &str = "counter 0 100 0\nassembly 100 00000000\nclient idle\n";
 
 /// The first line.
@@ -15,7 +15,7 @@ const HEAD: &str =
     "            client                                 wire                               adapter\n";
 
 /// The last line.
-const SAME: &str = "both worlds show the same: what a world without counts or kept replies shows\n";
+const SAME: &str = "same result as in a world without sequence counts or kept replies\n";
 
 /// Draws a script with the demo device.
 fn drawn(alloc: Global, script: &str) -> Result<String, Fail> {
