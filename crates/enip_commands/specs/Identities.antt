@@ -6,7 +6,7 @@ use Rattle.serde_json.specs.Written.{compact_text}
 use Rattle.enip_commands.specs.Json.{identity_data}
 use Rattle.enip_wire.specs.Stream.{parsed}
 use Rattle.enip_client.specs.Lists.{Entry, A_service, An_identity, answer_in}
-use Rattle.enip_client.specs.Listing.{Sides, IsListed}
+use Rattle.enip_client.specs.Listing.{ListState, IsListed}
 use Rattle.enip_client.specs.declared.fault.AskFault.TheVariants as ask
 use Rattle.enip_client.specs.declared.fault.ClientFault.{ClientFault}
 use Rattle.enip_client.specs.declared.lists.ListCommand.TheVariants as lists
@@ -32,7 +32,7 @@ abbrev pub datagram_objects : List ℕ → List ℕ
 datagram_objects datagram = objects_in (answer_in lists.Identity (parsed datagram))
 
 -- The identities in the answer were printed, or the answer is malformed, or a device or memory failed.
-abbrev pub AreIdentitiesPrinted : Sides → Sides → Option (List ℕ) → Option (List ℕ)
+abbrev pub AreIdentitiesPrinted : ListState → ListState → Option (List ℕ) → Option (List ℕ)
     → Result (Unit {0}) RequestFailure → Type 0
 AreIdentitiesPrinted old new before after (Ok done) =
     (entries : List Entry) × IsListed lists.Identity old new (Ok entries) × Appends before after (object_lines entries)

@@ -10,7 +10,7 @@ use Rattle.enip_wire.specs.Stream.{parsed}
 use Rattle.enip_client.specs.Identity.{Identity}
 use Rattle.enip_client.specs.Service.{Service}
 use Rattle.enip_client.specs.Lists.{Entry, A_service, An_identity, answer_in}
-use Rattle.enip_client.specs.Listing.{Sides, IsListed}
+use Rattle.enip_client.specs.Listing.{ListState, IsListed}
 use Rattle.enip_client.specs.declared.fault.AskFault.TheVariants as ask
 use Rattle.enip_client.specs.declared.fault.ClientFault.{ClientFault}
 use Rattle.enip_client.specs.declared.lists.ListCommand.{ListCommand}
@@ -99,7 +99,7 @@ abbrev pub datagram_text : List ℕ → List ℕ
 datagram_text datagram = devices_in (answer_in lists.Identity (parsed datagram))
 
 -- The answer was printed, or it is malformed, or a device or memory failed.
-abbrev pub IsListPrinted : ListCommand → Sides → Sides → Option (List ℕ) → Option (List ℕ)
+abbrev pub IsListPrinted : ListCommand → ListState → ListState → Option (List ℕ) → Option (List ℕ)
     → Result (Unit {0}) RequestFailure → Type 0
 IsListPrinted command old new before after (Ok done) =
     (entries : List Entry) × IsListed command old new (Ok entries) × Appends before after (list_text entries)
@@ -110,7 +110,7 @@ IsListPrinted command old new before after (Err (Shape value_type fault)) = ⊥
 IsListPrinted command old new before after (Err (Program fault)) = IsOfDevices fault
 
 -- The same, without what was printed.
-abbrev pub IsListAsked : ListCommand → Sides → Sides → Result (Unit {0}) RequestFailure → Type 0
+abbrev pub IsListAsked : ListCommand → ListState → ListState → Result (Unit {0}) RequestFailure → Type 0
 IsListAsked command old new (Ok done) = (entries : List Entry) × IsListed command old new (Ok entries)
 IsListAsked command old new (Err Hex) = ⊥
 IsListAsked command old new (Err (Session status)) = ⊥

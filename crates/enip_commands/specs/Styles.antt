@@ -2,7 +2,7 @@
 use Rattle.std.specs.Prelude.{◌≡◌, ◌≢◌, ℕ, List, map, Some}
 use Rattle.cip_message.specs.PathWriting.{short}
 use Rattle.cip_message.specs.Request.{request}
-use Rattle.cip_values.specs.Values.{IsUnreadable}
+use Rattle.cip_values.specs.Values.{IsReadFault}
 use Rattle.cip_values.specs.Parsing.{AreWritten}
 use Rattle.cip_values.specs.declared.element.ValueType.{ValueType}
 use Rattle.cip_values.specs.declared.fault.ValueFault.TheVariants as faults
@@ -24,7 +24,7 @@ IsOfValues value_type bytes Hex = ⊥
 IsOfValues value_type bytes (Session status) = ⊥
 IsOfValues value_type bytes (Client fault) = ⊥
 IsOfValues value_type bytes (Shape rendered fault) =
-    (rendered ≡ value_type) × (fault ≢ faults.Memory) × IsUnreadable value_type bytes fault
+    (rendered ≡ value_type) × (fault ≢ faults.Memory) × IsReadFault value_type bytes fault
 IsOfValues value_type bytes (Program fault) = IsOfDevices fault
 
 -- The style has a type and these data are not values of it, or a device or memory failed.

@@ -2,7 +2,7 @@
 
 ghost use Rattle.std.specs.Prelude.{◌<◌, IfErr, OnOk};
 ghost use Rattle.std.specs.Io.KnownBytes.{Appends};
-ghost use Rattle.enip_client.specs.Listing.{sides};
+ghost use Rattle.enip_client.specs.Listing.{list_state};
 ghost use Rattle.enip_client.specs.Lists.{entries_left, entry_shown};
 ghost use Rattle.enip_commands.specs.Asking.{IsOfExchange};
 ghost use Rattle.enip_commands.specs.Identities.{AreIdentitiesPrinted, object_line, object_lines, datagram_objects};
@@ -50,8 +50,8 @@ fn print_identities<R: Source, W: Sink, O: Write>(
     requires reads { R.failures reader.old < u64.MAX }
     requires writes { W.failures writer.old < u64.MAX }
     ensures { AreIdentitiesPrinted
-        (sides (R.left reader.old) (R.reads reader.old) (W.written writer.old))
-        (sides (R.left reader.new) (R.reads reader.new) (W.written writer.new))
+        (list_state (R.left reader.old) (R.reads reader.old) (W.written writer.old))
+        (list_state (R.left reader.new) (R.reads reader.new) (W.written writer.new))
         (O.contents output.old) (O.contents output.new) result }
 {
     let entries = ask_list(ListCommand::Identity, frames, reader, writer)?;

@@ -2,7 +2,7 @@
 
 ghost use Rattle.std.specs.Prelude.{◌≡◌, ◌<◌, IfErr, OnOk, Some};
 ghost use Rattle.std.specs.Io.KnownBytes.{Appends};
-ghost use Rattle.enip_client.specs.Listing.{sides};
+ghost use Rattle.enip_client.specs.Listing.{list_state};
 ghost use Rattle.enip_client.specs.Lists.{entries_left, entry_shown};
 ghost use Rattle.enip_commands.specs.Listing.{IsListAsked, IsListPrinted, list_text, device_line, datagram_text};
 ghost use Rattle.enip_commands.specs.Statuses.{IsOfDevices};
@@ -211,8 +211,8 @@ pub fn list_over<R: Source, W: Sink, O: Write + Drop>(
     requires reads { R.failures reader.old < u64.MAX }
     requires writes { W.failures writer.old < u64.MAX }
     ensures { IsListAsked command
-        (sides (R.left reader.old) (R.reads reader.old) (W.written writer.old))
-        (sides (R.left reader.new) (R.reads reader.new) (W.written writer.new)) result }
+        (list_state (R.left reader.old) (R.reads reader.old) (W.written writer.old))
+        (list_state (R.left reader.new) (R.reads reader.new) (W.written writer.new)) result }
 {
     let mut frames = FrameReader::new(alloc)?;
     let mut output = BufWriter::new(alloc, output)?;
@@ -232,8 +232,8 @@ fn print_list<R: Source, W: Sink, O: Write>(
     requires reads { R.failures reader.old < u64.MAX }
     requires writes { W.failures writer.old < u64.MAX }
     ensures { IsListPrinted command
-        (sides (R.left reader.old) (R.reads reader.old) (W.written writer.old))
-        (sides (R.left reader.new) (R.reads reader.new) (W.written writer.new))
+        (list_state (R.left reader.old) (R.reads reader.old) (W.written writer.old))
+        (list_state (R.left reader.new) (R.reads reader.new) (W.written writer.new))
         (O.contents output.old) (O.contents output.new) result }
 {
     let entries = ask_list(command, frames, reader, writer)?;

@@ -5,10 +5,10 @@ ghost use Rattle.std.specs.Io.Buffered.{writer_contents};
 ghost use Rattle.std.specs.Io.KnownBytes.{Appends, Keeps};
 ghost use Rattle.enip_bench.specs.Reached.{IsNewAdapter};
 ghost use Rattle.enip_bench.specs.Stored.{event_in};
-ghost use Rattle.enip_replay.specs.Replay.{IsOpeningOf, IsStopOf, IsDone, IsRun, ending};
+ghost use Rattle.enip_replay.specs.Replay.{IsOpeningOf, IsStopOf, IsDone, IsRun, ending, replay_failure_status};
 ghost use Rattle.enip_replay.specs.Replay.{objects_printed, assembly_printed, assemblies_printed};
 ghost use Rattle.enip_replay.specs.Script.{IsRefusedLine};
-ghost use Rattle.enip_commands.specs.Statuses.{EndsBy, IsOfDevices, replay_failure_status};
+ghost use Rattle.enip_commands.specs.Statuses.{EndsBy, IsOfDevices};
 
 use crate::outcome::{AssemblyData, Counter, FinalState, Outcome};
 use crate::script::{event_of, is_skipped, line_fault};

@@ -2,7 +2,7 @@
 
 ghost use Rattle.std.specs.Prelude.{◌≡◌, IfOk, map};
 ghost use Rattle.cip_values.specs.Values.{value_in};
-ghost use Rattle.enip_commands.specs.Json.{IsTold, AreJsonOf};
+ghost use Rattle.enip_commands.specs.Json.{IsJsonOf, AreJsonOf};
 ghost use Rattle.serde_json.specs.Data.{depth};
 ghost use Rattle.serde_json.specs.View.{view};
 
@@ -28,7 +28,7 @@ pub(crate) fn list_of(alloc: Global, values: &[Value<'_>]) -> Result<Json, Alloc
 
 /// A value: a BOOL is `true` or `false`, an integer or a bit string is a number, and a text is a string.
 fn json_of(alloc: Global, value: Value<'_>) -> Result<Json, AllocError>
-    ensures { IfOk result (λ json. IsTold (value_in value.entry) (view json)) }
+    ensures { IfOk result (λ json. IsJsonOf (value_in value.entry) (view json)) }
 {
     match value {
         Value::Bool(truth) => Ok(Json::Bool(truth)),
