@@ -5,7 +5,7 @@ use Rattle.std.specs.Prelude.{filter, max}
 use Rattle.std.specs.List.{AllByRecursion}
 use Rattle.cip_manager.specs.declared.connection.Connection.{Connection}
 use Rattle.cip_manager.specs.Connection.{is_of_session, is_open_at}
-use Rattle.cip_manager.specs.Runs.{ManagerCall, Opens, Closes, Receives, ServeState, IsOfOther, of_session}
+use Rattle.cip_manager.specs.Runs.{ManagerCall, Opens, Closes, Receives, Ends, IsOfOther, of_session}
 use Rattle.cip_manager.specs.Runs.{state_after, is_open_after_all}
 use Rattle.cip_manager.proofs.SessionLemmas.{calls-of_other}
 use Rattle.cip_manager.proofs.ListLemmas.{filter-true, filter-filter, filter-swap}
@@ -82,7 +82,7 @@ leaves-command peer shared session f differ =
 leaves-ended : (peer : ℕ) (shared : Shared) (session : ℕ) → session ≢ peer
     → Leaves peer shared (without_connections shared session)
 leaves-ended peer shared session differ = record {
-  connections = leaves-manager peer shared (ServeState session) differ ∙ filter-true (connections_of peer shared);
+  connections = leaves-manager peer shared (Ends session) differ ∙ filter-true (connections_of peer shared);
   moment = refl;
 }
 
