@@ -6,5 +6,5 @@ use Rattle.cip_manager.proofs.opening.Opening.of_large.Goals as goal
 
 pub returns : goal.returns
 returns c =
-    c.opening.ensures (λ (parameters : LargeParameters). parameters.bits)
+    c.with_directions.ensures (λ (parameters : LargeParameters). parameters.bits)
     ∙ ap₂ (λ o_to_t t_to_o. opening_with o_to_t t_to_o (large_view c.args.request.now)) c.of_large-o_to_t.ensures c.of_large-t_to_o.ensures
