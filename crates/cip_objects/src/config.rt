@@ -126,7 +126,7 @@ impl Config {
     ghost use Rattle.cip_objects.specs.Limits.{LONGEST_DATA};
     ghost use Rattle.cip_objects.specs.Configuration.{fault_of};
 
-    /// The first check that fails. Want of memory is not among them.
+    /// The first check that fails. Running out of memory is not one of them.
     #[tactic(auto, unfolding(crate::specs::Configuration::fault_of))]
     pub fn fault(&self) -> Option<ConfigFault>
         ensures { result ≡ fault_of self.now }
