@@ -135,8 +135,8 @@ AreDrawn manager = All (λ c. c.o_to_t_id < manager.next_id) manager.connections
 abbrev has_id : List Connection → Connection → Bool
 has_id cs c = list_any (λ old. eqb old.o_to_t_id c.o_to_t_id) cs
 
--- Which connections are new, and the next ID: none is new and the next ID is the same or greater, or one is new with
--- it.
+-- Which connections are new, and the next ID: none is new and the next ID does not decrease; or one is new with the
+-- next ID, which then rises by one.
 data Draws (old new : ManagerState) : Type 0 where
   None_new : new_connections old.connections new.connections ≡ [] → old.next_id ≤ new.next_id → Draws old new
   One_new : (c : Connection) → new_connections old.connections new.connections ≡ c ∷ [] → c.o_to_t_id ≡ old.next_id

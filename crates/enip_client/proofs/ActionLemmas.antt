@@ -25,8 +25,8 @@ use Rattle.enip_client.specs.State.{is_free}
 use Rattle.enip_client.specs.Runs.{Action, frame_lent, after_action, awaited_by, lent_in}
 use Rattle.enip_client.specs.Runs.Action.{Register, Open, Unconnected, Submit, Resend, GiveUp, Close, Unregister}
 
--- It changes nothing and lends nothing; or its frame is lent and its reply is awaited; or its frame is lent and no
--- reply is awaited.
+-- It changes nothing and lends nothing; its frame is lent and its reply is awaited; or it may lend a frame, and awaits
+-- no reply.
 pub data IsAction (s : State) (what : Option Awaited) : Option Frame → State → Type 0 where
   Stays : IsAction s what None s
   Asks : (w : Awaited) (f : Frame) (connection_state : ConnectionState) → what ≡ Some w → s.awaiting ≡ None

@@ -155,7 +155,7 @@ events_of_parsed Incomplete = []
 events_of_parsed (WholeFrame f) = Framed f ∷ []
 events_of_parsed (TooLongHeader header) = Long header ∷ []
 
--- Once a fault lasts, a piece is no event.
+-- Once a fault lasts, a piece is not an event.
 abbrev pub events_of_piece : List ℕ → List ℕ → Option ClientFault → List Event
 events_of_piece held piece None = events_of_parsed (parsed (held_and_taken held piece))
 events_of_piece held piece (Some fault) = []

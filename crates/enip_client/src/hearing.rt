@@ -22,6 +22,14 @@ use cip_message::{ReplyView, reply_service};
 use enip_wire::{FrameView, Header, rr_body, unit_body};
 
 /// What `feed` did with a piece.
+///
+/// ```
+/// let Hearing { taken, heard } = client.feed(rest);
+/// if let Heard::Reply(reply) | Heard::Accepted(reply) = heard {
+///     written.extend_from_slice(reply)?;
+/// }
+/// rest = &rest[taken..];
+/// ```
 #[derive(Clone, Copy, Debug)]
 pub struct Hearing<'a> {
     /// The number of bytes of the piece that were taken.
