@@ -9,7 +9,7 @@ use thiserror::Error;
 
 /// The bytes do not fit into the free part of the buffer. The buffer is unchanged.
 #[derive(Clone, Copy, Debug, PartialEq, Eq, Error)]
-#[error("the text doesn't fit")]
+#[error("the bytes do not fit")]
 pub struct Full;
 
 /// Appends the bytes. They must fit.

@@ -48,7 +48,7 @@ pub enum Segment {
 #[derive(Clone, Copy, Debug, PartialEq, Eq, Error)]
 pub enum PathFault {
     /// A byte does not begin a class, instance, member or attribute segment.
-    #[error("no segment begins so")]
+    #[error("not a segment type")]
     Segment = 1,
     /// A segment is out of order, or the bytes end before the class and the instance.
     #[error("segments out of order")]

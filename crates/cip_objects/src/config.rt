@@ -71,16 +71,16 @@ pub struct AssemblyConfig {
 #[derive(Clone, Copy, Debug, PartialEq, Eq, Error)]
 pub enum ConfigFault {
     /// The name has over 32 bytes, or a byte outside 0x20 to 0x7e.
-    #[error("the name is too long, or has a byte that can't be printed")]
+    #[error("the name is too long, or has a byte that is not printable")]
     Name = 1,
     /// There are over 16 assemblies, or one has 0 or over 3,900 bytes.
-    #[error("too many assemblies, or one with no byte or too many")]
+    #[error("too many assemblies, or one with 0 bytes or too many")]
     Size = 2,
     /// An assembly has over 64 members, or one of 0 bytes.
-    #[error("an assembly with too many members, or one of no byte")]
+    #[error("an assembly with too many members, or with one of 0 bytes")]
     Members = 3,
     /// An instance number is 0, which is the class itself, or is used twice.
-    #[error("an instance number that is 0 or stands twice")]
+    #[error("an instance number that is 0 or occurs twice")]
     DoubleInstance = 4,
     /// The counter's initial value is over its limit.
     #[error("the counter's first value is over its limit")]

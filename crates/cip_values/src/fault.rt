@@ -16,19 +16,19 @@ pub enum ValueFault<'a> {
     #[error("{0} {are} left over", are = bytes_are(.0))]
     Trailing(usize),
     /// A BOOL is this byte, which is neither 0 nor 1.
-    #[error("{0} is no BOOL, which is 0 or 1")]
+    #[error("{0} is not a BOOL (0 or 1)")]
     NotBool(u8),
     /// There are this many words, but the type takes one value.
-    #[error("{0} takes one value, and not {1}")]
+    #[error("{0} takes one value, not {1}")]
     Count(ElementaryType, usize),
     /// This word is not a value of the type, in any range.
-    #[error("{0} is no {1}")]
+    #[error("{0} is not of type {1}")]
     Form(&'a str, ElementaryType),
     /// The number in this word is out of the type's range.
-    #[error("{0} is out of the range of {1}, {range}", range = .1.range())]
+    #[error("{0} is out of range for {1} ({range})", range = .1.range())]
     Range(&'a str, ElementaryType),
     /// The text has this many bytes, more than a SHORT_STRING can have.
-    #[error("a SHORT_STRING has at most 255 bytes, and not {0}")]
+    #[error("a SHORT_STRING has at most 255 bytes, not {0}")]
     TooLong(usize),
     /// Memory was refused.
     #[error("memory")]

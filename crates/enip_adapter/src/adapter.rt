@@ -50,10 +50,10 @@ pub struct Limits {
 #[derive(Clone, Copy, Debug, PartialEq, Eq, Error)]
 pub enum Full {
     /// All peer slots are taken.
-    #[error("all places are taken")]
+    #[error("all peer slots are taken")]
     Places = 1,
     /// The last session handle, 0xffffffff, was assigned.
-    #[error("all session handles were given out")]
+    #[error("no session handle is left")]
     Handles = 2,
 }
 

@@ -7,7 +7,7 @@ use thiserror::Error;
 #[derive(Clone, Copy, Debug, PartialEq, Eq, Error)]
 pub enum NoReplyReason {
     /// No whole frame has arrived yet.
-    #[error("no whole frame has come")]
+    #[error("no whole frame has arrived")]
     NoFrame,
     /// The options of the frame are not 0.
     #[error("the options are not 0")]
@@ -22,15 +22,15 @@ pub enum NoReplyReason {
     #[error("the session is not the one that the peer registered")]
     AnotherSession,
     /// The data of a SendUnitData are not a packet (ours).
-    #[error("the data are no packet: {0}")]
+    #[error("not a packet: {0}")]
     NotAPacket(CpfFault),
     /// The session has no such connection, or the connection does not take such an item (ours).
-    #[error("no such connection, or an item that it does not take")]
+    #[error("no such connection, or an item that it does not accept")]
     NotTaken,
     /// An UnRegisterSession closes the peer.
     #[error("the session is unregistered")]
     Unregistered,
     /// The peer is closed, or not held.
-    #[error("the peer is closed or not held")]
+    #[error("the peer is closed or has no slot")]
     NotServed,
 }

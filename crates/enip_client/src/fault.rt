@@ -21,7 +21,7 @@ pub enum ClientFault {
     #[error("a frame is longer than 65,535 bytes")]
     TooLong,
     /// Memory was refused.
-    #[error("memory was refused")]
+    #[error("out of memory")]
     Memory,
     /// An awaited reply has another shape.
     #[error("an awaited reply is malformed")]

@@ -30,7 +30,7 @@ pub(crate) const ITEM_HEAD: usize = 4;
 #[derive(Clone, Copy, Debug, PartialEq, Eq, Drop, Error)]
 pub enum CpfFault {
     /// The bytes end within an item, or before the items.
-    #[error("the text ends within an item")]
+    #[error("the packet ends within an item")]
     Short = 1,
     /// Bytes follow the last item.
     #[error("bytes follow the last item")]
