@@ -43,7 +43,7 @@ static EXTENDED: [ExtendedStatus; 12] = [
 ///
 /// ```
 /// let refused = StatusText { status: 0x05, extended: 0 };
-/// println!("{refused}"); // path destination unknown
+/// let text = format!(in alloc; "{refused}")?; // path destination unknown
 /// ```
 #[derive(Clone, Copy, Debug)]
 pub struct StatusText {

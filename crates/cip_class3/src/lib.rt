@@ -11,8 +11,8 @@
 //! ```
 //! let mut originator = Originator::new(alloc, 1, 500, 500)?;
 //! let mut target = Target::new(500, 500);
-//! let item = originator.submit(&request)?; // send it, and again with `resend` until the reply arrives
-//! if target.receive(&mut objects, item) != Received::Dropped {
+//! let item = originator.submit(request)?; // send it, and again with `resend` until the reply arrives
+//! if target.receive(objects, item) != Received::Dropped {
 //!     let kept = target.kept(); // the sequence count and the reply to send back
 //! }
 //! ```

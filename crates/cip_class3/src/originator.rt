@@ -89,8 +89,8 @@ enum Progress {
 /// ```
 /// let mut originator = Originator::new(alloc, 1, 500, 500)?;
 /// let item = originator.submit(&[0x0e, 0x03, 0x20, 0x64, 0x24, 0x01, 0x30, 0x01])?;
-/// assert_eq!(&item[..2], &[0x01, 0x00]); // the sequence count
-/// assert_eq!(originator.stage(), Stage::Waiting);
+/// assert_eq!(rt; &item[..2], [0x01, 0x00].as_slice()); // the sequence count
+/// assert_eq!(rt; originator.stage(), Stage::Waiting);
 /// ```
 #[derive(Drop)]
 pub struct Originator {

@@ -41,8 +41,8 @@ pub struct KeptReply<'a> {
 ///
 /// ```
 /// let mut target = Target::new(500, 500);
-/// assert_eq!(target.receive(&mut objects, item), Received::Executed);
-/// assert_eq!(target.receive(&mut objects, item), Received::Repeated); // `objects` is unchanged
+/// assert_eq!(rt; target.receive(objects, item), Received::Executed);
+/// assert_eq!(rt; target.receive(objects, item), Received::Repeated); // `objects` is unchanged
 /// ```
 #[derive(Drop)]
 pub struct Target {

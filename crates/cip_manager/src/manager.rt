@@ -47,8 +47,8 @@ pub struct KeptAnswer<'a> {
 /// let mut manager = Manager::new(alloc, 8, 1, objects.device())?;
 /// manager.open(now, session, data, &mut reply); // `reply` is the reply to the Forward_Open
 /// manager.expire(now);
-/// if let Some(answer) = manager.connected(now, session, id, item, &mut objects) {
-///     // send `answer.sequence_count` and `answer.reply` on connection `answer.id`
+/// if let Some(answer) = manager.connected(now, session, id, item, objects) {
+///     // Send `answer.sequence_count` and `answer.reply` on connection `answer.id`.
 /// }
 /// ```
 #[derive(Drop)]

@@ -87,7 +87,7 @@ impl Key {
 /// ```
 /// let device = Device { vendor: 0x1234, device_type: 0x2b, product_code: 7, major: 2, minor: 5 };
 /// let key = Key { vendor: 0x1234, device_type: 0, product_code: 0, major: 2, compatible: true, minor: 3 };
-/// assert_eq!(device.accepts(&key), None);
+/// assert_eq!(rt; device.accepts(&key), None);
 /// ```
 #[derive(Clone, Copy, Debug, PartialEq, Eq)]
 pub struct Device {

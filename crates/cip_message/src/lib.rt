@@ -12,9 +12,9 @@
 //! a computation. The public clauses, which speak of the grammar, follow from it by a lemma.
 //!
 //! ```
-//! let mut request = ArrayVec::<u8, 16>::new();
 //! let mut path = ArrayVec::<u8, 16>::new();
 //! write_path(&mut path, Path { class: 1, instance: 1, attribute: Some(1), member: None })?;
+//! let mut request = ArrayVec::<u8, 16>::new();
 //! RequestView { service: 0x0e, path: path.as_slice(), data: &[] }.write(&mut request)?;
 //! // 0e 03 20 01 24 01 30 01
 //! ```

@@ -21,7 +21,7 @@ use thiserror::Error;
 ///
 /// ```
 /// let path = read_path(&[0x20, 0x01, 0x24, 0x01, 0x30, 0x07])?;
-/// assert_eq!(path, Path { class: 1, instance: 1, attribute: Some(7), member: None });
+/// assert_eq!(rt; path, Path { class: 1, instance: 1, attribute: Some(7), member: None });
 /// ```
 #[derive(Clone, Copy, Debug, PartialEq, Eq)]
 pub struct Path {

@@ -19,9 +19,9 @@ use thiserror::Error;
 ///
 /// ```
 /// let reply = ReplyView::read(&[0x8e, 0, 0, 0, 0x34, 0x12])?;
-/// assert_eq!(reply.service, reply_service(0x0e));
-/// assert_eq!(reply.status, 0);
-/// assert_eq!(reply.data, &[0x34, 0x12]);
+/// assert_eq!(rt; reply.service, reply_service(0x0e));
+/// assert_eq!(rt; reply.status, 0);
+/// assert_eq!(rt; reply.data, [0x34, 0x12].as_slice());
 /// ```
 #[derive(Clone, Copy, Debug)]
 pub struct ReplyView<'a> {

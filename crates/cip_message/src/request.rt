@@ -15,8 +15,8 @@ use thiserror::Error;
 ///
 /// ```
 /// let request = RequestView::read(&[0x0e, 0x03, 0x20, 0x01, 0x24, 0x01, 0x30, 0x01])?;
-/// assert_eq!(request.service, 0x0e);
-/// let path = read_path(request.path)?; // class 1, instance 1, attribute 1
+/// assert_eq!(rt; request.service, 0x0e);
+/// let path = read_path(request.path); // class 1, instance 1, attribute 1
 /// ```
 #[derive(Clone, Copy, Debug)]
 pub struct RequestView<'a> {

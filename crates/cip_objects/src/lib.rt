@@ -10,7 +10,7 @@
 //! the Connection Manager belong to `cip_manager`.
 //!
 //! ```
-//! let mut objects = Objects::new(alloc, &config)?;
+//! let mut objects = Objects::new(alloc, config)?;
 //! let mut reply = ReplyBuf::new();
 //! objects.execute(&[0x0e, 0x03, 0x20, 0x01, 0x24, 0x01, 0x30, 0x01], 504, &mut reply);
 //! // `reply` is 8e 00 00 00 and the two bytes of the vendor ID

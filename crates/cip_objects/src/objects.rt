@@ -40,7 +40,7 @@ use std::marker::Model;
 /// `new` allocates: no part has a type that can grow.
 ///
 /// ```
-/// let mut objects = Objects::new(alloc, &config)?;
+/// let mut objects = Objects::new(alloc, config)?;
 /// objects.write_data(100, 0, &[0xaa, 0xbb]); // the device updates the data of assembly 100
 /// let data = objects.attribute(0x04, 100, 3); // what a peer reads
 /// ```

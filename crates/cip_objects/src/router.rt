@@ -17,7 +17,7 @@ pub type ReplyBuf = ArrayVec<u8, REPLY_LIMIT>;
 ///
 /// ```
 /// let mut reply = ReplyBuf::new();
-/// router.execute(&request, 504, &mut reply);
+/// router.execute(request, 504, &mut reply);
 /// ```
 pub trait Router {
     ghost after: { Self → ℕ → List ℕ → Self };

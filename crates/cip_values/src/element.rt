@@ -178,10 +178,8 @@ impl fmt::Display for ElementaryType {
 /// The type of what is read or written at once: one value of an elementary type, or a list of them.
 ///
 /// ```
-/// assert_eq!(
-///     ValueType::from_name("DINT[]"),
-///     Some(ValueType { element: ElementaryType::Dint, is_list: true })
-/// );
+/// let list = ValueType { element: ElementaryType::Dint, is_list: true };
+/// assert_eq!(rt; ValueType::from_name("DINT[]"), Some(list));
 /// ```
 #[derive(Clone, Copy, Debug, PartialEq, Eq)]
 pub struct ValueType {

@@ -8,8 +8,6 @@
 //! ```
 //! let udint = ValueType { element: ElementaryType::Udint, is_list: false };
 //! let bytes = write_values(alloc, udint, &["100"])?; // 64 00 00 00
-//! let values = read_values(alloc, udint, &bytes)?;
-//! println!("{}", ValuesText { value_type: udint, values: &values }); // 100
 //! ```
 #![tactic(auto)]
 

@@ -15,6 +15,12 @@ use std::num::f32_from_bits_with_nan;
 /// A REAL prints as a short decimal number that parses to the same bits (all NaNs alike). A SHORT_STRING prints its
 /// printable ASCII as it is, except that a backslash is `\\`; any other byte is `\xNN`. In a list each string is in
 /// quotes, and a quote within it is `\"`.
+///
+/// ```
+/// let values = read_values(alloc, value_type, bytes)?;
+/// let values = values.as_slice();
+/// let text = format!(in alloc; "{}", ValuesText { value_type, values })?;
+/// ```
 #[derive(Clone, Copy, Debug, PartialEq, Eq)]
 pub struct ValuesText<'a, 'b> {
     /// The type of the values.

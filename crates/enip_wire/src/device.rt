@@ -24,8 +24,8 @@ pub struct Failed;
 /// Where bytes come from.
 ///
 /// ```
-/// let mut source = MemorySource::new(&bytes, &[0]).with_largest_size(10);
-/// let count = source.read(&mut buffer)?; // at most 10 bytes; 0 is the end
+/// let mut source = MemorySource::new(bytes, &[0]).with_largest_size(10);
+/// let count = source.read(buffer)?; // at most 10 bytes; 0 is the end
 /// ```
 pub trait Source {
     // The bytes that are left to read, if they are known.
@@ -70,9 +70,9 @@ pub trait Source {
 /// Where bytes go.
 ///
 /// ```
-/// let mut sink = MemorySink::new(&mut buffer);
-/// write_all(&mut sink, &frame)?;
-/// assert_eq!(sink.written(), &frame);
+/// let mut sink = MemorySink::new(buffer);
+/// write_all(&mut sink, frame)?;
+/// assert_eq!(rt; sink.written(), frame);
 /// ```
 pub trait Sink {
     // The bytes that were written, if they are known.

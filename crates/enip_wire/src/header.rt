@@ -15,7 +15,7 @@ use byteorder::{ByteOrder, LittleEndian};
 ///
 /// ```
 /// let header = Header { command: 0x0065, length: 4, session: 0, status: 0, context: [0; 8], options: 0 };
-/// assert_eq!(Header::read(&header.write()), header);
+/// assert_eq!(rt; Header::read(&header.write()), header);
 /// ```
 #[derive(Clone, Copy, Debug, PartialEq, Eq)]
 pub struct Header {

@@ -78,8 +78,9 @@ pub(crate) struct Pair<'a> {
 /// An iterator over the items of a list.
 ///
 /// ```
-/// for item in cpf_items(&packet)? {
-///     println!("{:#06x}: {} bytes", item.kind, item.bytes.len());
+/// let mut size = 0;
+/// for item in cpf_items(packet)? {
+///     size += item.bytes.len();
 /// }
 /// ```
 #[derive(Debug, Drop)]

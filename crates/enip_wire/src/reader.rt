@@ -44,8 +44,8 @@ pub struct FrameView<'a> {
 /// ```
 /// match reader.state() {
 ///     Held::More => {} // push the next piece
-///     Held::Frame(frame) => println!("command {:#06x}", frame.header.command),
-///     Held::TooLong(header) => println!("length {} is too long", header.length),
+///     Held::Frame(frame) => serve(frame),
+///     Held::TooLong(header) => refuse(header),
 /// }
 /// ```
 #[derive(Clone, Copy, Debug)]
@@ -64,10 +64,10 @@ pub enum Held<'a> {
 /// let mut reader = FrameReader::new(alloc)?;
 /// let taken = reader.push(piece); // up to the end of one frame
 /// if let Held::Frame(frame) = reader.state() {
-///     println!("{} bytes of data", frame.body.len());
+///     serve(frame);
 ///     reader.clear();
 /// }
-/// // The rest, `&piece[taken..]`, is pushed next.
+/// let rest = &piece[taken..]; // push it next
 /// ```
 #[derive(Drop)]
 pub struct FrameReader {
