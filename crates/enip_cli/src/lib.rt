@@ -1,4 +1,4 @@
-//! The words of the program `enip`: which it takes, what its help says of them, and the files that they name.
+//! The command line of the program `enip`: its commands and options, their help, and the files that arguments name.
 #![tactic(auto)]
 
 mod arguments;
