@@ -9,14 +9,14 @@ const FIRST_CAPACITY: usize = 256;
 
 /// An argument of the command line.
 #[derive(Drop)]
-pub struct Word {
+pub struct OsArg {
     /// The argument, which need not be UTF-8.
     pub bytes: Vec<u8>,
     /// The argument as text, with U+FFFD for what is not UTF-8.
     text: String,
 }
 
-impl AsStr for Word {
+impl AsStr for OsArg {
     ghost use Rattle.std.specs.Prelude.{string_bytes};
 
     ghost text = { λ argument. string_bytes argument.text };
@@ -26,24 +26,24 @@ impl AsStr for Word {
     }
 }
 
-impl Word {
-    fn new(alloc: Global, bytes: Vec<u8>) -> Result<Word, AllocError> {
+impl OsArg {
+    fn new(alloc: Global, bytes: Vec<u8>) -> Result<OsArg, AllocError> {
         let text = String::from_utf8_lossy(alloc, bytes.as_slice())?;
-        Ok(Word { bytes, text })
+        Ok(OsArg { bytes, text })
     }
 }
 
 /// All arguments. The first is the given name of the program, whatever name it was started by.
-pub fn words(rt: &HostRuntime, alloc: Global, program: &str) -> Result<Vec<Word>, AllocError> {
+pub fn os_args(rt: &HostRuntime, alloc: Global, program: &str) -> Result<Vec<OsArg>, AllocError> {
     let mut arguments = Vec::new(alloc);
     let mut name = Vec::new(alloc);
     name.extend_from_slice(program.as_bytes())?;
-    arguments.push(Word::new(alloc, name)?)?;
+    arguments.push(OsArg::new(alloc, name)?)?;
     for index in 1..usize::MAX {
         let Some(bytes) = argument_at(rt, alloc, index)? else {
             break;
         };
-        arguments.push(Word::new(alloc, bytes)?)?;
+        arguments.push(OsArg::new(alloc, bytes)?)?;
     }
     Ok(arguments)
 }

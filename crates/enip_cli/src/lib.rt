@@ -8,7 +8,7 @@ mod file;
 mod seconds;
 mod texts;
 
-pub use command_line::{Word, words};
+pub use command_line::{OsArg, os_args};
 pub use commands::{PROGRAM, program};
 pub use file::read_file;
 pub use seconds::microseconds_of;

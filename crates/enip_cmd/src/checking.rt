@@ -59,10 +59,7 @@ fn print_address_and_counter<W: Write>(
 fn print_limits<W: Write>(output: &mut W, configuration: &Configuration) -> io::Result<()> {
     let peers = configuration.peers;
     let connections = configuration.connections;
-    writeln!(
-        output,
-        "up to {peers} peers and {connections} connections"
-    )?;
+    writeln!(output, "up to {peers} peers and {connections} connections")?;
     let (handle, id) = (configuration.first_handle, configuration.first_id);
     writeln!(
         output,

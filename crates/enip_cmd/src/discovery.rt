@@ -2,7 +2,7 @@
 
 use crate::observer::Observer;
 use crate::readiness::Readiness;
-use enip_adapter::DiscoveryRoom;
+use enip_adapter::DiscoveryBuffer;
 use enip_server::Peers;
 use mio::net::UdpSocket;
 use std::alloc::{AllocError, Global};
@@ -16,7 +16,7 @@ pub(crate) struct Discovery {
     socket: UdpSocket,
     readiness: Readiness,
     buffer: Vec<u8>,
-    answer: DiscoveryRoom,
+    answer: DiscoveryBuffer,
 }
 
 impl Discovery {
@@ -30,7 +30,7 @@ impl Discovery {
             socket,
             readiness: Readiness::Ready,
             buffer: Vec::from_elem(alloc, 0, DATAGRAM_CAPACITY)?,
-            answer: DiscoveryRoom::new(),
+            answer: DiscoveryBuffer::new(),
         })
     }
 

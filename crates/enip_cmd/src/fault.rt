@@ -3,9 +3,9 @@
 ghost use Rattle.std.specs.Prelude.{◌≡◌};
 ghost use Rattle.enip_cmd.specs.Statuses.{exit_status};
 
-use enip_commands::AskingStop;
-use enip_config::Refusal;
-use enip_replay::ReplayStop;
+use enip_commands::RequestFailure;
+use enip_config::ConfigurationRefusal;
+use enip_replay::ReplayFailure;
 use std::alloc::AllocError;
 use std::io;
 use thiserror::Error;
@@ -15,19 +15,19 @@ use thiserror::Error;
 pub enum Fault {
     /// The configuration is refused.
     #[error("configuration {}", .0.number())]
-    Configuration(Refusal),
+    Configuration(ConfigurationRefusal),
     /// The client of a replay could not open its connection, or the second session could not be registered.
     #[error("setup")]
     Setup,
     /// A line of the input is refused, or a file, a stream or memory failed.
     #[error("{0}")]
-    Run(enip_commands::Fault),
+    Run(enip_commands::ProgramFault),
     /// An argument is not a value of the requested type.
     #[error("value")]
     Value,
     /// A client's request got no reply.
     #[error("{0}")]
-    Asking(RequestFailure),
+    Request(RequestFailure),
 }
 
 impl Fault {
@@ -40,7 +40,7 @@ impl Fault {
             Fault::Configuration(_) => 3,
             Fault::Setup => ReplayFailure::Setup.exit_status(),
             Fault::Run(fault) => fault.exit_status(),
-            Fault::Asking(stop) => stop.exit_status(),
+            Fault::Request(failure) => failure.exit_status(),
         }
     }
 }
@@ -50,7 +50,7 @@ impl From<enip_commands::ProgramFault> for Fault {
 
     ghost from_gives = { λ ended fault. fault ≡ Run ended };
 
-    fn from(fault: enip_commands::Fault) -> Fault {
+    fn from(fault: enip_commands::ProgramFault) -> Fault {
         Fault::Run(fault)
     }
 }
@@ -83,10 +83,10 @@ impl From<enip_config::LoadFault> for Fault {
 
     ghost from_gives = { λ refused fault. fault ≡ fault_of_configuration refused };
 
-    fn from(fault: enip_config::Fault) -> Fault {
+    fn from(fault: enip_config::LoadFault) -> Fault {
         match fault {
-            enip_config::Fault::Refused(refusal) => Fault::Configuration(refusal),
-            enip_config::Fault::Memory => Fault::Run(enip_commands::Fault::Memory),
+            enip_config::LoadFault::Refused(refusal) => Fault::Configuration(refusal),
+            enip_config::LoadFault::Memory => Fault::Run(enip_commands::ProgramFault::Memory),
         }
     }
 }
@@ -94,10 +94,10 @@ impl From<enip_config::LoadFault> for Fault {
 impl From<ReplayFailure> for Fault {
     ghost use Rattle.enip_cmd.specs.Statuses.{fault_of_replay};
 
-    ghost from_gives = { λ stop fault. fault ≡ fault_of_replay stop };
+    ghost from_gives = { λ failure fault. fault ≡ fault_of_replay failure };
 
-    fn from(stop: ReplayFailure) -> Fault {
-        match stop {
+    fn from(failure: ReplayFailure) -> Fault {
+        match failure {
             ReplayFailure::Setup => Fault::Setup,
             ReplayFailure::Program(fault) => Fault::Run(fault),
         }

@@ -3,7 +3,7 @@
 use crate::frame_summary::{AnswerStatus, RequestSummary};
 use crate::logged_wire::LoggedWire;
 use crate::observer::Observer;
-use enip_wire::{Held, see};
+use enip_wire::{Held, parse_frame};
 use mio::net::TcpStream;
 use std::alloc::Global;
 use std::fmt::Display;
@@ -55,7 +55,10 @@ impl<'a, R: Eprint + Clock> Observer for &'a FrameLog<'a, R> {
     }
 
     fn answered(&self, sender: SocketAddr, datagram: &[u8], answer: &[u8]) {
-        if let (Held::Frame(request), Held::Frame(answer)) = (see(datagram), see(answer)) {
+        if let (Held::Frame(request), Held::Frame(answer)) = (
+            parse_frame(datagram),
+            parse_frame(answer),
+        ) {
             let (request, status) = (RequestSummary::of(request), AnswerStatus::of(answer));
             self.write_line(sender, &format_args!("datagram {request}: {status}"));
         }

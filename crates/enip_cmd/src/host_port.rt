@@ -94,8 +94,9 @@ impl<'a> HostPort<'a> {
         rt: &HostRuntime,
     ) -> Result<UdpSocket, CommandError<'a>> {
         for address in self.addresses(rt)? {
-            return send_list_identity_to(rt, address)
-                .map_err(|error| CommandError::of_system(self.text, error));
+            return send_list_identity_to(rt, address).map_err(|error| CommandError::of_system(
+                self.text, error,
+            ));
         }
         Err(CommandError::of_reason(Reason::NoHost(self.text)))
     }

@@ -45,7 +45,7 @@ pub(crate) fn run_list<'a>(
     };
     match listed {
         Ok(()) => Ok(0),
-        Err(stop) => {
+        Err(failure) => {
             let network = match source.fault().or(sink.fault()) {
                 Some(fault) => Some(fault.reason(address, timeout)),
                 None => None,
@@ -54,19 +54,19 @@ pub(crate) fn run_list<'a>(
                 .reason(OUTPUT)
                 .or(network)
                 .unwrap_or(Reason::Failed(address));
-            Err(error_of_stop(stop, reason))
+            Err(error_of_failure(failure, reason))
         }
     }
 }
 
 /// The error of a request without a printed list. `stream_reason` is why a stream failed, if one did.
-fn error_of_stop<'a>(stop: AskingStop, stream_reason: Reason<'a>) -> CommandError<'a> {
-    let reason = match stop {
-        AskingStop::Client(fault) => reason_of_client(fault),
-        AskingStop::Program(enip_commands::Fault::Memory) => Reason::Memory,
+fn error_of_failure<'a>(failure: RequestFailure, stream_reason: Reason<'a>) -> CommandError<'a> {
+    let reason = match failure {
+        RequestFailure::Client(fault) => reason_of_client(fault),
+        RequestFailure::Program(enip_commands::ProgramFault::Memory) => Reason::Memory,
         _ => stream_reason,
     };
-    CommandError::new(Fault::Asking(stop), reason)
+    CommandError::new(Fault::Request(failure), reason)
 }
 
 /// Sends one ListIdentity as a datagram, and prints the devices that answer within the timeout. Returns the exit status.
@@ -102,9 +102,9 @@ pub(crate) fn run_discovery<'a>(
 }
 
 /// The error of a command whose output failed.
-fn error_of_output<'a>(fault: enip_commands::Fault) -> CommandError<'a> {
+fn error_of_output<'a>(fault: enip_commands::ProgramFault) -> CommandError<'a> {
     match fault {
-        enip_commands::Fault::Memory => CommandError::of_memory(),
+        enip_commands::ProgramFault::Memory => CommandError::of_memory(),
         _ => CommandError::of_reason(Reason::Failed(OUTPUT)),
     }
 }

@@ -5,7 +5,7 @@ ghost use Rattle.std.specs.Prelude.{None};
 use crate::frame_log::FrameLog;
 use crate::frame_summary::{AnswerStatus, RequestSummary};
 use crate::wire::TcpWire;
-use enip_server::{Came, Wire};
+use enip_server::{ReadOutcome, Wire};
 use enip_wire::{FrameReader, FrameView, Held};
 use mio::net::TcpStream;
 use std::alloc::Global;
@@ -159,16 +159,16 @@ impl<R: Eprint + Clock> Wire for LoggedWire<'_, R> {
 
     ghost written = { λ _. None };
 
-    ghost tally = { λ w. w.wire.tally };
+    ghost counts = { λ w. w.wire.counts };
 
-    fn read(&mut self, into: &mut [u8]) -> Came {
+    fn read(&mut self, into: &mut [u8]) -> ReadOutcome {
         self.frames.log_unanswered(self.log, self.address);
         // Another read follows once these frames are served. It logs those that were not answered.
-        let came = self.wire.read_partial(into);
-        if let Came::Bytes(size) = came {
+        let outcome = self.wire.read_partial(into);
+        if let ReadOutcome::Bytes(size) = outcome {
             self.frames.record(&into[..size]);
         }
-        came
+        outcome
     }
 
     fn write(&mut self, from: &[u8]) -> Option<usize> {

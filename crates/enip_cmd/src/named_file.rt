@@ -5,9 +5,8 @@ use crate::reason::{CommandError, Reason};
 use clap::ArgMatches;
 use enip_adapter::Adapter;
 use enip_cli::{OsArg, read_file};
-use enip_config::{Configuration, Refusal, adapter_from, explain};
+use enip_config::{Configuration, ConfigurationRefusal, adapter_from, explain};
 use std::alloc::Global;
-use std::str;
 
 /// A file that an argument names, and its content.
 #[derive(Drop)]
@@ -45,7 +44,7 @@ impl<'a> NamedFile<'a> {
         match str::from_utf8(self.bytes()) {
             Ok(text) => Ok(text),
             Err(_) => {
-                let fault = enip_config::Fault::Refused(Refusal::NotToml);
+                let fault = enip_config::LoadFault::Refused(ConfigurationRefusal::NotToml);
                 Err(self.refused(alloc, fault))
             }
         }
@@ -67,8 +66,8 @@ impl<'a> NamedFile<'a> {
     }
 
     /// The error of a command whose configuration this file is.
-    fn refused(&self, alloc: Global, fault: enip_config::Fault) -> CommandError<'a> {
-        if let enip_config::Fault::Memory = fault {
+    fn refused(&self, alloc: Global, fault: enip_config::LoadFault) -> CommandError<'a> {
+        if let enip_config::LoadFault::Memory = fault {
             return CommandError::of_memory();
         }
         CommandError::new(Fault::from(fault), self.explanation(alloc))
@@ -95,10 +94,10 @@ pub(crate) fn error_of_run<'a>(
     let reason = match fault {
         Fault::Configuration(_) => config.explanation(alloc),
         Fault::Setup => Reason::Setup(config.name()),
-        Fault::Run(enip_commands::Fault::Line(number, why)) => {
+        Fault::Run(enip_commands::ProgramFault::Line(number, why)) => {
             Reason::Line(input_name, number, why)
         }
-        Fault::Run(enip_commands::Fault::Memory) => Reason::Memory,
+        Fault::Run(enip_commands::ProgramFault::Memory) => Reason::Memory,
         _ => stream_reason.unwrap_or(Reason::Failed(input_name)),
     };
     CommandError::new(fault, reason)

@@ -4,10 +4,10 @@ use crate::argument_error::{ArgumentError, parse_seconds};
 use crate::error_keeping::ErrorKeeping;
 use crate::host_port::HostPort;
 use crate::reason::{CommandError, Reason, print_reason};
-use crate::request::{Request, error_of_stop, print_refusal};
+use crate::request::{Request, error_of_failure, print_refusal};
 use crate::socket::{SocketSink, SocketSource};
 use clap::ArgMatches;
-use enip_commands::{AskingStop, Readings, Replied, Session, print_reading};
+use enip_commands::{DeviceSession, Readings, ReplyOutcome, RequestFailure, print_reading};
 use std::rt::Clock;
 use std::thread;
 use std::time::{Duration, Instant};
@@ -77,7 +77,7 @@ struct Poller<'a, 'm, 'r> {
     /// How many replies were taken.
     taken: u64,
     /// The outcome of the last one.
-    last: Replied,
+    last: ReplyOutcome,
 }
 
 /// Sends a request again and again, and prints the replies. Returns the exit status of the last one.
@@ -95,7 +95,7 @@ pub(crate) fn run_polling<'a>(
         start: Instant::now(rt).map_err(CommandError::of_clock)?,
         readings: Readings::new(rt.alloc()),
         taken: 0,
-        last: Replied::Done,
+        last: ReplyOutcome::Done,
     };
     for _ in 0..u64::MAX {
         match poller.run_session() {
@@ -126,7 +126,7 @@ impl<'a> Poller<'a, '_, '_> {
             .map_err(session_end_of)?;
         let mut source = SocketSource::new(&stream, self.rt, self.start);
         let mut sink = SocketSink::new(&stream);
-        let begun = Session::begin(
+        let begun = DeviceSession::begin(
             self.rt.alloc(),
             &mut source,
             &mut sink,
@@ -134,12 +134,12 @@ impl<'a> Poller<'a, '_, '_> {
         );
         let mut session = match begun {
             Ok(session) => session,
-            Err(stop) => return Err(self.session_end(stop, &source, &sink)),
+            Err(failure) => return Err(self.session_end(failure, &source, &sink)),
         };
         for _ in 0..u64::MAX {
             match session.ask(&mut source, &mut sink, self.bytes) {
                 Ok(reply) => self.take_reply(reply)?,
-                Err(stop) => return Err(self.session_end(stop, &source, &sink)),
+                Err(failure) => return Err(self.session_end(failure, &source, &sink)),
             }
             if self.taken >= self.options.count
                 || self.options.interval > Duration::from_secs(MAX_SESSION_INTERVAL)
@@ -155,7 +155,7 @@ impl<'a> Poller<'a, '_, '_> {
     /// Counts a reply, and prints it if the options say so.
     fn take_reply(&mut self, reply: &[u8]) -> Result<(), SessionEnd<'a>> {
         self.taken = self.taken.saturating_add(1);
-        let is_new = self.readings.is_news(reply)?;
+        let is_new = self.readings.is_changed(reply)?;
         if !is_new && !self.options.print_all {
             return Ok(());
         }
@@ -173,15 +173,15 @@ impl<'a> Poller<'a, '_, '_> {
             reply,
         );
         match printed {
-            Ok(replied) => {
+            Ok(outcome) => {
                 if is_new {
-                    print_refusal(self.rt, replied);
+                    print_refusal(self.rt, outcome);
                 }
-                self.last = replied;
+                self.last = outcome;
                 Ok(())
             }
-            Err(stop) => Err(SessionEnd::Fatal(error_of_stop(
-                stop,
+            Err(failure) => Err(SessionEnd::Fatal(error_of_failure(
+                failure,
                 self.request.address,
                 output.reason(OUTPUT),
             ))),
@@ -191,7 +191,7 @@ impl<'a> Poller<'a, '_, '_> {
     /// The end of a session that failed.
     fn session_end<C: Clock>(
         &self,
-        stop: AskingStop,
+        failure: RequestFailure,
         source: &SocketSource<'_, C>,
         sink: &SocketSink<'_>,
     ) -> SessionEnd<'a> {
@@ -199,7 +199,7 @@ impl<'a> Poller<'a, '_, '_> {
             self.request.address,
             self.request.timeout,
         ));
-        session_end_of(error_of_stop(stop, self.request.address, reason))
+        session_end_of(error_of_failure(failure, self.request.address, reason))
     }
 }
 

@@ -127,12 +127,15 @@ impl<'a> CommandError<'a> {
 
     /// A file, a stream or a device failed for this reason.
     pub(crate) fn of_reason(reason: Reason<'a>) -> CommandError<'a> {
-        CommandError::new(Fault::Run(enip_commands::Fault::Device), reason)
+        CommandError::new(Fault::Run(enip_commands::ProgramFault::Device), reason)
     }
 
     /// Memory was refused.
     pub(crate) fn of_memory() -> CommandError<'a> {
-        CommandError::new(Fault::Run(enip_commands::Fault::Memory), Reason::Memory)
+        CommandError::new(
+            Fault::Run(enip_commands::ProgramFault::Memory),
+            Reason::Memory,
+        )
     }
 
     pub(crate) fn into_reason(self) -> Reason<'a> {

@@ -40,12 +40,7 @@ pub fn replay<W: Write + Drop, E: Report>(
 }
 
 /// As `replay`, but returns the fault.
-fn run<W: Write + Drop>(
-    alloc: Global,
-    config: &[u8],
-    script: &[u8],
-    output: W,
-) -> Result<(), Fault>
+fn run<W: Write + Drop>(alloc: Global, config: &[u8], script: &[u8], output: W) -> Result<(), Fault>
     ensures accepted { IfOk result (λ _. IsAccepted config.now) }
     ensures refused { IfErr result (IsReplayFaultOf config.now) }
 {
@@ -54,8 +49,31 @@ fn run<W: Write + Drop>(
     Ok(())
 }
 
-/// As `replay`, but draws the run as a ladder, and returns the fault.
-pub fn draw<W: Write + Drop>(
+/// As `replay`, but draws the run as a ladder.
+pub fn draw<W: Write + Drop, E: Report>(
+    alloc: Global,
+    config: &str,
+    script: &str,
+    output: W,
+    errors: &mut E,
+) -> u8
+    ensures status { IsReplayStatus result }
+    ensures accepted { result ≡ 0 → IsAccepted config.now }
+    ensures line { result ≡ 4 → IsAccepted config.now }
+    ensures refused { result ≡ 3 → (refusal : ConfigurationRefusal) × IsRefused config.now refusal }
+    ensures setup { result ≡ 6 → IsOpeningRefused config.now }
+{
+    match run_drawn(alloc, config.as_bytes(), script.as_bytes(), output) {
+        Ok(()) => 0,
+        Err(fault) => {
+            errors.report(fault);
+            fault.exit_status()
+        }
+    }
+}
+
+/// As `draw`, but returns the fault.
+fn run_drawn<W: Write + Drop>(
     alloc: Global,
     config: &[u8],
     script: &[u8],

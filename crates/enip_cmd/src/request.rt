@@ -12,7 +12,7 @@ use cip_message::Path;
 use cip_values::{ValueFault, ValueType};
 use clap::ArgMatches;
 use enip_client::ClientFault;
-use enip_commands::{AskingStop, Question, Replied, Style, TypedQuestion, ask_over};
+use enip_commands::{DeviceRequest, ReplyOutcome, RequestFailure, Style, TypedRequest, ask_over};
 use std::alloc::Global;
 use std::time::Instant;
 
@@ -70,28 +70,28 @@ impl<'a: 'm, 'm> Request<'a, 'm> {
     pub(crate) fn bytes(self, alloc: Global) -> Result<Vec<u8>, CommandError<'a>> {
         match self.data {
             RequestData::Hex(digits) => {
-                let question = Question {
+                let request = DeviceRequest {
                     service: self.service,
                     path: self.path,
                     digits,
                 };
-                match question.request(alloc) {
+                match request.request(alloc) {
                     Ok(request) => Ok(request),
-                    Err(AskingStop::Hex) => Err(CommandError::new(
-                        Fault::Asking(AskingStop::Hex),
+                    Err(RequestFailure::Hex) => Err(CommandError::new(
+                        Fault::Request(RequestFailure::Hex),
                         Reason::Hex(digits),
                     )),
-                    Err(stop) => Err(error_of_stop(stop, self.address, None)),
+                    Err(failure) => Err(error_of_failure(failure, self.address, None)),
                 }
             }
             RequestData::Values(value_type, words) => {
-                let question = TypedQuestion {
+                let request = TypedRequest {
                     service: self.service,
                     path: self.path,
                     value_type,
                     words,
                 };
-                question.request(alloc).map_err(error_of_value)
+                request.request(alloc).map_err(error_of_value)
             }
         }
     }
@@ -142,14 +142,14 @@ pub(crate) fn run_request<'a>(
     request: Request<'a, '_>,
 ) -> Result<u8, CommandError<'a>> {
     let bytes = request.bytes(rt.alloc())?;
-    let replied = send_request(rt, request, bytes.as_slice())?;
-    print_refusal(rt, replied);
-    Ok(replied.exit_status())
+    let outcome = send_request(rt, request, bytes.as_slice())?;
+    print_refusal(rt, outcome);
+    Ok(outcome.exit_status())
 }
 
 /// Prints on standard error what the status means with which a device refused.
-pub(crate) fn print_refusal(rt: &HostRuntime, replied: Replied) {
-    if let Replied::Refused(status, extended) = replied {
+pub(crate) fn print_refusal(rt: &HostRuntime, outcome: ReplyOutcome) {
+    if let ReplyOutcome::Refused(status, extended) = outcome {
         print_reason(rt, &Reason::Refused(StatusText { status, extended }));
     }
 }
@@ -159,14 +159,14 @@ fn send_request<'a>(
     rt: &HostRuntime,
     request: Request<'a, '_>,
     bytes: &[u8],
-) -> Result<Replied, CommandError<'a>> {
+) -> Result<ReplyOutcome, CommandError<'a>> {
     let device = HostPort::parse(request.address)?;
     let start = Instant::now(rt).map_err(CommandError::of_clock)?;
     let stream = device.connect(rt, request.timeout)?;
     let mut output = ErrorKeeping::new(rt.stdout());
     let mut source = SocketSource::new(&stream, rt, start);
     let mut sink = SocketSink::new(&stream);
-    let replied = ask_over(
+    let outcome = ask_over(
         rt.alloc(),
         &mut source,
         &mut sink,
@@ -175,34 +175,34 @@ fn send_request<'a>(
         request.style,
         &mut output,
     );
-    match replied {
-        Ok(replied) => Ok(replied),
-        Err(stop) => {
+    match outcome {
+        Ok(outcome) => Ok(outcome),
+        Err(failure) => {
             let network = match source.fault().or(sink.fault()) {
                 Some(fault) => Some(fault.reason(device.text(), request.timeout)),
                 None => None,
             };
             let reason = output.reason("standard output").or(network);
-            Err(error_of_stop(stop, request.address, reason))
+            Err(error_of_failure(failure, request.address, reason))
         }
     }
 }
 
 /// The error of a request to an address without a printed reply. `stream_reason` is why a stream failed, if one did.
-pub(crate) fn error_of_stop<'a>(
-    stop: AskingStop,
+pub(crate) fn error_of_failure<'a>(
+    failure: RequestFailure,
     address: &'a str,
     stream_reason: Option<Reason<'a>>,
 ) -> CommandError<'a> {
-    let reason = match stop {
-        AskingStop::Hex => Reason::Failed(address),
-        AskingStop::Session(status) => Reason::Session(status),
-        AskingStop::Client(fault) => reason_of_client(fault),
-        AskingStop::Shape(value_type, fault) => Reason::Shape(value_type, fault),
-        AskingStop::Program(enip_commands::Fault::Memory) => Reason::Memory,
-        AskingStop::Program(_) => stream_reason.unwrap_or(Reason::Failed(address)),
+    let reason = match failure {
+        RequestFailure::Hex => Reason::Failed(address),
+        RequestFailure::Session(status) => Reason::Session(status),
+        RequestFailure::Client(fault) => reason_of_client(fault),
+        RequestFailure::Shape(value_type, fault) => Reason::Shape(value_type, fault),
+        RequestFailure::Program(enip_commands::ProgramFault::Memory) => Reason::Memory,
+        RequestFailure::Program(_) => stream_reason.unwrap_or(Reason::Failed(address)),
     };
-    CommandError::new(Fault::Asking(stop), reason)
+    CommandError::new(Fault::Request(failure), reason)
 }
 
 /// The reason for a fault of the client.

@@ -5,7 +5,7 @@ ghost use Rattle.enip_cmd.specs.Reads.{IsAllOnlyIfShort};
 ghost use Rattle.enip_server.specs.Wires.{IsRead, after_read};
 
 use crate::retry::{read_some, write_some};
-use enip_server::{Came, Tally, Wire};
+use enip_server::{ReadOutcome, Wire, WireCounts};
 use enip_wire::Header;
 use mio::net::TcpStream;
 use std::io::ErrorKind;
@@ -28,17 +28,17 @@ impl TcpWire {
     }
 
     /// As `read`, but never reports that it read all, so that another read follows once these bytes are served.
-    pub(crate) fn read_partial(&mut self, into: &mut [u8]) -> Came
+    pub(crate) fn read_partial(&mut self, into: &mut [u8]) -> ReadOutcome
         requires { 0 < length into.old }
         ensures read { IsRead None None result into.new }
         ensures counts { self.new.counts ≡ after_read result self.old.counts }
     {
-        let came = match read_now(&mut self.stream, into) {
+        let outcome = match read_now(&mut self.stream, into) {
             ReadOutcome::Drained(size) => ReadOutcome::Bytes(size),
-            came => came,
+            outcome => outcome,
         };
-        self.counts.add_read(came);
-        came
+        self.counts.add_read(outcome);
+        outcome
     }
 }
 
@@ -50,9 +50,9 @@ impl Wire for TcpWire {
     ghost counts = { λ wire. wire.counts };
 
     fn read(&mut self, into: &mut [u8]) -> ReadOutcome {
-        let came = read_now(&mut self.stream, into);
-        self.counts.add_read(came);
-        came
+        let outcome = read_now(&mut self.stream, into);
+        self.counts.add_read(outcome);
+        outcome
     }
 
     fn write(&mut self, from: &[u8]) -> Option<usize> {
@@ -68,7 +68,7 @@ impl Wire for TcpWire {
 
 /// Reads once. A read that does not fill its buffer has read all there is, and the system will report what comes next.
 /// After a read that is shorter than a header another one follows all the same. That happens once in a frame at most.
-fn read_now(stream: &mut TcpStream, into: &mut [u8]) -> Came
+fn read_now(stream: &mut TcpStream, into: &mut [u8]) -> ReadOutcome
     requires { 0 < length into.old }
     ensures read { IsRead None None result into.new }
     ensures short { IsAllOnlyIfShort (length into.new) result }
