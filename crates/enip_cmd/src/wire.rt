@@ -1,7 +1,7 @@
 //! A nonblocking TCP connection as a peer's wire.
 
 ghost use Rattle.std.specs.Prelude.{◌≡◌, ◌<◌, ◌≤◌, length, None, IfSome};
-ghost use Rattle.enip_cmd.specs.Reads.{IsAllOnlyIfShort};
+ghost use Rattle.enip_cmd.specs.Reads.{IsDrainedOnlyIfShort};
 ghost use Rattle.enip_server.specs.Wires.{IsRead, after_read};
 
 use crate::retry::{read_some, write_some};
@@ -71,7 +71,7 @@ impl Wire for TcpWire {
 fn read_now(stream: &mut TcpStream, into: &mut [u8]) -> ReadOutcome
     requires { 0 < length into.old }
     ensures read { IsRead None None result into.new }
-    ensures short { IsAllOnlyIfShort (length into.new) result }
+    ensures short { IsDrainedOnlyIfShort (length into.new) result }
 {
     match read_some(stream, into) {
         Ok(0) => ReadOutcome::End,
