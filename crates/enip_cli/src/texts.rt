@@ -23,7 +23,7 @@ before it starts with `enip: ` and gives the reason.
                         did not answer in time
   5  memory             out of memory
   6                     the device refused the request
-  6  setup              replay: no room for two sessions and a connection
+  6  setup              replay: no capacity for two sessions and a connection
   7  fault N            no valid reply
 
 configuration N, the first that applies:
@@ -67,11 +67,11 @@ With --log, standard error has a line for each connection that begins or ends,
 and for each frame: the seconds since the start, the client, the request and the
 status of the answer.
 
-  0.002117 127.0.0.1:40312 begins
+  0.002117 127.0.0.1:40312 connected
   0.002305 127.0.0.1:40312 RegisterSession: success
   0.002377 127.0.0.1:40312 SendRRData Forward_Open class 6 instance 1: success
   0.002462 127.0.0.1:40312 UnRegisterSession: no answer
-  0.002481 127.0.0.1:40312 ends
+  0.002481 127.0.0.1:40312 disconnected
 
 Examples:
   enip serve demo.toml 127.0.0.1
@@ -98,8 +98,8 @@ and the limits:
   state 3
   address 127.0.0.1:44818
   counter 0, limit 100
-  assembly 100, settable, 4 bytes, members of 1 2 1
-  places for 4 peers and 16 connections
+  assembly 100, settable, 4 bytes, member sizes 1 2 1
+  up to 4 peers and 16 connections
   first session handle 1, first connection ID 1
 
 If the configuration is refused, standard error has the reason, in which line it
@@ -288,7 +288,7 @@ HEX may have spaces. Output:
   P hex       an answer to peer P
   P closed    the adapter closed the connection of peer P; its later bytes are
               ignored
-  P full N    peer P cannot connect: all places are taken (1), or no session
+  P full N    peer P cannot connect: all peer slots are taken (1), or no session
               handle is left (2)
 
 Examples:
