@@ -132,12 +132,22 @@ fn run_replay<'a>(
 ) -> Result<u8, CommandError<'a>> {
     let config = NamedFile::read(rt.alloc(), args, matches, "CONFIG")?;
     let script = NamedFile::read(rt.alloc(), args, matches, "SCRIPT")?;
+    replay_files(rt, &config, &script, matches.get_flag("ladder"))
+}
+
+/// Runs or draws the script in a file.
+fn replay_files<'a>(
+    rt: &HostRuntime,
+    config: &NamedFile<'a>,
+    script: &NamedFile<'a>,
+    ladder: bool,
+) -> Result<u8, CommandError<'a>> {
     let config_text = config.config_text(rt.alloc())?;
     let script_text = script.script_text(rt.alloc())?;
     let mut output = ErrorKeeping::new(rt.stdout());
     let mut reported = Reported::new();
     let (alloc, lines) = (rt.alloc(), script_text.as_str());
-    let status = if matches.get_flag("ladder") {
+    let status = if ladder {
         draw(alloc, config_text, lines, &mut output, &mut reported)
     } else {
         replay(alloc, config_text, lines, &mut output, &mut reported)
@@ -145,9 +155,9 @@ fn run_replay<'a>(
     match reported.fault() {
         None => Ok(status),
         Some(fault) => Err(error_of_run(
-            rt.alloc(),
+            alloc,
             fault,
-            &config,
+            config,
             script.name(),
             output.reason(OUTPUT),
         )),
