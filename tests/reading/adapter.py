@@ -59,7 +59,7 @@ class Adapter:
         self.config, self.objects, self.manager = config, Objects(config), Manager(config)
         self.given, self.now, self.next_handle, self.peers = 0, 0, config["first_handle"], {}
 
-    def moment(self):
+    def update_time(self):
         """Sets the time to the greatest `now` so far, and ends the connections whose deadline it has reached."""
         self.now = max(self.now, self.given)
         self.manager.end(lambda one: one.deadline <= self.now)
@@ -96,9 +96,9 @@ class Adapter:
     def answers(self, peer, piece):
         """The answers to a piece of a peer's stream."""
         peer.held += piece
-        self.moment()
+        self.update_time()
         while not peer.closed and len(peer.held) >= 24:
-            self.moment()
+            self.update_time()
             command, length, session, status = struct.unpack("<HHII", peer.held[:12])
             context, options = peer.held[12:20], peer.held[20:24]
             if length > 65511:

@@ -241,13 +241,13 @@ class Conversation(Openings):
         self.configuration, self.adapter = config, Adapter(config)
         self.kept, self.sent, self.lines, self.wanted = {}, {}, [], []
         if self.seldom(0.15):
-            self.moment(LAST_MOMENT - self.random.randrange(2**28))
+            self.set_time(LAST_MOMENT - self.random.randrange(2**28))
 
-    def moment(self, now):
+    def set_time(self, now):
         self.lines.append("now %d" % now)
         self.adapter.given = now
 
-    def some_moment(self):
+    def some_time(self):
         """A time near a deadline, a step further, far, or back. It goes back only after a piece at the last time."""
         least = self.adapter.given if self.adapter.given > self.adapter.now else 0
         now, deadlines = self.adapter.now, [one.deadline for one in self.adapter.manager.connections]
@@ -402,7 +402,7 @@ class Conversation(Openings):
             self.adapter.end(digit)
             self.kept.pop(digit, None)
         elif self.seldom(0.1):
-            self.moment(self.some_moment())
+            self.set_time(self.some_time())
         elif self.seldom(0.02):
             self.lines.append(self.pick("# a remark", "", "#"))
         else:

@@ -13,8 +13,8 @@ class NumberedWorld:
 
     def __init__(self, config):
         self.config, self.submits, self.sent, self.back, self.log = config, [], [], [], []
-        self.reached, self.heard, self.open, self.awaited, self.given_up = 0, 0, True, None, False
-        self.after_accepted, self.went_on = 0, 0
+        self.reached, self.last_back, self.open, self.awaited, self.given_up = 0, 0, True, None, False
+        self.after_accepted, self.continued = 0, 0
 
     def is_refused(self):
         """Whether there is no capacity for two sessions."""
@@ -43,7 +43,7 @@ class NumberedWorld:
         refusal = self.refusal(request)
         if refusal is not None:
             return "submit refused %d" % refusal
-        self.went_on += self.given_up
+        self.continued += self.given_up
         self.awaited, self.given_up = len(self.submits), False
         self.submits.append(request)
         self.sent.append(self.awaited)
@@ -66,10 +66,10 @@ class NumberedWorld:
         self.back.append(number)
         return "reach %d back %d" % (position, len(self.back) - 1)
 
-    def hear(self, position):
-        if not self.heard <= position < len(self.back):
+    def deliver_back(self, position):
+        if not self.last_back <= position < len(self.back):
             return "back %d impossible" % position
-        self.heard, number = position, self.back[position]
+        self.last_back, number = position, self.back[position]
         if number != self.awaited:
             return "back %d ignored" % position
         self.awaited, self.after_accepted = None, number + 1
@@ -150,8 +150,8 @@ class Script(Requests):
             position = self.position(world.reached, len(world.sent))
             line, printed = "reach %d" % position, world.reach(position)
         elif kind == "back":
-            position = self.position(world.heard, len(world.back))
-            line, printed = "back %d" % position, world.hear(position)
+            position = self.position(world.last_back, len(world.back))
+            line, printed = "back %d" % position, world.deliver_back(position)
         elif kind == "other":
             request = self.bytes(ROOM)
             line, printed = "other " + self.spelled(request), world.other(request)
@@ -193,7 +193,7 @@ class Script(Requests):
         return 0, "", self.wanted + list(self.world.ending())
 
 
-class GoingOn(Script):
+class GivingUp(Script):
     """Makes scripts in which the client gives up and continues."""
 
     KINDS = ["submit"] * 5 + ["giveup"] * 3 + ["reach", "back"] * 4 + ["other", "resend", "end", "remark"]
@@ -209,7 +209,7 @@ class GoingOn(Script):
     def turns(self, count):
         """Makes `count` lines, and more until the client has continued."""
         super().turns(count)
-        while self.world.went_on == 0:
+        while self.world.continued == 0:
             self.turn()
         if self.to_the_bound:
             few = self.pick(0, 1, 1, 2)
