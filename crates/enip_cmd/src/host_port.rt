@@ -62,7 +62,7 @@ impl<'a> HostPort<'a> {
         timeout: Timeout<'a>,
     ) -> Result<TcpStream, CommandError<'a>> {
         let addresses = self.addresses(rt)?;
-        let start = Instant::now(rt).map_err(CommandError::of_clock)?;
+        let start = Instant::now(rt).map_err(|error| CommandError::of_clock(error))?;
         let mut last = Reason::NoHost(self.text);
         for address in addresses {
             match timeout.connect(rt, address, start) {

@@ -280,7 +280,7 @@ fn run_serve<'a>(
         idle_timeout,
     };
     let served = if matches.get_flag("log") {
-        let start = Instant::now(rt).map_err(CommandError::of_clock)?;
+        let start = Instant::now(rt).map_err(|error| CommandError::of_clock(error))?;
         let log = FrameLog::new(rt, rt.alloc(), start);
         serve_connections(rt, rt.alloc(), sockets, adapter, options, &log)
     } else {

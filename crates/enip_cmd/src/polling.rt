@@ -92,7 +92,7 @@ pub(crate) fn run_polling<'a>(
         request,
         options,
         bytes: bytes.as_slice(),
-        start: Instant::now(rt).map_err(CommandError::of_clock)?,
+        start: Instant::now(rt).map_err(|error| CommandError::of_clock(error))?,
         readings: Readings::new(rt.alloc()),
         taken: 0,
         last: ReplyOutcome::Done,

@@ -161,7 +161,7 @@ fn send_request<'a>(
     bytes: &[u8],
 ) -> Result<ReplyOutcome, CommandError<'a>> {
     let device = HostPort::parse(request.address)?;
-    let start = Instant::now(rt).map_err(CommandError::of_clock)?;
+    let start = Instant::now(rt).map_err(|error| CommandError::of_clock(error))?;
     let stream = device.connect(rt, request.timeout)?;
     let mut output = ErrorKeeping::new(rt.stdout());
     let mut source = SocketSource::new(&stream, rt, start);

@@ -1,7 +1,7 @@
 //! The commands of the program `enip`: each reads its input from any reader, and prints to any writer.
 //!
 //! - [`answer`] runs an adapter over lines of hexadecimal pieces, and prints its answers.
-//! - [`show`] and [`show_frames`] print the fields of frames, one frame per line of input.
+//! - [`show_frames`] prints the fields of frames, one frame per line of input.
 //! - [`ask_over`] sends one request and prints the reply. A [`DeviceRequest`] or a [`TypedRequest`] makes the
 //!   request, and [`report_outcome`] gives the exit status. [`DeviceSession`], [`Readings`] and [`print_reading`] are
 //!   for repeated reads.
@@ -46,6 +46,6 @@ pub use lines::decimal;
 pub use listing::{list_over, print_devices};
 pub use reading::{Readings, print_reading};
 pub use session::DeviceSession;
-pub use showing::{show, show_frames};
+pub use showing::show_frames;
 pub use style::{DIGITS, Style};
 pub use typed::TypedRequest;

@@ -2,7 +2,7 @@
 //!
 //! A line is printed part by part, up to the first fault in it. A fault in a line does not end the program.
 
-ghost use Rattle.std.specs.Prelude.{◌≡◌, ◌⊎◌, IfErr};
+ghost use Rattle.std.specs.Prelude.{◌≡◌, IfErr};
 ghost use Rattle.enip_commands.specs.Statuses.{IsOfDevices, IsStopOfDevices};
 
 use crate::digits::{decode, print_digits};
@@ -18,29 +18,9 @@ use thiserror::Error;
 /// How many bytes precede the items of a packet: interface and timeout. (Volume 2, SendRRData.)
 const BEFORE_ITEMS: usize = 6;
 
-/// Prints the fields of frames, which the input has in hexadecimal, one per line. Returns the exit status of the
-/// program: 0, or 5 if the input, the output or memory failed. Then it also prints the reason on `errors`.
+/// Prints the fields of frames, which the input has in hexadecimal, one per line.
 ///
 /// For a line that is not exactly one frame it prints the fault, and goes on with the next line.
-pub fn show<R: Read + Drop, W: Write + Drop, E: Write + Drop>(
-    alloc: Global,
-    input: R,
-    output: W,
-    errors: E,
-) -> u8
-    ensures { (result ≡ 0) ⊎ (result ≡ 5) }
-{
-    let mut errors = errors;
-    match show_frames(alloc, input, output) {
-        Ok(()) => 0,
-        Err(fault) => {
-            let _ = writeln!(errors, "{fault}");
-            fault.exit_status()
-        }
-    }
-}
-
-/// As [`show`], but returns why it ended early.
 ///
 /// # Errors
 ///

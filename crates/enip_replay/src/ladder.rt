@@ -32,11 +32,10 @@ use std::io::{BufWriter, Write};
 const SAME: &str = "same result as in a world without sequence counts or kept replies";
 
 /// The names of the columns.
-const HEAD: &str =
-    "            client                                 wire                               adapter";
+const HEAD: &str = "          client                    wire                    adapter";
 
 /// The note for a repeat: the adapter executes nothing, since the count is that of its kept reply.
-const KEPT: &str = "kept reply of";
+const KEPT: &str = "repeat of";
 
 /// How many sequence counts there are. (Volume 1, transport class 3.)
 const COUNTS: usize = 65_536;

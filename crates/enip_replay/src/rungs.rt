@@ -1,4 +1,6 @@
 //! The rungs of a ladder: one line of text each, with the client, the wire and the adapter as columns.
+//!
+//! A rung has at most 80 characters, unless a position has more than four digits or a request number more than five.
 
 ghost use Rattle.std.specs.Prelude.{◌≡◌, ◌≤◌, ◌*◌, min, length, replicate, Some};
 ghost use Rattle.std.specs.Fmt.{WritesOnOk};
@@ -8,10 +10,10 @@ use enip_commands::Digits;
 use std::fmt;
 
 /// The width of a column between an end and the wire, in characters.
-const WIDTH: usize = 34;
+const WIDTH: usize = 22;
 
 /// A request or a reply of up to this many bytes is shown whole.
-const SHOWN: usize = 10;
+const SHOWN: usize = 6;
 
 /// What is drawn between an end and the wire.
 #[derive(Clone, Copy)]
@@ -68,17 +70,17 @@ impl fmt::Display for Arrow<'_> {
 
     fn fmt<W: fmt::Write>(&self, f: &mut fmt::Formatter<W>) -> fmt::Result {
         let (count, message) = (self.count, Message(self.message));
-        let room = WIDTH.saturating_sub(2 + digits_of(count) + message.width());
+        let rest = WIDTH.saturating_sub(5 + digits_of(count) + message.width());
         match self.way {
             Direction::ToAdapter => {
-                write!(f, "--- {count}: {message} ")?;
-                write_dashes(f, room.saturating_sub(6))?;
+                write!(f, "-{count}: {message} ")?;
+                write_dashes(f, rest)?;
                 f.write_str(if self.arrives { ">" } else { "x" })
             }
             Direction::ToClient => {
                 f.write_str(if self.arrives { "<" } else { "x" })?;
-                write!(f, "-- {count}: {message} ")?;
-                write_dashes(f, room.saturating_sub(5))
+                write!(f, "-{count}: {message} ")?;
+                write_dashes(f, rest)
             }
         }
     }
@@ -199,8 +201,8 @@ impl fmt::Display for AtClient<'_> {
     fn fmt<W: fmt::Write>(&self, f: &mut fmt::Formatter<W>) -> fmt::Result {
         let words = self.0.words;
         match self.0.number {
-            Some(number) => write!(f, "{words:<9}{number:<6}|"),
-            None => write!(f, "{words:<15}|"),
+            Some(number) => write!(f, "{words:<8}{number:<5}|"),
+            None => write!(f, "{words:<13}|"),
         }
     }
 }
@@ -216,8 +218,8 @@ impl fmt::Display for OnWire {
 
     fn fmt<W: fmt::Write>(&self, f: &mut fmt::Formatter<W>) -> fmt::Result {
         match self.0 {
-            Some(position) => write!(f, "{position:>4}  "),
-            None => f.write_str("      "),
+            Some(position) => write!(f, "{position:>4} "),
+            None => f.write_str("     "),
         }
     }
 }
@@ -237,8 +239,8 @@ impl fmt::Display for AtAdapter<'_> {
             return Ok(());
         }
         match self.0.number {
-            Some(number) => write!(f, "  {words} {number}"),
-            None => write!(f, "  {words}"),
+            Some(number) => write!(f, " {words} {number}"),
+            None => write!(f, " {words}"),
         }
     }
 }

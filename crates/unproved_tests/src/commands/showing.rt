@@ -1,10 +1,27 @@
 //! `show` over readers and writers that fail, and long messages.
 
 use super::streams::{BrokenReader, BrokenWriter, CountingWriter, FullWriter, WatchingReader};
-use enip_commands::show;
+use enip_commands::show_frames;
 use std::alloc::Global;
 use std::cell::Cell;
+use std::io::{Read, Write};
 use std::test::Fail;
+
+/// Runs `show_frames`, and prints the fault on `errors`. Returns the exit status of the program.
+fn show<R: Read + Drop, W: Write + Drop>(
+    alloc: Global,
+    input: R,
+    output: W,
+    errors: &mut Vec<u8>,
+) -> u8 {
+    match show_frames(alloc, input, output) {
+        Ok(()) => 0,
+        Err(fault) => {
+            let _ = writeln!(errors, "{fault}");
+            fault.exit_status()
+        }
+    }
+}
 
 /// Runs `show` over a text. Returns the exit status, the output and the errors.
 fn run(alloc: Global, input: &str) -> Result<(u8, Vec<u8>, Vec<u8>), Fail> {
