@@ -2,8 +2,8 @@
 //
 //   copy COUNT PIECE             copies the bytes of standard input COUNT times, in pieces of at most PIECE bytes
 //   echo CONNECTIONS             prints its port, and sends back what it reads, one connection after another
-//   ask PORT ROUNDS FIRST ANSWER prints the round trips per second. Standard input has FIRST bytes that are sent once and
-//                                not measured, then a request whose answer has ANSWER bytes
+//   ask PORT ROUNDS FIRST ANSWER prints the round trips per second. Standard input has FIRST bytes that are sent once
+//                                and not measured, then a request whose answer has ANSWER bytes
 #include <arpa/inet.h>
 #include <netinet/in.h>
 #include <netinet/tcp.h>

@@ -161,7 +161,7 @@ static int turn(Peer *peer) {
     if (got < 0 && errno == EAGAIN) return peer->ready = 0, 1;
     if (got <= 0) return 0;
     peer->heard = round_time;
-    // a read that did not fill the buffer took all that had arrived, but not the end of a stream that was reported before
+    // a read that did not fill the buffer took all that had arrived, except an end of the stream that was reported
     if ((size_t)got < CAPACITY - peer->held && !peer->ends) peer->ready = 0;
     size_t at = 0, size = peer->held + got;
     while (size - at >= HEADER) {
@@ -349,7 +349,9 @@ static int flood(int port) {
 
 int main(int count, char **arguments) {
     if (count == 3 && !strcmp(arguments[1], "serve")) return serve(atoi(arguments[2]));
-    if (count == 5 && !strcmp(arguments[1], "load")) return load(atoi(arguments[2]), atoi(arguments[3]), atol(arguments[4]));
+    if (count == 5 && !strcmp(arguments[1], "load")) {
+        return load(atoi(arguments[2]), atoi(arguments[3]), atol(arguments[4]));
+    }
     if (count == 4 && !strcmp(arguments[1], "wait")) return wait_for_each(atoi(arguments[2]), atol(arguments[3]));
     if (count == 3 && !strcmp(arguments[1], "flood")) return flood(atoi(arguments[2]));
     return 2;
