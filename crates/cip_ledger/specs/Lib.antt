@@ -1,0 +1,9 @@
+pub mod Inside
+pub mod Ledger
+pub mod Requests
+pub mod Services
+pub mod Slots
+pub mod Status
+pub mod Turn
+pub mod Verdicts
+pub mod Views

@@ -1,0 +1,151 @@
+-- The ledger's services, each by its first check that fails.
+use Rattle.std.specs.Prelude.{ℕ, ◌+◌, ◌*◌, ◌==◌, nat_lt, not, Bool, true, ◌&&◌, is_some, if◌then◌else◌, Option, Some, None}
+use Rattle.std.specs.Prelude.{List, [], ◌∷◌, ◌++◌, length, drop}
+use Rattle.std.specs.List.{flat_map}
+use Rattle.cip_bytes.specs.Numbers.{le, number_at, words_of}
+use Rattle.cip_message.specs.Reply.{reply_service}
+use Rattle.cip_objects.specs.Entries.{Attributes, attribute_in, class_attributes}
+use Rattle.cip_objects.specs.ReadServices.{list_entry_of}
+use Rattle.cip_ledger.specs.declared.status.Status.{Status}
+use Rattle.cip_ledger.specs.declared.status.Status.TheVariants as statuses
+use Rattle.cip_ledger.specs.declared.service.TheConstants as services
+use Rattle.cip_ledger.specs.Status.{status_number}
+use Rattle.cip_ledger.specs.Ledger.{SlotState, LedgerState, slot_of}
+use Rattle.cip_ledger.specs.Requests.{LedgerRequest, Command, command_of}
+
+-- the bytes of a reply before its data; the state byte and the most bytes of a kept reply
+abbrev pub HEAD_SIZE : ℕ
+HEAD_SIZE = 4
+
+abbrev pub KEPT_LIMIT : ℕ
+KEPT_LIMIT = 480
+
+-- the state byte of a command that is done
+abbrev pub DONE : ℕ
+DONE = 0
+
+-- the general status and the data of a reply
+pub record Answer : Type 0 where
+  pub status : Status
+  pub content : List ℕ
+
+abbrev pub refusal : Status → Answer
+refusal status = record { status = status; content = [] }
+
+abbrev pub success : List ℕ → Answer
+success content = record { status = statuses.Success; content = content }
+
+-- the reply with these parts to a request of this service
+abbrev pub reply_to : ℕ → Answer → List ℕ
+reply_to service answer = reply_service service ∷ 0 ∷ status_number answer.status ∷ 0 ∷ answer.content
+
+-- an answer, if its reply fits the reply limit
+abbrev pub within : ℕ → Answer → Answer
+within max_size answer =
+    if nat_lt max_size (HEAD_SIZE + length answer.content) then refusal statuses.ReplyDataTooLarge else answer
+
+-- What the ledger does with a request: it only replies, executes a command and keeps its reply, or frees the slot of
+-- an originator.
+pub data Action : Type 0 where
+  Replies : (answer : Answer) → Action
+  Executes : (command : Command) → Action
+  Frees : (originator : ℕ) → Action
+
+abbrev pub refuses : Status → Action
+refuses status = Replies (refusal status)
+
+-- an action on data of exactly this size
+abbrev pub on_size : ℕ → List ℕ → Action → Action
+on_size size bytes action =
+    if nat_lt (length bytes) size then refuses statuses.NotEnoughData
+    else (if nat_lt size (length bytes) then refuses statuses.TooMuchData else action)
+
+-- ---- Do_Once
+
+-- a new command is executed only if its reply will fit, however long it is
+abbrev pub do_new : ℕ → Command → Action
+do_new max_size command =
+    if nat_lt max_size (HEAD_SIZE + 1 + KEPT_LIMIT) then refuses statuses.ReplyDataTooLarge else Executes command
+
+abbrev pub do_by_slot : LedgerState → ℕ → Command → Option SlotState → Action
+do_by_slot ledger max_size command None =
+    if nat_lt (length ledger.taken) ledger.slots then do_new max_size command
+    else refuses statuses.ResourceUnavailable
+do_by_slot ledger max_size command (Some slot) =
+    if nat_lt command.number slot.number then refuses statuses.ObjectStateConflict
+    else (if command.number == slot.number then Replies (within max_size (success (DONE ∷ slot.reply)))
+    else do_new max_size command)
+
+abbrev pub do_command : LedgerState → ℕ → Command → Action
+do_command ledger max_size command =
+    if not (command.life == ledger.life) then refuses statuses.DeviceStateConflict
+    else do_by_slot ledger max_size command (slot_of command.originator ledger.taken)
+
+abbrev pub do_once : LedgerState → ℕ → List ℕ → Action
+do_once ledger max_size bytes =
+    if nat_lt (length bytes) 22 then refuses statuses.NotEnoughData
+    else do_command ledger max_size (command_of bytes)
+
+-- ---- Get_Last and Forget
+
+abbrev pub last_in : ℕ → Option SlotState → Action
+last_in max_size None = refuses statuses.ObjectDoesNotExist
+last_in max_size (Some slot) = Replies (within max_size (success (le 4 slot.number ++ DONE ∷ slot.reply)))
+
+-- an originator's last number, and the kept reply
+abbrev pub get_last : LedgerState → ℕ → List ℕ → Action
+get_last ledger max_size bytes =
+    on_size 8 bytes (last_in max_size (slot_of (number_at 0 8 bytes) ledger.taken))
+
+abbrev pub forget_in : ℕ → ℕ → Option SlotState → Action
+forget_in originator number None = Replies (success [])
+forget_in originator number (Some slot) =
+    if slot.number == number then Frees originator else refuses statuses.ObjectStateConflict
+
+-- an originator's slot is free, if it has this number
+abbrev pub forget : LedgerState → List ℕ → Action
+forget ledger bytes =
+    on_size 12 bytes
+    (forget_in (number_at 0 8 bytes) (number_at 8 4 bytes) (slot_of (number_at 0 8 bytes) ledger.taken))
+
+-- ---- attributes
+
+-- slots, taken slots, life
+abbrev pub ledger_attributes : LedgerState → Attributes
+ledger_attributes ledger = (1, le 2 ledger.slots) ∷ (2, le 2 (length ledger.taken)) ∷ (3, le 8 ledger.life) ∷ []
+
+abbrev pub value_named : Attributes → Option ℕ → Option (List ℕ)
+value_named attributes None = None
+value_named attributes (Some attribute) = attribute_in attribute attributes
+
+abbrev pub single : ℕ → List ℕ → Option (List ℕ) → Action
+single max_size bytes None = refuses statuses.AttributeNotSupported
+single max_size bytes (Some value) = on_size 0 bytes (Replies (within max_size (success value)))
+
+abbrev pub get_attribute_single : Attributes → ℕ → LedgerRequest → Action
+get_attribute_single attributes max_size request =
+    single max_size request.data (value_named attributes request.attribute)
+
+-- ---- the service of a request
+
+abbrev pub class_action : ℕ → LedgerRequest → Action
+class_action max_size request =
+    if request.service == services.GET_ATTRIBUTE_SINGLE
+    then get_attribute_single (class_attributes 1 1 1) max_size request
+    else refuses statuses.ServiceNotSupported
+
+abbrev pub instance_action : LedgerState → ℕ → LedgerRequest → Action
+instance_action ledger max_size request =
+    if request.service == services.DO_ONCE then do_once ledger max_size request.data
+    else (if request.service == services.GET_LAST then get_last ledger max_size request.data
+    else (if request.service == services.FORGET then forget ledger request.data
+    else (if request.service == services.GET_ATTRIBUTE_SINGLE
+    then get_attribute_single (ledger_attributes ledger) max_size request
+    else refuses statuses.ServiceNotSupported)))
+
+-- by the instance: 0 is the class itself
+abbrev pub action_of : LedgerState → ℕ → LedgerRequest → Action
+action_of ledger max_size request =
+    if request.instance == 0 then class_action max_size request
+    else (if request.instance == 1 then instance_action ledger max_size request
+    else refuses statuses.PathDestinationUnknown)

@@ -1,0 +1,18 @@
+-- So many slots, and those that are taken.
+use Rattle.std.specs.Prelude.{ℕ, ◌≤◌, List, vec_len}
+use Rattle.std.specs.Global.{Vec}
+use Rattle.std.specs.Vec.{vec_capacity}
+use Rattle.cip_ledger.specs.Ledger.{SlotState}
+
+pub record SlotsState : Type 0 where
+  pub limit : ℕ
+  pub taken : List SlotState
+
+abbrev pub slots_in : ℕ → List SlotState → SlotsState
+slots_in limit taken = record { limit = limit; taken = taken }
+
+-- there is memory for all slots, and no more of them are taken
+pub record HasSlots (limit : ℕ) (taken : Vec SlotState) : Type 0 where
+  pub few : limit ≤ 64
+  pub memory : limit ≤ vec_capacity taken
+  pub within : vec_len taken ≤ limit

@@ -1,0 +1,170 @@
+//! The ledger: what it does with each request.
+//! Text: docs/PROTOCOL.md, "The command ledger".
+ghost use Rattle.std.specs.Prelude.{◌≡◌, ◌≤◌, [], ◌∷◌, ◌++◌, length, Some, IfOk};
+ghost use Rattle.cip_objects.specs.Entries.{Attributes};
+ghost use Rattle.cip_ledger.specs.Ledger.{empty_ledger};
+ghost use Rattle.cip_ledger.specs.Requests as requests;
+ghost use Rattle.cip_ledger.specs.Services.{do_command, Replies, KEPT_LIMIT};
+ghost use Rattle.cip_ledger.specs.Services as services;
+ghost use Rattle.cip_ledger.specs.Turn.{turn, turn_of, acted, after_embedded, embedded_reply};
+
+use crate::reply::{HEAD_SIZE, answer, begin};
+use crate::request::{Command, LedgerRequest, is_barred};
+use crate::service::{DO_ONCE, FORGET, GET_ATTRIBUTE_SINGLE, GET_LAST};
+use crate::slot::KEPT_LIMIT;
+use crate::slots::Slots;
+use crate::status::Status;
+use byteorder::{ByteOrder, LittleEndian};
+use cip_objects::{REPLY_LIMIT, ReplyBuf, Router};
+use std::alloc::{AllocError, Global};
+use std::marker::Model;
+
+/// The state byte of a command that is done. (1, pending, is kept for commands that wait.)
+const DONE: u8 = 0;
+
+/// The smallest reply limit at which a new command is executed, in bytes: the longest reply to it fits.
+const LONGEST_DONE: usize = HEAD_SIZE + 1 + KEPT_LIMIT;
+
+/// What is to be done with a command.
+pub(crate) enum Verdict<'a> {
+    /// It is refused.
+    Refuses(Status),
+    /// It was executed before, with this reply.
+    Repeats(&'a [u8]),
+    /// It is new, and is executed.
+    Executes,
+}
+
+/// The ledger of a device: for each originator the last command that was executed, and its reply.
+#[derive(Drop)]
+pub struct Ledger {
+    life: u64,
+    slots: Slots,
+}
+
+impl Model for Ledger {
+    ghost use Rattle.cip_ledger.specs.Ledger.{LedgerState};
+
+    ghost Value = { LedgerState };
+
+    ghost view = { λ l. record { slots = l.slots.limit; life = l.life; taken = l.slots.taken } };
+}
+
+impl Ledger {
+    ghost use Rattle.cip_ledger.specs.Verdicts.{action_in, Fits};
+    ghost use Rattle.cip_ledger.specs.Views.{command_in};
+
+    /// A ledger with so many slots, all free, in the device's life of this number. All its memory is taken here.
+    ///
+    /// # Errors
+    ///
+    /// `AllocError` if memory is refused.
+    pub fn new(alloc: Global, originators: u16, life: u64) -> Result<Ledger, AllocError>
+        requires least { 1 ≤ originators }
+        requires most { originators ≤ 64 }
+        ensures { IfOk result (λ ledger. ledger ≡ empty_ledger originators life) }
+    {
+        Ok(Ledger {
+            life,
+            slots: Slots::new(alloc, originators)?,
+        })
+    }
+
+    /// What is to be done with a command: the first check that fails refuses it.
+    fn verdict(&self, command: Command<'_>, max_size: usize) -> Verdict<'_>
+        ensures action { action_in max_size (command_in command) result
+            ≡ do_command self.now max_size (command_in command) }
+        ensures fits { Fits max_size result }
+    {
+        // a command of another life is never executed: 0x10 (ledger, ours)
+        if command.life != self.life {
+            return Verdict::Refuses(Status::DeviceStateConflict);
+        }
+        let Some(slot) = self.slots.find(command.originator) else {
+            // a slot is never taken away: 0x02 (ledger, ours)
+            if !self.slots.has_free() {
+                return Verdict::Refuses(Status::ResourceUnavailable);
+            }
+            return verdict_on_new(max_size);
+        };
+        // a smaller number is never executed: 0x0c (ledger, ours)
+        if command.number < slot.number() {
+            return Verdict::Refuses(Status::ObjectStateConflict);
+        }
+        if command.number == slot.number() {
+            return Verdict::Repeats(slot.reply());
+        }
+        verdict_on_new(max_size)
+    }
+
+    /// Do_Once: executes a command that is new, and replies to one that was executed as it was replied to then.
+    #[tactic(auto, unfolding(crate::specs::Services::do_once))]
+    fn do_once<R: Router>(
+        &mut self,
+        router: &mut R,
+        data: &[u8],
+        max_size: usize,
+        reply: &mut ReplyBuf,
+    )
+        requires max_size_from { 8 ≤ max_size }
+        requires max_size_to { max_size ≤ REPLY_LIMIT }
+        ensures rule { turn_of (Some self.new) router.new reply.new.items
+            ≡ acted R.after R.answer (services.do_once self.old max_size «data».now) DO_ONCE (Some self.old) router.old }
+        ensures fits { length reply.new.items ≤ max_size }
+    {
+        // two numbers of 64 bits, one of 32, a request: 0x13 (ledger, ours)
+        if data.len() < Command::SMALLEST {
+            begin(DO_ONCE, Status::NotEnoughData, reply);
+            return;
+        }
+        let command = Command::read(data);
+        match self.verdict(command, max_size) {
+            Verdict::Refuses(status) => begin(DO_ONCE, status, reply),
+            Verdict::Repeats(kept) => answer(DO_ONCE, &[DONE], kept, max_size, reply),
+            Verdict::Executes => {
+                execute_embedded(router, command.request, reply);
+                self.slots
+                    .keep(command.originator, command.number, reply.as_slice());
+                put_head(reply);
+            }
+        }
+    }
+}
+
+/// What is to be done with a command that is new.
+fn verdict_on_new(max_size: usize) -> Verdict<'static>
+    ensures action { (command : requests.Command) → action_in max_size command result ≡ services.do_new max_size command }
+    ensures fits { Fits max_size result }
+{
+    // an executed command's reply always fits: 0x11 (ledger, ours)
+    if max_size < LONGEST_DONE {
+        return Verdict::Refuses(Status::ReplyDataTooLarge);
+    }
+    Verdict::Executes
+}
+
+/// Executes an embedded request, unless it goes to the Connection Manager or to the ledger.
+fn execute_embedded<R: Router>(router: &mut R, request: &[u8], reply: &mut ReplyBuf)
+    requires { 2 ≤ length request.now }
+    ensures router { router.new ≡ after_embedded R.after R.answer router.old request.now }
+    ensures reply { reply.new.items ≡ embedded_reply R.after R.answer router.old request.now }
+    ensures fits { length reply.new.items ≤ KEPT_LIMIT }
+{
+    if is_barred(request) {
+        begin(request[0], Status::ServiceNotSupported, reply);
+        return;
+    }
+    router.execute(request, KEPT_LIMIT, reply);
+}
+
+/// Puts the head of a reply to Do_Once, and the state, before the reply to an embedded request.
+fn put_head(reply: &mut ReplyBuf)
+    requires { length reply.old.items ≤ KEPT_LIMIT }
+    ensures { reply.new.items ≡ services.reply_to DO_ONCE (services.success (DONE ∷ reply.old.items)) }
+{
+    reply.insert(0, DONE);
+    reply.insert(0, 0);
+    reply.insert(0, Status::Success.number());
+    reply.insert(0, 0);
+    reply.insert(0, DO_ONCE | 0x80);
+}

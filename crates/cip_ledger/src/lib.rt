@@ -1,0 +1,15 @@
+//! A ledger of commands: each is executed once, even if connections are lost and opened anew.
+#![tactic(auto)]
+
+mod ledger;
+mod reply;
+mod request;
+mod service;
+mod slot;
+mod slots;
+mod status;
+
+pub use ledger::Ledger;
+pub use request::LEDGER;
+pub use service::{DO_ONCE, FORGET, GET_LAST};
+pub use slot::KEPT_LIMIT;

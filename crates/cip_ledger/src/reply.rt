@@ -1,0 +1,46 @@
+//! Replies of the ledger.
+ghost use Rattle.std.specs.Prelude.{◌≡◌, ◌≤◌, ◌+◌, ◌++◌, length};
+ghost use Rattle.cip_ledger.specs.Services.{reply_to, refusal, success, within};
+
+use crate::status::Status;
+use cip_bytes::append;
+use cip_message::reply_service;
+use cip_objects::{REPLY_LIMIT, ReplyBuf};
+
+/// The bytes of a reply before its data.
+pub(crate) const HEAD_SIZE: usize = 4;
+
+/// Begins a reply without data to a request of this service.
+pub(crate) fn begin(service: u8, status: Status, reply: &mut ReplyBuf)
+    ensures { reply.new.items ≡ reply_to service (refusal status) }
+{
+    reply.clear();
+    reply.push(reply_service(service));
+    reply.push(0);
+    reply.push(status.number());
+    reply.push(0);
+}
+
+/// Replies with data of two parts, if they fit the reply limit.
+pub(crate) fn answer(
+    service: u8,
+    front: &[u8],
+    rest: &[u8],
+    max_size: usize,
+    reply: &mut ReplyBuf,
+)
+    requires parts { length front.now + length rest.now ≤ REPLY_LIMIT }
+    requires max_size_from { 8 ≤ max_size }
+    requires max_size_to { max_size ≤ REPLY_LIMIT }
+    ensures reply { reply.new.items ≡ reply_to service (within max_size (success (front.now ++ rest.now))) }
+    ensures fits { length reply.new.items ≤ max_size }
+{
+    // a reply is never longer than the reply limit: 0x11 (objects)
+    if max_size < HEAD_SIZE + front.len() + rest.len() {
+        begin(service, Status::ReplyDataTooLarge, reply);
+        return;
+    }
+    begin(service, Status::Success, reply);
+    append(reply, front);
+    append(reply, rest);
+}

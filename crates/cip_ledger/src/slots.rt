@@ -1,0 +1,104 @@
+//! The slots of the originators. No call after `new` takes memory.
+ghost use Rattle.std.specs.Prelude.{◌≡◌, ◌≤◌, ◌<◌, ◌==◌, nat_lt, not, [], length, option_map, IfOk, slice_index_or};
+ghost use Rattle.std.specs.List.{position};
+ghost use Rattle.cip_ledger.specs.Ledger.{SlotState, slot_of, with_slot, without_slot};
+ghost use Rattle.cip_ledger.specs.Services.{KEPT_LIMIT};
+ghost use Rattle.cip_ledger.specs.Slots.{slots_in};
+
+use crate::slot::Slot;
+use std::alloc::{AllocError, Global};
+use std::marker::Model;
+
+/// So many slots, in the order in which those that are taken were taken.
+#[derive(Drop)]
+pub(crate) struct Slots {
+    limit: u16,
+    taken: Vec<Slot>,
+}
+
+impl Model for Slots {
+    ghost use Rattle.cip_ledger.specs.Slots.{SlotsState, slots_in, HasSlots};
+
+    ghost Value = { SlotsState };
+
+    ghost view = { λ s. slots_in s.limit s.taken.items };
+
+    ghost invariant = { λ s. HasSlots s.limit s.taken };
+}
+
+impl Slots {
+    /// So many slots, all free. All their memory is taken here.
+    ///
+    /// # Errors
+    ///
+    /// `AllocError` if memory is refused.
+    pub(crate) fn new(alloc: Global, limit: u16) -> Result<Slots, AllocError>
+        requires { limit ≤ 64 }
+        ensures { IfOk result (λ slots. slots ≡ slots_in limit []) }
+    {
+        let taken = Vec::with_capacity(alloc, usize::from(limit))?;
+        Ok(Slots { limit, taken })
+    }
+
+    /// How many slots there are.
+    pub(crate) fn limit(&self) -> u16
+        ensures { result ≡ self.now.limit }
+    {
+        self.limit
+    }
+
+    /// How many slots are taken.
+    pub(crate) fn taken(&self) -> u16
+        ensures { result ≡ length self.now.taken }
+    {
+        self.taken.len() as u16
+    }
+
+    /// Whether a slot is free.
+    pub(crate) fn has_free(&self) -> bool
+        ensures { result ≡ nat_lt (length self.now.taken) self.now.limit }
+    {
+        self.taken.len() < usize::from(self.limit)
+    }
+
+    /// The slot of an originator, `None` if it has none.
+    pub(crate) fn find(&self, originator: u64) -> Option<&Slot>
+        ensures { option_map (λ slot. slot.now) result ≡ slot_of originator self.now.taken }
+    {
+        let index = index_of(&self.taken, originator)?;
+        Some(&self.taken[index])
+    }
+
+    /// Keeps the last command of an originator and its reply, in the originator's slot or in a free one.
+    pub(crate) fn keep(&mut self, originator: u64, number: u32, reply: &[u8])
+        requires free { slot_of originator self.old.taken ≡ None → length self.old.taken < self.old.limit }
+        requires fits { length reply.now ≤ KEPT_LIMIT }
+        ensures limit { self.new.limit ≡ self.old.limit }
+        ensures taken { self.new.taken
+            ≡ with_slot (record { originator = originator; number = number; reply = reply.now }) self.old.taken }
+    {
+        match index_of(&self.taken, originator) {
+            Some(index) => self.taken[index].keep(number, reply),
+            None => self
+                .taken
+                .push_reserved(Slot::new(originator, number, reply)),
+        }
+    }
+
+    /// Frees the slot of an originator.
+    pub(crate) fn free(&mut self, originator: u64)
+        ensures limit { self.new.limit ≡ self.old.limit }
+        ensures taken { self.new.taken ≡ without_slot originator self.old.taken }
+    {
+        self.taken.retain(|slot| slot.originator() != originator);
+    }
+}
+
+/// Where the slot of an originator is.
+fn index_of(taken: &[Slot], originator: u64) -> Option<usize>
+    ensures { result ≡ position (λ slot. slot.originator == originator) taken.now }
+{
+    taken
+        .iter()
+        .position(|slot| slot.originator() == originator)
+}
