@@ -1,3 +1,4 @@
+pub mod AttributeValue
 pub mod Inside
 pub mod Ledger
 pub mod Requests

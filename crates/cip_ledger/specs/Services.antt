@@ -54,11 +54,16 @@ pub data Action : Type 0 where
 abbrev pub refuses : Status → Action
 refuses status = Replies (refusal status)
 
--- an action on data of exactly this size
-abbrev pub on_size : ℕ → List ℕ → Action → Action
-on_size size bytes action =
-    if nat_lt (length bytes) size then refuses statuses.NotEnoughData
-    else (if nat_lt size (length bytes) then refuses statuses.TooMuchData else action)
+-- what is wrong with data that are not of exactly this size
+abbrev pub size_fault : ℕ → List ℕ → Option Status
+size_fault size bytes =
+    if nat_lt (length bytes) size then Some statuses.NotEnoughData
+    else (if nat_lt size (length bytes) then Some statuses.TooMuchData else None)
+
+-- the refusal by a fault, if there is one
+abbrev pub unless : {A : Type 0} → Option Status → (Status → A) → A → A
+unless None refused otherwise = otherwise
+unless (Some status) refused otherwise = refused status
 
 -- ---- Do_Once
 
@@ -88,24 +93,24 @@ do_once ledger max_size bytes =
 
 -- ---- Get_Last and Forget
 
-abbrev pub last_in : ℕ → Option SlotState → Action
-last_in max_size None = refuses statuses.ObjectDoesNotExist
-last_in max_size (Some slot) = Replies (within max_size (success (le 4 slot.number ++ DONE ∷ slot.reply)))
+abbrev pub last_in : ℕ → Option SlotState → Answer
+last_in max_size None = refusal statuses.ObjectDoesNotExist
+last_in max_size (Some slot) = within max_size (success (le 4 slot.number ++ DONE ∷ slot.reply))
 
--- an originator's last number, and the kept reply
-abbrev pub get_last : LedgerState → ℕ → List ℕ → Action
+-- an originator's last number, the state and the kept reply
+abbrev pub get_last : LedgerState → ℕ → List ℕ → Answer
 get_last ledger max_size bytes =
-    on_size 8 bytes (last_in max_size (slot_of (number_at 0 8 bytes) ledger.taken))
+    unless (size_fault 8 bytes) refusal (last_in max_size (slot_of (number_at 0 8 bytes) ledger.taken))
 
 abbrev pub forget_in : ℕ → ℕ → Option SlotState → Action
 forget_in originator number None = Replies (success [])
 forget_in originator number (Some slot) =
     if slot.number == number then Frees originator else refuses statuses.ObjectStateConflict
 
--- an originator's slot is free, if it has this number
+-- an originator's slot is freed, if it has this number
 abbrev pub forget : LedgerState → List ℕ → Action
 forget ledger bytes =
-    on_size 12 bytes
+    unless (size_fault 12 bytes) refuses
     (forget_in (number_at 0 8 bytes) (number_at 8 4 bytes) (slot_of (number_at 0 8 bytes) ledger.taken))
 
 -- ---- attributes
@@ -114,38 +119,38 @@ forget ledger bytes =
 abbrev pub ledger_attributes : LedgerState → Attributes
 ledger_attributes ledger = (1, le 2 ledger.slots) ∷ (2, le 2 (length ledger.taken)) ∷ (3, le 8 ledger.life) ∷ []
 
+-- the attributes of the class itself: revision, greatest instance, number of instances
+abbrev pub class_values : Attributes
+class_values = class_attributes 1 1 1
+
 abbrev pub value_named : Attributes → Option ℕ → Option (List ℕ)
 value_named attributes None = None
 value_named attributes (Some attribute) = attribute_in attribute attributes
 
-abbrev pub single : ℕ → List ℕ → Option (List ℕ) → Action
-single max_size bytes None = refuses statuses.AttributeNotSupported
-single max_size bytes (Some value) = on_size 0 bytes (Replies (within max_size (success value)))
-
-abbrev pub get_attribute_single : Attributes → ℕ → LedgerRequest → Action
-get_attribute_single attributes max_size request =
-    single max_size request.data (value_named attributes request.attribute)
+abbrev pub single : ℕ → List ℕ → Option (List ℕ) → Answer
+single max_size bytes None = refusal statuses.AttributeNotSupported
+single max_size bytes (Some value) = unless (size_fault 0 bytes) refusal (within max_size (success value))
 
 -- ---- the service of a request
 
-abbrev pub class_action : ℕ → LedgerRequest → Action
-class_action max_size request =
+abbrev pub class_answer : ℕ → LedgerRequest → Answer
+class_answer max_size request =
     if request.service == services.GET_ATTRIBUTE_SINGLE
-    then get_attribute_single (class_attributes 1 1 1) max_size request
-    else refuses statuses.ServiceNotSupported
+    then single max_size request.data (value_named class_values request.attribute)
+    else refusal statuses.ServiceNotSupported
 
 abbrev pub instance_action : LedgerState → ℕ → LedgerRequest → Action
 instance_action ledger max_size request =
     if request.service == services.DO_ONCE then do_once ledger max_size request.data
-    else (if request.service == services.GET_LAST then get_last ledger max_size request.data
+    else (if request.service == services.GET_LAST then Replies (get_last ledger max_size request.data)
     else (if request.service == services.FORGET then forget ledger request.data
     else (if request.service == services.GET_ATTRIBUTE_SINGLE
-    then get_attribute_single (ledger_attributes ledger) max_size request
+    then Replies (single max_size request.data (value_named (ledger_attributes ledger) request.attribute))
     else refuses statuses.ServiceNotSupported)))
 
 -- by the instance: 0 is the class itself
 abbrev pub action_of : LedgerState → ℕ → LedgerRequest → Action
 action_of ledger max_size request =
-    if request.instance == 0 then class_action max_size request
+    if request.instance == 0 then Replies (class_answer max_size request)
     else (if request.instance == 1 then instance_action ledger max_size request
     else refuses statuses.PathDestinationUnknown)

@@ -1,5 +1,5 @@
 -- What becomes of a request at a ledger, over any router behind it.
-use Rattle.std.specs.Prelude.{ℕ, Option, Some, None, option_map, List, [], ◌∷◌, slice_index, if◌then◌else◌}
+use Rattle.std.specs.Prelude.{◌≡◌, ℕ, Option, Some, None, option_map, List, [], ◌∷◌, slice_index, if◌then◌else◌}
 use Rattle.cip_ledger.specs.declared.status.Status.TheVariants as statuses
 use Rattle.cip_ledger.specs.Ledger.{LedgerState, with_slot, without_slot}
 use Rattle.cip_ledger.specs.Requests.{LedgerRequest, Command, ledger_request, is_barred}
@@ -38,6 +38,13 @@ pub record Turn (M : Type 0) : Type 0 where
 
 abbrev pub turn_of : {M : Type 0} → Option LedgerState → M → List ℕ → Turn M
 turn_of ledger router answer = record { ledger = ledger; router = router; answer = answer }
+
+-- the ledger and the reply after an action that no router takes part in
+abbrev pub ActsAlone : LedgerState → Action → ℕ → LedgerState → List ℕ → Type 0
+ActsAlone old (Replies reply) service new text = (new ≡ old) × (text ≡ reply_to service reply)
+ActsAlone old (Executes command) service new text = ⊥
+ActsAlone old (Frees originator) service new text =
+    (new ≡ with_freed originator old) × (text ≡ reply_to service (success []))
 
 module _ {M : Type 0} (after : M → ℕ → List ℕ → M) (answer : M → ℕ → List ℕ → List ℕ) where
   -- the router after an embedded request, and its reply: one that is barred does not reach the router

@@ -1,19 +1,22 @@
 //! The ledger: what it does with each request.
 //! Text: docs/PROTOCOL.md, "The command ledger".
-ghost use Rattle.std.specs.Prelude.{◌≡◌, ◌≤◌, [], ◌∷◌, ◌++◌, length, Some, IfOk};
-ghost use Rattle.cip_objects.specs.Entries.{Attributes};
+ghost use Rattle.std.specs.Prelude.{◌≡◌, ◌≤◌, [], ◌∷◌, ◌++◌, length, Some, option_map, IfOk};
 ghost use Rattle.cip_ledger.specs.Ledger.{empty_ledger};
 ghost use Rattle.cip_ledger.specs.Requests as requests;
 ghost use Rattle.cip_ledger.specs.Services.{do_command, Replies, KEPT_LIMIT};
 ghost use Rattle.cip_ledger.specs.Services as services;
-ghost use Rattle.cip_ledger.specs.Turn.{turn, turn_of, acted, after_embedded, embedded_reply};
+ghost use Rattle.cip_ledger.specs.Turn.{turn, turn_of, acted, after_embedded, embedded_reply, ActsAlone};
+ghost use Rattle.cip_ledger.specs.Verdicts.{action_in, Fits};
+ghost use Rattle.cip_ledger.specs.Views.{command_in, request_in};
+ghost use Rattle.cip_ledger.specs.AttributeValue.{value_bytes};
 
-use crate::reply::{HEAD_SIZE, answer, begin};
+use crate::reply::{HEAD_SIZE, answer, begin, size_fault};
 use crate::request::{Command, LedgerRequest, is_barred};
 use crate::service::{DO_ONCE, FORGET, GET_ATTRIBUTE_SINGLE, GET_LAST};
 use crate::slot::KEPT_LIMIT;
 use crate::slots::Slots;
 use crate::status::Status;
+use crate::value::{AttributeValue, class_value};
 use byteorder::{ByteOrder, LittleEndian};
 use cip_objects::{REPLY_LIMIT, ReplyBuf, Router};
 use std::alloc::{AllocError, Global};
@@ -51,9 +54,6 @@ impl Model for Ledger {
 }
 
 impl Ledger {
-    ghost use Rattle.cip_ledger.specs.Verdicts.{action_in, Fits};
-    ghost use Rattle.cip_ledger.specs.Views.{command_in};
-
     /// A ledger with so many slots, all free, in the device's life of this number. All its memory is taken here.
     ///
     /// # Errors
@@ -72,8 +72,8 @@ impl Ledger {
 
     /// What is to be done with a command: the first check that fails refuses it.
     fn verdict(&self, command: Command<'_>, max_size: usize) -> Verdict<'_>
-        ensures action { action_in max_size (command_in command) result
-            ≡ do_command self.now max_size (command_in command) }
+        ensures action { action_in max_size (command_in command.entry) result
+            ≡ do_command self.now max_size (command_in command.entry) }
         ensures fits { Fits max_size result }
     {
         // a command of another life is never executed: 0x10 (ledger, ours)
@@ -128,6 +128,200 @@ impl Ledger {
                 put_head(reply);
             }
         }
+    }
+
+    /// Get_Last: the number of an originator's last command, and the reply to it.
+    fn get_last(&self, data: &[u8], max_size: usize, reply: &mut ReplyBuf)
+        requires max_size_from { 8 ≤ max_size }
+        requires max_size_to { max_size ≤ REPLY_LIMIT }
+        ensures reply { reply.new.items ≡ services.reply_to GET_LAST (services.get_last self.now max_size «data».now) }
+        ensures fits { length reply.new.items ≤ max_size }
+    {
+        if let Some(status) = size_fault(8, data) {
+            begin(GET_LAST, status, reply);
+            return;
+        }
+        let Some(slot) = self.slots.find(LittleEndian::read_u64(data)) else {
+            // the originator has no slot: 0x16 (ledger, ours)
+            begin(GET_LAST, Status::ObjectDoesNotExist, reply);
+            return;
+        };
+        let [first, second, third, fourth] = slot.number().to_le_bytes();
+        let front = [first, second, third, fourth, DONE];
+        answer(GET_LAST, &front, slot.reply(), max_size, reply);
+    }
+
+    /// Forget: frees the slot of an originator, if its last command has this number.
+    fn forget(&mut self, data: &[u8], reply: &mut ReplyBuf)
+        ensures rule { ActsAlone self.old (services.forget self.old «data».now) FORGET self.new reply.new.items }
+    {
+        if let Some(status) = size_fault(12, data) {
+            begin(FORGET, status, reply);
+            return;
+        }
+        let originator = LittleEndian::read_u64(data);
+        let number = LittleEndian::read_u32(&data[8..]);
+        let Some(slot) = self.slots.find(originator) else {
+            begin(FORGET, Status::Success, reply);
+            return;
+        };
+        // only the last number is forgotten: 0x0c (ledger, ours)
+        if slot.number() != number {
+            begin(FORGET, Status::ObjectStateConflict, reply);
+            return;
+        }
+        self.slots.free(originator);
+        begin(FORGET, Status::Success, reply);
+    }
+
+    /// The value of an attribute of the instance.
+    fn value(&self, attribute: Option<u16>) -> Option<AttributeValue>
+        ensures { option_map value_bytes result ≡ services.value_named (services.ledger_attributes self.now) attribute }
+    {
+        match attribute {
+            Some(1) => Some(AttributeValue::Uint(self.slots.limit())),
+            Some(2) => Some(AttributeValue::Uint(self.slots.taken())),
+            Some(3) => Some(AttributeValue::Ulint(self.life)),
+            _ => None,
+        }
+    }
+
+    /// Serves a request to the instance.
+    fn serve_instance<R: Router>(
+        &mut self,
+        router: &mut R,
+        request: LedgerRequest<'_>,
+        max_size: usize,
+        reply: &mut ReplyBuf,
+    )
+        requires max_size_from { 8 ≤ max_size }
+        requires max_size_to { max_size ≤ REPLY_LIMIT }
+        ensures rule { turn_of (Some self.new) router.new reply.new.items
+            ≡ acted R.after R.answer (services.instance_action self.old max_size (request_in request.entry))
+            request.entry.service (Some self.old) router.old }
+        ensures fits { length reply.new.items ≤ max_size }
+    {
+        match request.service {
+            DO_ONCE => self.do_once(router, request.data, max_size, reply),
+            GET_LAST => self.get_last(request.data, max_size, reply),
+            FORGET => self.forget(request.data, reply),
+            GET_ATTRIBUTE_SINGLE => {
+                write_single(
+                    self.value(request.attribute),
+                    request.data,
+                    max_size,
+                    reply,
+                )
+            }
+            // the ledger does not have this service: 0x08 (objects)
+            _ => begin(request.service, Status::ServiceNotSupported, reply),
+        }
+    }
+
+    /// Serves a request to the ledger's class, by its instance.
+    fn serve<R: Router>(
+        &mut self,
+        router: &mut R,
+        request: LedgerRequest<'_>,
+        max_size: usize,
+        reply: &mut ReplyBuf,
+    )
+        requires max_size_from { 8 ≤ max_size }
+        requires max_size_to { max_size ≤ REPLY_LIMIT }
+        ensures rule { turn_of (Some self.new) router.new reply.new.items
+            ≡ acted R.after R.answer (services.action_of self.old max_size (request_in request.entry))
+            request.entry.service (Some self.old) router.old }
+        ensures fits { length reply.new.items ≤ max_size }
+    {
+        match request.instance {
+            // instance 0 is the class itself (object model)
+            0 => serve_class(request, max_size, reply),
+            1 => self.serve_instance(router, request, max_size, reply),
+            // no such instance: 0x05 (objects)
+            _ => begin(request.service, Status::PathDestinationUnknown, reply),
+        }
+    }
+
+    /// Executes a request that may be one to the ledger's class, and leaves its reply in `reply`.
+    #[inline(never)]
+    pub(crate) fn execute<R: Router>(
+        &mut self,
+        router: &mut R,
+        request: &[u8],
+        max_size: usize,
+        reply: &mut ReplyBuf,
+    )
+        requires request { 2 ≤ length request.now }
+        requires max_size_from { 8 ≤ max_size }
+        requires max_size_to { max_size ≤ REPLY_LIMIT }
+        ensures rule { turn_of (Some self.new) router.new reply.new.items
+            ≡ turn R.after R.answer (Some self.old) router.old max_size request.now }
+        ensures fits { length reply.new.items ≤ max_size }
+    {
+        match LedgerRequest::read(request) {
+            Some(own) => self.serve(router, own, max_size, reply),
+            None => router.execute(request, max_size, reply),
+        }
+    }
+}
+
+/// Serves a request to the class itself.
+fn serve_class(request: LedgerRequest<'_>, max_size: usize, reply: &mut ReplyBuf)
+    requires max_size_from { 8 ≤ max_size }
+    requires max_size_to { max_size ≤ REPLY_LIMIT }
+    ensures reply { reply.new.items
+        ≡ services.reply_to request.entry.service (services.class_answer max_size (request_in request.entry)) }
+    ensures fits { length reply.new.items ≤ max_size }
+{
+    if request.service != GET_ATTRIBUTE_SINGLE {
+        begin(request.service, Status::ServiceNotSupported, reply);
+        return;
+    }
+    write_single(
+        class_value(request.attribute),
+        request.data,
+        max_size,
+        reply,
+    );
+}
+
+/// Get_Attribute_Single: replies with an attribute's value.
+fn write_single(
+    value: Option<AttributeValue>,
+    data: &[u8],
+    max_size: usize,
+    reply: &mut ReplyBuf,
+)
+    requires max_size_from { 8 ≤ max_size }
+    requires max_size_to { max_size ≤ REPLY_LIMIT }
+    ensures reply { reply.new.items
+        ≡ services.reply_to GET_ATTRIBUTE_SINGLE (services.single max_size «data».now (option_map value_bytes value)) }
+    ensures fits { length reply.new.items ≤ max_size }
+{
+    // no such attribute: 0x14 (objects)
+    let Some(value) = value else {
+        begin(GET_ATTRIBUTE_SINGLE, Status::AttributeNotSupported, reply);
+        return;
+    };
+    if let Some(status) = size_fault(0, data) {
+        begin(GET_ATTRIBUTE_SINGLE, status, reply);
+        return;
+    }
+    match value {
+        AttributeValue::Uint(value) => answer(
+            GET_ATTRIBUTE_SINGLE,
+            &value.to_le_bytes(),
+            &[],
+            max_size,
+            reply,
+        ),
+        AttributeValue::Ulint(value) => answer(
+            GET_ATTRIBUTE_SINGLE,
+            &value.to_le_bytes(),
+            &[],
+            max_size,
+            reply,
+        ),
     }
 }
 

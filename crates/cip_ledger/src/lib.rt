@@ -8,6 +8,7 @@ mod service;
 mod slot;
 mod slots;
 mod status;
+mod value;
 
 pub use ledger::Ledger;
 pub use request::LEDGER;

@@ -1,6 +1,6 @@
 //! Replies of the ledger.
 ghost use Rattle.std.specs.Prelude.{◌≡◌, ◌≤◌, ◌+◌, ◌++◌, length};
-ghost use Rattle.cip_ledger.specs.Services.{reply_to, refusal, success, within};
+ghost use Rattle.cip_ledger.specs.Services.{reply_to, refusal, success, within, size_fault};
 
 use crate::status::Status;
 use cip_bytes::append;
@@ -43,4 +43,18 @@ pub(crate) fn answer(
     begin(service, Status::Success, reply);
     append(reply, front);
     append(reply, rest);
+}
+
+/// What is wrong with data that do not have exactly this many bytes.
+pub(crate) fn size_fault(size: usize, data: &[u8]) -> Option<Status>
+    ensures { result ≡ size_fault size «data».now }
+{
+    // not enough data: 0x13; too much: 0x15 (objects)
+    if data.len() < size {
+        return Some(Status::NotEnoughData);
+    }
+    if size < data.len() {
+        return Some(Status::TooMuchData);
+    }
+    None
 }

@@ -1,6 +1,6 @@
 //! The slots of the originators. No call after `new` takes memory.
-ghost use Rattle.std.specs.Prelude.{◌≡◌, ◌≤◌, ◌<◌, ◌==◌, nat_lt, not, [], length, option_map, IfOk, slice_index_or};
-ghost use Rattle.std.specs.List.{position};
+ghost use Rattle.std.specs.Prelude.{◌≡◌, ◌≤◌, ◌<◌, nat_lt, [], ◌∷◌, ◌++◌, length, option_map, Some, None, IfOk, IfSome, IfNone};
+ghost use Rattle.std.specs.Prelude.{slice_index_or, slice_set};
 ghost use Rattle.cip_ledger.specs.Ledger.{SlotState, slot_of, with_slot, without_slot};
 ghost use Rattle.cip_ledger.specs.Services.{KEPT_LIMIT};
 ghost use Rattle.cip_ledger.specs.Slots.{slots_in};
@@ -94,11 +94,19 @@ impl Slots {
     }
 }
 
-/// Where the slot of an originator is.
+/// Where the slot of an originator is, `None` if it has none.
 fn index_of(taken: &[Slot], originator: u64) -> Option<usize>
-    ensures { result ≡ position (λ slot. slot.originator == originator) taken.now }
+    ensures found { IfSome result (λ index. (index < length taken.now)
+        × ((d : SlotState) → slot_of originator taken.now ≡ Some (slice_index_or taken.now index d))) }
+    ensures put { IfSome result (λ index. (slot : SlotState) → slot.originator ≡ originator →
+        with_slot slot taken.now ≡ slice_set taken.now index slot) }
+    ensures missing { IfNone result ((slot_of originator taken.now ≡ None)
+        × ((slot : SlotState) → slot.originator ≡ originator → with_slot slot taken.now ≡ taken.now ++ slot ∷ [])) }
 {
-    taken
-        .iter()
-        .position(|slot| slot.originator() == originator)
+    for index in 0..taken.len() {
+        if taken[index].originator() == originator {
+            return Some(index);
+        }
+    }
+    None
 }
