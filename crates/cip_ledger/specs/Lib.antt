@@ -8,3 +8,4 @@ pub mod Status
 pub mod Turn
 pub mod Verdicts
 pub mod Views
+pub mod TooLarge

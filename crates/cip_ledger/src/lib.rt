@@ -4,6 +4,7 @@
 mod ledger;
 mod reply;
 mod request;
+mod router;
 mod service;
 mod slot;
 mod slots;
@@ -12,5 +13,6 @@ mod value;
 
 pub use ledger::Ledger;
 pub use request::LEDGER;
+pub use router::LedgerRouter;
 pub use service::{DO_ONCE, FORGET, GET_LAST};
 pub use slot::KEPT_LIMIT;
