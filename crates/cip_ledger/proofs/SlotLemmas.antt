@@ -1,8 +1,8 @@
 -- The slots of a ledger, as a list that is searched from the front.
-use Rattle.std.proofs.Common.{◌≡◌, ◌≢◌, ℕ, zero, suc, ◌<◌, ◌≤◌, ◌==◌, Bool, true, false, if◌then◌else◌, unwrap_or, Some, None, List, [], ◌∷◌, ◌++◌, length, get_or, set, refl, ap, sym, ◌∙◌, arith}
+use Rattle.std.proofs.Common.{◌≡◌, ◌≢◌, ℕ, zero, suc, ◌<◌, ◌≤◌, ◌==◌, Bool, true, false, if◌then◌else◌, not, unwrap_or, Some, None, List, [], ◌∷◌, ◌++◌, length, get_or, set, refl, ap, sym, ◌∙◌, arith}
 use Rattle.std.proofs.lemmas.Bool.{eq-eqb, ne_eqb, eqb-true}
 use Rattle.std.proofs.lemmas.List.{get_or_read}
-use Rattle.cip_ledger.specs.Ledger.{SlotState, slot_of, with_slot}
+use Rattle.cip_ledger.specs.Ledger.{SlotState, slot_of, with_slot, without_slot}
 
 -- none of the first slots is this originator's
 abbrev pub NoneBefore : ℕ → ℕ → List SlotState → Type 0
@@ -70,3 +70,55 @@ slot_of-originator (first ∷ taken) originator slot found =
         (if is then Some first else slot_of originator taken) ≡ Some slot → slot.originator ≡ originator
     go true later h e = ap (λ o. (unwrap_or o slot).originator) (sym e) ∙ eqb-true first.originator originator h
     go false later h e = later e
+
+-- the slot of the originator that was given one
+pub slot_of-with_slot : (taken : List SlotState) (slot : SlotState) → slot_of slot.originator (with_slot slot taken) ≡ Some slot
+slot_of-with_slot [] slot = rw (eq-eqb slot.originator slot.originator refl) refl
+slot_of-with_slot (first ∷ taken) slot =
+    go (first.originator == slot.originator) (slot_of-with_slot taken slot) refl
+  where
+    go : (is : Bool) → slot_of slot.originator (with_slot slot taken) ≡ Some slot → (first.originator == slot.originator) ≡ is →
+        slot_of slot.originator (if is then slot ∷ taken else first ∷ with_slot slot taken) ≡ Some slot
+    go true later h = rw (eq-eqb slot.originator slot.originator refl) refl
+    go false later h = rw h later
+
+-- and the slots of others
+pub slot_of-with_other : (taken : List SlotState) (slot : SlotState) (originator : ℕ) → slot.originator ≢ originator →
+    slot_of originator (with_slot slot taken) ≡ slot_of originator taken
+slot_of-with_other [] slot originator other = rw (ne_eqb slot.originator originator other) refl
+slot_of-with_other (first ∷ taken) slot originator other =
+    go (first.originator == slot.originator) (slot_of-with_other taken slot originator other) refl
+  where
+    go : (is : Bool) → slot_of originator (with_slot slot taken) ≡ slot_of originator taken →
+        (first.originator == slot.originator) ≡ is →
+        slot_of originator (if is then slot ∷ taken else first ∷ with_slot slot taken) ≡ slot_of originator (first ∷ taken)
+    go true later h =
+        let first_is = eqb-true first.originator slot.originator h in
+        rw (ne_eqb slot.originator originator other, ne_eqb first.originator originator (λ e. other (sym first_is ∙ e))) refl
+    go false later h = ap (λ found. if first.originator == originator then Some first else found) later
+
+-- the originator whose slot was freed has none
+pub slot_of-without_slot : (taken : List SlotState) (originator : ℕ) → slot_of originator (without_slot originator taken) ≡ None
+slot_of-without_slot [] originator = refl
+slot_of-without_slot (first ∷ taken) originator =
+    go (first.originator == originator) (slot_of-without_slot taken originator) refl
+  where
+    go : (is : Bool) → slot_of originator (without_slot originator taken) ≡ None → (first.originator == originator) ≡ is →
+        slot_of originator (if not is then first ∷ without_slot originator taken else without_slot originator taken) ≡ None
+    go true later h = later
+    go false later h = rw h later
+
+-- and the slots of others
+pub slot_of-without_other : (taken : List SlotState) (freed originator : ℕ) → freed ≢ originator →
+    slot_of originator (without_slot freed taken) ≡ slot_of originator taken
+slot_of-without_other [] freed originator other = refl
+slot_of-without_other (first ∷ taken) freed originator other =
+    go (first.originator == freed) (slot_of-without_other taken freed originator other) refl
+  where
+    go : (is : Bool) → slot_of originator (without_slot freed taken) ≡ slot_of originator taken → (first.originator == freed) ≡ is →
+        slot_of originator (if not is then first ∷ without_slot freed taken else without_slot freed taken)
+        ≡ slot_of originator (first ∷ taken)
+    go true later h =
+        let first_is = eqb-true first.originator freed h in
+        rw (ne_eqb first.originator originator (λ e. other (sym first_is ∙ e))) later
+    go false later h = ap (λ found. if first.originator == originator then Some first else found) later

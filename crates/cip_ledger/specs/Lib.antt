@@ -9,3 +9,5 @@ pub mod Turn
 pub mod Verdicts
 pub mod Views
 pub mod TooLarge
+pub mod Laws
+pub mod Runs
