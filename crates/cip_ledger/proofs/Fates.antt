@@ -1,5 +1,5 @@
 -- What the fate of a request says of the request and of the ledger.
-use Rattle.std.proofs.Common.{◌≡◌, ◌≢◌, ◌⊎◌, ℕ, ◌+◌, ◌<◌, ◌≤◌, ◌==◌, ◌&&◌, nat_lt, Bool, true, false, not, if◌then◌else◌, Option, Some, None, unwrap_or, List, [], ◌∷◌, ◌++◌, length, refl, ap, sym, ◌∙◌, subst, arith, length-drop}
+use Rattle.std.proofs.Common.{◌≡◌, ◌≢◌, ◌⊎◌, inl, inr, ℕ, ◌+◌, ◌<◌, ◌≤◌, ◌==◌, ◌&&◌, nat_lt, Bool, true, false, not, if◌then◌else◌, Option, Some, None, unwrap_or, List, [], ◌∷◌, ◌++◌, length, refl, ap, sym, ◌∙◌, subst, arith, length-drop}
 use Rattle.std.specs.Prelude.{⊤}
 use Rattle.std.proofs.lemmas.Bool.{eq-eqb, ne_eqb, eqb-true, eqb-false, ltb-false}
 use Rattle.cip_bytes.specs.Numbers.{le, number_at}
@@ -241,3 +241,34 @@ module _ (ledger : LedgerState) (max_size : ℕ) (request : LedgerRequest) where
 
   pub action-means : MeansAction ledger max_size (command_by (Some request)) (forgotten_by (Some request)) (action_of ledger max_size request)
   action-means = instance_means (request.instance == 0) (request.instance == 1) refl refl
+
+-- ---- the fate of a request
+
+pub record IsServed (ledger : Option LedgerState) (request : Request) (service : ℕ) (action : Action) : Type 0 where
+  pub state : LedgerState
+  pub ledger_is : ledger ≡ Some state
+  pub asked : LedgerRequest
+  pub asked_is : ledger_request request.1 ≡ Some asked
+  pub service_is : asked.service ≡ service
+  pub means : MeansAction state request.0 (command_given request) (originator_forgotten request) action
+
+abbrev pub Means : Option LedgerState → Request → Fate → Type 0
+Means ledger request Passed = (ledger ≡ None) ⊎ (ledger_request request.1 ≡ None)
+Means ledger request (Served service action) = IsServed ledger request service action
+
+asked_means : (ledger : LedgerState) (request : Request) (asked : Option LedgerRequest) → ledger_request request.1 ≡ asked →
+    Means (Some ledger) request (fate_of ledger request.0 asked)
+asked_means ledger request None e = inr e
+asked_means ledger request (Some asked) e = record {
+  state = ledger;
+  ledger_is = refl;
+  asked = asked;
+  asked_is = e;
+  service_is = refl;
+  means = subst (λ o. MeansAction ledger request.0 (command_by o) (forgotten_by o) (action_of ledger request.0 asked)) (sym e)
+      (action-means ledger request.0 asked);
+}
+
+pub fate-means : (ledger : Option LedgerState) (request : Request) → Means ledger request (fate ledger request.0 request.1)
+fate-means None request = inl refl
+fate-means (Some ledger) request = asked_means ledger request (ledger_request request.1) refl

@@ -1,3 +1,5 @@
 pub mod SlotLemmas
 pub mod RequestLemmas
 pub mod Fates
+pub mod Settled
+pub mod Answered
