@@ -3,3 +3,5 @@ pub mod RequestLemmas
 pub mod Fates
 pub mod Settled
 pub mod Answered
+pub mod Executions
+pub mod Lives

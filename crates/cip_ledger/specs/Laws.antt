@@ -1,5 +1,5 @@
 -- What holds of a ledger over every list of requests, in whatever order they come.
-use Rattle.std.specs.Prelude.{◌≡◌, ◌≢◌, ◌⊎◌, ⊤, ℕ, ◌+◌, ◌<◌, ◌≤◌, Option, Some, None, IsSome, option_map, List, [], ◌∷◌, ◌++◌, length, map}
+use Rattle.std.specs.Prelude.{◌≡◌, ◌≢◌, ◌⊎◌, ⊤, ℕ, ◌+◌, ◌<◌, ◌≤◌, Option, Some, None, option_map, List, [], ◌∷◌, ◌++◌, length, map}
 use Rattle.std.specs.List.{AllByRecursion}
 use Rattle.cip_objects.specs.Router.{general_status, RepliesWellFormed}
 use Rattle.cip_ledger.specs.declared.router.LedgerRouter.{LedgerRouter}
@@ -110,7 +110,7 @@ HaveOwnNumbers (life ∷ lives) = AllByRecursion (λ other. life.number ≢ othe
 module _ {M : Type 0} (after : M → ℕ → List ℕ → M) (answer : M → ℕ → List ℕ → List ℕ) where
   -- the request is the originator's command of this number, and the ledger answers it with success
   pub record Succeeds (node : LedgerRouter M) (request : Request) (originator number : ℕ) : Type 0 where
-    pub ledger : IsSome node.ledger
+    pub has_ledger : node.ledger ≢ None
     pub command : Command
     pub given : command_given request ≡ Some command
     pub originator_is : command.originator ≡ originator
