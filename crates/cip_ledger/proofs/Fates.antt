@@ -74,7 +74,6 @@ within-fits max_size content least = go (nat_lt max_size (HEAD_SIZE + length con
     go false h = ltb-false max_size (HEAD_SIZE + length content) h
 
 module _ (ledger : LedgerState) (max_size : ℕ) (bytes : List ℕ) (forgotten : Option ℕ) where
-
   kept_means : (slot : SlotState) (tight : Bool) → slot_of (command_of bytes).originator ledger.taken ≡ Some slot → slot.number ≡ (command_of bytes).number →
       nat_lt max_size (HEAD_SIZE + length (DONE ∷ slot.reply)) ≡ tight →
       MeansAction ledger max_size (Some (command_of bytes)) forgotten
@@ -186,7 +185,6 @@ module _ (ledger : LedgerState) (max_size : ℕ) (bytes : List ℕ) where
 -- ---- the service of a request
 
 module _ (ledger : LedgerState) (max_size : ℕ) (request : LedgerRequest) where
-
   only_replies : (once forgets : Bool) (answer : Answer) → once ≡ false →
       (8 ≤ max_size → HEAD_SIZE + length answer.content ≤ max_size) →
       MeansAction ledger max_size (if once then command_in_data request.data else None)

@@ -5,3 +5,4 @@ pub mod Settled
 pub mod Answered
 pub mod Executions
 pub mod Lives
+pub mod Forms

@@ -206,12 +206,7 @@ impl Ledger {
             GET_LAST => self.get_last(request.data, max_size, reply),
             FORGET => self.forget(request.data, reply),
             GET_ATTRIBUTE_SINGLE => {
-                write_single(
-                    self.value(request.attribute),
-                    request.data,
-                    max_size,
-                    reply,
-                )
+                write_single(self.value(request.attribute), request.data, max_size, reply)
             }
             // the ledger does not have this service: 0x08 (objects)
             _ => begin(request.service, Status::ServiceNotSupported, reply),
@@ -286,12 +281,7 @@ fn serve_class(request: LedgerRequest<'_>, max_size: usize, reply: &mut ReplyBuf
 }
 
 /// Get_Attribute_Single: replies with an attribute's value.
-fn write_single(
-    value: Option<AttributeValue>,
-    data: &[u8],
-    max_size: usize,
-    reply: &mut ReplyBuf,
-)
+fn write_single(value: Option<AttributeValue>, data: &[u8], max_size: usize, reply: &mut ReplyBuf)
     requires max_size_from { 8 ≤ max_size }
     requires max_size_to { max_size ≤ REPLY_LIMIT }
     ensures reply { reply.new.items

@@ -1,6 +1,7 @@
 //! A ledger of commands: each is executed once, even if connections are lost and opened anew.
 #![tactic(auto)]
 
+pub mod laws;
 mod ledger;
 mod reply;
 mod request;

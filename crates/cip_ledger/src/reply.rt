@@ -22,13 +22,7 @@ pub(crate) fn begin(service: u8, status: Status, reply: &mut ReplyBuf)
 }
 
 /// Replies with data of two parts, if they fit the reply limit.
-pub(crate) fn answer(
-    service: u8,
-    front: &[u8],
-    rest: &[u8],
-    max_size: usize,
-    reply: &mut ReplyBuf,
-)
+pub(crate) fn answer(service: u8, front: &[u8], rest: &[u8], max_size: usize, reply: &mut ReplyBuf)
     requires parts { length front.now + length rest.now ≤ REPLY_LIMIT }
     requires max_size_from { 8 ≤ max_size }
     requires max_size_to { max_size ≤ REPLY_LIMIT }

@@ -12,6 +12,7 @@ pub const LEDGER: u16 = 0x65;
 
 /// The first byte of a path whose class has 8 bits, and of one whose class has 16. (Volume 1, logical segment.)
 const CLASS_8_BITS: u8 = 0x20;
+
 const CLASS_16_BITS: u8 = 0x21;
 
 /// A request to the ledger's class.
