@@ -1,15 +1,15 @@
 -- What the fate of a request says of the request and of the ledger.
-use Rattle.std.proofs.Common.{◌≡◌, ◌≢◌, ◌⊎◌, inl, inr, ℕ, ◌+◌, ◌<◌, ◌≤◌, ◌==◌, ◌&&◌, nat_lt, Bool, true, false, not, if◌then◌else◌, Option, Some, None, unwrap_or, List, [], ◌∷◌, ◌++◌, length, refl, ap, sym, ◌∙◌, subst, arith, length-drop}
+use Rattle.std.proofs.Common.{◌≡◌, ◌≢◌, ◌⊎◌, inl, inr, ℕ, ◌+◌, ◌*◌, ◌<◌, ◌≤◌, ◌==◌, ◌&&◌, nat_lt, Bool, true, false, not, if◌then◌else◌, Option, Some, None, unwrap_or, List, [], ◌∷◌, ◌++◌, length, drop, refl, ap, sym, ◌∙◌, subst, arith, length-drop}
 use Rattle.std.specs.Prelude.{⊤}
 use Rattle.std.proofs.lemmas.Bool.{eq-eqb, ne_eqb, eqb-true, eqb-false, ltb-false}
-use Rattle.cip_bytes.specs.Numbers.{le, number_at}
+use Rattle.cip_bytes.specs.Numbers.{le, number_at, words_of}
 use Rattle.cip_ledger.specs.declared.status.Status.{Status}
 use Rattle.cip_ledger.specs.declared.status.Status.TheVariants as statuses
 use Rattle.cip_ledger.specs.declared.service.TheConstants as services
 use Rattle.cip_ledger.specs.Status.{status_number}
 use Rattle.cip_ledger.specs.Ledger.{LedgerState, SlotState, slot_of}
 use Rattle.cip_ledger.specs.Requests.{LedgerRequest, Command, command_of, ledger_request}
-use Rattle.cip_ledger.specs.Services.{Answer, Action, Replies, Executes, Frees, refusal, refuses, success, within, size_fault, unless, DONE, KEPT_LIMIT, HEAD_SIZE, do_once, do_command, do_by_slot, do_new, get_last, last_in, forget, forget_in, single, value_named, class_answer, class_values, ledger_attributes, instance_action, action_of}
+use Rattle.cip_ledger.specs.Services.{Answer, Action, Replies, Executes, Frees, refusal, refuses, success, within, size_fault, unless, DONE, KEPT_LIMIT, HEAD_SIZE, do_once, do_command, do_by_slot, do_new, get_last, last_in, forget, forget_in, single, value_named, class_answer, class_values, get_attribute_list, list_answer, ledger_values, instance_action, action_of}
 use Rattle.cip_ledger.specs.Turn.{Fate, Passed, Served, fate, fate_of}
 use Rattle.cip_ledger.specs.Runs.{Request, slot_in, command_by, command_in_data, command_given, forgotten_by, forgotten_in_data, originator_forgotten}
 
@@ -64,14 +64,13 @@ no_command_of ledger max_size given forgotten answer none fits = record {
     no_some : (o : Option Command) (command : Command) → o ≡ None → o ≡ Some command → ⊥
     no_some o command none some = absurd (cc)
 
-within-fits : (max_size : ℕ) (content : List ℕ) → 8 ≤ max_size →
-    HEAD_SIZE + length (within max_size (success content)).content ≤ max_size
-within-fits max_size content least = go (nat_lt max_size (HEAD_SIZE + length content)) refl
+within-fits : (max_size : ℕ) (answer : Answer) → 8 ≤ max_size → HEAD_SIZE + length (within max_size answer).content ≤ max_size
+within-fits max_size answer least = go (nat_lt max_size (HEAD_SIZE + length answer.content)) refl
   where
-    go : (tight : Bool) → nat_lt max_size (HEAD_SIZE + length content) ≡ tight →
-        HEAD_SIZE + length (if tight then refusal statuses.ReplyDataTooLarge else success content).content ≤ max_size
+    go : (tight : Bool) → nat_lt max_size (HEAD_SIZE + length answer.content) ≡ tight →
+        HEAD_SIZE + length (if tight then refusal statuses.ReplyDataTooLarge else answer).content ≤ max_size
     go true h = omega (arith, least)
-    go false h = ltb-false max_size (HEAD_SIZE + length content) h
+    go false h = ltb-false max_size (HEAD_SIZE + length answer.content) h
 
 module _ (ledger : LedgerState) (max_size : ℕ) (bytes : List ℕ) (forgotten : Option ℕ) where
   kept_means : (slot : SlotState) (tight : Bool) → slot_of (command_of bytes).originator ledger.taken ≡ Some slot → slot.number ≡ (command_of bytes).number →
@@ -148,13 +147,21 @@ unless_fits max_size (Some status) answer least fits = omega (arith, least)
 
 last-fits : (max_size : ℕ) (found : Option SlotState) → 8 ≤ max_size → HEAD_SIZE + length (last_in max_size found).content ≤ max_size
 last-fits max_size None least = omega (arith, least)
-last-fits max_size (Some slot) least = within-fits max_size (le 4 slot.number ++ DONE ∷ slot.reply) least
+last-fits max_size (Some slot) least = within-fits max_size (success (le 4 slot.number ++ DONE ∷ slot.reply)) least
 
 single-fits : (max_size : ℕ) (bytes : List ℕ) (value : Option (List ℕ)) → 8 ≤ max_size →
     HEAD_SIZE + length (single max_size bytes value).content ≤ max_size
 single-fits max_size bytes None least = omega (arith, least)
 single-fits max_size bytes (Some value) least =
-    unless_fits max_size (size_fault 0 bytes) (within max_size (success value)) least (within-fits max_size value least)
+    unless_fits max_size (size_fault 0 bytes) (within max_size (success value)) least (within-fits max_size (success value) least)
+
+list-fits : (ledger : LedgerState) (max_size : ℕ) (bytes : List ℕ) (few : Bool) → 8 ≤ max_size →
+    HEAD_SIZE + length (if few then refusal statuses.NotEnoughData else unless (size_fault (2 + 2 * number_at 0 2 bytes) bytes) refusal
+    (within max_size (list_answer (ledger_values ledger) (number_at 0 2 bytes) (words_of (drop 2 bytes))))).content ≤ max_size
+list-fits ledger max_size bytes true least = omega (arith, least)
+list-fits ledger max_size bytes false least =
+    let answer = list_answer (ledger_values ledger) (number_at 0 2 bytes) (words_of (drop 2 bytes)) in
+    unless_fits max_size (size_fault (2 + 2 * number_at 0 2 bytes) bytes) (within max_size answer) least (within-fits max_size answer least)
 
 -- ---- Forget
 
@@ -192,26 +199,30 @@ module _ (ledger : LedgerState) (max_size : ℕ) (request : LedgerRequest) where
   only_replies true forgets answer e fits = absurd (cc)
   only_replies false forgets answer e fits = no_command_of ledger max_size None (if forgets then forgotten_in_data request.data else None) answer refl fits
 
-  service_means : (once last forgets get : Bool) → (request.service == services.DO_ONCE) ≡ once → (request.service == services.FORGET) ≡ forgets →
+  service_means : (once last forgets get list : Bool) → (request.service == services.DO_ONCE) ≡ once → (request.service == services.FORGET) ≡ forgets →
       MeansAction ledger max_size (if once then command_in_data request.data else None)
       (if forgets then forgotten_in_data request.data else None)
       (if once then do_once ledger max_size request.data
       else (if last then Replies (get_last ledger max_size request.data)
       else (if forgets then forget ledger request.data
-      else (if get then Replies (single max_size request.data (value_named (ledger_attributes ledger) request.attribute))
-      else refuses statuses.ServiceNotSupported))))
-  service_means true last forgets get h i =
+      else (if get then Replies (single max_size request.data (value_named (ledger_values ledger) request.attribute))
+      else (if list then Replies (get_attribute_list (ledger_values ledger) max_size request.data)
+      else refuses statuses.ServiceNotSupported)))))
+  service_means true last forgets get list h i =
       once_means ledger max_size request.data (if forgets then forgotten_in_data request.data else None) (nat_lt (length request.data) 22) refl
-  service_means false true forgets get h i =
+  service_means false true forgets get list h i =
       only_replies false forgets (get_last ledger max_size request.data) refl
       (λ least. unless_fits max_size (size_fault 8 request.data) (last_in max_size (slot_of (number_at 0 8 request.data) ledger.taken)) least
       (last-fits max_size (slot_of (number_at 0 8 request.data) ledger.taken) least))
-  service_means false false true get h i =
+  service_means false false true get list h i =
       forget_means ledger max_size request.data (nat_lt (length request.data) 12) (nat_lt 12 (length request.data)) refl refl
-  service_means false false false true h i =
-      only_replies false false (single max_size request.data (value_named (ledger_attributes ledger) request.attribute)) refl
-      (λ least. single-fits max_size request.data (value_named (ledger_attributes ledger) request.attribute) least)
-  service_means false false false false h i =
+  service_means false false false true list h i =
+      only_replies false false (single max_size request.data (value_named (ledger_values ledger) request.attribute)) refl
+      (λ least. single-fits max_size request.data (value_named (ledger_values ledger) request.attribute) least)
+  service_means false false false false true h i =
+      only_replies false false (get_attribute_list (ledger_values ledger) max_size request.data) refl
+      (λ least. list-fits ledger max_size request.data (nat_lt (length request.data) 2) least)
+  service_means false false false false false h i =
       refused_of ledger max_size None None statuses.ServiceNotSupported (λ e. absurd (omega (arith, e)))
 
   class-fits : (get : Bool) → 8 ≤ max_size →
@@ -233,7 +244,7 @@ module _ (ledger : LedgerState) (max_size : ℕ) (request : LedgerRequest) where
       (λ least. class-fits (request.service == services.GET_ATTRIBUTE_SINGLE) least)
   instance_means false true h i =
       service_means (request.service == services.DO_ONCE) (request.service == services.GET_LAST) (request.service == services.FORGET)
-      (request.service == services.GET_ATTRIBUTE_SINGLE) refl refl
+      (request.service == services.GET_ATTRIBUTE_SINGLE) (request.service == services.GET_ATTRIBUTE_LIST) refl refl
   instance_means false false h i =
       refused_of ledger max_size None None statuses.PathDestinationUnknown (λ e. absurd (omega (arith, e)))
 

@@ -6,3 +6,5 @@ pub mod Answered
 pub mod Executions
 pub mod Lives
 pub mod Forms
+pub mod Words
+pub mod Turns

@@ -116,8 +116,11 @@ forget ledger bytes =
 -- ---- attributes
 
 -- slots, taken slots, life
-abbrev pub ledger_attributes : LedgerState → Attributes
-ledger_attributes ledger = (1, le 2 ledger.slots) ∷ (2, le 2 (length ledger.taken)) ∷ (3, le 8 ledger.life) ∷ []
+abbrev pub values_of : ℕ → ℕ → ℕ → Attributes
+values_of slots taken life = (1, le 2 slots) ∷ (2, le 2 taken) ∷ (3, le 8 life) ∷ []
+
+abbrev pub ledger_values : LedgerState → Attributes
+ledger_values ledger = values_of ledger.slots (length ledger.taken) ledger.life
 
 -- the attributes of the class itself: revision, greatest instance, number of instances
 abbrev pub class_values : Attributes
@@ -130,6 +133,30 @@ value_named attributes (Some attribute) = attribute_in attribute attributes
 abbrev pub single : ℕ → List ℕ → Option (List ℕ) → Answer
 single max_size bytes None = refusal statuses.AttributeNotSupported
 single max_size bytes (Some value) = unless (size_fault 0 bytes) refusal (within max_size (success value))
+
+-- one attribute of a list: its number, its status, and its value if there is one
+abbrev pub list_entry : Attributes → ℕ → List ℕ
+list_entry attributes attribute = list_entry_of attribute (attribute_in attribute attributes)
+
+abbrev pub has_all : Attributes → List ℕ → Bool
+has_all attributes [] = true
+has_all attributes (attribute ∷ more) = is_some (attribute_in attribute attributes) && has_all attributes more
+
+abbrev pub list_status : Bool → Status
+list_status complete = if complete then statuses.Success else statuses.AttributeListError
+
+abbrev pub list_answer : Attributes → ℕ → List ℕ → Answer
+list_answer attributes count numbers = record {
+  status = list_status (has_all attributes numbers);
+  content = le 2 count ++ flat_map (list_entry attributes) numbers;
+}
+
+-- the data are a count and so many numbers of attributes; the reply has the count and each of them
+abbrev pub get_attribute_list : Attributes → ℕ → List ℕ → Answer
+get_attribute_list attributes max_size bytes =
+    if nat_lt (length bytes) 2 then refusal statuses.NotEnoughData
+    else unless (size_fault (2 + 2 * number_at 0 2 bytes) bytes) refusal
+    (within max_size (list_answer attributes (number_at 0 2 bytes) (words_of (drop 2 bytes))))
 
 -- ---- the service of a request
 
@@ -145,8 +172,10 @@ instance_action ledger max_size request =
     else (if request.service == services.GET_LAST then Replies (get_last ledger max_size request.data)
     else (if request.service == services.FORGET then forget ledger request.data
     else (if request.service == services.GET_ATTRIBUTE_SINGLE
-    then Replies (single max_size request.data (value_named (ledger_attributes ledger) request.attribute))
-    else refuses statuses.ServiceNotSupported)))
+    then Replies (single max_size request.data (value_named (ledger_values ledger) request.attribute))
+    else (if request.service == services.GET_ATTRIBUTE_LIST
+    then Replies (get_attribute_list (ledger_values ledger) max_size request.data)
+    else refuses statuses.ServiceNotSupported))))
 
 -- by the instance: 0 is the class itself
 abbrev pub action_of : LedgerState → ℕ → LedgerRequest → Action

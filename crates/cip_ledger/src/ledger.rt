@@ -8,15 +8,15 @@ ghost use Rattle.cip_ledger.specs.Services as services;
 ghost use Rattle.cip_ledger.specs.Turn.{turn, turn_of, acted, after_embedded, embedded_reply, ActsAlone};
 ghost use Rattle.cip_ledger.specs.Verdicts.{action_in, Fits};
 ghost use Rattle.cip_ledger.specs.Views.{command_in, request_in};
-ghost use Rattle.cip_ledger.specs.AttributeValue.{value_bytes};
+ghost use Rattle.cip_ledger.specs.AttributeValue.{values_in};
 
+use crate::attributes::{Attributes, class_value, write_single};
 use crate::reply::{HEAD_SIZE, answer, begin, size_fault};
 use crate::request::{Command, LedgerRequest, is_barred};
-use crate::service::{DO_ONCE, FORGET, GET_ATTRIBUTE_SINGLE, GET_LAST};
+use crate::service::{DO_ONCE, FORGET, GET_ATTRIBUTE_LIST, GET_ATTRIBUTE_SINGLE, GET_LAST};
 use crate::slot::KEPT_LIMIT;
 use crate::slots::Slots;
 use crate::status::Status;
-use crate::value::{AttributeValue, class_value};
 use byteorder::{ByteOrder, LittleEndian};
 use cip_objects::{REPLY_LIMIT, ReplyBuf, Router};
 use std::alloc::{AllocError, Global};
@@ -174,15 +174,14 @@ impl Ledger {
         begin(FORGET, Status::Success, reply);
     }
 
-    /// The value of an attribute of the instance.
-    fn value(&self, attribute: Option<u16>) -> Option<AttributeValue>
-        ensures { option_map value_bytes result ≡ services.value_named (services.ledger_attributes self.now) attribute }
+    /// The attributes of the instance.
+    fn attributes(&self) -> Attributes
+        ensures { values_in result ≡ services.ledger_values self.now }
     {
-        match attribute {
-            Some(1) => Some(AttributeValue::Uint(self.slots.limit())),
-            Some(2) => Some(AttributeValue::Uint(self.slots.taken())),
-            Some(3) => Some(AttributeValue::Ulint(self.life)),
-            _ => None,
+        Attributes {
+            slots: self.slots.limit(),
+            taken: self.slots.taken(),
+            life: self.life,
         }
     }
 
@@ -206,8 +205,10 @@ impl Ledger {
             GET_LAST => self.get_last(request.data, max_size, reply),
             FORGET => self.forget(request.data, reply),
             GET_ATTRIBUTE_SINGLE => {
-                write_single(self.value(request.attribute), request.data, max_size, reply)
+                let value = self.attributes().named(request.attribute);
+                write_single(value, request.data, max_size, reply);
             }
+            GET_ATTRIBUTE_LIST => self.attributes().write_list(request.data, max_size, reply),
             // the ledger does not have this service: 0x08 (objects)
             _ => begin(request.service, Status::ServiceNotSupported, reply),
         }
@@ -278,41 +279,6 @@ fn serve_class(request: LedgerRequest<'_>, max_size: usize, reply: &mut ReplyBuf
         max_size,
         reply,
     );
-}
-
-/// Get_Attribute_Single: replies with an attribute's value.
-fn write_single(value: Option<AttributeValue>, data: &[u8], max_size: usize, reply: &mut ReplyBuf)
-    requires max_size_from { 8 ≤ max_size }
-    requires max_size_to { max_size ≤ REPLY_LIMIT }
-    ensures reply { reply.new.items
-        ≡ services.reply_to GET_ATTRIBUTE_SINGLE (services.single max_size «data».now (option_map value_bytes value)) }
-    ensures fits { length reply.new.items ≤ max_size }
-{
-    // no such attribute: 0x14 (objects)
-    let Some(value) = value else {
-        begin(GET_ATTRIBUTE_SINGLE, Status::AttributeNotSupported, reply);
-        return;
-    };
-    if let Some(status) = size_fault(0, data) {
-        begin(GET_ATTRIBUTE_SINGLE, status, reply);
-        return;
-    }
-    match value {
-        AttributeValue::Uint(value) => answer(
-            GET_ATTRIBUTE_SINGLE,
-            &value.to_le_bytes(),
-            &[],
-            max_size,
-            reply,
-        ),
-        AttributeValue::Ulint(value) => answer(
-            GET_ATTRIBUTE_SINGLE,
-            &value.to_le_bytes(),
-            &[],
-            max_size,
-            reply,
-        ),
-    }
 }
 
 /// What is to be done with a command that is new.

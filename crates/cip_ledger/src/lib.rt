@@ -1,6 +1,7 @@
 //! A ledger of commands: each is executed once, even if connections are lost and opened anew.
 #![tactic(auto)]
 
+mod attributes;
 pub mod laws;
 mod ledger;
 mod reply;
@@ -10,7 +11,6 @@ mod service;
 mod slot;
 mod slots;
 mod status;
-mod value;
 
 pub use ledger::Ledger;
 pub use request::LEDGER;

@@ -1,5 +1,6 @@
 //! Replies of the ledger.
-ghost use Rattle.std.specs.Prelude.{◌≡◌, ◌≤◌, ◌+◌, ◌++◌, length};
+ghost use Rattle.std.specs.Prelude.{◌≡◌, ◌≤◌, ◌+◌, ◌++◌, length, slice_set};
+ghost use Rattle.cip_ledger.specs.Status.{status_number};
 ghost use Rattle.cip_ledger.specs.Services.{reply_to, refusal, success, within, size_fault};
 
 use crate::status::Status;
@@ -19,6 +20,14 @@ pub(crate) fn begin(service: u8, status: Status, reply: &mut ReplyBuf)
     reply.push(0);
     reply.push(status.number());
     reply.push(0);
+}
+
+/// Puts the status into a reply that was begun.
+pub(crate) fn set_status(status: Status, reply: &mut ReplyBuf)
+    requires { 4 ≤ length reply.old.items }
+    ensures { reply.new.items ≡ slice_set reply.old.items 2 (status_number status) }
+{
+    reply.as_mut_slice()[2] = status.number();
 }
 
 /// Replies with data of two parts, if they fit the reply limit.
