@@ -1,9 +1,9 @@
 //! The ledger: what it does with each request.
 //! Text: docs/PROTOCOL.md, "The command ledger".
-ghost use Rattle.std.specs.Prelude.{◌≡◌, ◌≤◌, [], ◌∷◌, ◌++◌, length, Some, option_map, IfOk};
-ghost use Rattle.cip_ledger.specs.Ledger.{empty_ledger};
+ghost use Rattle.std.specs.Prelude.{◌≡◌, ◌<◌, ◌≤◌, ◌∷◌, length, Some, None, IfOk};
+ghost use Rattle.cip_ledger.specs.Ledger.{empty_ledger, slot_of};
 ghost use Rattle.cip_ledger.specs.Requests as requests;
-ghost use Rattle.cip_ledger.specs.Services.{do_command, Replies, KEPT_LIMIT};
+ghost use Rattle.cip_ledger.specs.Services.{do_command, Executes, KEPT_LIMIT};
 ghost use Rattle.cip_ledger.specs.Services as services;
 ghost use Rattle.cip_ledger.specs.Turn.{turn, turn_of, acted, after_embedded, embedded_reply, ActsAlone};
 ghost use Rattle.cip_ledger.specs.Verdicts.{action_in, Fits};
@@ -18,6 +18,7 @@ use crate::slot::KEPT_LIMIT;
 use crate::slots::Slots;
 use crate::status::Status;
 use byteorder::{ByteOrder, LittleEndian};
+use cip_bytes::append;
 use cip_objects::{REPLY_LIMIT, ReplyBuf, Router};
 use std::alloc::{AllocError, Global};
 use std::marker::Model;
@@ -121,13 +122,28 @@ impl Ledger {
         match self.verdict(command, max_size) {
             Verdict::Refuses(status) => begin(DO_ONCE, status, reply),
             Verdict::Repeats(kept) => answer(DO_ONCE, &[DONE], kept, max_size, reply),
-            Verdict::Executes => {
-                execute_embedded(router, command.request, reply);
-                self.slots
-                    .keep(command.originator, command.number, reply.as_slice());
-                put_head(reply);
-            }
+            Verdict::Executes => self.execute_command(router, command, reply),
         }
+    }
+
+    /// Executes a command that is new, and keeps its reply.
+    fn execute_command<R: Router>(
+        &mut self,
+        router: &mut R,
+        command: Command<'_>,
+        reply: &mut ReplyBuf,
+    )
+        requires free { slot_of command.originator self.old.taken ≡ None → length self.old.taken < self.old.slots }
+        requires request { 2 ≤ length command.request.now }
+        ensures rule { turn_of (Some self.new) router.new reply.new.items
+            ≡ acted R.after R.answer (Executes (command_in command.entry)) DO_ONCE (Some self.old) router.old }
+        ensures fits { length reply.new.items ≤ LONGEST_DONE }
+    {
+        execute_embedded(router, command.request, reply);
+        let index = self
+            .slots
+            .keep(command.originator, command.number, reply.as_slice());
+        write_done(self.slots.reply(index), reply);
     }
 
     /// Get_Last: the number of an originator's last command, and the reply to it.
@@ -307,14 +323,13 @@ fn execute_embedded<R: Router>(router: &mut R, request: &[u8], reply: &mut Reply
     router.execute(request, KEPT_LIMIT, reply);
 }
 
-/// Puts the head of a reply to Do_Once, and the state, before the reply to an embedded request.
-fn put_head(reply: &mut ReplyBuf)
-    requires { length reply.old.items ≤ KEPT_LIMIT }
-    ensures { reply.new.items ≡ services.reply_to DO_ONCE (services.success (DONE ∷ reply.old.items)) }
+/// Replies that a command is done, with the reply to its embedded request.
+fn write_done(kept: &[u8], reply: &mut ReplyBuf)
+    requires { length kept.now ≤ KEPT_LIMIT }
+    ensures reply { reply.new.items ≡ services.reply_to DO_ONCE (services.success (DONE ∷ kept.now)) }
+    ensures fits { length reply.new.items ≤ LONGEST_DONE }
 {
-    reply.insert(0, DONE);
-    reply.insert(0, 0);
-    reply.insert(0, Status::Success.number());
-    reply.insert(0, 0);
-    reply.insert(0, DO_ONCE | 0x80);
+    begin(DO_ONCE, Status::Success, reply);
+    reply.push(DONE);
+    append(reply, kept);
 }
