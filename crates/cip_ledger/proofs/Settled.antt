@@ -1,16 +1,16 @@
 -- A slot once a command was answered with success, over every list of requests.
 use Rattle.std.proofs.Common.{◌≡◌, ◌≢◌, ◌⊎◌, inl, inr, ℕ, ◌<◌, ◌==◌, Bool, true, false, if◌then◌else◌, Option, Some, None, unwrap_or, List, [], ◌∷◌, ◌++◌, refl, ap, sym, ◌∙◌, subst, arith}
-use Rattle.std.specs.Prelude.{⊤, option_map}
+use Rattle.std.specs.Prelude.{option_map}
 use Rattle.std.specs.List.{AllByRecursion}
 use Rattle.std.proofs.lemmas.Bool.{eqb-true, eqb-false}
 use Rattle.cip_ledger.specs.declared.router.LedgerRouter.{LedgerRouter}
-use Rattle.cip_ledger.specs.Ledger.{LedgerState, SlotState, slot_of, with_slot, without_slot}
+use Rattle.cip_ledger.specs.Ledger.{LedgerState, SlotState, slot_of}
 use Rattle.cip_ledger.specs.Requests.{Command, is_barred}
 use Rattle.cip_ledger.specs.Services.{Replies, Executes, Frees, KEPT_LIMIT}
 use Rattle.cip_ledger.specs.Turn.{Fate, Passed, Served, fate, turn_by, with_executed, with_freed, embedded_reply}
-use Rattle.cip_ledger.specs.Runs.{Request, slot_in, command_given, originator_forgotten, Event, Executed, Freed}
-use Rattle.cip_ledger.specs.Runs.{turn_at, node_of, next, node_after, events_by, journal, embedded_in, reached_by, reached, router_after}
-use Rattle.cip_ledger.specs.Laws.{UntilFreed, Rises, HasNoDoubles, IsNotFreed, IsOfAnother, AreOfLife}
+use Rattle.cip_ledger.specs.Runs.{Request, slot_in, Event, Executed, Freed}
+use Rattle.cip_ledger.specs.Runs.{node_of, next, node_after, events_by, journal, reached_by, reached, router_after}
+use Rattle.cip_ledger.specs.Laws.{UntilFreed, Rises, IsNotFreed, IsOfAnother, AreOfLife}
 use Rattle.cip_ledger.proofs.SlotLemmas.{slot_of-with_slot, slot_of-with_other, slot_of-without_other}
 use Rattle.cip_ledger.proofs.Fates.{IsNewAt, Means, fate-means}
 

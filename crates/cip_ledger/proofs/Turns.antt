@@ -1,10 +1,10 @@
 -- Turns of services that no router takes part in.
-use Rattle.std.proofs.Common.{◌≡◌, ℕ, Option, Some, List, ◌∷◌, refl, ap, sym, ◌∙◌, subst}
+use Rattle.std.proofs.Common.{◌≡◌, ℕ, Option, Some, List, ◌∷◌, ap, sym, ◌∙◌, subst}
 use Rattle.cip_ledger.specs.declared.service.TheConstants as services
 use Rattle.cip_ledger.specs.Ledger.{LedgerState, SlotState, with_slot}
 use Rattle.cip_ledger.specs.Requests.{LedgerRequest, Command}
 use Rattle.cip_ledger.specs.Services.{Action, Replies, Executes, Frees, forget, get_attribute_list, ledger_values, instance_action, reply_to, success, DONE}
-use Rattle.cip_ledger.specs.Turn.{Turn, turn_of, acted, ActsAlone, with_freed, with_executed, embedded_reply, after_embedded}
+use Rattle.cip_ledger.specs.Turn.{turn_of, acted, ActsAlone, with_freed, with_executed, embedded_reply, after_embedded}
 
 module _ {M : Type 0} (after : M → ℕ → List ℕ → M) (answer : M → ℕ → List ℕ → List ℕ) (old : LedgerState) (router : M) where
   acts-acted : (action : Action) (service : ℕ) (new : LedgerState) (text : List ℕ) → ActsAlone old action service new text →

@@ -108,14 +108,17 @@ HaveOwnNumbers (life ∷ lives) = AllByRecursion (λ other. life.number ≢ othe
 -- ---- the laws
 
 module _ {M : Type 0} (after : M → ℕ → List ℕ → M) (answer : M → ℕ → List ℕ → List ℕ) where
-  -- the request is the originator's command of this number, and the ledger answers it with success
-  pub record Succeeds (node : LedgerRouter M) (request : Request) (originator number : ℕ) : Type 0 where
+  -- the request is the originator's command of this number, and the ledger answers it with this status
+  pub record IsAnswered (node : LedgerRouter M) (request : Request) (originator number status : ℕ) : Type 0 where
     pub has_ledger : node.ledger ≢ None
     pub command : Command
     pub given : command_given request ≡ Some command
     pub originator_is : command.originator ≡ originator
     pub number_is : command.number ≡ number
-    pub status : general_status (answer_to after answer node request) ≡ 0
+    pub status_is : general_status (answer_to after answer node request) ≡ status
+
+  abbrev pub Succeeds : LedgerRouter M → Request → ℕ → ℕ → Type 0
+  Succeeds node request originator number = IsAnswered node request originator number 0
 
   -- the router is as if it alone had executed what reached it
   abbrev pub router_law : Type 0
@@ -137,10 +140,11 @@ module _ {M : Type 0} (after : M → ℕ → List ℕ → M) (answer : M → ℕ
   abbrev pub once_law : Type 0
   once_law = (node : LedgerRouter M) (requests : List Request) → HasNoDoubles (journal after answer node requests)
 
-  -- once a number was answered with success, only greater ones of that originator are executed
+  -- once a number was answered with success, or with 0x0c as a greater one was executed, only greater ones of that
+  -- originator are executed
   abbrev pub never_again_law : Type 0
-  never_again_law = (node : LedgerRouter M) (request : Request) (later : List Request) (originator number : ℕ) →
-      Succeeds node request originator number →
+  never_again_law = (node : LedgerRouter M) (request : Request) (later : List Request) (originator number status : ℕ) →
+      IsAnswered node request originator number status → (status ≡ 0) ⊎ (status ≡ 0x0c) →
       UntilFreed originator (λ command. number < command.number)
       (journal after answer (next after answer node request) later)
 

@@ -29,8 +29,8 @@ pub fn each_command_once<R: Router>()
     ensures { once_law R.after R.answer }
 {}
 
-/// Once a number was answered with success, only greater numbers of its originator are executed, until its slot is
-/// freed.
+/// Once a number was answered with success, or with 0x0c as a greater one was executed, only greater numbers of its
+/// originator are executed, until its slot is freed.
 pub fn never_again<R: Router>()
     ensures { never_again_law R.after R.answer }
 {}

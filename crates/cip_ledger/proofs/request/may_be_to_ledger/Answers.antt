@@ -1,4 +1,4 @@
-use Rattle.std.proofs.Common.{◌≡◌, ◌≢◌, ℕ, List, false, inl, inr, ◌∙◌, sym, arith, slice_index}
+use Rattle.std.proofs.Common.{◌≡◌, ◌≢◌, ℕ, List, inl, inr, ◌∙◌, arith, slice_index}
 use Rattle.std.proofs.lemmas.Bool.{eqb-false}
 use Rattle.cip_ledger.proofs.RequestLemmas.{MayBeToLedger, ledger_request-other}
 use Rattle.cip_ledger.proofs.request.may_be_to_ledger.Goals as goal
