@@ -8,7 +8,7 @@ use Rattle.cip_ledger.specs.Ledger.{LedgerState, SlotState, empty_ledger}
 use Rattle.cip_ledger.specs.Requests.{Command, ledger_request}
 use Rattle.cip_ledger.specs.Services.{reply_to, success, DONE, KEPT_LIMIT, HEAD_SIZE}
 use Rattle.cip_ledger.specs.Turn.{turn_of, embedded_reply}
-use Rattle.cip_ledger.specs.Runs.{Request, slot_in, command_given, originator_forgotten, Event, Executed, Freed}
+use Rattle.cip_ledger.specs.Runs.{Request, slot_in, command_given, forgotten, Event, Executed, Freed}
 use Rattle.cip_ledger.specs.Runs.{answer_to, turn_at, next, node_after, journal, reached, router_after}
 
 -- ---- words on events
@@ -89,7 +89,7 @@ pub record IsNew (ledger : LedgerState) (command : Command) : Type 0 where
 -- the request is neither a command of this originator nor Forget of its slot
 pub record IsOfAnother (originator : ℕ) (request : Request) : Type 0 where
   pub command : option_map (λ command. command.originator) (command_given request) ≢ Some originator
-  pub forget : originator_forgotten request ≢ Some originator
+  pub forget : (number : ℕ) → forgotten request ≢ Some (originator, number)
 
 -- one life of a device: how many slots its ledger has, its number, the router as it begins, the requests that come
 pub record Life (M : Type 0) : Type 0 where
@@ -172,6 +172,17 @@ module _ {M : Type 0} (after : M → ℕ → List ℕ → M) (answer : M → ℕ
   others_law = (node : LedgerRouter M) (requests : List Request) (originator : ℕ) →
       AllByRecursion (IsOfAnother originator) requests →
       slot_in originator (node_after after answer node requests).ledger ≡ slot_in originator node.ledger
+
+  -- a slot is freed by Forget with its number alone, and is free then
+  pub record IsForgotten (node : LedgerRouter M) (request : Request) (originator : ℕ) : Type 0 where
+    pub slot : SlotState
+    pub found : slot_in originator node.ledger ≡ Some slot
+    pub named : forgotten request ≡ Some (originator, slot.number)
+    pub free : slot_in originator (next after answer node request).ledger ≡ None
+
+  abbrev pub frees_law : Type 0
+  frees_law = (node : LedgerRouter M) (request : Request) (originator : ℕ) →
+      journal after answer node (request ∷ []) ≡ Freed originator ∷ [] → IsForgotten node request originator
 
   -- a new command is executed, if the longest reply fits
   abbrev pub executes_law : Type 0
