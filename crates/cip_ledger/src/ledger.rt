@@ -15,7 +15,7 @@ use crate::reply::{HEAD_SIZE, answer, begin, size_fault};
 use crate::request::{Command, LedgerRequest, is_barred};
 use crate::service::{DO_ONCE, FORGET, GET_ATTRIBUTE_LIST, GET_ATTRIBUTE_SINGLE, GET_LAST};
 use crate::slot::KEPT_LIMIT;
-use crate::slots::Slots;
+use crate::slots::{MOST_ORIGINATORS, Slots};
 use crate::status::Status;
 use byteorder::{ByteOrder, LittleEndian};
 use cip_bytes::append;
@@ -62,7 +62,7 @@ impl Ledger {
     /// `AllocError` if memory is refused.
     pub fn new(alloc: Global, originators: u16, life: u64) -> Result<Ledger, AllocError>
         requires least { 1 ≤ originators }
-        requires most { originators ≤ 64 }
+        requires most { originators ≤ MOST_ORIGINATORS }
         ensures { IfOk result (λ ledger. ledger ≡ empty_ledger originators life) }
     {
         Ok(Ledger {

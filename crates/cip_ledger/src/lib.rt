@@ -35,3 +35,4 @@ pub use request::LEDGER;
 pub use router::LedgerRouter;
 pub use service::{DO_ONCE, FORGET, GET_LAST};
 pub use slot::KEPT_LIMIT;
+pub use slots::MOST_ORIGINATORS;

@@ -9,6 +9,9 @@ use crate::slot::Slot;
 use std::alloc::{AllocError, Global};
 use std::marker::Model;
 
+/// The most originators that a ledger has slots for.
+pub const MOST_ORIGINATORS: u16 = 64;
+
 /// So many slots, in the order in which those that are taken were taken.
 #[derive(Drop)]
 pub(crate) struct Slots {
@@ -33,7 +36,7 @@ impl Slots {
     ///
     /// `AllocError` if memory is refused.
     pub(crate) fn new(alloc: Global, limit: u16) -> Result<Slots, AllocError>
-        requires { limit ≤ 64 }
+        requires { limit ≤ MOST_ORIGINATORS }
         ensures { IfOk result (λ slots. slots ≡ slots_in limit []) }
     {
         let taken = Vec::with_capacity(alloc, usize::from(limit))?;
