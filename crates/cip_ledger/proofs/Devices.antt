@@ -1,5 +1,5 @@
 -- The objects with a ledger before them.
-use Rattle.std.proofs.Common.{◌≡◌, ◌≢◌, ◌⊎◌, ℕ, ◌≤◌, None, List, length, Ok, refl, ap, ◌∙◌}
+use Rattle.std.proofs.Common.{◌≡◌, ◌≢◌, ◌⊎◌, ℕ, ◌≤◌, None, List, length, Ok, refl, ap, ◌∙◌, [], ◌∷◌}
 use Rattle.std.proofs.lemmas.Bool.{ne_eqb}
 use Rattle.cip_message.specs.declared.path.Path.{Path}
 use Rattle.cip_message.specs.PathReading.{path_of}
@@ -10,7 +10,8 @@ use Rattle.cip_objects.specs.ExecutionLaws.{exec_begins, exec_within}
 use Rattle.cip_objects.specs.Router.{IsReplyTo, RepliesWellFormed}
 use Rattle.cip_ledger.specs.Requests.{ledger_request}
 use Rattle.cip_ledger.specs.Turn.{Turn}
-use Rattle.cip_ledger.specs.Device.{Device, exec_once}
+use Rattle.cip_ledger.specs.Runs.{node_after}
+use Rattle.cip_ledger.specs.Device.{Device, exec_once, run}
 use Rattle.cip_ledger.proofs.Forms.{in-form, passes}
 
 abbrev after : Contents → ℕ → List ℕ → Contents
@@ -42,3 +43,8 @@ pub exec_once-passed : (device : Device) (max_size : ℕ) (text : List ℕ) → 
 exec_once-passed device max_size text elsewhere same =
     ap (λ (t : Turn Contents). (let d : Device = record { ledger = t.ledger; router = t.router } in d)) (passes after answer device (max_size, text) elsewhere)
     ∙ ap (λ objects. (let d : Device = record { ledger = device.ledger; router = objects } in d)) same
+
+-- a run of the device is a run of the laws
+pub run-node_after : (requests : List (ℕ × List ℕ)) (device : Device) → (run device requests).after ≡ node_after after answer device requests
+run-node_after [] device = refl
+run-node_after (request ∷ requests) device = run-node_after requests (exec_once device request.0 request.1).after

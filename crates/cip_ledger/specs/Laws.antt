@@ -11,7 +11,7 @@ use Rattle.cip_ledger.specs.Turn.{turn_of, embedded_reply}
 use Rattle.cip_ledger.specs.Runs.{Request, slot_in, command_given, forgotten, Event, Executed, Freed}
 use Rattle.cip_ledger.specs.Runs.{answer_to, turn_at, next, node_after, journal, reached, router_after}
 
--- ---- words on events
+-- ---- facts on events
 
 -- each command of this originator that is executed before its slot is freed is so
 abbrev pub UntilFreed : ℕ → (Command → Type 0) → List Event → Type 0
@@ -74,7 +74,7 @@ abbrev pub IsOnceInAll : List (List Event) → Type 0
 IsOnceInAll [] = ⊤
 IsOnceInAll (journal ∷ journals) = HasNoDoubles journal × AllByRecursion (AreApart journal) journals × IsOnceInAll journals
 
--- ---- words on requests
+-- ---- facts on requests and lives
 
 -- the command's originator has a smaller number, or no slot, and then one is free
 abbrev pub IsNewIn : LedgerState → ℕ → Option SlotState → Type 0
@@ -132,16 +132,16 @@ module _ {M : Type 0} (after : M → ℕ → List ℕ → M) (answer : M → ℕ
       turn_at after answer node request
       ≡ turn_of node.ledger (after node.router request.0 request.1) (answer node.router request.0 request.1)
 
-  -- the numbers that are executed for one originator rise
+  -- the numbers that are executed for one originator rise, unless its slot is freed in between
   abbrev pub rising_law : Type 0
   rising_law = (node : LedgerRouter M) (requests : List Request) → Rises (journal after answer node requests)
 
-  -- each number of an originator is executed at most once
+  -- each number of an originator is executed at most once, unless its slot is freed in between
   abbrev pub once_law : Type 0
   once_law = (node : LedgerRouter M) (requests : List Request) → HasNoDoubles (journal after answer node requests)
 
   -- once a number was answered with success, or with 0x0c as a greater one was executed, only greater ones of that
-  -- originator are executed
+  -- originator are executed, until its slot is freed
   abbrev pub never_again_law : Type 0
   never_again_law = (node : LedgerRouter M) (request : Request) (later : List Request) (originator number status : ℕ) →
       IsAnswered node request originator number status → (status ≡ 0) ⊎ (status ≡ 0x0c) →
@@ -149,7 +149,7 @@ module _ {M : Type 0} (after : M → ℕ → List ℕ → M) (answer : M → ℕ
       (journal after answer (next after answer node request) later)
 
   -- every two success answers to a number have the same bytes, whatever else the requests say, and whatever came
-  -- between them
+  -- between them, but a Forget that freed the slot
   abbrev pub same_bytes_law : Type 0
   same_bytes_law = (node : LedgerRouter M) (first again : Request) (between : List Request) (originator number : ℕ) →
       Succeeds node first originator number →

@@ -1,5 +1,4 @@
 //! The ledger: what it does with each request.
-//! Text: docs/PROTOCOL.md, "The command ledger".
 ghost use Rattle.std.specs.Prelude.{◌≡◌, ◌<◌, ◌≤◌, ◌∷◌, length, Some, None, IfOk};
 ghost use Rattle.cip_ledger.specs.Ledger.{empty_ledger, slot_of};
 ghost use Rattle.cip_ledger.specs.Requests as requests;
@@ -40,6 +39,9 @@ pub(crate) enum Verdict<'a> {
 }
 
 /// The ledger of a device: for each originator the last command that was executed, and its reply.
+///
+/// A caller sees it as `LedgerState`: how many slots there are, the number of the device's life, and the taken slots.
+/// No call after `new` takes memory.
 #[derive(Drop)]
 pub struct Ledger {
     life: u64,
@@ -55,7 +57,9 @@ impl Model for Ledger {
 }
 
 impl Ledger {
-    /// A ledger with so many slots, all free, in the device's life of this number. All its memory is taken here.
+    /// A ledger with slots for so many originators, 1 to 64, all free. `life` is the number of the device's life: a
+    /// device that starts with an empty ledger has another life than before. All memory is taken here, some 500 bytes a
+    /// slot.
     ///
     /// # Errors
     ///
