@@ -63,8 +63,33 @@ pub(crate) fn may_be_to_ledger(request: &[u8]) -> bool
 }
 
 /// Whether a request can't be embedded in a command: it goes to the Connection Manager or to the ledger.
-#[tactic(auto, unfolding(crate::specs::Requests::is_barred))]
 pub(crate) fn is_barred(request: &[u8]) -> bool
+    ensures { result ≡ is_barred request.now }
+{
+    may_be_barred(request) && is_read_as_barred(request)
+}
+
+/// Whether the first bytes of a request's path may be those of a class whose requests can't be embedded.
+#[inline(always)]
+fn may_be_barred(request: &[u8]) -> bool
+    ensures { result ≡ false → is_barred request.now ≡ false }
+{
+    if request.len() <= 3 {
+        return false;
+    }
+    if u16::from(request[3]) == CONNECTION_MANAGER {
+        return true;
+    }
+    if u16::from(request[3]) == LEDGER {
+        return true;
+    }
+    request[2] == CLASS_16_BITS
+}
+
+/// Whether a request is read as one that can't be embedded.
+#[inline(never)]
+#[tactic(auto, unfolding(crate::specs::Requests::is_barred))]
+fn is_read_as_barred(request: &[u8]) -> bool
     ensures { result ≡ is_barred request.now }
 {
     let Ok(view) = RequestView::read(request) else {

@@ -1,10 +1,10 @@
 use Rattle.std.proofs.Common.{◌≡◌, ◌≢◌, ℕ, List, inl, inr, ◌∙◌, arith, slice_index}
 use Rattle.std.proofs.lemmas.Bool.{eqb-false}
-use Rattle.cip_ledger.proofs.RequestLemmas.{MayBeToLedger, ledger_request-other}
+use Rattle.cip_ledger.proofs.RequestLemmas.{MayBeTo, ledger_request-other}
 use Rattle.cip_ledger.proofs.request.may_be_to_ledger.Goals as goal
 
 -- neither a class in 16 bits, nor this one in 8
-no_class : (text : List ℕ) → slice_index text 2 ≢ 0x21 → (slice_index text 2 ≡ 0x20 → slice_index text 3 ≢ 0x65) → MayBeToLedger text → ⊥
+no_class : (text : List ℕ) → slice_index text 2 ≢ 0x21 → (slice_index text 2 ≡ 0x20 → slice_index text 3 ≢ 0x65) → MayBeTo 0x65 text → ⊥
 no_class text wide narrow may = elim may.first [
   | inl first ↦ wide first
   | inr both ↦ narrow both.0 both.1
