@@ -1,6 +1,6 @@
 -- How requests to the ledger's class begin.
 use Rattle.std.proofs.Common.{◌||◌, ◌≡◌, ◌⊎◌, inl, inr, ℕ, ◌*◌, ◌<◌, ◌≤◌, ◌==◌, nat_lt, Bool, true, false, if◌then◌else◌, Option, Some, None, List, [], ◌∷◌, ◌++◌, length, take, drop, Result, Ok, Err, refl, ap, sym, ◌∙◌, subst, arith, slice_index}
-use Rattle.std.proofs.lemmas.Bool.{eqb-true}
+use Rattle.std.proofs.lemmas.Bool.{le-ltb, eqb-true}
 use Rattle.std.proofs.lemmas.List.{length-take, get_or-take}
 use Rattle.cip_bytes.specs.Numbers.{AreBytes}
 use Rattle.cip_bytes.proofs.Bytes.{AreBytes-take, AreBytes-tail}
@@ -9,10 +9,10 @@ use Rattle.cip_message.specs.declared.path.PathFault.{PathFault}
 use Rattle.cip_message.specs.declared.path.Segment.TheVariants.{Class}
 use Rattle.cip_message.specs.declared.request.RequestFault.TheVariants.{PathSize}
 use Rattle.cip_message.specs.Path.{IsPath, IsSegment}
-use Rattle.cip_message.specs.PathReading.{path_of}
+use Rattle.cip_message.specs.PathReading.{path_of, class_of, instance_of, attribute_of, member_of, whole_of, segment_of}
 use Rattle.cip_message.specs.Request.{Request, request_of}
 use Rattle.cip_message.proofs.Paths.{path_spelled}
-use Rattle.cip_ledger.specs.Requests.{LedgerRequest, ledger_request, request_by_path, request_by_parts, is_barred, bars, bars_class}
+use Rattle.cip_ledger.specs.Requests.{LedgerRequest, ledger_request, request_by_path, request_by_parts, IsShort, is_barred, bars, bars_class}
 
 -- bytes that begin with a class: its first byte, and its value in 8 bits
 pub record BeginsWith (class : ℕ) (b : List ℕ) : Type 0 where
@@ -141,3 +141,27 @@ is_barred-other text fits other = go (is_barred text) refl
     go : (barred : Bool) → is_barred text ≡ barred → is_barred text ≡ false
     go true e = absurd (other (barred-begins text fits e))
     go false e = e
+
+-- the shortest spelling of a path to the ledger
+pub ledger_request-short : (service instance : ℕ) (bytes : List ℕ) →
+    ledger_request (service ∷ 2 ∷ 0x20 ∷ 0x65 ∷ 0x24 ∷ instance ∷ bytes)
+    ≡ Some (record { service = service; instance = instance; attribute = None; «data» = bytes })
+unfolding ledger_request request_of path_of class_of instance_of attribute_of member_of whole_of segment_of
+ledger_request-short service instance bytes =
+    rw (le-ltb (length (0x20 ∷ 0x65 ∷ 0x24 ∷ instance ∷ bytes)) 4 (omega arith)) refl
+
+pub ledger_request-of_short : (text : List ℕ) → IsShort text →
+    ledger_request text
+    ≡ Some (record { service = slice_index text 0; instance = slice_index text 5; attribute = None; «data» = drop 6 text })
+ledger_request-of_short [] is = absurd (let e = is.size in omega (arith, e))
+ledger_request-of_short (a ∷ []) is = absurd (let e = is.size in omega (arith, e))
+ledger_request-of_short (a ∷ b ∷ []) is = absurd (let e = is.size in omega (arith, e))
+ledger_request-of_short (a ∷ b ∷ c ∷ []) is = absurd (let e = is.size in omega (arith, e))
+ledger_request-of_short (a ∷ b ∷ c ∷ d ∷ []) is = absurd (let e = is.size in omega (arith, e))
+ledger_request-of_short (a ∷ b ∷ c ∷ d ∷ e ∷ []) is = absurd (let f = is.size in omega (arith, f))
+ledger_request-of_short (a ∷ b ∷ c ∷ d ∷ e ∷ f ∷ bytes) is =
+    ap (λ x. ledger_request (a ∷ x ∷ c ∷ d ∷ e ∷ f ∷ bytes)) is.words
+    ∙ ap (λ x. ledger_request (a ∷ 2 ∷ x ∷ d ∷ e ∷ f ∷ bytes)) is.class_first
+    ∙ ap (λ x. ledger_request (a ∷ 2 ∷ 0x20 ∷ x ∷ e ∷ f ∷ bytes)) is.class
+    ∙ ap (λ x. ledger_request (a ∷ 2 ∷ 0x20 ∷ 0x65 ∷ x ∷ f ∷ bytes)) is.instance_first
+    ∙ ledger_request-short a f bytes

@@ -1,5 +1,5 @@
 -- Requests to the ledger's class, and the command that Do_Once gives.
-use Rattle.std.specs.Prelude.{ℕ, ◌==◌, ◌||◌, Bool, false, if◌then◌else◌, Option, Some, None, List, drop, Result, Ok, Err}
+use Rattle.std.specs.Prelude.{◌≡◌, ◌≤◌, length, slice_index, ℕ, ◌==◌, ◌||◌, Bool, false, if◌then◌else◌, Option, Some, None, List, drop, Result, Ok, Err}
 use Rattle.cip_bytes.specs.Numbers.{number_at}
 use Rattle.cip_bytes.specs.declared.protocol.TheConstants.{CONNECTION_MANAGER}
 use Rattle.cip_message.specs.declared.path.Path.{Path}
@@ -33,6 +33,14 @@ request_by_parts (Ok request) = request_by_path request (path_of request.path)
 -- the request to the ledger's class, None if it goes elsewhere or its path can't be read
 unfoldable pub ledger_request : List ℕ → Option LedgerRequest
 ledger_request text = request_by_parts (request_of text)
+
+-- the path of a request is this class and an instance, each in 8 bits
+pub record IsShort (text : List ℕ) : Type 0 where
+  pub size : 6 ≤ length text
+  pub words : slice_index text 1 ≡ 2
+  pub class_first : slice_index text 2 ≡ 0x20
+  pub class : slice_index text 3 ≡ LEDGER
+  pub instance_first : slice_index text 4 ≡ 0x24
 
 -- a command: the device's life that it is for, who gives it, its number, and the request that it embeds
 pub record Command : Type 0 where

@@ -1,7 +1,7 @@
 //! Requests to the ledger's class, and the command that Do_Once gives.
-ghost use Rattle.std.specs.Prelude.{◌≡◌, ◌≤◌, length, false, option_map, None};
+ghost use Rattle.std.specs.Prelude.{◌≡◌, ◌≤◌, length, true, false, option_map, None};
 ghost use Rattle.cip_message.specs.PathReading.{path_of};
-ghost use Rattle.cip_ledger.specs.Requests.{ledger_request, command_of, is_barred, bars_class};
+ghost use Rattle.cip_ledger.specs.Requests.{ledger_request, IsShort, command_of, is_barred, bars_class};
 
 use byteorder::{ByteOrder, LittleEndian};
 use cip_bytes::protocol::CONNECTION_MANAGER;
@@ -10,8 +10,13 @@ use cip_message::{RequestView, read_path};
 /// The class of the ledger, in the range of the vendor's own (ours).
 pub const LEDGER: u16 = 0x65;
 
-/// The first byte of a path whose class has 16 bits. (Volume 1, logical segment.)
+/// The first bytes of segments: a class of 8 bits, a class of 16 bits, an instance of 8 bits. (Volume 1, logical
+/// segment.)
+const CLASS_8_BITS: u8 = 0x20;
+
 const CLASS_16_BITS: u8 = 0x21;
+
+const INSTANCE_8_BITS: u8 = 0x24;
 
 /// A request to the ledger's class.
 #[derive(Clone, Copy)]
@@ -30,8 +35,24 @@ impl<'a> LedgerRequest<'a> {
     ghost use Rattle.cip_ledger.specs.Views.{request_in};
 
     /// Reads a request. `None` if it does not go to the ledger's class.
-    #[tactic(auto, unfolding(crate::specs::Requests::ledger_request))]
     pub(crate) fn read(request: &'a [u8]) -> Option<LedgerRequest<'a>>
+        ensures { option_map request_in result ≡ ledger_request request.now }
+    {
+        if !is_short(request) {
+            return LedgerRequest::read_any(request);
+        }
+        Some(LedgerRequest {
+            service: request[0],
+            instance: u32::from(request[5]),
+            attribute: None,
+            data: &request[6..],
+        })
+    }
+
+    /// Reads a request, however its path is spelled.
+    #[inline(never)]
+    #[tactic(auto, unfolding(crate::specs::Requests::ledger_request))]
+    fn read_any(request: &'a [u8]) -> Option<LedgerRequest<'a>>
         ensures { option_map request_in result ≡ ledger_request request.now }
     {
         let Ok(view) = RequestView::read(request) else {
@@ -60,6 +81,26 @@ pub(crate) fn may_be_to_ledger(request: &[u8]) -> bool
 {
     // behind the service and the path size: the segment's first byte, and a class of 8 bits
     request.len() > 3 && (u16::from(request[3]) == LEDGER || request[2] == CLASS_16_BITS)
+}
+
+/// Whether a request's path is the ledger's class and an instance, in 8 bits each, as most requests spell it.
+#[inline(always)]
+fn is_short(request: &[u8]) -> bool
+    ensures { result ≡ true → IsShort request.now }
+{
+    if request.len() < 6 {
+        return false;
+    }
+    if request[1] != 2 {
+        return false;
+    }
+    if request[2] != CLASS_8_BITS {
+        return false;
+    }
+    if u16::from(request[3]) != LEDGER {
+        return false;
+    }
+    request[4] == INSTANCE_8_BITS
 }
 
 /// Whether a request can't be embedded in a command: it goes to the Connection Manager or to the ledger.
