@@ -70,7 +70,19 @@ impl Slot {
         ensures { self.new ≡ record self.old { number = number; reply = reply.now } }
     {
         self.number = number;
-        self.reply.clear();
-        append(&mut self.reply, reply);
+        keep_reply(&mut self.reply, reply);
     }
+}
+
+/// Keeps a reply in place of another one. Most have the length of the last, and are copied over it.
+fn keep_reply(kept: &mut ArrayVec<u8, KEPT_LIMIT>, reply: &[u8])
+    requires { length reply.now ≤ KEPT_LIMIT }
+    ensures { kept.new.items ≡ reply.now }
+{
+    if kept.len() == reply.len() {
+        kept.as_mut_slice().copy_from_slice(reply);
+        return;
+    }
+    kept.clear();
+    append(kept, reply);
 }
