@@ -1,5 +1,6 @@
 -- What holds of a ledger over every list of requests, in whatever order they come.
-use Rattle.std.specs.Prelude.{◌≡◌, ◌≢◌, ◌⊎◌, ⊤, ℕ, ◌+◌, ◌<◌, ◌≤◌, Option, Some, None, option_map, List, [], ◌∷◌, ◌++◌, length, map}
+use Rattle.std.specs.Prelude.{◌≡◌, ◌≢◌, ◌⊎◌, ⊤, ℕ, ◌+◌, ◌<◌, ◌≤◌, Option, Some, None, option_map, List, [], ◌∷◌, ◌++◌}
+use Rattle.std.specs.Prelude.{length, map}
 use Rattle.std.specs.List.{AllByRecursion}
 use Rattle.cip_objects.specs.Router.{general_status, RepliesWellFormed}
 use Rattle.cip_ledger.specs.declared.router.LedgerRouter.{LedgerRouter}
@@ -72,7 +73,8 @@ AreApart (Freed originator ∷ later) others = AreApart later others
 -- of its originator is freed in between
 abbrev pub IsOnceInAll : List (List Event) → Type 0
 IsOnceInAll [] = ⊤
-IsOnceInAll (journal ∷ journals) = HasNoDoubles journal × AllByRecursion (AreApart journal) journals × IsOnceInAll journals
+IsOnceInAll (journal ∷ journals) =
+    HasNoDoubles journal × AllByRecursion (AreApart journal) journals × IsOnceInAll journals
 
 -- ---- facts on requests and lives
 

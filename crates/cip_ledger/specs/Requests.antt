@@ -1,5 +1,6 @@
 -- Requests to the ledger's class, and the command that Do_Once gives.
-use Rattle.std.specs.Prelude.{◌≡◌, ◌≤◌, length, slice_index, ℕ, ◌==◌, ◌||◌, Bool, false, if◌then◌else◌, Option, Some, None, List, drop, Result, Ok, Err}
+use Rattle.std.specs.Prelude.{◌≡◌, ◌≤◌, length, slice_index, ℕ, ◌==◌, ◌||◌, Bool, false, if◌then◌else◌, Option, Some}
+use Rattle.std.specs.Prelude.{None, List, drop, Result, Ok, Err}
 use Rattle.cip_bytes.specs.Numbers.{number_at}
 use Rattle.cip_bytes.specs.declared.protocol.TheConstants.{CONNECTION_MANAGER}
 use Rattle.cip_message.specs.declared.path.Path.{Path}

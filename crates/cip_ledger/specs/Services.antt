@@ -1,5 +1,6 @@
 -- The ledger's services, each by its first check that fails.
-use Rattle.std.specs.Prelude.{ℕ, ◌+◌, ◌*◌, ◌==◌, nat_lt, not, Bool, true, ◌&&◌, is_some, if◌then◌else◌, Option, Some, None}
+use Rattle.std.specs.Prelude.{ℕ, ◌+◌, ◌*◌, ◌==◌, nat_lt, not, Bool, true, ◌&&◌, is_some, if◌then◌else◌, Option, Some}
+use Rattle.std.specs.Prelude.{None}
 use Rattle.std.specs.Prelude.{List, [], ◌∷◌, ◌++◌, length, drop}
 use Rattle.std.specs.List.{flat_map}
 use Rattle.cip_bytes.specs.Numbers.{le, number_at, words_of}

@@ -8,11 +8,13 @@ use Rattle.cip_ledger.specs.Turn.{Fate, Passed, Served, fate, turn, turn_by}
 
 module _ {M K : Type 0} (after : M → ℕ → List ℕ → M) (answer : M → ℕ → List ℕ → List ℕ)
     (router_law : (router : M) (max_size : ℕ) (request : List ℕ) →
-    8 ≤ max_size → general_status (answer router max_size request) ≡ REPLY_TOO_LARGE → after router max_size request ≡ router)
+    8 ≤ max_size → general_status (answer router max_size request) ≡ REPLY_TOO_LARGE →
+    after router max_size request ≡ router)
     (make : Option LedgerState → M → K) where
   too_large-by : (f : Fate) (ledger : Option LedgerState) (router : M) (max_size : ℕ) (text : List ℕ) → 8 ≤ max_size →
       general_status (turn_by after answer f ledger router max_size text).answer ≡ REPLY_TOO_LARGE →
-      make (turn_by after answer f ledger router max_size text).ledger (turn_by after answer f ledger router max_size text).router
+      make (turn_by after answer f ledger router max_size text).ledger
+      (turn_by after answer f ledger router max_size text).router
       ≡ make ledger router
   too_large-by Passed ledger router max_size text max_size_from status =
       ap (make ledger) (router_law router max_size text max_size_from status)

@@ -4,7 +4,8 @@
 //! connections, with any repeats, mixed with requests to other objects.
 
 ghost use Rattle.cip_ledger.specs.Laws.{router_law, passing_law, rising_law, once_law, never_again_law, same_bytes_law};
-ghost use Rattle.cip_ledger.specs.Laws.{of_execution_law, others_law, frees_law, executes_law, form_law, life_law, lives_law};
+ghost use Rattle.cip_ledger.specs.Laws.{of_execution_law, others_law, frees_law, executes_law, form_law, life_law};
+ghost use Rattle.cip_ledger.specs.Laws.{lives_law};
 
 use cip_objects::Router;
 

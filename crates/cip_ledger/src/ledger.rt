@@ -114,7 +114,8 @@ impl Ledger {
         requires max_size_from { 8 ≤ max_size }
         requires max_size_to { max_size ≤ REPLY_LIMIT }
         ensures rule { turn_of (Some self.new) router.new reply.new.items
-            ≡ acted R.after R.answer (services.do_once self.old max_size «data».now) DO_ONCE (Some self.old) router.old }
+            ≡ acted R.after R.answer (services.do_once self.old max_size «data».now) DO_ONCE
+            (Some self.old) router.old }
         ensures fits { length reply.new.items ≤ max_size }
     {
         // two numbers of 64 bits, one of 32, a request: 0x13 (ledger, ours)
@@ -303,7 +304,8 @@ fn serve_class(request: LedgerRequest<'_>, max_size: usize, reply: &mut ReplyBuf
 
 /// What is to be done with a command that is new.
 fn verdict_on_new(max_size: usize) -> Verdict<'static>
-    ensures action { (command : requests.Command) → action_in max_size command result ≡ services.do_new max_size command }
+    ensures action { (command : requests.Command) →
+        action_in max_size command result ≡ services.do_new max_size command }
     ensures fits { Fits max_size result }
 {
     // an executed command's reply always fits: 0x11 (ledger, ours)

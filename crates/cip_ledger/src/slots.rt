@@ -1,5 +1,6 @@
 //! The slots of the originators. No call after `new` takes memory.
-ghost use Rattle.std.specs.Prelude.{◌≡◌, ℕ, List, ◌≤◌, ◌<◌, nat_lt, [], ◌∷◌, ◌++◌, length, option_map, Some, None, IfOk, IfSome, IfNone};
+ghost use Rattle.std.specs.Prelude.{◌≡◌, ℕ, List, ◌≤◌, ◌<◌, nat_lt, [], ◌∷◌, ◌++◌, length, option_map, Some, None};
+ghost use Rattle.std.specs.Prelude.{IfOk, IfSome, IfNone};
 ghost use Rattle.std.specs.Prelude.{slice_index_or, slice_set};
 ghost use Rattle.cip_ledger.specs.Ledger.{SlotState, slot_of, with_slot, without_slot};
 ghost use Rattle.cip_ledger.specs.Services.{KEPT_LIMIT};
