@@ -4,6 +4,7 @@ ghost use Rattle.cip_ledger.specs.Ledger.{empty_ledger, slot_of};
 ghost use Rattle.cip_ledger.specs.Requests as requests;
 ghost use Rattle.cip_ledger.specs.Services.{do_command, Executes, KEPT_LIMIT};
 ghost use Rattle.cip_ledger.specs.Services as services;
+ghost use Rattle.cip_ledger.specs.Slots.{IsFound};
 ghost use Rattle.cip_ledger.specs.Turn.{turn, turn_of, acted, after_embedded, embedded_reply, ActsAlone};
 ghost use Rattle.cip_ledger.specs.Verdicts.{action_in, Fits};
 ghost use Rattle.cip_ledger.specs.Views.{command_in, request_in};
@@ -76,7 +77,8 @@ impl Ledger {
     }
 
     /// What is to be done with a command: the first check that fails refuses it.
-    fn verdict(&self, command: Command<'_>, max_size: usize) -> Verdict<'_>
+    fn verdict(&self, command: Command<'_>, index: Option<usize>, max_size: usize) -> Verdict<'_>
+        requires { IsFound self.now.taken command.originator index }
         ensures action { action_in max_size (command_in command.entry) result
             ≡ do_command self.now max_size (command_in command.entry) }
         ensures fits { Fits max_size result }
@@ -85,7 +87,7 @@ impl Ledger {
         if command.life != self.life {
             return Verdict::Refuses(Status::DeviceStateConflict);
         }
-        let Some(slot) = self.slots.find(command.originator) else {
+        let Some(slot) = self.slots.found(command.originator, index) else {
             // a slot is never taken away: 0x02 (ledger, ours)
             if !self.slots.has_free() {
                 return Verdict::Refuses(Status::ResourceUnavailable);
@@ -100,6 +102,14 @@ impl Ledger {
             return Verdict::Repeats(slot.reply());
         }
         verdict_on_new(max_size)
+    }
+
+    /// Where the slot of an originator is, `None` if it has none.
+    #[inline(always)]
+    fn position(&self, originator: u64) -> Option<usize>
+        ensures { IsFound self.now.taken originator result }
+    {
+        self.slots.position(originator)
     }
 
     /// Do_Once: executes a command that is new, and replies to one that was executed as it was replied to then.
@@ -124,10 +134,11 @@ impl Ledger {
             return;
         }
         let command = Command::read(data);
-        match self.verdict(command, max_size) {
+        let index = self.position(command.originator);
+        match self.verdict(command, index, max_size) {
             Verdict::Refuses(status) => begin(DO_ONCE, status, reply),
             Verdict::Repeats(kept) => answer(DO_ONCE, &[DONE], kept, max_size, reply),
-            Verdict::Executes => self.execute_command(router, command, reply),
+            Verdict::Executes => self.execute_command(router, command, index, reply),
         }
     }
 
@@ -136,8 +147,10 @@ impl Ledger {
         &mut self,
         router: &mut R,
         command: Command<'_>,
+        index: Option<usize>,
         reply: &mut ReplyBuf,
     )
+        requires found { IsFound self.old.taken command.originator index }
         requires free { slot_of command.originator self.old.taken ≡ None → length self.old.taken < self.old.slots }
         requires request { 2 ≤ length command.request.now }
         ensures rule { turn_of (Some self.new) router.new reply.new.items
@@ -145,9 +158,7 @@ impl Ledger {
         ensures fits { length reply.new.items ≤ LONGEST_DONE }
     {
         execute_embedded(router, command.request, reply);
-        let index = self
-            .slots
-            .keep(command.originator, command.number, reply.as_slice());
+        let index = self.slots.keep(index, command.originator, command.number, reply.as_slice());
         write_done(self.slots.reply(index), reply);
     }
 

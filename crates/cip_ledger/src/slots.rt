@@ -4,7 +4,7 @@ ghost use Rattle.std.specs.Prelude.{IfOk, IfSome, IfNone};
 ghost use Rattle.std.specs.Prelude.{slice_index_or, slice_set};
 ghost use Rattle.cip_ledger.specs.Ledger.{SlotState, slot_of, with_slot, without_slot};
 ghost use Rattle.cip_ledger.specs.Services.{KEPT_LIMIT};
-ghost use Rattle.cip_ledger.specs.Slots.{slots_in, IsKeptAt};
+ghost use Rattle.cip_ledger.specs.Slots.{slots_in, IsKeptAt, IsFound};
 
 use crate::slot::Slot;
 use std::alloc::{AllocError, Global};
@@ -69,13 +69,40 @@ impl Slots {
     pub(crate) fn find(&self, originator: u64) -> Option<&Slot>
         ensures { option_map (λ slot. slot.now) result ≡ slot_of originator self.now.taken }
     {
-        let index = index_of(&self.taken, originator)?;
-        Some(&self.taken[index])
+        let index = self.position(originator);
+        self.found(originator, index)
     }
 
-    /// Keeps the last command of an originator and its reply, in the originator's slot or in a free one, and answers
-    /// the index of that slot.
-    pub(crate) fn keep(&mut self, originator: u64, number: u32, reply: &[u8]) -> usize
+    /// Where the slot of an originator is, `None` if it has none.
+    #[inline(always)]
+    pub(crate) fn position(&self, originator: u64) -> Option<usize>
+        ensures { IsFound self.now.taken originator result }
+    {
+        index_of(&self.taken, originator)
+    }
+
+    /// The slot of an originator that was found at this index.
+    #[inline(always)]
+    pub(crate) fn found(&self, originator: u64, index: Option<usize>) -> Option<&Slot>
+        requires { IsFound self.now.taken originator index }
+        ensures { option_map (λ slot. slot.now) result ≡ slot_of originator self.now.taken }
+    {
+        match index {
+            Some(index) => Some(&self.taken[index]),
+            None => None,
+        }
+    }
+
+    /// Keeps the last command of an originator and its reply, in the slot that was found at this index or in a free
+    /// one, and answers the index of that slot.
+    pub(crate) fn keep(
+        &mut self,
+        index: Option<usize>,
+        originator: u64,
+        number: u32,
+        reply: &[u8],
+    ) -> usize
+        requires found { IsFound self.old.taken originator index }
         requires free { slot_of originator self.old.taken ≡ None → length self.old.taken < self.old.limit }
         requires fits { length reply.now ≤ KEPT_LIMIT }
         ensures limit { self.new.limit ≡ self.old.limit }
@@ -83,7 +110,7 @@ impl Slots {
             ≡ with_slot (record { originator = originator; number = number; reply = reply.now }) self.old.taken }
         ensures index { IsKeptAt self.new.taken result reply.now }
     {
-        let Some(index) = index_of(&self.taken, originator) else {
+        let Some(index) = index else {
             let index = self.taken.len();
             self.taken
                 .push_reserved(Slot::new(originator, number, reply));

@@ -1,6 +1,6 @@
-use Rattle.std.proofs.Common.{◌≡◌, ◌≢◌, ℕ, List, false, inl, inr, ◌∙◌, sym, arith, slice_index}
+use Rattle.std.proofs.Common.{◌≢◌, ℕ, List, inl, inr, ◌∙◌, arith, slice_index}
 use Rattle.std.proofs.lemmas.Bool.{eqb-false}
-use Rattle.cip_ledger.proofs.RequestLemmas.{MayBeTo, BeginsBarred, is_barred-other}
+use Rattle.cip_ledger.proofs.RequestLemmas.{BeginsBarred, is_barred-other}
 use Rattle.cip_ledger.proofs.request.may_be_barred.Goals as goal
 
 pub returns-then-request-le3 : goal.returns-then-request-le3

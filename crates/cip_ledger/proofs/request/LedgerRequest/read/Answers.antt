@@ -1,4 +1,4 @@
-use Rattle.std.proofs.Common.{◌≡◌, ℕ, List, Option, Some, None, take, drop, length, ◌-◌, ap, sym, ◌∙◌, slice_index}
+use Rattle.std.proofs.Common.{ℕ, List, Some, None, drop, ap, sym, ◌∙◌, slice_index}
 use Rattle.cip_bytes.proofs.Bytes.{rest_slice}
 use Rattle.cip_ledger.specs.Requests.{LedgerRequest}
 use Rattle.cip_ledger.proofs.RequestLemmas.{ledger_request-of_short}
