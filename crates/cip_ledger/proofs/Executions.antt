@@ -1,0 +1,219 @@
+-- Kept replies are those of executions, and new commands are executed.
+use Rattle.std.proofs.Common.{◌≡◌, inl, inr, ℕ, ◌+◌, ◌≤◌, ◌==◌, Bool, true, false, Option, Some, None, unwrap_or, List, [], ◌∷◌, ◌++◌, length, refl, ap, sym, ◌∙◌, subst, arith, append_assoc, append-nil}
+use Rattle.std.specs.Prelude.{option_map}
+use Rattle.std.proofs.lemmas.Bool.{eqb-true, eqb-false, lt-ltb, le-ltb, ne_eqb, eq-eqb}
+use Rattle.cip_objects.specs.Router.{general_status}
+use Rattle.cip_ledger.specs.declared.router.LedgerRouter.{LedgerRouter}
+use Rattle.cip_ledger.specs.declared.service.TheConstants as services
+use Rattle.cip_ledger.specs.Status.{status_number}
+use Rattle.cip_ledger.specs.Ledger.{LedgerState, SlotState, slot_of, empty_ledger, without_slot}
+use Rattle.cip_ledger.specs.Requests.{LedgerRequest, Command, command_of, ledger_request}
+use Rattle.cip_ledger.specs.Services.{Replies, Executes, Frees, success, reply_to, DONE, KEPT_LIMIT, HEAD_SIZE, do_command, do_by_slot, action_of}
+use Rattle.cip_ledger.specs.Turn.{Fate, Passed, Served, fate, fate_of, turn_by, with_executed, with_freed, embedded_reply}
+use Rattle.cip_ledger.specs.Runs.{Request, slot_in, command_by, command_given, Event, Executed, Freed}
+use Rattle.cip_ledger.specs.Runs.{answer_to, next, node_after, events_by, journal}
+use Rattle.cip_ledger.specs.Laws.{IsNotFreed, IsDone, Succeeds, IsNew, IsNewIn, Life, begun}
+use Rattle.cip_ledger.proofs.SlotLemmas.{slot_of-without_slot}
+use Rattle.cip_ledger.proofs.Fates.{Means, fate-means}
+use Rattle.cip_ledger.proofs.Settled.{next_by, executed-same, executed-other, freed-other, slot_done}
+use Rattle.cip_ledger.proofs.Answered.{gives, gives-unique, once_service, passed_none, none_some, spelled}
+
+-- ---- what is done stays done
+
+not_freed-append : (events later : List Event) (originator : ℕ) → IsNotFreed originator events → IsNotFreed originator later →
+    IsNotFreed originator (events ++ later)
+not_freed-append [] later originator kept then_kept = then_kept
+not_freed-append (Executed command reply ∷ events) later originator kept then_kept = not_freed-append events later originator kept then_kept
+not_freed-append (Freed freed ∷ events) later originator kept then_kept =
+    (kept.0, not_freed-append events later originator kept.1 then_kept)
+
+done-left : (events later : List Event) (originator number : ℕ) (reply : List ℕ) → IsDone originator number reply events →
+    IsNotFreed originator later → IsDone originator number reply (events ++ later)
+done-left [] later originator number reply is kept = absurd is
+done-left (Executed command given ∷ events) later originator number reply (inl is) kept =
+    inl (is.0, is.1, is.2, not_freed-append events later originator is.3 kept)
+done-left (Executed command given ∷ events) later originator number reply (inr is) kept =
+    inr (done-left events later originator number reply is kept)
+done-left (Freed freed ∷ events) later originator number reply is kept = done-left events later originator number reply is kept
+
+done-right : (events later : List Event) (originator number : ℕ) (reply : List ℕ) → IsDone originator number reply later →
+    IsDone originator number reply (events ++ later)
+done-right [] later originator number reply is = is
+done-right (Executed command given ∷ events) later originator number reply is = inr (done-right events later originator number reply is)
+done-right (Freed freed ∷ events) later originator number reply is = done-right events later originator number reply is
+
+-- ---- each reply that is kept is that of an execution
+
+abbrev Covered : List Event → Option LedgerState → Type 0
+Covered past ledger = (originator : ℕ) (slot : SlotState) → slot_in originator ledger ≡ Some slot →
+    IsDone originator slot.number slot.reply past
+
+same_slot : (found : Option SlotState) (a b : SlotState) → found ≡ Some a → found ≡ Some b → a ≡ b
+same_slot found a b is_a is_b = ap (λ o. unwrap_or o a) (sym is_a ∙ is_b)
+
+no_slot : (found : Option SlotState) (slot : SlotState) → found ≡ None → found ≡ Some slot → ⊥
+no_slot found slot none some = absurd (cc)
+
+covered-executed : (past : List Event) (ledger : LedgerState) (command : Command) (reply : List ℕ) → Covered past (Some ledger) →
+    Covered (past ++ Executed command reply ∷ []) (Some (with_executed command reply ledger))
+covered-executed past ledger command reply covered originator slot at = go (command.originator == originator) refl
+  where
+    go : (is : Bool) → (command.originator == originator) ≡ is →
+        IsDone originator slot.number slot.reply (past ++ Executed command reply ∷ [])
+    go true h =
+        let same = eqb-true command.originator originator h in
+        let found : slot_of originator (with_executed command reply ledger).taken ≡ Some (slot_done command reply)
+        = ap (λ o. slot_of o (with_executed command reply ledger).taken) (sym same) ∙ executed-same ledger command reply in
+        let equal = same_slot _ (slot_done command reply) slot found at in
+        done-right past (Executed command reply ∷ []) originator slot.number slot.reply
+        (inl (same, ap (λ (s : SlotState). s.number) equal, ap (λ (s : SlotState). s.reply) equal, tt))
+    go false h =
+        done-left past (Executed command reply ∷ []) originator slot.number slot.reply
+        (covered originator slot (sym (executed-other (Some ledger) command reply originator (eqb-false command.originator originator h)) ∙ at)) tt
+
+covered-freed : (past : List Event) (ledger : LedgerState) (freed : ℕ) → Covered past (Some ledger) →
+    Covered (past ++ Freed freed ∷ []) (Some (with_freed freed ledger))
+covered-freed past ledger freed covered originator slot at = go (freed == originator) refl
+  where
+    go : (is : Bool) → (freed == originator) ≡ is → IsDone originator slot.number slot.reply (past ++ Freed freed ∷ [])
+    go true h =
+        let same = eqb-true freed originator h in
+        let none : slot_of originator (without_slot freed ledger.taken) ≡ None
+        = ap (λ o. slot_of o (without_slot freed ledger.taken)) (sym same) ∙ slot_of-without_slot ledger.taken freed in
+        absurd (no_slot (slot_of originator (without_slot freed ledger.taken)) slot none at)
+    go false h =
+        let other = eqb-false freed originator h in
+        done-left past (Freed freed ∷ []) originator slot.number slot.reply
+        (covered originator slot (sym (freed-other (Some ledger) freed originator other) ∙ at)) (other, tt)
+
+module _ {M : Type 0} (after : M → ℕ → List ℕ → M) (answer : M → ℕ → List ℕ → List ℕ) where
+  covered-by : (f : Fate) (past : List Event) (node : LedgerRouter M) (request : Request) → Means node.ledger request f →
+      Covered past node.ledger →
+      Covered (past ++ events_by after answer f node.router) (next_by after answer f node request).ledger
+  covered-by Passed past node request means covered =
+      λ originator slot at. done-left past [] originator slot.number slot.reply (covered originator slot at) tt
+  covered-by (Served service (Replies reply)) past node request means covered =
+      λ originator slot at. done-left past [] originator slot.number slot.reply (covered originator slot at) tt
+  covered-by (Served service (Executes command)) past node request means covered =
+      let reply = embedded_reply after answer node.router command.request in
+      subst (λ l. Covered (past ++ Executed command reply ∷ []) (option_map (with_executed command reply) l)) (sym means.ledger_is)
+      (covered-executed past means.state command reply (subst (λ l. Covered past l) means.ledger_is covered))
+  covered-by (Served service (Frees freed)) past node request means covered =
+      subst (λ l. Covered (past ++ Freed freed ∷ []) (option_map (with_freed freed) l)) (sym means.ledger_is)
+      (covered-freed past means.state freed (subst (λ l. Covered past l) means.ledger_is covered))
+
+  -- the reply of an answer is that of an execution
+  pub record IsAnswerOf (events : List Event) (given : List ℕ) (originator number : ℕ) : Type 0 where
+    pub reply : List ℕ
+    pub done_is : IsDone originator number reply events
+    pub given_is : given ≡ reply_to services.DO_ONCE (success (DONE ∷ reply))
+
+  module _ (node : LedgerRouter M) (request : Request) (originator number : ℕ) (is : Succeeds after answer node request originator number) where
+    last-by : (f : Fate) (past : List Event) → Means node.ledger request f → Covered past node.ledger →
+        general_status (turn_by after answer f node.ledger node.router request.0 request.1).answer ≡ 0 →
+        IsAnswerOf (past ++ events_by after answer f node.router)
+        (turn_by after answer f node.ledger node.router request.0 request.1).answer originator number
+    last-by Passed past means covered status = absurd (passed_none node.ledger request is.command means is.has_ledger is.given)
+    last-by (Served service (Replies replied)) past means covered status =
+        let kept = means.means.kept is.command is.given status in
+        let found : slot_in originator node.ledger ≡ Some kept.slot
+        = subst (λ l. slot_in originator l ≡ Some kept.slot) (sym means.ledger_is)
+        (subst (λ o. slot_of o means.state.taken ≡ Some kept.slot) is.originator_is kept.found) in
+        record {
+          reply = kept.slot.reply;
+          done_is = done-left past [] originator number kept.slot.reply
+              (subst (λ n. IsDone originator n kept.slot.reply past) (kept.number_is ∙ is.number_is) (covered originator kept.slot found)) tt;
+          given_is = spelled service services.DO_ONCE (status_number replied.status) replied.content (DONE ∷ kept.slot.reply)
+              (once_service node.ledger request service (Replies replied) is.command means is.given) status kept.content_is;
+        }
+    last-by (Served service (Executes executed)) past means covered status =
+        let reply = embedded_reply after answer node.router executed.request in
+        let same : executed ≡ is.command = gives-unique (ledger_request request.1) executed is.command means.means.given_is is.given in
+        record {
+          reply = reply;
+          done_is = done-right past (Executed executed reply ∷ []) originator number reply
+              (inl (ap (λ (c : Command). c.originator) same ∙ is.originator_is, ap (λ (c : Command). c.number) same ∙ is.number_is, refl, tt));
+          given_is = ap (λ x. reply_to x (success (DONE ∷ reply)))
+              (once_service node.ledger request service (Executes executed) is.command means is.given);
+        }
+    last-by (Served service (Frees freed)) past means covered status =
+        absurd (none_some (command_given request) is.command means.means.no_command is.given)
+
+  answer-run : (requests : List Request) (node : LedgerRouter M) (past : List Event) (request : Request) (originator number : ℕ) →
+      Covered past node.ledger → Succeeds after answer (node_after after answer node requests) request originator number →
+      IsAnswerOf (past ++ journal after answer node (requests ++ request ∷ [])) (answer_to after answer (node_after after answer node requests) request) originator number
+  answer-run [] node past request originator number covered is =
+      let f = fate node.ledger request.0 request.1 in
+      subst (λ events. IsAnswerOf (past ++ events) (answer_to after answer node request) originator number)
+      (sym (append-nil (events_by after answer f node.router)))
+      (last-by node request originator number is f past (fate-means node.ledger request) covered is.status_is)
+  answer-run (first ∷ requests) node past request originator number covered is =
+      let f = fate node.ledger first.0 first.1 in
+      let now = events_by after answer f node.router in
+      let later = next after answer node first in
+      subst (λ events. IsAnswerOf events (answer_to after answer (node_after after answer later requests) request) originator number)
+      (append_assoc past now (journal after answer later (requests ++ request ∷ [])))
+      (answer-run requests later (past ++ now) request originator number (covered-by f past node first (fate-means node.ledger first) covered) is)
+
+  none_covered : (slots life : ℕ) → Covered [] (Some (empty_ledger slots life))
+  none_covered slots life originator slot at = absurd (cc)
+
+  pub of-execution : (life : Life M) (request : Request) (originator number : ℕ) →
+      Succeeds after answer (node_after after answer (begun life) life.requests) request originator number →
+      (reply : List ℕ) × IsDone originator number reply (journal after answer (begun life) (life.requests ++ request ∷ []))
+      × (answer_to after answer (node_after after answer (begun life) life.requests) request ≡ reply_to services.DO_ONCE (success (DONE ∷ reply)))
+  of-execution life request originator number is =
+      let found = answer-run life.requests (begun life) [] request originator number (none_covered life.slots life.number) is in
+      (found.reply, found.done_is, found.given_is)
+
+-- ---- a command that is new
+
+new_action : (found : Option SlotState) (ledger : LedgerState) (max_size : ℕ) (command : Command) → IsNewIn ledger command.number found →
+    HEAD_SIZE + 1 + KEPT_LIMIT ≤ max_size → do_by_slot ledger max_size command found ≡ Executes command
+new_action None ledger max_size command new roomy =
+    rw (lt-ltb _ _ new, le-ltb max_size (HEAD_SIZE + 1 + KEPT_LIMIT) roomy) refl
+new_action (Some slot) ledger max_size command new roomy =
+    rw (le-ltb command.number slot.number (omega (arith, new)), ne_eqb command.number slot.number (λ e. omega (arith, new, e)), le-ltb max_size (HEAD_SIZE + 1 + KEPT_LIMIT) roomy) refl
+
+new_command : (ledger : LedgerState) (max_size : ℕ) (command : Command) → IsNew ledger command → HEAD_SIZE + 1 + KEPT_LIMIT ≤ max_size →
+    do_command ledger max_size command ≡ Executes command
+new_command ledger max_size command new roomy =
+    let own = new.life in
+    rw (eq-eqb command.life ledger.life own) (new_action (slot_of command.originator ledger.taken) ledger max_size command new.number roomy)
+
+new_request : (ledger : LedgerState) (max_size : ℕ) (request : LedgerRequest) → request.instance ≡ 1 → request.service ≡ services.DO_ONCE →
+    22 ≤ length request.data → action_of ledger max_size request ≡ do_command ledger max_size (command_of request.data)
+new_request ledger max_size request one once enough =
+    rw (ne_eqb request.instance 0 (λ e. omega (arith, one, e)), eq-eqb request.instance 1 one, eq-eqb request.service services.DO_ONCE once, le-ltb (length request.data) 22 enough) refl
+
+executes_asked : (ledger : LedgerState) (max_size : ℕ) (asked : Option LedgerRequest) (command : Command) →
+    command_by asked ≡ Some command → IsNew ledger command → HEAD_SIZE + 1 + KEPT_LIMIT ≤ max_size →
+    fate_of ledger max_size asked ≡ Served services.DO_ONCE (Executes command)
+executes_asked ledger max_size asked command is new roomy =
+    let gift = gives asked command is in
+    let action : action_of ledger max_size gift.request ≡ Executes command
+    = new_request ledger max_size gift.request gift.instance gift.service gift.size
+    ∙ ap (do_command ledger max_size) gift.command_is
+    ∙ new_command ledger max_size command new roomy in
+    ap (fate_of ledger max_size) gift.asked_is
+    ∙ ap (λ s. Served s (action_of ledger max_size gift.request)) gift.service
+    ∙ ap (λ a. Served services.DO_ONCE a) action
+
+module _ {M : Type 0} (after : M → ℕ → List ℕ → M) (answer : M → ℕ → List ℕ → List ℕ) where
+  executes-at : (node : LedgerRouter M) (l : Option LedgerState) (ledger : LedgerState) (request : Request) (command : Command) →
+      l ≡ Some ledger → command_given request ≡ Some command → IsNew ledger command →
+      HEAD_SIZE + 1 + KEPT_LIMIT ≤ request.0 →
+      events_by after answer (fate l request.0 request.1) node.router
+      ≡ Executed command (embedded_reply after answer node.router command.request) ∷ []
+  executes-at node l ledger request command ledger_is given new roomy =
+      ap (λ o. events_by after answer (fate o request.0 request.1) node.router) ledger_is
+      ∙ ap (λ f. events_by after answer f node.router) (executes_asked ledger request.0 (ledger_request request.1) command given new roomy)
+
+  pub executes : (node : LedgerRouter M) (ledger : LedgerState) (request : Request) (command : Command) →
+      node.ledger ≡ Some ledger → command_given request ≡ Some command → IsNew ledger command →
+      HEAD_SIZE + 1 + KEPT_LIMIT ≤ request.0 →
+      journal after answer node (request ∷ [])
+      ≡ Executed command (embedded_reply after answer node.router command.request) ∷ []
+  executes node ledger request command ledger_is given new roomy =
+      append-nil (events_by after answer (fate node.ledger request.0 request.1) node.router)
+      ∙ executes-at node node.ledger ledger request command ledger_is given new roomy

@@ -1,0 +1,11 @@
+pub mod SlotLemmas
+pub mod RequestLemmas
+pub mod Fates
+pub mod Settled
+pub mod Answered
+pub mod Executions
+pub mod Lives
+pub mod Forms
+pub mod Words
+pub mod Turns
+pub mod Devices

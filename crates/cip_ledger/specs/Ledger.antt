@@ -1,0 +1,32 @@
+-- The command ledger's state: for each originator the greatest number that was executed, and its reply.
+use Rattle.std.specs.Prelude.{ℕ, ◌==◌, if◌then◌else◌, Option, List, [], ◌∷◌, find, filter, not}
+
+-- an originator's slot: the last of its commands that was executed, and the reply to it
+pub record SlotState : Type 0 where
+  pub originator : ℕ
+  pub number : ℕ
+  pub reply : List ℕ
+
+-- how many slots there are, the number of the device's life, and the slots that are taken, one for each originator
+pub record LedgerState : Type 0 where
+  pub slots : ℕ
+  pub life : ℕ
+  pub taken : List SlotState
+
+-- a ledger as a device's life begins: all slots are free
+abbrev pub empty_ledger : ℕ → ℕ → LedgerState
+empty_ledger slots life = record { slots = slots; life = life; taken = [] }
+
+-- the slot of an originator
+abbrev pub slot_of : ℕ → List SlotState → Option SlotState
+slot_of originator taken = find (λ slot. slot.originator == originator) taken
+
+-- the slots once this one is its originator's: in place of the one that it had, or behind all others
+abbrev pub with_slot : SlotState → List SlotState → List SlotState
+with_slot slot [] = slot ∷ []
+with_slot slot (first ∷ taken) =
+    if first.originator == slot.originator then slot ∷ taken else first ∷ with_slot slot taken
+
+-- the slots once an originator has none
+abbrev pub without_slot : ℕ → List SlotState → List SlotState
+without_slot originator taken = filter (λ slot. not (slot.originator == originator)) taken

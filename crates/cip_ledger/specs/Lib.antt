@@ -1,0 +1,14 @@
+pub mod AttributeValue
+pub mod Inside
+pub mod Ledger
+pub mod Requests
+pub mod Services
+pub mod Slots
+pub mod Status
+pub mod Turn
+pub mod Verdicts
+pub mod Views
+pub mod TooLarge
+pub mod Laws
+pub mod Runs
+pub mod Device

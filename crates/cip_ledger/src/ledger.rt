@@ -1,0 +1,352 @@
+//! The ledger: what it does with each request.
+ghost use Rattle.std.specs.Prelude.{◌≡◌, ◌<◌, ◌≤◌, ◌∷◌, length, Some, None, IfOk};
+ghost use Rattle.cip_ledger.specs.Ledger.{empty_ledger, slot_of};
+ghost use Rattle.cip_ledger.specs.Requests as requests;
+ghost use Rattle.cip_ledger.specs.Services.{do_command, Executes, KEPT_LIMIT};
+ghost use Rattle.cip_ledger.specs.Services as services;
+ghost use Rattle.cip_ledger.specs.Slots.{IsFound};
+ghost use Rattle.cip_ledger.specs.Turn.{turn, turn_of, acted, after_embedded, embedded_reply, ActsAlone};
+ghost use Rattle.cip_ledger.specs.Verdicts.{action_in, Fits};
+ghost use Rattle.cip_ledger.specs.Views.{command_in, request_in};
+ghost use Rattle.cip_ledger.specs.AttributeValue.{values_in};
+
+use crate::attributes::{Attributes, class_value, write_single};
+use crate::reply::{HEAD_SIZE, answer, begin, size_fault};
+use crate::request::{Command, LedgerRequest, is_barred};
+use crate::service::{DO_ONCE, FORGET, GET_ATTRIBUTE_LIST, GET_ATTRIBUTE_SINGLE, GET_LAST};
+use crate::slot::KEPT_LIMIT;
+use crate::slots::{MOST_ORIGINATORS, Slots};
+use crate::status::Status;
+use byteorder::{ByteOrder, LittleEndian};
+use cip_bytes::append;
+use cip_objects::{REPLY_LIMIT, ReplyBuf, Router};
+use std::alloc::{AllocError, Global};
+use std::marker::Model;
+
+/// The state byte of a command that is done. (1, pending, is kept for commands that wait.)
+const DONE: u8 = 0;
+
+/// The smallest reply limit at which a new command is executed, in bytes: the longest reply to it fits.
+const LONGEST_DONE: usize = HEAD_SIZE + 1 + KEPT_LIMIT;
+
+/// What is to be done with a command.
+pub(crate) enum Verdict<'a> {
+    /// It is refused.
+    Refuses(Status),
+    /// It was executed before, with this reply.
+    Repeats(&'a [u8]),
+    /// It is new, and is executed.
+    Executes,
+}
+
+/// The ledger of a device: for each originator the last command that was executed, and its reply.
+///
+/// A caller sees it as `LedgerState`: how many slots there are, the number of the device's life, and the taken slots.
+/// No call after `new` takes memory.
+#[derive(Drop)]
+pub struct Ledger {
+    life: u64,
+    slots: Slots,
+}
+
+impl Model for Ledger {
+    ghost use Rattle.cip_ledger.specs.Ledger.{LedgerState};
+
+    ghost Value = { LedgerState };
+
+    ghost view = { λ l. record { slots = l.slots.limit; life = l.life; taken = l.slots.taken } };
+}
+
+impl Ledger {
+    /// A ledger with slots for so many originators, 1 to 64, all free. `life` is the number of the device's life: a
+    /// device that starts with an empty ledger has another life than before. All memory is taken here, some 500 bytes a
+    /// slot.
+    ///
+    /// # Errors
+    ///
+    /// `AllocError` if memory is refused.
+    pub fn new(alloc: Global, originators: u16, life: u64) -> Result<Ledger, AllocError>
+        requires least { 1 ≤ originators }
+        requires most { originators ≤ MOST_ORIGINATORS }
+        ensures { IfOk result (λ ledger. ledger ≡ empty_ledger originators life) }
+    {
+        Ok(Ledger {
+            life,
+            slots: Slots::new(alloc, originators)?,
+        })
+    }
+
+    /// What is to be done with a command: the first check that fails refuses it.
+    fn verdict(&self, command: Command<'_>, index: Option<usize>, max_size: usize) -> Verdict<'_>
+        requires { IsFound self.now.taken command.originator index }
+        ensures action { action_in max_size (command_in command.entry) result
+            ≡ do_command self.now max_size (command_in command.entry) }
+        ensures fits { Fits max_size result }
+    {
+        // a command of another life is never executed: 0x10 (ledger, ours)
+        if command.life != self.life {
+            return Verdict::Refuses(Status::DeviceStateConflict);
+        }
+        let Some(slot) = self.slots.found(command.originator, index) else {
+            // a slot is never taken away: 0x02 (ledger, ours)
+            if !self.slots.has_free() {
+                return Verdict::Refuses(Status::ResourceUnavailable);
+            }
+            return verdict_on_new(max_size);
+        };
+        // a smaller number is never executed: 0x0c (ledger, ours)
+        if command.number < slot.number() {
+            return Verdict::Refuses(Status::ObjectStateConflict);
+        }
+        if command.number == slot.number() {
+            return Verdict::Repeats(slot.reply());
+        }
+        verdict_on_new(max_size)
+    }
+
+    /// Where the slot of an originator is, `None` if it has none.
+    #[inline(always)]
+    fn position(&self, originator: u64) -> Option<usize>
+        ensures { IsFound self.now.taken originator result }
+    {
+        self.slots.position(originator)
+    }
+
+    /// Do_Once: executes a command that is new, and replies to one that was executed as it was replied to then.
+    #[tactic(auto, unfolding(crate::specs::Services::do_once))]
+    fn do_once<R: Router>(
+        &mut self,
+        router: &mut R,
+        data: &[u8],
+        max_size: usize,
+        reply: &mut ReplyBuf,
+    )
+        requires max_size_from { 8 ≤ max_size }
+        requires max_size_to { max_size ≤ REPLY_LIMIT }
+        ensures rule { turn_of (Some self.new) router.new reply.new.items
+            ≡ acted R.after R.answer (services.do_once self.old max_size «data».now) DO_ONCE
+            (Some self.old) router.old }
+        ensures fits { length reply.new.items ≤ max_size }
+    {
+        // two numbers of 64 bits, one of 32, a request: 0x13 (ledger, ours)
+        if data.len() < Command::SMALLEST {
+            begin(DO_ONCE, Status::NotEnoughData, reply);
+            return;
+        }
+        let command = Command::read(data);
+        let index = self.position(command.originator);
+        match self.verdict(command, index, max_size) {
+            Verdict::Refuses(status) => begin(DO_ONCE, status, reply),
+            Verdict::Repeats(kept) => answer(DO_ONCE, &[DONE], kept, max_size, reply),
+            Verdict::Executes => self.execute_command(router, command, index, reply),
+        }
+    }
+
+    /// Executes a command that is new, and keeps its reply.
+    fn execute_command<R: Router>(
+        &mut self,
+        router: &mut R,
+        command: Command<'_>,
+        index: Option<usize>,
+        reply: &mut ReplyBuf,
+    )
+        requires found { IsFound self.old.taken command.originator index }
+        requires free { slot_of command.originator self.old.taken ≡ None → length self.old.taken < self.old.slots }
+        requires request { 2 ≤ length command.request.now }
+        ensures rule { turn_of (Some self.new) router.new reply.new.items
+            ≡ acted R.after R.answer (Executes (command_in command.entry)) DO_ONCE (Some self.old) router.old }
+        ensures fits { length reply.new.items ≤ LONGEST_DONE }
+    {
+        execute_embedded(router, command.request, reply);
+        let index = self.slots.keep(index, command.originator, command.number, reply.as_slice());
+        write_done(self.slots.reply(index), reply);
+    }
+
+    /// Get_Last: the number of an originator's last command, and the reply to it.
+    fn get_last(&self, data: &[u8], max_size: usize, reply: &mut ReplyBuf)
+        requires max_size_from { 8 ≤ max_size }
+        requires max_size_to { max_size ≤ REPLY_LIMIT }
+        ensures reply { reply.new.items ≡ services.reply_to GET_LAST (services.get_last self.now max_size «data».now) }
+        ensures fits { length reply.new.items ≤ max_size }
+    {
+        if let Some(status) = size_fault(8, data) {
+            begin(GET_LAST, status, reply);
+            return;
+        }
+        let Some(slot) = self.slots.find(LittleEndian::read_u64(data)) else {
+            // the originator has no slot: 0x16 (ledger, ours)
+            begin(GET_LAST, Status::ObjectDoesNotExist, reply);
+            return;
+        };
+        let [first, second, third, fourth] = slot.number().to_le_bytes();
+        let front = [first, second, third, fourth, DONE];
+        answer(GET_LAST, &front, slot.reply(), max_size, reply);
+    }
+
+    /// Forget: frees the slot of an originator, if its last command has this number.
+    fn forget(&mut self, data: &[u8], reply: &mut ReplyBuf)
+        ensures rule { ActsAlone self.old (services.forget self.old «data».now) FORGET self.new reply.new.items }
+    {
+        if let Some(status) = size_fault(12, data) {
+            begin(FORGET, status, reply);
+            return;
+        }
+        let originator = LittleEndian::read_u64(data);
+        let number = LittleEndian::read_u32(&data[8..]);
+        let Some(slot) = self.slots.find(originator) else {
+            begin(FORGET, Status::Success, reply);
+            return;
+        };
+        // only the last number is forgotten: 0x0c (ledger, ours)
+        if slot.number() != number {
+            begin(FORGET, Status::ObjectStateConflict, reply);
+            return;
+        }
+        self.slots.free(originator);
+        begin(FORGET, Status::Success, reply);
+    }
+
+    /// The attributes of the instance.
+    fn attributes(&self) -> Attributes
+        ensures { values_in result ≡ services.ledger_values self.now }
+    {
+        Attributes {
+            slots: self.slots.limit(),
+            taken: self.slots.taken(),
+            life: self.life,
+        }
+    }
+
+    /// Serves a request to the instance.
+    fn serve_instance<R: Router>(
+        &mut self,
+        router: &mut R,
+        request: LedgerRequest<'_>,
+        max_size: usize,
+        reply: &mut ReplyBuf,
+    )
+        requires max_size_from { 8 ≤ max_size }
+        requires max_size_to { max_size ≤ REPLY_LIMIT }
+        ensures rule { turn_of (Some self.new) router.new reply.new.items
+            ≡ acted R.after R.answer (services.instance_action self.old max_size (request_in request.entry))
+            request.entry.service (Some self.old) router.old }
+        ensures fits { length reply.new.items ≤ max_size }
+    {
+        match request.service {
+            DO_ONCE => self.do_once(router, request.data, max_size, reply),
+            GET_LAST => self.get_last(request.data, max_size, reply),
+            FORGET => self.forget(request.data, reply),
+            GET_ATTRIBUTE_SINGLE => {
+                let value = self.attributes().named(request.attribute);
+                write_single(value, request.data, max_size, reply);
+            }
+            GET_ATTRIBUTE_LIST => self.attributes().write_list(request.data, max_size, reply),
+            // the ledger does not have this service: 0x08 (objects)
+            _ => begin(request.service, Status::ServiceNotSupported, reply),
+        }
+    }
+
+    /// Serves a request to the ledger's class, by its instance.
+    fn serve<R: Router>(
+        &mut self,
+        router: &mut R,
+        request: LedgerRequest<'_>,
+        max_size: usize,
+        reply: &mut ReplyBuf,
+    )
+        requires max_size_from { 8 ≤ max_size }
+        requires max_size_to { max_size ≤ REPLY_LIMIT }
+        ensures rule { turn_of (Some self.new) router.new reply.new.items
+            ≡ acted R.after R.answer (services.action_of self.old max_size (request_in request.entry))
+            request.entry.service (Some self.old) router.old }
+        ensures fits { length reply.new.items ≤ max_size }
+    {
+        match request.instance {
+            // instance 0 is the class itself (object model)
+            0 => serve_class(request, max_size, reply),
+            1 => self.serve_instance(router, request, max_size, reply),
+            // no such instance: 0x05 (objects)
+            _ => begin(request.service, Status::PathDestinationUnknown, reply),
+        }
+    }
+
+    /// Executes a request that may be one to the ledger's class, and leaves its reply in `reply`.
+    #[inline(never)]
+    pub(crate) fn execute<R: Router>(
+        &mut self,
+        router: &mut R,
+        request: &[u8],
+        max_size: usize,
+        reply: &mut ReplyBuf,
+    )
+        requires request { 2 ≤ length request.now }
+        requires max_size_from { 8 ≤ max_size }
+        requires max_size_to { max_size ≤ REPLY_LIMIT }
+        ensures rule { turn_of (Some self.new) router.new reply.new.items
+            ≡ turn R.after R.answer (Some self.old) router.old max_size request.now }
+        ensures fits { length reply.new.items ≤ max_size }
+    {
+        match LedgerRequest::read(request) {
+            Some(own) => self.serve(router, own, max_size, reply),
+            None => router.execute(request, max_size, reply),
+        }
+    }
+}
+
+/// Serves a request to the class itself.
+fn serve_class(request: LedgerRequest<'_>, max_size: usize, reply: &mut ReplyBuf)
+    requires max_size_from { 8 ≤ max_size }
+    requires max_size_to { max_size ≤ REPLY_LIMIT }
+    ensures reply { reply.new.items
+        ≡ services.reply_to request.entry.service (services.class_answer max_size (request_in request.entry)) }
+    ensures fits { length reply.new.items ≤ max_size }
+{
+    if request.service != GET_ATTRIBUTE_SINGLE {
+        begin(request.service, Status::ServiceNotSupported, reply);
+        return;
+    }
+    write_single(
+        class_value(request.attribute),
+        request.data,
+        max_size,
+        reply,
+    );
+}
+
+/// What is to be done with a command that is new.
+fn verdict_on_new(max_size: usize) -> Verdict<'static>
+    ensures action { (command : requests.Command) →
+        action_in max_size command result ≡ services.do_new max_size command }
+    ensures fits { Fits max_size result }
+{
+    // an executed command's reply always fits: 0x11 (ledger, ours)
+    if max_size < LONGEST_DONE {
+        return Verdict::Refuses(Status::ReplyDataTooLarge);
+    }
+    Verdict::Executes
+}
+
+/// Executes an embedded request, unless it goes to the Connection Manager or to the ledger.
+fn execute_embedded<R: Router>(router: &mut R, request: &[u8], reply: &mut ReplyBuf)
+    requires { 2 ≤ length request.now }
+    ensures router { router.new ≡ after_embedded R.after R.answer router.old request.now }
+    ensures reply { reply.new.items ≡ embedded_reply R.after R.answer router.old request.now }
+    ensures fits { length reply.new.items ≤ KEPT_LIMIT }
+{
+    if is_barred(request) {
+        begin(request[0], Status::ServiceNotSupported, reply);
+        return;
+    }
+    router.execute(request, KEPT_LIMIT, reply);
+}
+
+/// Replies that a command is done, with the reply to its embedded request.
+fn write_done(kept: &[u8], reply: &mut ReplyBuf)
+    requires { length kept.now ≤ KEPT_LIMIT }
+    ensures reply { reply.new.items ≡ services.reply_to DO_ONCE (services.success (DONE ∷ kept.now)) }
+    ensures fits { length reply.new.items ≤ LONGEST_DONE }
+{
+    begin(DO_ONCE, Status::Success, reply);
+    reply.push(DONE);
+    append(reply, kept);
+}

@@ -1,0 +1,63 @@
+//! Replies of the ledger.
+ghost use Rattle.std.specs.Prelude.{◌≡◌, ◌≤◌, ◌+◌, ◌++◌, length, slice_set};
+ghost use Rattle.cip_ledger.specs.Status.{status_number};
+ghost use Rattle.cip_ledger.specs.Services.{reply_to, refusal, success, within, size_fault};
+
+use crate::status::Status;
+use cip_bytes::append;
+use cip_message::reply_service;
+use cip_objects::{REPLY_LIMIT, ReplyBuf};
+
+/// The bytes of a reply before its data.
+pub(crate) const HEAD_SIZE: usize = 4;
+
+/// Begins a reply without data to a request of this service.
+pub(crate) fn begin(service: u8, status: Status, reply: &mut ReplyBuf)
+    ensures { reply.new.items ≡ reply_to service (refusal status) }
+{
+    reply.clear();
+    reply.push(reply_service(service));
+    reply.push(0);
+    reply.push(status.number());
+    reply.push(0);
+}
+
+/// Puts the status into a reply that was begun.
+pub(crate) fn set_status(status: Status, reply: &mut ReplyBuf)
+    requires { 4 ≤ length reply.old.items }
+    ensures { reply.new.items ≡ slice_set reply.old.items 2 (status_number status) }
+{
+    reply.as_mut_slice()[2] = status.number();
+}
+
+/// Replies with data of two parts, if they fit the reply limit.
+pub(crate) fn answer(service: u8, front: &[u8], rest: &[u8], max_size: usize, reply: &mut ReplyBuf)
+    requires parts { length front.now + length rest.now ≤ REPLY_LIMIT }
+    requires max_size_from { 8 ≤ max_size }
+    requires max_size_to { max_size ≤ REPLY_LIMIT }
+    ensures reply { reply.new.items ≡ reply_to service (within max_size (success (front.now ++ rest.now))) }
+    ensures fits { length reply.new.items ≤ max_size }
+{
+    // a reply is never longer than the reply limit: 0x11 (objects)
+    if max_size < HEAD_SIZE + front.len() + rest.len() {
+        begin(service, Status::ReplyDataTooLarge, reply);
+        return;
+    }
+    begin(service, Status::Success, reply);
+    append(reply, front);
+    append(reply, rest);
+}
+
+/// What is wrong with data that do not have exactly this many bytes.
+pub(crate) fn size_fault(size: usize, data: &[u8]) -> Option<Status>
+    ensures { result ≡ size_fault size «data».now }
+{
+    // not enough data: 0x13; too much: 0x15 (objects)
+    if data.len() < size {
+        return Some(Status::NotEnoughData);
+    }
+    if size < data.len() {
+        return Some(Status::TooMuchData);
+    }
+    None
+}

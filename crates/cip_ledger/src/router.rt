@@ -1,0 +1,67 @@
+//! A router with a ledger before it.
+ghost use Rattle.std.specs.Prelude.{◌≡◌, ◌≤◌, length};
+ghost use Rattle.cip_ledger.specs.Turn.{turn, turn_of};
+
+use crate::ledger::Ledger;
+use crate::request::may_be_to_ledger;
+use cip_objects::{REPLY_LIMIT, ReplyBuf, Router};
+
+/// A router with a ledger before it, if it has one: requests to the ledger's class are the ledger's, and every other
+/// request is the router's. Without a ledger every request is the router's.
+#[derive(Drop)]
+pub struct LedgerRouter<R> {
+    /// The ledger, if there is one.
+    pub ledger: Option<Ledger>,
+    /// The router behind it.
+    pub router: R,
+}
+
+impl<R: Router> Router for LedgerRouter<R> {
+    ghost use Rattle.std.specs.Prelude.{ℕ, List};
+    ghost use Rattle.cip_ledger.specs.TooLarge.{turn-too_large};
+
+    ghost after = { λ node max_size request.
+        record {
+          ledger = (turn R.after R.answer node.ledger node.router max_size request).ledger;
+          router = (turn R.after R.answer node.ledger node.router max_size request).router;
+        } };
+
+    ghost answer = { λ node max_size request.
+        (turn R.after R.answer node.ledger node.router max_size request).answer };
+
+    /// The turn of the definition `turn`. Takes no memory.
+    #[inline(always)]
+    fn execute(&mut self, request: &[u8], max_size: usize, reply: &mut ReplyBuf) {
+        execute(&mut self.ledger, &mut self.router, request, max_size, reply);
+    }
+
+    ghost too_large = { λ node max_size request max_size_from status.
+        turn-too_large R.after R.answer R.too_large (λ ledger router. record { ledger = ledger; router = router })
+        node.ledger node.router max_size request max_size_from status };
+}
+
+/// Executes a request by the ledger, if there is one and the request may be to its class, else by the router.
+#[inline(always)]
+fn execute<R: Router>(
+    ledger: &mut Option<Ledger>,
+    router: &mut R,
+    request: &[u8],
+    max_size: usize,
+    reply: &mut ReplyBuf,
+)
+    requires request { 2 ≤ length request.now }
+    requires max_size_from { 8 ≤ max_size }
+    requires max_size_to { max_size ≤ REPLY_LIMIT }
+    ensures rule { turn_of ledger.new router.new reply.new.items
+        ≡ turn R.after R.answer ledger.old router.old max_size request.now }
+    ensures fits { length reply.new.items ≤ max_size }
+{
+    if !may_be_to_ledger(request) {
+        router.execute(request, max_size, reply);
+        return;
+    }
+    match ledger {
+        Some(ledger) => ledger.execute(router, request, max_size, reply),
+        None => router.execute(request, max_size, reply),
+    }
+}

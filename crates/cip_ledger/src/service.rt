@@ -1,0 +1,16 @@
+//! The codes of the services that the ledger has.
+
+/// Get_Attribute_List. (Volume 1, common services.)
+pub(crate) const GET_ATTRIBUTE_LIST: u8 = 0x03;
+
+/// Get_Attribute_Single. (Volume 1, common services.)
+pub(crate) const GET_ATTRIBUTE_SINGLE: u8 = 0x0e;
+
+/// Do_Once (ours): executes the embedded request, unless a command with this number was executed before.
+pub const DO_ONCE: u8 = 0x4b;
+
+/// Get_Last (ours): the number of an originator's last command, and its reply.
+pub const GET_LAST: u8 = 0x4c;
+
+/// Forget (ours): frees an originator's slot.
+pub const FORGET: u8 = 0x4d;
