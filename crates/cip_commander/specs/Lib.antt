@@ -1,0 +1,3 @@
+pub mod Commander
+pub mod CommanderRule
+pub mod Outcome
