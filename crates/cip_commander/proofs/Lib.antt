@@ -1,0 +1,3 @@
+pub mod DoOnce
+pub mod Filled
+pub mod Others

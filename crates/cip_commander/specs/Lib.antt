@@ -1,3 +1,5 @@
 pub mod Commander
 pub mod CommanderRule
+pub mod Laws
 pub mod Outcome
+pub mod Worlds

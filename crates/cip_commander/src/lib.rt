@@ -16,6 +16,7 @@
 #![tactic(auto)]
 
 mod commander;
+pub mod laws;
 mod outcome;
 mod refusal;
 
