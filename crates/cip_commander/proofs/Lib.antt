@@ -1,3 +1,5 @@
+pub mod Arrivals
 pub mod DoOnce
 pub mod Filled
+pub mod Images
 pub mod Others
