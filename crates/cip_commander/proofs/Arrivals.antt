@@ -7,15 +7,10 @@ use Rattle.cip_ledger.specs.Requests.{Command}
 use Rattle.cip_ledger.specs.Services.{Answer, Action, Replies, Executes, do_new, do_by_slot, do_command, success, within, reply_to, DONE, HEAD_SIZE}
 use Rattle.cip_ledger.specs.Turn.{Turn, turn, turn_of, turn_by, acted, after_embedded, embedded_reply}
 use Rattle.cip_commander.specs.CommanderRule.{do_once}
-use Rattle.cip_commander.specs.Worlds.{Said, IsDone, IsRefused, Arrival, Appended, Answered, Device, arrival, arrival_by, new_number, last_again, with_blank}
+use Rattle.cip_commander.specs.Worlds.{Said, IsDone, IsRefused, said_bytes, Arrival, Appended, Answered, Device, arrival, arrival_by, new_number, last_again, with_blank}
 use Rattle.cip_commander.proofs.DoOnce.{IsCommand, fate-do_once}
 use Rattle.cip_commander.proofs.Filled.{own_slot, fill, slot_of-fill, with_slot-blank, with_slot-filled}
 use Rattle.cip_commander.proofs.Others.{filled}
-
--- an answer's bytes
-abbrev pub said_bytes : Said → List ℕ
-said_bytes (IsDone reply) = reply_to services.DO_ONCE (success (DONE ∷ reply))
-said_bytes (IsRefused status) = reply_service services.DO_ONCE ∷ 0 ∷ status ∷ 0 ∷ []
 
 -- the ledger with the last number and its reply in the originator's slot
 abbrev pub filled_by : ℕ → Option (ℕ × List ℕ) → LedgerState → LedgerState

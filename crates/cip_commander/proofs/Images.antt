@@ -22,12 +22,12 @@ use Rattle.cip_commander.specs.Outcome as outcomes
 use Rattle.cip_commander.specs.Outcome.{outcome_of_text}
 use Rattle.cip_commander.specs.CommanderRule.{CommanderState, do_once, embedded_refusal, number_refusal, first_refusal, is_request, command_refusal, with_command, abandoned, pending_message, outcome_of, MOST_NUMBER}
 use Rattle.cip_commander.specs.Worlds.{Event, NewCommand, Abandon, Send, Reach, Back, Other, Opening, Seen, BothEnds, ends_at, ends_step, ends_reach, ends_back, ends_after, heard, after_given, sends, awaits, seen_of_ends}
-use Rattle.cip_commander.specs.Worlds.{Entry, Own, Another, Said, IsDone, IsRefused, Device, device_at, device_step, device_after, turn_on, NumberedWorld, world_at, world_step, world_reach, world_back, world_after, said_of, Arrival, Appended, Answered, arrival, arrived, blank_slot, with_blank, seen_of_world}
+use Rattle.cip_commander.specs.Worlds.{Entry, Own, Another, Said, IsDone, IsRefused, said_bytes, answer_in, Device, device_at, device_step, device_after, turn_on, NumberedWorld, world_at, world_step, world_reach, world_back, world_after, said_of, Arrival, Appended, Answered, arrival, arrived, blank_slot, with_blank, seen_of_world}
 use Rattle.cip_commander.specs.Laws.{IsInRange, IsOthers}
 use Rattle.cip_commander.proofs.DoOnce.{IsCommand}
 use Rattle.cip_commander.proofs.Filled.{own_slot}
 use Rattle.cip_commander.proofs.Others.{filled, turn-alike}
-use Rattle.cip_commander.proofs.Arrivals.{said_bytes, filled_by, IsPlaced, arrived_turn, arrival-turn}
+use Rattle.cip_commander.proofs.Arrivals.{filled_by, IsPlaced, arrived_turn, arrival-turn}
 
 -- ---- lists
 
@@ -119,9 +119,6 @@ command_numbered opening message = record {
 
 abbrev pub message_in : CommanderState → ℕ × List ℕ → ℕ × List ℕ
 message_in opening message = (message.0, do_once (command_numbered opening message))
-
-abbrev pub answer_in : ℕ × Said → ℕ × List ℕ
-answer_in said = (said.0, said_bytes said.1)
 
 sends-image : (opening commander : CommanderState) (pending : Option (List ℕ)) → commander.life ≡ opening.life →
     commander.originator ≡ opening.originator →

@@ -3,11 +3,13 @@
 -- Connections appear in neither. A message reaches the device on whatever connection, in any order, any number of times
 -- or never, and so does an answer the originator.
 use Rattle.std.specs.Prelude.{ℕ, ◌+◌, ◌==◌, ◌&&◌, nat_lt, not, Bool, is_some, if◌then◌else◌, Option, Some, None, unwrap_or}
-use Rattle.std.specs.Prelude.{List, [], ◌∷◌, ◌++◌, length, fold}
+use Rattle.std.specs.Prelude.{List, [], ◌∷◌, ◌++◌, length, map, fold}
 use Rattle.std.specs.List.{slice_get}
 use Rattle.cip_ledger.specs.declared.router.LedgerRouter.{LedgerRouter}
 use Rattle.cip_ledger.specs.Ledger.{LedgerState, SlotState, empty_ledger, with_slot}
-use Rattle.cip_ledger.specs.Services.{HEAD_SIZE, KEPT_LIMIT}
+use Rattle.cip_message.specs.Reply.{reply_service}
+use Rattle.cip_ledger.specs.declared.service.TheConstants as services
+use Rattle.cip_ledger.specs.Services.{HEAD_SIZE, KEPT_LIMIT, DONE, reply_to, success}
 use Rattle.cip_ledger.specs.Turn.{Turn, turn, after_embedded, embedded_reply}
 use Rattle.cip_ledger.specs.Runs.{next, answer_to}
 use Rattle.cip_commander.specs.declared.refusal.CommandRefused.{CommandRefused}
@@ -33,10 +35,12 @@ pub record Opening (M : Type 0) : Type 0 where
   pub router : M
   pub commander : CommanderState
 
--- what is seen: the machine, the originator, and the accepted replies, each with the number of its command
+-- what is seen: the machine, the originator, what was sent back, byte for byte, and the accepted replies, each with the
+-- number of its command
 pub record Seen (M : Type 0) : Type 0 where
   pub machine : M
   pub commander : CommanderState
+  pub back : List (ℕ × List ℕ)
   pub accepted : List (ℕ × List ℕ)
 
 -- ---- the originator, in both worlds
@@ -48,6 +52,11 @@ after_given commander request (Some why) = commander
 -- after it gave a command, if it may
 abbrev pub after_command : CommanderState → List ℕ → CommanderState
 after_command commander request = after_given commander request (command_refusal commander request)
+
+-- the command that it gave, with its number
+abbrev pub gives : CommanderState → List ℕ → Option CommandRefused → List (ℕ × List ℕ)
+gives commander request None = (commander.last_number + 1, request) ∷ []
+gives commander request (Some why) = []
 
 -- what it sends: the pending command's message or request, with its number
 abbrev pub sends : CommanderState → Option (List ℕ) → List (ℕ × List ℕ)
@@ -98,8 +107,12 @@ ends_back ends (Some reply) =
     if awaits ends.commander reply.0 then heard ends reply.0 (outcome_of ends.commander reply.1) else ends
 
 abbrev pub seen_of_ends : {M : Type 0} → BothEnds M → Seen M
-seen_of_ends ends =
-    record { machine = ends.device.router; commander = ends.commander; accepted = ends.accepted }
+seen_of_ends ends = record {
+  machine = ends.device.router;
+  commander = ends.commander;
+  back = ends.back;
+  accepted = ends.accepted;
+}
 
 -- ---- the numbered world
 
@@ -113,6 +126,14 @@ pub data Said : Type 0 where
   IsDone : (reply : List ℕ) → Said
   IsRefused : (status : ℕ) → Said
 
+-- an answer's bytes
+abbrev pub said_bytes : Said → List ℕ
+said_bytes (IsDone reply) = reply_to services.DO_ONCE (success (DONE ∷ reply))
+said_bytes (IsRefused status) = reply_service services.DO_ONCE ∷ 0 ∷ status ∷ 0 ∷ []
+
+abbrev pub answer_in : ℕ × Said → ℕ × List ℕ
+answer_in said = (said.0, said_bytes said.1)
+
 -- The device once a log was executed: the ledger of the others, the router, and the last number of the originator's with
 -- the reply to its embedded request. In the ledger the originator has a slot, once it needs one, with nothing kept in it.
 pub record Device (M : Type 0) : Type 0 where
@@ -124,16 +145,25 @@ abbrev pub device_at : {M : Type 0} → Opening M → Device M
 device_at opening =
     record { ledger = empty_ledger opening.slots opening.life; router = opening.router; last = None }
 
--- the log, the originator, what was sent and sent back so far, each with its number, and the accepted replies
+-- the log, the originator, the commands that it gave, what was sent and sent back so far, each with its number, and the
+-- accepted replies
 pub record NumberedWorld : Type 0 where
   pub log : List Entry
   pub commander : CommanderState
+  pub given : List (ℕ × List ℕ)
   pub sent : List (ℕ × List ℕ)
   pub back : List (ℕ × Said)
   pub accepted : List (ℕ × List ℕ)
 
 abbrev pub world_at : {M : Type 0} → Opening M → NumberedWorld
-world_at opening = record { log = []; commander = opening.commander; sent = []; back = []; accepted = [] }
+world_at opening = record {
+  log = [];
+  commander = opening.commander;
+  given = sends opening.commander opening.commander.pending;
+  sent = [];
+  back = [];
+  accepted = [];
+}
 
 -- the slot of the originator, with nothing kept
 abbrev pub blank_slot : ℕ → SlotState
@@ -241,8 +271,10 @@ module _ {M : Type 0} (after : M → ℕ → List ℕ → M) (answer : M → ℕ
       arrived (arrival opening.commander.life device max_size message.0) world device message.0 message.1
 
   abbrev pub world_step : Opening M → NumberedWorld → Event → NumberedWorld
-  world_step opening world (NewCommand request) =
-      record world { commander = after_command world.commander request }
+  world_step opening world (NewCommand request) = record world {
+    commander = after_command world.commander request;
+    given = world.given ++ gives world.commander request (command_refusal world.commander request);
+  }
   world_step opening world Abandon = record world { commander = abandoned world.commander }
   world_step opening world Send =
       record world { sent = world.sent ++ sends world.commander world.commander.pending }
@@ -260,5 +292,6 @@ module _ {M : Type 0} (after : M → ℕ → List ℕ → M) (answer : M → ℕ
   seen_of_world opening world = record {
     machine = (device_after opening world.log).router;
     commander = world.commander;
+    back = map answer_in world.back;
     accepted = world.accepted;
   }
