@@ -1,15 +1,14 @@
 -- A command of the originator's arrives: the ledger does what the numbered world says.
-use Rattle.std.proofs.Common.{◌≡◌, ℕ, ◌+◌, ◌==◌, nat_lt, Bool, true, false, not, if◌then◌else◌, Option, Some, None, List, [], ◌∷◌, length, add-one, refl, ap, sym, ◌∙◌}
-use Rattle.cip_message.specs.Reply.{reply_service}
+use Rattle.std.proofs.Common.{◌≡◌, ℕ, ◌+◌, ◌==◌, nat_lt, Bool, true, false, not, if◌then◌else◌, Option, Some, None, List, ◌∷◌, length, add-one, refl, ap, ◌∙◌}
 use Rattle.cip_ledger.specs.declared.service.TheConstants as services
 use Rattle.cip_ledger.specs.Ledger.{LedgerState, SlotState, slot_of}
 use Rattle.cip_ledger.specs.Requests.{Command}
 use Rattle.cip_ledger.specs.Services.{Answer, Action, Replies, Executes, do_new, do_by_slot, do_command, success, within, reply_to, DONE, HEAD_SIZE}
 use Rattle.cip_ledger.specs.Turn.{Turn, turn, turn_of, turn_by, acted, after_embedded, embedded_reply}
 use Rattle.cip_commander.specs.CommanderRule.{do_once}
-use Rattle.cip_commander.specs.Worlds.{Said, IsDone, IsRefused, said_bytes, Arrival, Appended, Answered, Device, arrival, arrival_by, new_number, last_again, with_blank}
+use Rattle.cip_commander.specs.Worlds.{IsDone, IsRefused, said_bytes, Arrival, Appended, Answered, Device, arrival, arrival_by, new_number, last_again, with_blank}
 use Rattle.cip_commander.proofs.DoOnce.{IsCommand, fate-do_once}
-use Rattle.cip_commander.proofs.Filled.{own_slot, fill, slot_of-fill, with_slot-blank, with_slot-filled}
+use Rattle.cip_commander.proofs.Filled.{own_slot, slot_of-fill, with_slot-blank, with_slot-filled}
 use Rattle.cip_commander.proofs.Others.{filled}
 
 -- the ledger with the last number and its reply in the originator's slot

@@ -1,9 +1,8 @@
 -- A commander's message is Do_Once with its command, as the ledger reads it.
-use Rattle.std.proofs.Common.{◌≡◌, ℕ, ◌+◌, ◌<◌, ◌≤◌, ◌^◌, nat_lt, Bool, false, if◌then◌else◌, Option, Some, None, List, [], ◌∷◌, ◌++◌, length, take, drop, Ok, refl, ap, sym, ◌∙◌, arith}
+use Rattle.std.proofs.Common.{◌≡◌, ℕ, ◌<◌, ◌≤◌, ◌^◌, nat_lt, false, Some, None, List, [], ◌∷◌, ◌++◌, length, drop, Ok, refl, ap, ◌∙◌, arith}
 use Rattle.std.proofs.lemmas.Bool.{le-ltb}
 use Rattle.byteorder.specs.Numbers.{little_number-reads_back}
 use Rattle.cip_bytes.specs.Numbers.{le, number_at}
-use Rattle.cip_message.specs.declared.path.Path.{Path}
 use Rattle.cip_message.specs.Request.{Request, request_of}
 use Rattle.cip_message.specs.PathReading.{path_of, class_of, instance_of, attribute_of, member_of, whole_of, segment_of}
 use Rattle.cip_ledger.specs.declared.service.TheConstants as services
@@ -58,11 +57,11 @@ same_command a b c d e f r s life originator number request = cc
 command_of-data : (command : Command) → IsCommand command → command_of (data_of command) ≡ command
 command_of-data command is =
     let life : number_at 0 8 (data_of command) ≡ command.life =
-        little_number-reads_back 8 command.life (le 8 command.originator ++ (le 4 command.number ++ command.request)) is.life in
+    little_number-reads_back 8 command.life (le 8 command.originator ++ (le 4 command.number ++ command.request)) is.life in
     let originator : number_at 8 8 (data_of command) ≡ command.originator =
-        little_number-reads_back 8 command.originator (le 4 command.number ++ command.request) is.originator in
+    little_number-reads_back 8 command.originator (le 4 command.number ++ command.request) is.originator in
     let number : number_at 16 4 (data_of command) ≡ command.number =
-        little_number-reads_back 4 command.number command.request is.number in
+    little_number-reads_back 4 command.number command.request is.number in
     same_command
     (number_at 0 8 (data_of command)) (number_at 8 8 (data_of command)) (number_at 16 4 (data_of command))
     command.life command.originator command.number (drop 20 (data_of command)) command.request life originator number refl

@@ -1,7 +1,7 @@
 -- The slot of one originator, filled in: in the numbered world nothing is kept in it.
-use Rattle.std.proofs.Common.{◌≡◌, ◌≢◌, ℕ, suc, ◌==◌, Bool, true, false, not, if◌then◌else◌, Option, Some, None, List, [], ◌∷◌, length, refl, ap, sym, ◌∙◌}
+use Rattle.std.proofs.Common.{◌≡◌, ◌≢◌, ℕ, suc, ◌==◌, Bool, true, false, not, if◌then◌else◌, Some, List, [], ◌∷◌, length, refl, ap, sym, ◌∙◌}
 use Rattle.std.proofs.lemmas.Bool.{eq-eqb, ne_eqb, eqb-true}
-use Rattle.cip_ledger.specs.Ledger.{LedgerState, SlotState, slot_of, with_slot, without_slot}
+use Rattle.cip_ledger.specs.Ledger.{SlotState, slot_of, with_slot, without_slot}
 use Rattle.cip_commander.specs.Worlds.{blank_slot}
 
 abbrev pub own_slot : ℕ → ℕ → List ℕ → SlotState

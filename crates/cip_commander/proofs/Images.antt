@@ -1,15 +1,13 @@
 -- Both ends are the image of the numbered world, step by step.
-use Rattle.std.proofs.Common.{◌≡◌, ◌≢◌, ℕ, zero, suc, ◌+◌, ◌<◌, ◌≤◌, ◌^◌, ◌==◌, ◌&&◌, nat_lt, nat_le, Bool, true, false, if◌then◌else◌, Option, Some, None, unwrap_or, List, [], ◌∷◌, ◌++◌, length, map, drop, refl, ap, sym, ◌∙◌, subst, arith, slice_index}
+use Rattle.std.proofs.Common.{◌≡◌, ℕ, ◌+◌, ◌<◌, ◌≤◌, ◌^◌, ◌==◌, nat_lt, nat_le, Bool, true, false, if◌then◌else◌, Option, Some, None, unwrap_or, List, [], ◌∷◌, ◌++◌, length, map, refl, ap, sym, ◌∙◌, subst, arith, slice_index}
 use Rattle.std.specs.Prelude.{⊤, option_map, is_some, fold, MatchOption}
 use Rattle.std.specs.List.{slice_get, AllByRecursion}
-use Rattle.std.proofs.lemmas.Bool.{le-ltb, ltb-true, leb-true, and_parts, eqb-true}
+use Rattle.std.proofs.lemmas.Bool.{le-ltb, ltb-true, leb-true, and_parts}
 use Rattle.std.proofs.lemmas.Option.{slice_get-map}
-use Rattle.std.proofs.lemmas.List.Sums.{fold-append}
 use Rattle.std.proofs.lemmas.List.{append-nil, map-append}
 use Rattle.cip_message.specs.Reply.{reply_of}
 use Rattle.cip_ledger.specs.declared.router.LedgerRouter.{LedgerRouter}
-use Rattle.cip_ledger.specs.declared.service.TheConstants as services
-use Rattle.cip_ledger.specs.Ledger.{LedgerState, SlotState, slot_of, with_slot}
+use Rattle.cip_ledger.specs.Ledger.{LedgerState, slot_of}
 use Rattle.cip_ledger.specs.Requests.{Command}
 use Rattle.cip_ledger.specs.Services.{Replies, Executes, Frees}
 use Rattle.cip_ledger.specs.Turn.{Fate, Passed, Served, fate, Turn, turn, turn_by}
@@ -20,27 +18,17 @@ use Rattle.cip_ledger.proofs.Settled.{others-run}
 use Rattle.cip_commander.specs.declared.refusal.CommandRefused.{CommandRefused}
 use Rattle.cip_commander.specs.Outcome as outcomes
 use Rattle.cip_commander.specs.Outcome.{outcome_of_text}
-use Rattle.cip_commander.specs.CommanderRule.{CommanderState, do_once, embedded_refusal, number_refusal, first_refusal, is_request, command_refusal, with_command, abandoned, pending_message, outcome_of, MOST_NUMBER}
-use Rattle.cip_commander.specs.Worlds.{Event, NewCommand, Abandon, Send, Reach, Back, Other, Opening, Seen, BothEnds, ends_at, ends_step, ends_reach, ends_back, ends_after, heard, after_given, sends, awaits, seen_of_ends}
-use Rattle.cip_commander.specs.Worlds.{Entry, Own, Another, Said, IsDone, IsRefused, said_bytes, answer_in, Device, device_at, device_step, device_after, turn_on, NumberedWorld, world_at, world_step, world_reach, world_back, world_after, said_of, Arrival, Appended, Answered, arrival, arrived, blank_slot, with_blank, seen_of_world}
+use Rattle.cip_commander.specs.CommanderRule.{CommanderState, do_once, embedded_refusal, number_refusal, first_refusal, is_request, command_refusal, outcome_of, MOST_NUMBER}
+use Rattle.cip_commander.specs.Worlds.{Event, NewCommand, Abandon, Send, Reach, Back, Other, Opening, BothEnds, ends_step, ends_reach, ends_back, ends_after, heard, after_given, sends, awaits, seen_of_ends}
+use Rattle.cip_commander.specs.Worlds.{Own, Another, Said, IsDone, IsRefused, said_bytes, answer_in, Device, device_step, device_after, NumberedWorld, world_at, world_step, world_reach, world_back, world_after, said_of, Arrival, Appended, Answered, arrival, arrived, blank_slot, seen_of_world}
 use Rattle.cip_commander.specs.Laws.{IsInRange, IsOthers}
 use Rattle.cip_commander.proofs.DoOnce.{IsCommand}
 use Rattle.cip_commander.proofs.Filled.{own_slot}
 use Rattle.cip_commander.proofs.Others.{filled, turn-alike}
+use Rattle.cip_commander.proofs.Rising.{all_at, all_append, device-after}
 use Rattle.cip_commander.proofs.Arrivals.{filled_by, IsPlaced, arrived_turn, arrival-turn}
 
--- ---- lists
-
-all_at : {A : Type 0} (P : A → Type 0) (xs : List A) (k : ℕ) (x : A) → AllByRecursion P xs → slice_get xs k ≡ Some x → P x
-all_at P [] k x all is = absurd (cc)
-all_at P (y ∷ xs) zero x all is = subst P (ap (λ o. unwrap_or o x) is) all.0
-all_at P (y ∷ xs) (suc k) x all is = all_at P xs k x all.1 is
-
-all_append : {A : Type 0} (P : A → Type 0) (xs ys : List A) → AllByRecursion P xs → AllByRecursion P ys → AllByRecursion P (xs ++ ys)
-all_append P [] ys first second = second
-all_append P (x ∷ xs) ys first second = (first.0, all_append P xs ys first.1 second)
-
--- ---- what a client hears of an answer
+-- ---- what the originator hears of an answer
 
 refused_outcome : (status : ℕ) (done : Bool) → (status == 0) ≡ done →
     outcome_of_text (said_bytes (IsRefused status)) ≡ (if done then outcomes.Malformed else outcomes.Refused status)
@@ -154,10 +142,6 @@ module _ {M : Type 0} (after : M → ℕ → List ℕ → M) (answer : M → ℕ
     pub sent : AllByRecursion IsSendable world.sent
     pub placed : IsPlaced own (device_of world).last (device_of world).ledger.taken
 
-  pub device-after : (log : List Entry) (entry : Entry) →
-      device_after after answer opening (log ++ entry ∷ []) ≡ device_step after answer own (device_after after answer opening log) entry
-  device-after log entry = fold-append (device_step after answer own) (device_at opening) log (entry ∷ [])
-
   -- ---- a message reaches the device
 
   abbrev put : NumberedWorld → ℕ → Turn M → BothEnds M
@@ -171,7 +155,7 @@ module _ {M : Type 0} (after : M → ℕ → List ℕ → M) (answer : M → ℕ
       (arrived_turn after answer (device_of world).ledger (device_of world).router opening.commander.life own message.0 message.1 0 (device_of world).last what)
       ≡ image (arrived after answer what world (device_of world) message.0 message.1)
   arrived-image world message Appended =
-      rw (device-after world.log (Own message.0 message.1), map-append answer_in world.back) refl
+      rw (device-after after answer opening world.log (Own message.0 message.1), map-append answer_in world.back) refl
   arrived-image world message (Answered said) = rw (map-append answer_in world.back) refl
 
   reach-image : (world : NumberedWorld) (max_size : ℕ) (found : Option (ℕ × List ℕ)) → IsSound world → MatchOption found ⊤ IsSendable →
@@ -196,9 +180,9 @@ module _ {M : Type 0} (after : M → ℕ → List ℕ → M) (answer : M → ℕ
     commander = sound.commander;
     sent = sound.sent;
     placed =
-      let taken = (device_of world).ledger.taken in
-      let P : Device M → Type 0 = λ device. IsPlaced own device.last device.ledger.taken in
-      subst P (sym (device-after world.log (Own number request))) (blank_slot own, slot_of-with_slot taken (blank_slot own));
+        let taken = (device_of world).ledger.taken in
+        let P : Device M → Type 0 = λ device. IsPlaced own device.last device.ledger.taken in
+        subst P (sym (device-after after answer opening world.log (Own number request))) (blank_slot own, slot_of-with_slot taken (blank_slot own));
   }
   arrived-sound world number request (Answered said) sound =
       record { commander = sound.commander; sent = sound.sent; placed = sound.placed }
@@ -334,7 +318,7 @@ module _ {M : Type 0} (after : M → ℕ → List ℕ → M) (answer : M → ℕ
       let device = device_of world in
       ap (λ node. record (image world) { device = node })
       (other-node device.last device.ledger device.router max_size request others
-      ∙ ap node_in (sym (device-after world.log (Another max_size request))))
+      ∙ ap node_in (sym (device-after after answer opening world.log (Another max_size request))))
 
   step-sound : (world : NumberedWorld) (event : Event) → IsSound world → IsOthers own event →
       IsSound (world_step after answer opening world event)
@@ -356,8 +340,8 @@ module _ {M : Type 0} (after : M → ℕ → List ℕ → M) (answer : M → ℕ
   step-sound world Send sound others = record {
     commander = sound.commander;
     sent =
-      all_append IsSendable world.sent _ sound.sent
-      (sends-ours opening.commander world.commander world.commander.pending sound.commander.pending sound.commander.number);
+        all_append IsSendable world.sent _ sound.sent
+        (sends-ours opening.commander world.commander world.commander.pending sound.commander.pending sound.commander.number);
     placed = sound.placed;
   }
   step-sound world (Reach position max_size) sound others = reach-sound world max_size (slice_get world.sent position) sound
@@ -366,10 +350,10 @@ module _ {M : Type 0} (after : M → ℕ → List ℕ → M) (answer : M → ℕ
     commander = sound.commander;
     sent = sound.sent;
     placed =
-      let device = device_of world in
-      let P : Device M → Type 0 = λ device. IsPlaced own device.last device.ledger.taken in
-      subst P (sym (device-after world.log (Another max_size request)))
-      (other-placed device.last device.ledger device.router max_size request others sound.placed);
+        let device = device_of world in
+        let P : Device M → Type 0 = λ device. IsPlaced own device.last device.ledger.taken in
+        subst P (sym (device-after after answer opening world.log (Another max_size request)))
+        (other-placed device.last device.ledger device.router max_size request others sound.placed);
   }
 
   pub run-image : (events : List Event) (world : NumberedWorld) → IsSound world → AllByRecursion (IsOthers own) events →

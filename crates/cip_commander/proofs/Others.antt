@@ -1,14 +1,14 @@
 -- Requests of others do the same whatever is kept in the originator's slot.
-use Rattle.std.proofs.Common.{◌≡◌, ◌≢◌, ℕ, ◌+◌, ◌*◌, ◌==◌, ◌&&◌, nat_lt, Bool, true, false, not, if◌then◌else◌, Option, Some, None, unwrap_or, List, [], ◌∷◌, length, refl, ap, sym, ◌∙◌, arith}
+use Rattle.std.proofs.Common.{◌≡◌, ◌≢◌, ℕ, ◌==◌, nat_lt, Bool, true, false, not, if◌then◌else◌, Option, Some, None, List, length, refl, ap, arith}
 use Rattle.std.specs.Prelude.{⊤, option_map}
-use Rattle.std.proofs.lemmas.Bool.{le-ltb, ltb-false, eq-eqb}
+use Rattle.std.proofs.lemmas.Bool.{ltb-false, eq-eqb}
 use Rattle.cip_bytes.specs.Numbers.{number_at}
 use Rattle.cip_ledger.specs.declared.service.TheConstants as services
 use Rattle.cip_ledger.specs.Ledger.{LedgerState, SlotState, slot_of}
 use Rattle.cip_ledger.specs.Requests.{LedgerRequest, Command, command_of, ledger_request}
 use Rattle.cip_ledger.specs.Services.{Answer, Action, Replies, Executes, Frees, action_of, instance_action, do_once, do_command, do_by_slot, do_new, forget, forget_in, size_fault, unless, refuses}
-use Rattle.cip_ledger.specs.Turn.{Fate, Passed, Served, fate_of, Turn, turn, turn_by, acted, embedded_reply, after_embedded}
-use Rattle.cip_ledger.specs.Runs.{command_by, command_in_data, command_given, forgotten_by, forgotten_in_data, originator_forgotten}
+use Rattle.cip_ledger.specs.Turn.{fate_of, Turn, turn, turn_by, acted, embedded_reply}
+use Rattle.cip_ledger.specs.Runs.{command_by, command_in_data, forgotten_by, forgotten_in_data}
 use Rattle.cip_ledger.specs.Laws.{IsOfAnother}
 use Rattle.cip_commander.proofs.Filled.{fill, length-fill, slot_of-fill_other, with_slot-fill_other, without_slot-fill_other}
 
@@ -147,10 +147,10 @@ module _ {M : Type 0} (after : M → ℕ → List ℕ → M) (answer : M → ℕ
       rw same.0 (record {
         router = refl;
         ledger =
-          ap (λ taken. Some (record ledger { taken = taken }))
-          (with_slot-fill_other slot
-          (record { originator = other.originator; number = other.number; reply = embedded_reply after answer router other.request })
-          ledger.taken same.1);
+            ap (λ taken. Some (record ledger { taken = taken }))
+            (with_slot-fill_other slot
+            (record { originator = other.originator; number = other.number; reply = embedded_reply after answer router other.request })
+            ledger.taken same.1);
       })
   acted-alike (Frees one) (Frees other) service ledger router same =
       rw same.0 (record {

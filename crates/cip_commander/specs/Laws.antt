@@ -1,10 +1,13 @@
 -- What holds of both ends over every list of events.
-use Rattle.std.specs.Prelude.{◌≡◌, ⊤, ℕ, ◌<◌, ◌≤◌, ◌^◌, MatchOption, List, length}
-use Rattle.std.specs.List.{AllByRecursion}
+use Rattle.std.specs.Prelude.{◌≡◌, ◌⊎◌, ⊤, ℕ, ◌<◌, ◌≤◌, ◌^◌, MatchOption, Some, List, [], ◌∷◌, ◌++◌, length, map}
+use Rattle.std.specs.List.{slice_get, AllByRecursion}
 use Rattle.cip_ledger.specs.Laws.{IsOfAnother}
+use Rattle.cip_ledger.specs.Turn.{embedded_reply}
 use Rattle.cip_commander.specs.CommanderRule.{CommanderState}
-use Rattle.cip_commander.specs.Worlds.{Event, NewCommand, Abandon, Send, Reach, Back, Other, Opening}
-use Rattle.cip_commander.specs.Worlds.{ends_after, world_after, seen_of_ends, seen_of_world}
+use Rattle.cip_commander.specs.Worlds.{Event, NewCommand, Abandon, Send, Reach, Back, Other, Opening, Entry, Own, Another}
+use Rattle.cip_commander.specs.Worlds.{ends_after, device_after, world_after, seen_of_ends, seen_of_world}
+
+-- ---- words on the premises
 
 -- a commander's numbers have their sizes, and a pending request has at least two bytes
 pub record IsInRange (commander : CommanderState) : Type 0 where
@@ -22,10 +25,83 @@ IsOthers originator (Reach position max_size) = ⊤
 IsOthers originator (Back position) = ⊤
 IsOthers originator (Other max_size request) = IsOfAnother originator (max_size, request)
 
+-- ---- words on the log
+
+-- the numbers in a log, in order
+abbrev pub numbers_in : List Entry → List ℕ
+numbers_in [] = []
+numbers_in (Own number request ∷ log) = number ∷ numbers_in log
+numbers_in (Another max_size request ∷ log) = numbers_in log
+
+-- each number is smaller than all that follow it, so none is there twice
+abbrev pub Rises : List ℕ → Type 0
+Rises [] = ⊤
+Rises (number ∷ later) = AllByRecursion (λ other. number < other) later × Rises later
+
+-- this command is among these
+abbrev pub IsAmong : List (ℕ × List ℕ) → ℕ → List ℕ → Type 0
+IsAmong [] number request = ⊥
+IsAmong (first ∷ more) number request = (first ≡ (number, request)) ⊎ IsAmong more number request
+
+-- what is executed for the originator is one of these commands
+abbrev pub WasGiven : List (ℕ × List ℕ) → Entry → Type 0
+WasGiven given (Own number request) = IsAmong given number request
+WasGiven given (Another max_size request) = ⊤
+
+-- the log has grown, and every number that it gained is greater than this one
+pub record GrowsAbove (number : ℕ) (old new : List Entry) : Type 0 where
+  pub more : List Entry
+  pub grown : new ≡ old ++ more
+  pub greater : AllByRecursion (λ other. number < other) (numbers_in more)
+
+-- ---- the laws
+
 module _ {M : Type 0} (after : M → ℕ → List ℕ → M) (answer : M → ℕ → List ℕ → List ℕ) where
+  -- the number is in the log exactly once, and this is the reply of that one execution
+  pub record IsExecutedOnce (opening : Opening M) (log : List Entry) (number : ℕ) (reply : List ℕ) : Type 0 where
+    pub earlier : List Entry
+    pub request : List ℕ
+    pub later : List Entry
+    pub place : log ≡ earlier ++ Own number request ∷ later
+    pub smaller : AllByRecursion (λ other. other < number) (numbers_in earlier)
+    pub greater : AllByRecursion (λ other. number < other) (numbers_in later)
+    pub reply_is : reply ≡ embedded_reply after answer (device_after after answer opening earlier).router request
+
   -- both ends show what the numbered world shows
   abbrev pub worlds_law : Type 0
   worlds_law = (opening : Opening M) (events : List Event) → IsInRange opening.commander →
       AllByRecursion (IsOthers opening.commander.originator) events →
       seen_of_ends (ends_after after answer opening events)
       ≡ seen_of_world after answer opening (world_after after answer opening events)
+
+  -- no number is executed twice, and numbers are executed in the order in which they were given
+  abbrev pub rising_law : Type 0
+  rising_law = (opening : Opening M) (events : List Event) →
+      Rises (numbers_in (world_after after answer opening events).log)
+
+  -- each number was given to one command, and what is executed with it is that command
+  abbrev pub given_law : Type 0
+  given_law = (opening : Opening M) (events : List Event) →
+      let world = world_after after answer opening events in
+      Rises (map (λ (command : ℕ × List ℕ). command.0) world.given) × AllByRecursion (WasGiven world.given) world.log
+
+  -- each accepted reply is that of the one execution of its number
+  abbrev pub accepted_law : Type 0
+  accepted_law = (opening : Opening M) (events : List Event) → IsInRange opening.commander →
+      AllByRecursion (IsOthers opening.commander.originator) events →
+      AllByRecursion
+      (λ (accepted : ℕ × List ℕ). IsExecutedOnce opening (world_after after answer opening events).log accepted.0 accepted.1)
+      (ends_after after answer opening events).accepted
+
+  -- no number is accepted twice
+  abbrev pub accepted_once_law : Type 0
+  accepted_once_law = (opening : Opening M) (events : List Event) → IsInRange opening.commander →
+      AllByRecursion (IsOthers opening.commander.originator) events →
+      Rises (map (λ (accepted : ℕ × List ℕ). accepted.0) (ends_after after answer opening events).accepted)
+
+  -- once a reply was accepted, only greater numbers are executed: an abandoned command before it never will be
+  abbrev pub never_again_law : Type 0
+  never_again_law = (opening : Opening M) (events later : List Event) (position number : ℕ) (reply : List ℕ) →
+      IsInRange opening.commander → AllByRecursion (IsOthers opening.commander.originator) events →
+      slice_get (ends_after after answer opening events).accepted position ≡ Some (number, reply) →
+      GrowsAbove number (world_after after answer opening events).log (world_after after answer opening (events ++ later)).log
