@@ -245,16 +245,16 @@ module _ {M : Type 0} (after : M → ℕ → List ℕ → M) (answer : M → ℕ
   pending_outcome commander None text is = absurd (cc)
   pending_outcome commander (Some request) text is = refl
 
-  said-image : (world : NumberedWorld) (number : ℕ) (said : Said) → is_some world.commander.pending ≡ true →
-      heard (image world) number (outcome_of world.commander (said_bytes said)) ≡ image (said_of said world number)
-  said-image world number (IsDone reply) is =
-      ap (heard (image world) number) (pending_outcome world.commander world.commander.pending (said_bytes (IsDone reply)) is ∙ done_outcome reply)
-  said-image world number (IsRefused status) is =
-      ap (heard (image world) number)
+  said-image : (world : NumberedWorld) (said : Said) → is_some world.commander.pending ≡ true →
+      heard (image world) (outcome_of world.commander (said_bytes said)) ≡ image (said_of said world)
+  said-image world (IsDone reply) is =
+      ap (heard (image world)) (pending_outcome world.commander world.commander.pending (said_bytes (IsDone reply)) is ∙ done_outcome reply)
+  said-image world (IsRefused status) is =
+      ap (heard (image world))
       (pending_outcome world.commander world.commander.pending (said_bytes (IsRefused status)) is ∙ refused_outcome status (status == 0) refl)
       ∙ go (status == 0)
     where
-      go : (done : Bool) → heard (image world) number (if done then outcomes.Malformed else outcomes.Refused status) ≡ image world
+      go : (done : Bool) → heard (image world) (if done then outcomes.Malformed else outcomes.Refused status) ≡ image world
       go true = rw append-nil refl
       go false = rw append-nil refl
 
@@ -264,15 +264,15 @@ module _ {M : Type 0} (after : M → ℕ → List ℕ → M) (answer : M → ℕ
   back-image world (Some said) = go (awaits world.commander said.0) refl
     where
       go : (is : Bool) → awaits world.commander said.0 ≡ is →
-          (if is then heard (image world) said.0 (outcome_of world.commander (said_bytes said.1)) else image world)
-          ≡ image (if is then said_of said.1 world said.0 else world)
+          (if is then heard (image world) (outcome_of world.commander (said_bytes said.1)) else image world)
+          ≡ image (if is then said_of said.1 world else world)
       go true is =
-          said-image world said.0 said.1
+          said-image world said.1
           (and_parts (is_some world.commander.pending) (world.commander.last_number == said.0) is).0
       go false is = refl
 
-  said-sound : (world : NumberedWorld) (number : ℕ) (said : Said) → IsSound world → IsSound (said_of said world number)
-  said-sound world number (IsDone reply) sound = record {
+  said-sound : (world : NumberedWorld) (said : Said) → IsSound world → IsSound (said_of said world)
+  said-sound world (IsDone reply) sound = record {
     commander = record {
       life = sound.commander.life;
       originator = sound.commander.originator;
@@ -282,14 +282,14 @@ module _ {M : Type 0} (after : M → ℕ → List ℕ → M) (answer : M → ℕ
     sent = sound.sent;
     placed = sound.placed;
   }
-  said-sound world number (IsRefused status) sound = sound
+  said-sound world (IsRefused status) sound = sound
 
   back-sound : (world : NumberedWorld) (found : Option (ℕ × Said)) → IsSound world → IsSound (world_back world found)
   back-sound world None sound = sound
   back-sound world (Some said) sound = go (awaits world.commander said.0)
     where
-      go : (is : Bool) → IsSound (if is then said_of said.1 world said.0 else world)
-      go true = said-sound world said.0 said.1 sound
+      go : (is : Bool) → IsSound (if is then said_of said.1 world else world)
+      go true = said-sound world said.1 sound
       go false = sound
 
   -- ---- each event

@@ -1,8 +1,8 @@
 -- What the log of the numbered world has, over every list of events.
-use Rattle.std.proofs.Common.{◌≡◌, ℕ, ◌+◌, ◌<◌, ◌≤◌, ◌==◌, nat_lt, Bool, true, false, not, if◌then◌else◌, Option, Some, None, List, [], ◌∷◌, ◌++◌, length, append_assoc, refl, ap, sym, ◌∙◌, subst, arith}
-use Rattle.std.specs.Prelude.{⊤, fold}
+use Rattle.std.proofs.Common.{◌≡◌, ℕ, ◌+◌, ◌<◌, ◌≤◌, ◌==◌, ◌&&◌, nat_lt, Bool, true, false, not, if◌then◌else◌, Option, Some, None, List, [], ◌∷◌, ◌++◌, length, append_assoc, refl, ap, sym, ◌∙◌, subst, arith}
+use Rattle.std.specs.Prelude.{⊤, is_some, fold}
 use Rattle.std.specs.List.{slice_get, AllByRecursion}
-use Rattle.std.proofs.lemmas.Bool.{ltb-false, eqb-true, eqb-false}
+use Rattle.std.proofs.lemmas.Bool.{and_parts, ltb-false, eqb-true, eqb-false}
 use Rattle.std.proofs.lemmas.List.{append-nil}
 use Rattle.std.proofs.lemmas.List.Sums.{fold-append}
 use Rattle.cip_ledger.specs.Ledger.{LedgerState}
@@ -161,27 +161,30 @@ module _ {M : Type 0} (after : M → ℕ → List ℕ → M) (answer : M → ℕ
         subst Q (sym (numbers_in-append log (Another max_size request ∷ []) ∙ append-nil (numbers_in log))) is.1,
       )
 
-  said-logged : (world : NumberedWorld) (number : ℕ) (said : Said) → IsLogged world → IsSo world.log number said →
-      IsLogged (said_of said world number)
-  said-logged world number (IsDone reply) logged so = record {
+  said-logged : (world : NumberedWorld) (said : Said) → IsLogged world → IsSo world.log world.commander.last_number said →
+      IsLogged (said_of said world)
+  said-logged world (IsDone reply) logged so = record {
     rises = logged.rises;
     last = logged.last;
     back = logged.back;
     accepted =
-        all_append (λ (a : ℕ × List ℕ). IsExecuted world.log a.0 a.1) world.accepted ((number, reply) ∷ []) logged.accepted (so, tt);
+      all_append (λ (a : ℕ × List ℕ). IsExecuted world.log a.0 a.1) world.accepted ((world.commander.last_number, reply) ∷ [])
+      logged.accepted (so, tt);
   }
-  said-logged world number (IsRefused status) logged so = logged
+  said-logged world (IsRefused status) logged so = logged
 
   back-logged : (world : NumberedWorld) (position : ℕ) (found : Option (ℕ × Said)) → IsLogged world →
       slice_get world.back position ≡ found → IsLogged (world_back world found)
   back-logged world position None logged is = logged
-  back-logged world position (Some said) logged is = go (awaits world.commander said.0)
+  back-logged world position (Some said) logged is = go (awaits world.commander said.0) refl
     where
-      go : (its : Bool) → IsLogged (if its then said_of said.1 world said.0 else world)
-      go true =
-          said-logged world said.0 said.1 logged
-          (all_at (λ (b : ℕ × Said). IsSo world.log b.0 b.1) world.back position said logged.back is)
-      go false = logged
+      go : (its : Bool) → awaits world.commander said.0 ≡ its → IsLogged (if its then said_of said.1 world else world)
+      go true awaited =
+          let parts = and_parts (is_some world.commander.pending) (world.commander.last_number == said.0) awaited in
+          said-logged world said.1 logged
+          (subst (λ number. IsSo world.log number said.1) (sym (eqb-true world.commander.last_number said.0 parts.1))
+          (all_at (λ (b : ℕ × Said). IsSo world.log b.0 b.1) world.back position said logged.back is))
+      go false awaited = logged
 
   step-logged : (world : NumberedWorld) (event : Event) → IsLogged world →
       IsLogged (world_step after answer opening world event)
@@ -251,16 +254,16 @@ module _ {M : Type 0} (after : M → ℕ → List ℕ → M) (answer : M → ℕ
   reach-grows world max_size None = stays world.log
   reach-grows world max_size (Some message) = arrived-grows world message.0 message.1 _
 
-  said-stays : (world : NumberedWorld) (number : ℕ) (said : Said) → (said_of said world number).log ≡ world.log
-  said-stays world number (IsDone reply) = refl
-  said-stays world number (IsRefused status) = refl
+  said-stays : (world : NumberedWorld) (said : Said) → (said_of said world).log ≡ world.log
+  said-stays world (IsDone reply) = refl
+  said-stays world (IsRefused status) = refl
 
   back-stays : (world : NumberedWorld) (found : Option (ℕ × Said)) → (world_back world found).log ≡ world.log
   back-stays world None = refl
   back-stays world (Some said) = go (awaits world.commander said.0)
     where
-      go : (its : Bool) → (if its then said_of said.1 world said.0 else world).log ≡ world.log
-      go true = said-stays world said.0 said.1
+      go : (its : Bool) → (if its then said_of said.1 world else world).log ≡ world.log
+      go true = said-stays world said.1
       go false = refl
 
   step-grows : (world : NumberedWorld) (event : Event) → Grows world.log (world_step after answer opening world event).log

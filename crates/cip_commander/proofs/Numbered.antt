@@ -115,31 +115,33 @@ module _ {M : Type 0} (after : M → ℕ → List ℕ → M) (answer : M → ℕ
       arrived-numbered world (device_after after answer opening world.log) message.0 message.1 _ is
       (all_at (λ (m : ℕ × List ℕ). IsAmong world.given m.0 m.1) world.sent position message is.sent found)
 
-  said-numbered : (world : NumberedWorld) (number : ℕ) (said : Said) → IsNumbered world → is_some world.commander.pending ≡ true →
-      world.commander.last_number ≡ number → IsNumbered (said_of said world number)
-  said-numbered world number (IsDone reply) is pending last = record {
-    given = abandoned-given world.given world.commander is.given;
-    sent = is.sent;
-    log = is.log;
-    rises =
-        numbers-rise world.accepted number reply is.rises
-        (all_map (λ (a : ℕ × List ℕ). IsPast world.commander a.0) (λ (a : ℕ × List ℕ). a.0 < number) world.accepted
-        (λ a past. let below = past.1 pending in omega arith) is.past);
-    past =
-        let self : number ≤ world.commander.last_number = omega arith in
-        all_append (λ (a : ℕ × List ℕ). IsPast (abandoned world.commander) a.0) world.accepted ((number, reply) ∷ [])
-        (past-abandoned world.commander world.accepted is.past) ((self, λ pending. absurd (cc)), tt);
-  }
-  said-numbered world number (IsRefused status) is pending last = is
+  said-numbered : (world : NumberedWorld) (said : Said) → IsNumbered world → is_some world.commander.pending ≡ true →
+      IsNumbered (said_of said world)
+  said-numbered world (IsDone reply) is pending =
+      let number = world.commander.last_number in
+      record {
+        given = abandoned-given world.given world.commander is.given;
+        sent = is.sent;
+        log = is.log;
+        rises =
+          numbers-rise world.accepted number reply is.rises
+          (all_map (λ (a : ℕ × List ℕ). IsPast world.commander a.0) (λ (a : ℕ × List ℕ). a.0 < number) world.accepted
+          (λ a past. past.1 pending) is.past);
+        past =
+          let self : number ≤ number = omega arith in
+          all_append (λ (a : ℕ × List ℕ). IsPast (abandoned world.commander) a.0) world.accepted ((number, reply) ∷ [])
+          (past-abandoned world.commander world.accepted is.past) ((self, λ pending. absurd (cc)), tt);
+      }
+  said-numbered world (IsRefused status) is pending = is
 
   back-numbered : (world : NumberedWorld) (found : Option (ℕ × Said)) → IsNumbered world → IsNumbered (world_back world found)
   back-numbered world None is = is
   back-numbered world (Some said) is = go (awaits world.commander said.0) refl
     where
-      go : (its : Bool) → awaits world.commander said.0 ≡ its → IsNumbered (if its then said_of said.1 world said.0 else world)
+      go : (its : Bool) → awaits world.commander said.0 ≡ its → IsNumbered (if its then said_of said.1 world else world)
       go true awaited =
-          let parts = and_parts (is_some world.commander.pending) (world.commander.last_number == said.0) awaited in
-          said-numbered world said.0 said.1 is parts.0 (eqb-true world.commander.last_number said.0 parts.1)
+          said-numbered world said.1 is
+          (and_parts (is_some world.commander.pending) (world.commander.last_number == said.0) awaited).0
       go false awaited = is
 
   step-numbered : (world : NumberedWorld) (event : Event) → IsNumbered world →

@@ -94,17 +94,18 @@ accepted_by number (outcomes.Refused status) = []
 accepted_by number outcomes.Malformed = []
 accepted_by number outcomes.NotPending = []
 
-abbrev pub heard : {M : Type 0} → BothEnds M → ℕ → outcomes.Outcome → BothEnds M
-heard ends number outcome = record ends {
+-- it takes a reply for one to its last command
+abbrev pub heard : {M : Type 0} → BothEnds M → outcomes.Outcome → BothEnds M
+heard ends outcome = record ends {
   commander = after_outcome ends.commander outcome;
-  accepted = ends.accepted ++ accepted_by number outcome;
+  accepted = ends.accepted ++ accepted_by ends.commander.last_number outcome;
 }
 
 -- the originator takes an answer only if it is one to the pending command
 abbrev pub ends_back : {M : Type 0} → BothEnds M → Option (ℕ × List ℕ) → BothEnds M
 ends_back ends None = ends
 ends_back ends (Some reply) =
-    if awaits ends.commander reply.0 then heard ends reply.0 (outcome_of ends.commander reply.1) else ends
+    if awaits ends.commander reply.0 then heard ends (outcome_of ends.commander reply.1) else ends
 
 abbrev pub seen_of_ends : {M : Type 0} → BothEnds M → Seen M
 seen_of_ends ends = record {
@@ -201,16 +202,16 @@ arrival life device max_size number =
     if not (life == device.ledger.life) then Answered (IsRefused 0x10)
     else arrival_by device.ledger max_size number device.last
 
-abbrev pub said_of : Said → NumberedWorld → ℕ → NumberedWorld
-said_of (IsDone reply) world number = record world {
+abbrev pub said_of : Said → NumberedWorld → NumberedWorld
+said_of (IsDone reply) world = record world {
   commander = abandoned world.commander;
-  accepted = world.accepted ++ (number, reply) ∷ [];
+  accepted = world.accepted ++ (world.commander.last_number, reply) ∷ [];
 }
-said_of (IsRefused status) world number = world
+said_of (IsRefused status) world = world
 
 abbrev pub world_back : NumberedWorld → Option (ℕ × Said) → NumberedWorld
 world_back world None = world
-world_back world (Some said) = if awaits world.commander said.0 then said_of said.1 world said.0 else world
+world_back world (Some said) = if awaits world.commander said.0 then said_of said.1 world else world
 
 module _ {M : Type 0} (after : M → ℕ → List ℕ → M) (answer : M → ℕ → List ℕ → List ℕ) where
   -- ---- both ends
