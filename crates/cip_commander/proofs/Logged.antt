@@ -1,5 +1,5 @@
 -- What the log of the numbered world has, over every list of events.
-use Rattle.std.proofs.Common.{◌≡◌, ℕ, ◌+◌, ◌<◌, ◌≤◌, ◌==◌, ◌&&◌, nat_lt, Bool, true, false, not, if◌then◌else◌, Option, Some, None, List, [], ◌∷◌, ◌++◌, length, append_assoc, refl, ap, sym, ◌∙◌, subst, arith}
+use Rattle.std.proofs.Common.{◌≡◌, ℕ, ◌+◌, ◌<◌, ◌≤◌, ◌==◌, nat_lt, Bool, true, false, not, if◌then◌else◌, Option, Some, None, List, [], ◌∷◌, ◌++◌, length, append_assoc, refl, ap, sym, ◌∙◌, subst, arith}
 use Rattle.std.specs.Prelude.{⊤, is_some, fold}
 use Rattle.std.specs.List.{slice_get, AllByRecursion}
 use Rattle.std.proofs.lemmas.Bool.{and_parts, ltb-false, eqb-true, eqb-false}
@@ -168,8 +168,8 @@ module _ {M : Type 0} (after : M → ℕ → List ℕ → M) (answer : M → ℕ
     last = logged.last;
     back = logged.back;
     accepted =
-      all_append (λ (a : ℕ × List ℕ). IsExecuted world.log a.0 a.1) world.accepted ((world.commander.last_number, reply) ∷ [])
-      logged.accepted (so, tt);
+        all_append (λ (a : ℕ × List ℕ). IsExecuted world.log a.0 a.1) world.accepted ((world.commander.last_number, reply) ∷ [])
+        logged.accepted (so, tt);
   }
   said-logged world (IsRefused status) logged so = logged
 

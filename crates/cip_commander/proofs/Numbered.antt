@@ -2,7 +2,7 @@
 use Rattle.std.proofs.Common.{◌≡◌, ℕ, inl, ◌+◌, ◌<◌, ◌≤◌, ◌==◌, Bool, true, false, if◌then◌else◌, Option, Some, None, List, [], ◌∷◌, ◌++◌, map, refl, sym, subst, arith}
 use Rattle.std.specs.Prelude.{⊤, MatchOption, is_some, fold}
 use Rattle.std.specs.List.{slice_get, AllByRecursion}
-use Rattle.std.proofs.lemmas.Bool.{and_parts, eqb-true}
+use Rattle.std.proofs.lemmas.Bool.{and_parts}
 use Rattle.std.proofs.lemmas.List.{append-nil, map-append}
 use Rattle.cip_commander.specs.declared.refusal.CommandRefused.{CommandRefused}
 use Rattle.cip_commander.specs.CommanderRule.{CommanderState, command_refusal, with_command, abandoned}
@@ -124,13 +124,13 @@ module _ {M : Type 0} (after : M → ℕ → List ℕ → M) (answer : M → ℕ
         sent = is.sent;
         log = is.log;
         rises =
-          numbers-rise world.accepted number reply is.rises
-          (all_map (λ (a : ℕ × List ℕ). IsPast world.commander a.0) (λ (a : ℕ × List ℕ). a.0 < number) world.accepted
-          (λ a past. past.1 pending) is.past);
+            numbers-rise world.accepted number reply is.rises
+            (all_map (λ (a : ℕ × List ℕ). IsPast world.commander a.0) (λ (a : ℕ × List ℕ). a.0 < number) world.accepted
+            (λ a past. past.1 pending) is.past);
         past =
-          let self : number ≤ number = omega arith in
-          all_append (λ (a : ℕ × List ℕ). IsPast (abandoned world.commander) a.0) world.accepted ((number, reply) ∷ [])
-          (past-abandoned world.commander world.accepted is.past) ((self, λ pending. absurd (cc)), tt);
+            let self : number ≤ number = omega arith in
+            all_append (λ (a : ℕ × List ℕ). IsPast (abandoned world.commander) a.0) world.accepted ((number, reply) ∷ [])
+            (past-abandoned world.commander world.accepted is.past) ((self, λ pending. absurd (cc)), tt);
       }
   said-numbered world (IsRefused status) is pending = is
 

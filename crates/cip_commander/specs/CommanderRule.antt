@@ -1,5 +1,5 @@
 -- The originator's side of commands that are executed once.
-use Rattle.std.specs.Prelude.{ℕ, ◌+◌, ◌&&◌, nat_lt, nat_le, Bool, if◌then◌else◌, Option, Some, None, option_map}
+use Rattle.std.specs.Prelude.{⊤, ℕ, ◌<◌, ◌≤◌, ◌^◌, MatchOption, ◌+◌, ◌&&◌, nat_lt, nat_le, Bool, if◌then◌else◌, Option, Some, None, option_map}
 use Rattle.std.specs.Prelude.{List, ◌∷◌, ◌++◌, length, slice_index}
 use Rattle.cip_bytes.specs.Numbers.{le}
 use Rattle.cip_ledger.specs.Requests.{Command}
@@ -15,6 +15,13 @@ pub record CommanderState : Type 0 where
   pub originator : ℕ
   pub last_number : ℕ
   pub pending : Option (List ℕ)
+
+-- a commander's numbers have their sizes, and a pending request has at least two bytes
+pub record IsInRange (commander : CommanderState) : Type 0 where
+  pub life : commander.life < 2 ^ 64
+  pub originator : commander.originator < 2 ^ 64
+  pub last_number : commander.last_number < 2 ^ 32
+  pub pending : MatchOption commander.pending ⊤ (λ request. 2 ≤ length request)
 
 abbrev pub commander_at : ℕ → ℕ → ℕ → Option (List ℕ) → CommanderState
 commander_at life originator last_number pending =

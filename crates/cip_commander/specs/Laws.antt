@@ -1,20 +1,13 @@
 -- What holds of both ends over every list of events.
-use Rattle.std.specs.Prelude.{◌≡◌, ◌⊎◌, ⊤, ℕ, ◌<◌, ◌≤◌, ◌^◌, MatchOption, Some, List, [], ◌∷◌, ◌++◌, length, map}
+use Rattle.std.specs.Prelude.{◌≡◌, ◌⊎◌, ⊤, ℕ, ◌<◌, Some, List, [], ◌∷◌, ◌++◌, map}
 use Rattle.std.specs.List.{slice_get, AllByRecursion}
 use Rattle.cip_ledger.specs.Laws.{IsOfAnother}
 use Rattle.cip_ledger.specs.Turn.{embedded_reply}
-use Rattle.cip_commander.specs.CommanderRule.{CommanderState}
+use Rattle.cip_commander.specs.CommanderRule.{IsInRange}
 use Rattle.cip_commander.specs.Worlds.{Event, NewCommand, Abandon, Send, Reach, Back, Other, Opening, Entry, Own, Another}
 use Rattle.cip_commander.specs.Worlds.{ends_after, device_after, world_after, seen_of_ends, seen_of_world}
 
 -- ---- words on the premises
-
--- a commander's numbers have their sizes, and a pending request has at least two bytes
-pub record IsInRange (commander : CommanderState) : Type 0 where
-  pub life : commander.life < 2 ^ 64
-  pub originator : commander.originator < 2 ^ 64
-  pub last_number : commander.last_number < 2 ^ 32
-  pub pending : MatchOption commander.pending ⊤ (λ request. 2 ≤ length request)
 
 -- requests of others are neither commands of this originator nor Forget of its slot
 abbrev pub IsOthers : ℕ → Event → Type 0

@@ -46,11 +46,13 @@ impl Model for Commander {
 impl Commander {
     ghost use Rattle.cip_commander.specs.CommanderRule.{commander_at, command_refusal, with_command, pending_message};
     ghost use Rattle.cip_commander.specs.CommanderRule.{message_of, outcome_of, after_reply, abandoned, resume_refusal};
+    ghost use Rattle.cip_commander.specs.CommanderRule.{IsInRange};
     ghost use Rattle.cip_commander.specs.contracts.commander.Commander.{the_row};
 
     /// A commander without a pending command, whose last command had this number.
     pub fn new(life: u64, originator: u64, last_number: u32) -> Commander
-        ensures { result ≡ commander_at life originator last_number None }
+        ensures state { result ≡ commander_at life originator last_number None }
+        ensures range { IsInRange result }
     {
         Commander {
             life,
@@ -76,6 +78,7 @@ impl Commander {
         ensures allowed { OnOk result (resume_refusal (option_map (λ request. request.now) pending.entry) ≡ None) }
         ensures resumed { IfOk result (λ commander.
             commander ≡ commander_at life originator last_number (option_map (λ request. request.now) pending.entry)) }
+        ensures range { IfOk result (λ commander. IsInRange commander) }
     {
         let mut commander = Commander::new(life, originator, last_number);
         if let Some(request) = pending {
