@@ -294,12 +294,12 @@ module _ {M : Type 0} (after : M → ℕ → List ℕ → M) (answer : M → ℕ
 
   -- ---- each event
 
-  found_sendable : (found : Option (ℕ × List ℕ)) (sent : List (ℕ × List ℕ)) (position : ℕ) → AllByRecursion IsSendable sent →
+  pub found_sendable : (found : Option (ℕ × List ℕ)) (sent : List (ℕ × List ℕ)) (position : ℕ) → AllByRecursion IsSendable sent →
       slice_get sent position ≡ found → MatchOption found ⊤ IsSendable
   found_sendable None sent position all is = tt
   found_sendable (Some message) sent position all is = all_at IsSendable sent position message all is
 
-  step-image : (world : NumberedWorld) (event : Event) → IsSound world → IsOthers own event →
+  pub step-image : (world : NumberedWorld) (event : Event) → IsSound world → IsOthers own event →
       ends_step after answer (image world) event ≡ image (world_step after answer opening world event)
   step-image world (NewCommand request) sound others = refl
   step-image world Abandon sound others = refl
@@ -320,7 +320,7 @@ module _ {M : Type 0} (after : M → ℕ → List ℕ → M) (answer : M → ℕ
       (other-node device.last device.ledger device.router max_size request others
       ∙ ap node_in (sym (device-after after answer opening world.log (Another max_size request))))
 
-  step-sound : (world : NumberedWorld) (event : Event) → IsSound world → IsOthers own event →
+  pub step-sound : (world : NumberedWorld) (event : Event) → IsSound world → IsOthers own event →
       IsSound (world_step after answer opening world event)
   step-sound world (NewCommand request) sound others = record {
     commander = given-ours opening.commander world.commander request (command_refusal world.commander request) sound.commander refl;

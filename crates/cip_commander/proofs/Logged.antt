@@ -258,7 +258,7 @@ module _ {M : Type 0} (after : M → ℕ → List ℕ → M) (answer : M → ℕ
   said-stays world (IsDone reply) = refl
   said-stays world (IsRefused status) = refl
 
-  back-stays : (world : NumberedWorld) (found : Option (ℕ × Said)) → (world_back world found).log ≡ world.log
+  pub back-stays : (world : NumberedWorld) (found : Option (ℕ × Said)) → (world_back world found).log ≡ world.log
   back-stays world None = refl
   back-stays world (Some said) = go (awaits world.commander said.0)
     where

@@ -1,11 +1,13 @@
 -- What holds of both ends over every list of events.
-use Rattle.std.specs.Prelude.{◌≡◌, ◌⊎◌, ⊤, ℕ, ◌<◌, Some, List, [], ◌∷◌, ◌++◌, map}
+use Rattle.std.specs.Prelude.{◌≡◌, ◌⊎◌, ⊤, ℕ, ◌<◌, ◌==◌, if◌then◌else◌, Option, Some, None, List, [], ◌∷◌, ◌++◌, map}
 use Rattle.std.specs.List.{slice_get, AllByRecursion}
 use Rattle.cip_ledger.specs.Laws.{IsOfAnother}
+use Rattle.cip_ledger.specs.Runs as journal
 use Rattle.cip_ledger.specs.Turn.{embedded_reply}
 use Rattle.cip_commander.specs.CommanderRule.{IsInRange}
 use Rattle.cip_commander.specs.Worlds.{Event, NewCommand, Abandon, Send, Reach, Back, Other, Opening, Entry, Own, Another}
-use Rattle.cip_commander.specs.Worlds.{ends_after, device_after, world_after, seen_of_ends, seen_of_world}
+use Rattle.cip_commander.specs.Worlds.{BothEnds, ends_at, ends_step, ends_after, Device, device_at, device_step, device_after}
+use Rattle.cip_commander.specs.Worlds.{world_after, seen_of_ends, seen_of_world}
 
 -- ---- words on the premises
 
@@ -47,6 +49,28 @@ pub record GrowsAbove (number : ℕ) (old new : List Entry) : Type 0 where
   pub grown : new ≡ old ++ more
   pub greater : AllByRecursion (λ other. number < other) (numbers_in more)
 
+-- ---- words on what the device does
+
+-- a command of the originator's was executed with this reply
+pub record Execution : Type 0 where
+  pub number : ℕ
+  pub request : List ℕ
+  pub reply : List ℕ
+
+-- what a device's journal has of an originator
+abbrev pub executions_in : ℕ → List journal.Event → List Execution
+executions_in originator [] = []
+executions_in originator (journal.Executed command reply ∷ events) =
+    if command.originator == originator
+    then record { number = command.number; request = command.request; reply = reply } ∷ executions_in originator events
+    else executions_in originator events
+executions_in originator (journal.Freed freed ∷ events) = executions_in originator events
+
+-- the request that a message is to the device
+abbrev pub request_in : ℕ → Option (ℕ × List ℕ) → List journal.Request
+request_in max_size None = []
+request_in max_size (Some message) = (max_size, message.1) ∷ []
+
 -- ---- the laws
 
 module _ {M : Type 0} (after : M → ℕ → List ℕ → M) (answer : M → ℕ → List ℕ → List ℕ) where
@@ -59,6 +83,44 @@ module _ {M : Type 0} (after : M → ℕ → List ℕ → M) (answer : M → ℕ
     pub smaller : AllByRecursion (λ other. other < number) (numbers_in earlier)
     pub greater : AllByRecursion (λ other. number < other) (numbers_in later)
     pub reply_is : reply ≡ embedded_reply after answer (device_after after answer opening earlier).router request
+
+  -- what the log of the numbered world executes for the originator, with the reply of each execution
+  abbrev pub executions_of : ℕ → Device M → List Entry → List Execution
+  executions_of originator device [] = []
+  executions_of originator device (Own number request ∷ log) =
+      record { number = number; request = request; reply = embedded_reply after answer device.router request }
+      ∷ executions_of originator (device_step after answer originator device (Own number request)) log
+  executions_of originator device (Another max_size request ∷ log) =
+      executions_of originator (device_step after answer originator device (Another max_size request)) log
+
+  -- the request that an event brings to the device
+  abbrev pub request_of : BothEnds M → Event → List journal.Request
+  request_of ends (NewCommand request) = []
+  request_of ends Abandon = []
+  request_of ends Send = []
+  request_of ends (Reach position max_size) = request_in max_size (slice_get ends.sent position)
+  request_of ends (Back position) = []
+  request_of ends (Other max_size request) = (max_size, request) ∷ []
+
+  -- the requests that reach the device, in order
+  abbrev pub requests_of : BothEnds M → List Event → List journal.Request
+  requests_of ends [] = []
+  requests_of ends (event ∷ events) =
+      request_of ends event ++ requests_of (ends_step after answer ends event) events
+
+  -- the device is a run of the requests that reached it, so the laws of the ledger hold of it
+  abbrev pub device_law : Type 0
+  device_law = (opening : Opening M) (events : List Event) →
+      (ends_after after answer opening events).device
+      ≡ journal.node_after after answer (ends_at opening).device (requests_of (ends_at opening) events)
+
+  -- what the device executes for the originator is what the log has, with the same replies
+  abbrev pub journal_law : Type 0
+  journal_law = (opening : Opening M) (events : List Event) → IsInRange opening.commander →
+      AllByRecursion (IsOthers opening.commander.originator) events →
+      executions_in opening.commander.originator
+      (journal.journal after answer (ends_at opening).device (requests_of (ends_at opening) events))
+      ≡ executions_of opening.commander.originator (device_at opening) (world_after after answer opening events).log
 
   -- both ends show what the numbered world shows
   abbrev pub worlds_law : Type 0

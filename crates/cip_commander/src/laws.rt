@@ -5,7 +5,7 @@
 //! lasts: over several lives, `only_in_its_life` of `cip_ledger` holds.
 
 ghost use Rattle.cip_commander.specs.Laws.{worlds_law, rising_law, given_law, accepted_law, accepted_once_law};
-ghost use Rattle.cip_commander.specs.Laws.{never_again_law};
+ghost use Rattle.cip_commander.specs.Laws.{never_again_law, device_law, journal_law};
 
 use cip_objects::Router;
 
@@ -39,4 +39,14 @@ pub fn accepted_once<R: Router>()
 /// was executed at most once, and never will be again.
 pub fn never_again<R: Router>()
     ensures { never_again_law R.after R.answer }
+{}
+
+/// The device is a run of the requests that reached it, in order. So the laws of `cip_ledger` hold of it.
+pub fn device_is_a_run<R: Router>()
+    ensures { device_law R.after R.answer }
+{}
+
+/// What the device executes for the originator, and its replies, are what the log of the numbered world says.
+pub fn log_is_the_journal<R: Router>()
+    ensures { journal_law R.after R.answer }
 {}
