@@ -7,7 +7,7 @@ use Rattle.cip_ledger.specs.Services.{Answer, Action, Replies, Executes, do_new,
 use Rattle.cip_ledger.specs.Turn.{Served, fate, Turn, turn, turn_of, turn_by, acted, after_embedded, embedded_reply}
 use Rattle.cip_ledger.specs.Runs.{Event, Executed, events_by}
 use Rattle.cip_commander.specs.CommanderRule.{do_once}
-use Rattle.cip_commander.specs.Worlds.{IsDone, IsRefused, said_bytes, Arrival, Appended, Answered, Device, arrival, arrival_by, new_number, last_again, with_blank}
+use Rattle.cip_commander.specs.NumberedWorld.{IsDone, IsRefused, said_bytes, Arrival, Appended, Answered, Device, arrival, arrival_by, new_number, last_again, with_blank}
 use Rattle.cip_commander.proofs.DoOnce.{IsCommand, fate-do_once}
 use Rattle.cip_commander.proofs.Filled.{own_slot, slot_of-fill, with_slot-blank, with_slot-filled}
 use Rattle.cip_commander.proofs.Others.{filled}

@@ -20,7 +20,7 @@ use Rattle.cip_commander.specs.Outcome as outcomes
 use Rattle.cip_commander.specs.Outcome.{outcome_of_text}
 use Rattle.cip_commander.specs.CommanderRule.{IsInRange, CommanderState, do_once, embedded_refusal, number_refusal, first_refusal, is_request, command_refusal, outcome_of, MOST_NUMBER}
 use Rattle.cip_commander.specs.Worlds.{Event, NewCommand, Abandon, Send, Reach, Back, Other, Opening, BothEnds, ends_step, ends_reach, ends_back, ends_after, heard, after_given, sends, awaits, seen_of_ends}
-use Rattle.cip_commander.specs.Worlds.{Own, Another, Said, IsDone, IsRefused, said_bytes, answer_in, Device, device_step, device_after, NumberedWorld, world_at, world_step, world_reach, world_back, world_after, said_of, Arrival, Appended, Answered, arrival, arrived, blank_slot, seen_of_world}
+use Rattle.cip_commander.specs.NumberedWorld.{Own, Another, Said, IsDone, IsRefused, said_bytes, answer_in, Device, device_step, device_after, NumberedWorld, world_at, world_step, world_reach, world_back, world_after, said_of, Arrival, Appended, Answered, arrival, arrived, blank_slot, seen_of_world}
 use Rattle.cip_commander.specs.Laws.{IsOthers}
 use Rattle.cip_commander.proofs.DoOnce.{IsCommand}
 use Rattle.cip_commander.proofs.Filled.{own_slot}

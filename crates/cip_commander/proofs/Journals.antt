@@ -16,7 +16,7 @@ use Rattle.cip_ledger.specs.Laws.{IsOfAnother}
 use Rattle.cip_ledger.proofs.Fates.{Means, fate-means}
 use Rattle.cip_commander.specs.CommanderRule.{IsInRange, outcome_of}
 use Rattle.cip_commander.specs.Worlds.{Event, NewCommand, Abandon, Send, Reach, Back, Other, Opening, BothEnds, ends_at, ends_step, ends_reach, ends_back, heard, awaits}
-use Rattle.cip_commander.specs.Worlds.{Entry, Own, Another, Device, device_at, device_step, device_after, NumberedWorld, world_at, world_step, world_reach, world_after, Arrival, Appended, Answered, arrival, arrived}
+use Rattle.cip_commander.specs.NumberedWorld.{Entry, Own, Another, Device, device_at, device_step, device_after, NumberedWorld, world_at, world_step, world_reach, world_after, Arrival, Appended, Answered, arrival, arrived}
 use Rattle.cip_commander.specs.Laws.{IsOthers, Execution, executions_in, executions_of, request_in, request_of, requests_of}
 use Rattle.cip_commander.proofs.Arrivals.{arrived_events, arrival-events}
 use Rattle.cip_commander.proofs.DoOnce.{IsCommand}

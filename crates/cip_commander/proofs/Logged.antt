@@ -9,7 +9,7 @@ use Rattle.cip_ledger.specs.Ledger.{LedgerState}
 use Rattle.cip_ledger.specs.Services.{HEAD_SIZE}
 use Rattle.cip_ledger.specs.Turn.{embedded_reply}
 use Rattle.cip_commander.specs.Worlds.{Event, NewCommand, Abandon, Send, Reach, Back, Other, Opening, awaits}
-use Rattle.cip_commander.specs.Worlds.{Entry, Own, Another, Said, IsDone, IsRefused, Device, device_after, NumberedWorld, world_at, world_step, world_reach, world_back, world_after, said_of, Arrival, Appended, Answered, arrival, arrival_by, new_number, arrived}
+use Rattle.cip_commander.specs.NumberedWorld.{Entry, Own, Another, Said, IsDone, IsRefused, Device, device_after, NumberedWorld, world_at, world_step, world_reach, world_back, world_after, said_of, Arrival, Appended, Answered, arrival, arrival_by, new_number, arrived}
 use Rattle.cip_commander.specs.Laws.{numbers_in, Rises, IsExecutedOnce, GrowsAbove}
 use Rattle.cip_commander.proofs.Rising.{all_at, all_append, all_map, all_second, rises_snoc, rises_smaller, rises_greater, numbers_in-append, device-after}
 

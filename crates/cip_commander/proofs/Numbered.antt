@@ -7,7 +7,7 @@ use Rattle.std.proofs.lemmas.List.{append-nil, map-append}
 use Rattle.cip_commander.specs.declared.refusal.CommandRefused.{CommandRefused}
 use Rattle.cip_commander.specs.CommanderRule.{CommanderState, command_refusal, with_command, abandoned}
 use Rattle.cip_commander.specs.Worlds.{Event, NewCommand, Abandon, Send, Reach, Back, Other, Opening, after_given, gives, sends, awaits}
-use Rattle.cip_commander.specs.Worlds.{Own, Another, Said, IsDone, IsRefused, Device, device_after, NumberedWorld, world_at, world_step, world_reach, world_back, world_after, said_of, Arrival, Appended, Answered, arrived}
+use Rattle.cip_commander.specs.NumberedWorld.{Own, Another, Said, IsDone, IsRefused, Device, device_after, NumberedWorld, world_at, world_step, world_reach, world_back, world_after, said_of, Arrival, Appended, Answered, arrived}
 use Rattle.cip_commander.specs.Laws.{Rises, IsAmong, WasGiven}
 use Rattle.cip_commander.proofs.Rising.{all_at, all_append, all_map, rises_snoc, among_first, among_last, was_given-first}
 

@@ -2,7 +2,8 @@
 use Rattle.std.proofs.Common.{◌≡◌, inl, inr, ℕ, zero, suc, ◌<◌, Some, unwrap_or, List, [], ◌∷◌, ◌++◌, refl, ap, subst}
 use Rattle.std.specs.List.{slice_get, AllByRecursion}
 use Rattle.std.proofs.lemmas.List.Sums.{fold-append}
-use Rattle.cip_commander.specs.Worlds.{Entry, Own, Another, Opening, device_at, device_step, device_after}
+use Rattle.cip_commander.specs.Worlds.{Opening}
+use Rattle.cip_commander.specs.NumberedWorld.{Entry, Own, Another, device_at, device_step, device_after}
 use Rattle.cip_commander.specs.Laws.{numbers_in, Rises, IsAmong, WasGiven}
 
 -- ---- all of a list

@@ -1,5 +1,6 @@
 -- The originator's side of commands that are executed once.
-use Rattle.std.specs.Prelude.{⊤, ℕ, ◌<◌, ◌≤◌, ◌^◌, MatchOption, ◌+◌, ◌&&◌, nat_lt, nat_le, Bool, if◌then◌else◌, Option, Some, None, option_map}
+use Rattle.std.specs.Prelude.{⊤, ℕ, ◌+◌, ◌^◌, ◌<◌, ◌≤◌, ◌&&◌, nat_lt, nat_le, Bool, if◌then◌else◌}
+use Rattle.std.specs.Prelude.{Option, Some, None, option_map, MatchOption}
 use Rattle.std.specs.Prelude.{List, ◌∷◌, ◌++◌, length, slice_index}
 use Rattle.cip_bytes.specs.Numbers.{le}
 use Rattle.cip_ledger.specs.Requests.{Command}

@@ -5,9 +5,10 @@ use Rattle.cip_ledger.specs.Laws.{IsOfAnother}
 use Rattle.cip_ledger.specs.Runs as journal
 use Rattle.cip_ledger.specs.Turn.{embedded_reply}
 use Rattle.cip_commander.specs.CommanderRule.{IsInRange}
-use Rattle.cip_commander.specs.Worlds.{Event, NewCommand, Abandon, Send, Reach, Back, Other, Opening, Entry, Own, Another}
-use Rattle.cip_commander.specs.Worlds.{BothEnds, ends_at, ends_step, ends_after, Device, device_at, device_step, device_after}
-use Rattle.cip_commander.specs.Worlds.{world_after, seen_of_ends, seen_of_world}
+use Rattle.cip_commander.specs.Worlds.{Event, NewCommand, Abandon, Send, Reach, Back, Other, Opening}
+use Rattle.cip_commander.specs.Worlds.{BothEnds, ends_at, ends_step, ends_after, seen_of_ends}
+use Rattle.cip_commander.specs.NumberedWorld.{Entry, Own, Another, Device, device_at, device_step, device_after}
+use Rattle.cip_commander.specs.NumberedWorld.{world_after, seen_of_world}
 
 -- ---- words on the premises
 
@@ -144,8 +145,8 @@ module _ {M : Type 0} (after : M → ℕ → List ℕ → M) (answer : M → ℕ
   abbrev pub accepted_law : Type 0
   accepted_law = (opening : Opening M) (events : List Event) → IsInRange opening.commander →
       AllByRecursion (IsOthers opening.commander.originator) events →
-      AllByRecursion
-      (λ (accepted : ℕ × List ℕ). IsExecutedOnce opening (world_after after answer opening events).log accepted.0 accepted.1)
+      let log = (world_after after answer opening events).log in
+      AllByRecursion (λ (accepted : ℕ × List ℕ). IsExecutedOnce opening log accepted.0 accepted.1)
       (ends_after after answer opening events).accepted
 
   -- no number is accepted twice
@@ -159,4 +160,5 @@ module _ {M : Type 0} (after : M → ℕ → List ℕ → M) (answer : M → ℕ
   never_again_law = (opening : Opening M) (events later : List Event) (position number : ℕ) (reply : List ℕ) →
       IsInRange opening.commander → AllByRecursion (IsOthers opening.commander.originator) events →
       slice_get (ends_after after answer opening events).accepted position ≡ Some (number, reply) →
-      GrowsAbove number (world_after after answer opening events).log (world_after after answer opening (events ++ later)).log
+      GrowsAbove number
+      (world_after after answer opening events).log (world_after after answer opening (events ++ later)).log

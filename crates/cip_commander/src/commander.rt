@@ -1,9 +1,9 @@
 //! The originator's side: one pending command, until a reply says that it is done.
 //! Text: docs/PROTOCOL.md, "The command ledger".
-ghost use Rattle.std.specs.Prelude.{◌≡◌, ℕ, ◌≤◌, ◌+◌, Some, None, IfOk, IfErr, IfSome, OnOk, length, is_some, option_map};
+ghost use Rattle.std.specs.Prelude.{◌≡◌, ◌≤◌, Some, None, IfOk, IfErr, IfSome, OnOk, length, is_some};
+ghost use Rattle.std.specs.Option.{option_copied};
 ghost use Rattle.std.specs.Borrow.{sem};
 ghost use Rattle.std.specs.Io.BufRead.{Rests};
-ghost use Rattle.arrayvec.specs.ArrayVec.{array_vec_len};
 ghost use Rattle.cip_bytes.specs.declared.protocol.TheConstants.{UNCONNECTED_LIMIT};
 ghost use Rattle.cip_commander.specs.Outcome.{outcome_in};
 ghost use Rattle.cip_commander.specs.CommanderRule.{embedded_refusal, do_once};
@@ -74,10 +74,10 @@ impl Commander {
         last_number: u32,
         pending: Option<&[u8]>,
     ) -> Result<Commander, CommandRefused>
-        ensures refused { IfErr result (λ why. resume_refusal (option_map (λ request. request.now) pending.entry) ≡ Some why) }
-        ensures allowed { OnOk result (resume_refusal (option_map (λ request. request.now) pending.entry) ≡ None) }
+        ensures refused { IfErr result (λ why. resume_refusal (option_copied pending.entry) ≡ Some why) }
+        ensures allowed { OnOk result (resume_refusal (option_copied pending.entry) ≡ None) }
         ensures resumed { IfOk result (λ commander.
-            commander ≡ commander_at life originator last_number (option_map (λ request. request.now) pending.entry)) }
+            commander ≡ commander_at life originator last_number (option_copied pending.entry)) }
         ensures range { IfOk result (λ commander. IsInRange commander) }
     {
         let mut commander = Commander::new(life, originator, last_number);
@@ -129,7 +129,7 @@ impl Commander {
 
     /// The request of the pending command, for a new connection: the same bytes each time.
     pub fn pending(&self) -> Option<&[u8]>
-        ensures lent { option_map (λ lent. lent.now) result ≡ pending_message self.now }
+        ensures lent { option_copied result ≡ pending_message self.now }
         ensures fits { IfSome result (λ lent. length lent.now ≤ UNCONNECTED_LIMIT) }
     {
         if !self.is_pending {
@@ -190,7 +190,7 @@ impl Commander {
 
     /// The embedded request of the pending command.
     pub fn pending_request(&self) -> Option<&[u8]>
-        ensures { option_map (λ request. request.now) result ≡ self.now.pending }
+        ensures { option_copied result ≡ self.now.pending }
     {
         if !self.is_pending {
             return None;

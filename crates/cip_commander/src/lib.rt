@@ -1,8 +1,8 @@
 //! The originator's side of commands that are executed once, even if connections are lost and opened anew.
 //!
-//! A [`Commander`] has at most one pending command. It lends the request to send, and lends the same bytes again after a
-//! new connection, until a reply says that the command is done or the command is abandoned. [`laws`] states what
-//! follows for both ends: a commander and a device with a ledger.
+//! A [`Commander`] has at most one pending command. It lends the request to send, and the same bytes again after a new
+//! connection, until a reply says that the command is done, or the command is abandoned. [`laws`] states what follows
+//! for both ends: a commander, and a device with a ledger.
 //!
 //! No call takes memory. Bytes come in and go out as slices: this crate has no sockets, no files and no clock.
 //!

@@ -1,6 +1,7 @@
 use Rattle.std.proofs.Common.{ℕ, List, ap, sym, subst}
 use Rattle.std.specs.List.{AllByRecursion}
-use Rattle.cip_commander.specs.Worlds.{Seen, world_after}
+use Rattle.cip_commander.specs.Worlds.{Seen}
+use Rattle.cip_commander.specs.NumberedWorld.{world_after}
 use Rattle.cip_commander.specs.Laws.{IsExecutedOnce}
 use Rattle.cip_commander.proofs.Rising.{all_map}
 use Rattle.cip_commander.proofs.Images.{worlds-agree}

@@ -1,6 +1,7 @@
 use Rattle.std.proofs.Common.{◌≡◌, ℕ, Some, List, ap, sym, ◌∙◌}
 use Rattle.std.specs.List.{slice_get}
-use Rattle.cip_commander.specs.Worlds.{Seen, world_after}
+use Rattle.cip_commander.specs.Worlds.{Seen}
+use Rattle.cip_commander.specs.NumberedWorld.{world_after}
 use Rattle.cip_commander.proofs.Rising.{all_at}
 use Rattle.cip_commander.proofs.Images.{worlds-agree}
 use Rattle.cip_commander.proofs.Logged.{IsExecuted, after-logged, grows_above}
