@@ -5,6 +5,7 @@ mod bytes;
 mod class3_changed;
 mod class3_long;
 mod class3_originator;
+mod commander;
 mod counting;
 mod device_writes;
 mod ledger;

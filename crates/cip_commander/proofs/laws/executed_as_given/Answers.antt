@@ -1,0 +1,7 @@
+use Rattle.cip_commander.proofs.Numbered.{after-numbered}
+use Rattle.cip_commander.proofs.laws.executed_as_given.Goals as goal
+
+pub returns : goal.returns
+returns g c = λ opening events.
+    let is = after-numbered g.R.Router.after g.R.Router.answer opening events in
+    (is.given.rises, is.log)

@@ -1,0 +1,6 @@
+pub mod Commander
+pub mod CommanderRule
+pub mod Laws
+pub mod NumberedWorld
+pub mod Outcome
+pub mod Worlds
