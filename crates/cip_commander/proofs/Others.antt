@@ -91,7 +91,7 @@ module _ (slot : SlotState) (ledger : LedgerState) (max_size : ℕ) where
       same_if own (found.number == number) _ _ _ _ (λ is. (refl, apart)) (λ is. tt)
 
   -- data of the right size name a slot of another
-  forget-same : (bytes : List ℕ) → forgotten_in_data bytes ≢ Some own →
+  forget-same : (bytes : List ℕ) → ((n : ℕ) → forgotten_in_data bytes ≢ Some (own, n)) →
       Same own (forget (filled slot ledger) bytes) (forget ledger bytes)
   forget-same bytes apart =
       same_by_fault own (size_fault 12 bytes)
@@ -109,22 +109,23 @@ module _ (slot : SlotState) (ledger : LedgerState) (max_size : ℕ) where
       number = number_at 8 4 bytes
 
       exact : size_fault 12 bytes ≡ None → originator ≢ own
-      exact none e = apart (rw (eq-eqb (length bytes) 12 (exact_size _ _ 12 (length bytes) none)) (ap Some e))
+      exact none e =
+          apart number (rw (eq-eqb (length bytes) 12 (exact_size _ _ 12 (length bytes) none)) (ap (λ o. Some (o, number)) e))
 
   instance-same : (request : LedgerRequest) (instance_is : (request.instance == 1) ≡ true) →
-      option_map (λ (c : Command). c.originator) (command_by (Some request)) ≢ Some own → forgotten_by (Some request) ≢ Some own →
+      option_map (λ (c : Command). c.originator) (command_by (Some request)) ≢ Some own → ((n : ℕ) → forgotten_by (Some request) ≢ Some (own, n)) →
       Same own (instance_action (filled slot ledger) max_size request) (instance_action ledger max_size request)
   instance-same request instance_is command freed =
       same_if own (request.service == services.DO_ONCE) _ _ _ _
       (λ is. do_once-same request.data (rw (instance_is, is) at command))
       (λ is. same_if own (request.service == services.GET_LAST) _ _ _ _ (λ is. tt)
       (λ is. same_if own (request.service == services.FORGET) _ _ _ _
-      (λ is. forget-same request.data (rw (instance_is, is) at freed))
+      (λ is. forget-same request.data (λ n. rw (instance_is, is) at freed n))
       (λ is. same_if own (request.service == 0x0e) _ _ _ _ (λ is. tt)
       (λ is. same_if own (request.service == 0x03) _ _ _ _ (λ is. tt) (λ is. tt)))))
 
   action-same : (request : LedgerRequest) →
-      option_map (λ (c : Command). c.originator) (command_by (Some request)) ≢ Some own → forgotten_by (Some request) ≢ Some own →
+      option_map (λ (c : Command). c.originator) (command_by (Some request)) ≢ Some own → ((n : ℕ) → forgotten_by (Some request) ≢ Some (own, n)) →
       Same own (action_of (filled slot ledger) max_size request) (action_of ledger max_size request)
   action-same request command freed =
       same_if own (request.instance == 0) _ _ _ _ (λ is. tt)
@@ -166,7 +167,7 @@ module _ {M : Type 0} (after : M → ℕ → List ℕ → M) (answer : M → ℕ
 
   read-alike : (asked : Option LedgerRequest) (ledger : LedgerState) (router : M) (max_size : ℕ) (text : List ℕ) →
       option_map (λ (c : Command). c.originator) (command_by asked) ≢ Some slot.originator →
-      forgotten_by asked ≢ Some slot.originator →
+      ((n : ℕ) → forgotten_by asked ≢ Some (slot.originator, n)) →
       Alike
       (turn_by after answer (fate_of (filled slot ledger) max_size asked) (Some (filled slot ledger)) router max_size text)
       (turn_by after answer (fate_of ledger max_size asked) (Some ledger) router max_size text)
