@@ -1,4 +1,4 @@
--- Lists of bytes, the single bytes that spell a number, and numbers at their places.
+-- Lists of bytes, the bytes that spell a number, and numbers at an offset.
 use Rattle.std.proofs.Common.{◌≡◌, ℕ, zero, suc, ◌+◌, ◌-◌, ◌*◌, ◌/◌, ◌%◌, ◌^◌, ◌<◌, ◌≤◌, List, [], ◌∷◌, ◌++◌, length, get_or, take, drop, refl, sym, ap, ◌∙◌, arith, inl, inr, add-zero, append_assoc}
 use Rattle.std.proofs.Math.Seq.{drop-cons}
 use Rattle.std.proofs.lemmas.Bool.{cases_lt}
@@ -33,7 +33,7 @@ AreBytes-take n b h i =
 
 -- ---- single bytes
 
--- n items of a list from a place on
+-- n elements of a list from an offset on
 abbrev pub cells : ℕ → ℕ → List ℕ → List ℕ
 cells zero i xs = []
 cells (suc n) i xs = get_or xs i 0 ∷ cells n (suc i) xs
@@ -91,7 +91,7 @@ pub of_four : (v : ℕ) → v < 2 ^ 32
     → v % 256 + 256 * (v / 256 % 256 + 256 * (v / 65536 % 256 + 256 * (v / 16777216 % 256 + 256 * 0))) ≡ v
 of_four v h = omega arith
 
--- two bytes are the spelling of their number, and four
+-- two bytes are the spelling of their number, and so are four
 pub le2_back : (a b : ℕ) → a < 256 → b < 256 → le 2 (a + 256 * b) ≡ a ∷ b ∷ []
 le2_back a b ha hb =
     let number : a + 256 * b ≡ a + 256 * (b + 256 * 0) = omega arith in
@@ -109,9 +109,9 @@ le2_again v h rest = little_number-reads_back 2 v rest h
 pub le4_again : (v : ℕ) → v < 2 ^ 32 → (rest : List ℕ) → little_from 0 4 (le 4 v ++ rest) ≡ v
 le4_again v h rest = little_number-reads_back 4 v rest h
 
--- ---- a number behind a place
+-- ---- a number at an offset
 
--- what `&b[k..]` is
+-- the list that `&b[k..]` lends
 pub rest_slice : (k : ℕ) (b : List ℕ) → take (length b - k) (drop k b) ≡ drop k b
 rest_slice k b = take_all (length b - k) (drop k b) (omega (arith, length-drop k b))
 
@@ -122,13 +122,13 @@ little_from-drop (suc n) i k b =
     let rest = little_from-drop n (suc i) k b ∙ ap (λ p. little_from p n b) place in
     rw (get_or-drop, rest) refl
 
--- the number that is read from `&b[k..]` is the one at that place
+-- the number read from `&b[k..]` is the one at offset k
 pub number_behind : (n k : ℕ) (b : List ℕ) → little_number n (take (length b - k) (drop k b)) ≡ number_at k n b
 number_behind n k b = ap (little_number n) (rest_slice k b) ∙ little_from-drop n 0 k b ∙ ap (λ p. little_from p n b) (add-zero k)
 
--- ---- the fields of a text, one behind the other
+-- ---- the fields of a message, one after another
 
--- b is a text and then the rest
+-- b is these bytes and then the rest
 pub record Parts (b text rest : List ℕ) : Type 0 where
   pub is : b ≡ text ++ rest
 

@@ -1,8 +1,8 @@
--- One piece after another at the end of a list.
+-- Appending one piece after another to a list.
 use Rattle.std.proofs.Common.{◌≡◌, List, ℕ, ◌++◌, length, take, drop, refl, sym, ap, ◌∙◌, append_assoc}
 use Rattle.std.proofs.lemmas.List.{take_at, drop_at}
 
--- new is old with a text at its end
+-- new is old with these bytes appended
 pub record Grows (old text new : List ℕ) : Type 0 where
   pub is : new ≡ old ++ text
 
@@ -19,7 +19,7 @@ six_grow old a b c d e f n1 n2 n3 n4 n5 n6 p1 p2 p3 p4 p5 p6 =
     let g5 = grows_then old (a ++ b ++ c ++ d) n4 e n5 g4 p5 in
     (grows_then old (a ++ b ++ c ++ d ++ e) n5 f n6 g5 p6).is
 
--- two fronts of one text that are as long are the same
+-- two prefixes of the same length of one list are the same
 pub same_front : (a c x y : List ℕ) → length c ≡ length a → a ++ x ≡ c ++ y → (a ≡ c) × (x ≡ y)
 same_front a c x y len e = (
   sym (take_at a x (length a) refl) ∙ ap (take (length a)) e ∙ take_at c y (length a) len,

@@ -29,7 +29,7 @@ failed x = Err x
 pub err_is : {A E : Type 0} (x y : E) → failed {A = A} x ≡ failed y → x ≡ y
 err_is x y e = cc
 
--- what a function gave is what reading gives
+-- what a function returned is what reading gives
 pub gives_iff : {X Y E : Type 0} (view : X → Y) (r : Result X E) (read other : Result Y E) → Gives view r read → Gives view r other ↔ (read ≡ other)
 gives_iff view (Ok x) read other e = ((λ h. e ∙ sym h), (λ h. sym h ∙ e))
 gives_iff view (Err x) read other e = ((λ h. e ∙ sym h), (λ h. sym h ∙ e))

@@ -13,7 +13,7 @@ use Rattle.cip_bytes.specs.declared.protocol.GeneralStatus.TheVariants as genera
 use Rattle.cip_bytes.specs.declared.protocol.ExtendedStatus.{ExtendedStatus}
 use Rattle.cip_bytes.specs.declared.protocol.ExtendedStatus.TheVariants as extended
 
--- encapsulation commands
+-- Encapsulation commands.
 abbrev pub command_number : Command → ℕ
 command_number Nop = 0x0000
 command_number ListServices = 0x0004
@@ -29,11 +29,11 @@ COMMANDS =
     Nop ∷ ListServices ∷ ListIdentity ∷ ListInterfaces ∷ RegisterSession ∷ UnRegisterSession ∷ SendRRData
     ∷ SendUnitData ∷ []
 
--- the command with this number
+-- The command with this number, if there is one.
 abbrev pub command_of : ℕ → Option Command
 command_of number = find (λ command. command_number command == number) COMMANDS
 
--- services of the Connection Manager
+-- Services of the Connection Manager.
 abbrev pub manager_service_number : ManagerService → ℕ
 manager_service_number ForwardClose = 0x4e
 manager_service_number ForwardOpen = 0x54
@@ -42,11 +42,11 @@ manager_service_number LargeForwardOpen = 0x5b
 abbrev pub MANAGER_SERVICES : List ManagerService
 MANAGER_SERVICES = ForwardClose ∷ ForwardOpen ∷ LargeForwardOpen ∷ []
 
--- the service with this number
+-- The service with this number, if there is one.
 abbrev pub manager_service_of : ℕ → Option ManagerService
 manager_service_of number = find (λ service. manager_service_number service == number) MANAGER_SERVICES
 
--- encapsulation status
+-- Encapsulation statuses.
 abbrev pub encapsulation_status_number : EncapsulationStatus → ℕ
 encapsulation_status_number encapsulation.Success = 0x0000
 encapsulation_status_number encapsulation.UnsupportedCommand = 0x0001
@@ -55,7 +55,7 @@ encapsulation_status_number encapsulation.InvalidSession = 0x0064
 encapsulation_status_number encapsulation.InvalidLength = 0x0065
 encapsulation_status_number encapsulation.UnsupportedRevision = 0x0069
 
--- general status of a router reply
+-- General statuses of a router reply.
 abbrev pub general_status_number : GeneralStatus → ℕ
 general_status_number general.Success = 0x00
 general_status_number general.ConnectionFailure = 0x01
@@ -73,7 +73,7 @@ general_status_number general.InvalidParameter = 0x20
 general_status_number general.PathSizeInvalid = 0x26
 general_status_number general.InvalidMemberId = 0x28
 
--- extended status of a connection that was refused
+-- Extended statuses of a refused connection.
 abbrev pub extended_status_number : ExtendedStatus → ℕ
 extended_status_number extended.DoubleOpen = 0x0100
 extended_status_number extended.Transport = 0x0103

@@ -1,9 +1,12 @@
-//! Numbers as bytes, and writing at the end of a buffer of fixed capacity: what the layers above share.
+//! Numbers as bytes, appending to a buffer of fixed capacity, and the numbers of the standard. Every other crate
+//! builds on this one.
 //!
-//! On the wire a number has its least byte first (Volume 1, elementary data types). `specs/Numbers.antt` has the
-//! bytes of a number and the number at a place, `specs/Reading.antt` reading from the front with the first fault
-//! that is met, and `proofs/` the lemmas on both. The appends write a text for which there is room; who asks for
-//! the room answers [`Full`] where there is none.
+//! Numbers on the wire are little-endian (Volume 1, elementary data types). `specs/Numbers.antt` defines the bytes
+//! of a number and the number at an offset. `specs/Reading.antt` defines reading from the front of a buffer, where
+//! the first fault ends the reading. `proofs/` has the lemmas on both.
+//!
+//! The `append` functions require that the bytes fit. A caller that cannot know this checks first and answers
+//! [`Full`].
 #![tactic(auto)]
 
 pub mod protocol;

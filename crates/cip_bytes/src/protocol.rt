@@ -1,7 +1,6 @@
-//! The numbers of the standard that more than one layer names, each once: classes, commands, services, statuses,
-//! sizes.
+//! The numbers of the standard that more than one crate uses: classes, commands, services, statuses and sizes.
 //!
-//! A number stands in its enum, and its words in the enum's `Display`.
+//! Each number is listed once, in its enum. The enum's `Display` prints its name.
 
 ghost use Rattle.std.specs.Prelude.{◌≡◌};
 ghost use Rattle.cip_bytes.specs.Protocol.{command_number, command_of, manager_service_number, manager_service_of};
@@ -9,39 +8,40 @@ ghost use Rattle.cip_bytes.specs.Protocol.{encapsulation_status_number, general_
 
 use std::fmt;
 
-/// The room of an unconnected request, and of the reply to one, in bytes. (Volume 2, UCMM requests.)
+/// The most bytes of an unconnected request, and of the reply to one. (Volume 2, UCMM requests.)
 pub const UNCONNECTED_LIMIT: usize = 504;
 
-/// The least that a request has, in bytes: its service and the size of its path. (Volume 1, router request.)
+/// The fewest bytes of a request: the service and the path size. (Volume 1, router request.)
 pub const SMALLEST_REQUEST: usize = 2;
 
-/// The least that a reply has, in bytes: its service, a reserved byte, its status and the size of the additional
+/// The fewest bytes of a reply: the service, a reserved byte, the general status and the size of the additional
 /// status. (Volume 1, router reply.)
 pub const SMALLEST_REPLY: usize = 4;
 
-/// The most bytes of a router reply (ours).
+/// The most bytes of a router reply (our choice).
 pub const REPLY_LIMIT: usize = 4_000;
 
-/// How many bytes the sequence count of an item has. (Volume 2, connected data item.)
+/// The size of the sequence count of an item, in bytes. (Volume 2, connected data item.)
 pub const SEQUENCE_COUNT_SIZE: usize = 2;
 
-/// The largest size of a connection in one direction, in bytes: a sequence count and the longest reply (ours).
+/// The largest size of a connection in either direction, in bytes: a sequence count and the longest reply (our
+/// choice).
 pub const LARGEST_CONNECTION_SIZE: usize = SEQUENCE_COUNT_SIZE + REPLY_LIMIT;
 
-/// The smallest O->T size, in bytes: a sequence count and the smallest request (ours).
+/// The smallest O->T size, in bytes: a sequence count and the shortest request (our choice).
 pub const SMALLEST_O_TO_T_SIZE: u16 = 4;
 
-/// The smallest T->O size, in bytes: a sequence count, a reply and a number of 32 bits (ours).
+/// The smallest T->O size, in bytes: a sequence count, a reply and a 32-bit number (our choice).
 pub const SMALLEST_T_TO_O_SIZE: u16 = 10;
 
-/// The largest size that the parameters of a Forward_Open can say: nine bits. (Volume 1, network connection
-/// parameters.)
+/// The largest size that a Forward_Open can ask for, in bytes: its parameters have nine bits for the size. (Volume
+/// 1, network connection parameters.)
 pub const LARGEST_FORWARD_OPEN_SIZE: u16 = 511;
 
 /// The class of the Identity object. (Volume 1, class codes.)
 pub const IDENTITY: u16 = 0x01;
 
-/// The class of the Message Router, to which a connection is opened. (Volume 1, class codes.)
+/// The class of the Message Router, the target of every connection. (Volume 1, class codes.)
 pub const MESSAGE_ROUTER: u16 = 0x02;
 
 /// The class of the Assembly object. (Volume 1, class codes.)
@@ -50,10 +50,10 @@ pub const ASSEMBLY: u16 = 0x04;
 /// The class of the Connection Manager. (Volume 1, class codes.)
 pub const CONNECTION_MANAGER: u16 = 0x06;
 
-/// The class of the counter, in the range of the vendor's own (ours).
+/// The class of the counter, in the vendor-specific range (our choice).
 pub const COUNTER: u16 = 0x64;
 
-/// What a frame asks for. (Volume 2, encapsulation commands.)
+/// The command of a frame. (Volume 2, encapsulation commands.)
 #[derive(Clone, Copy, Debug, PartialEq, Eq)]
 pub enum Command {
     Nop = 0x0000,
@@ -67,7 +67,7 @@ pub enum Command {
 }
 
 impl Command {
-    /// The command as the header has it.
+    /// The command's number, as in the header.
     #[inline(always)]
     pub fn number(self) -> u16
         ensures { result ≡ command_number self }
@@ -75,12 +75,12 @@ impl Command {
         self as u16
     }
 
-    /// The command with this number, if it is one that is served.
+    /// The command with this number, or `None` if this adapter does not serve it.
     #[inline(always)]
     pub fn of(number: u16) -> Option<Command>
         ensures { result ≡ command_of number }
     {
-        // No search: every frame comes here.
+        // A match and not a search, because every frame takes this path.
         match number {
             it if it == Command::Nop as u16 => Some(Command::Nop),
             it if it == Command::ListServices as u16 => Some(Command::ListServices),
@@ -119,7 +119,7 @@ pub enum ManagerService {
 }
 
 impl ManagerService {
-    /// The service as a request has it.
+    /// The service's number, as in a request.
     #[inline(always)]
     pub fn number(self) -> u8
         ensures { result ≡ manager_service_number self }
@@ -127,7 +127,7 @@ impl ManagerService {
         self as u8
     }
 
-    /// The service with this number, if there is one.
+    /// The service with this number, or `None` if the Connection Manager has none.
     #[inline(always)]
     pub fn of(number: u8) -> Option<ManagerService>
         ensures { result ≡ manager_service_of number }
@@ -153,7 +153,7 @@ impl fmt::Display for ManagerService {
     }
 }
 
-/// The status in the header of an answer. (Volume 2, encapsulation status.)
+/// The status in the header of a reply frame. (Volume 2, encapsulation status.)
 #[derive(Clone, Copy, Debug, PartialEq, Eq)]
 pub enum EncapsulationStatus {
     Success = 0x0000,
@@ -165,7 +165,7 @@ pub enum EncapsulationStatus {
 }
 
 impl EncapsulationStatus {
-    /// The status as the header has it.
+    /// The status's number, as in the header.
     #[inline(always)]
     pub fn number(self) -> u32
         ensures { result ≡ encapsulation_status_number self }
@@ -190,40 +190,40 @@ impl fmt::Display for EncapsulationStatus {
 /// The general status of a router reply. (Volume 1, general status codes.)
 #[derive(Clone, Copy, Debug, PartialEq, Eq)]
 pub enum GeneralStatus {
-    /// The service was done.
+    /// The service was performed.
     Success = 0x00,
-    /// A connection was refused; an additional word says why.
+    /// A connection was refused. An additional status word gives the reason.
     ConnectionFailure = 0x01,
-    /// The path is no path.
+    /// The path is malformed.
     PathSegmentError = 0x04,
-    /// No such class or instance.
+    /// There is no such class or instance.
     PathDestinationUnknown = 0x05,
-    /// The instance has no such service.
+    /// The instance does not have this service.
     ServiceNotSupported = 0x08,
-    /// The value isn't one that the attribute can have.
+    /// The attribute cannot have this value.
     InvalidAttributeValue = 0x09,
-    /// An attribute of a list couldn't be read.
+    /// At least one attribute of a list could not be read.
     AttributeListError = 0x0a,
-    /// The attribute can't be set.
+    /// The attribute cannot be set.
     AttributeNotSettable = 0x0e,
-    /// The reply is longer than the room for it.
+    /// The reply would be longer than its limit.
     ReplyDataTooLarge = 0x11,
-    /// The service has too little data.
+    /// The request has too little data for the service.
     NotEnoughData = 0x13,
-    /// No such attribute.
+    /// There is no such attribute.
     AttributeNotSupported = 0x14,
-    /// The service has too much data.
+    /// The request has too much data for the service.
     TooMuchData = 0x15,
-    /// The parameter isn't one that the service can take.
+    /// The service cannot take this parameter.
     InvalidParameter = 0x20,
     /// The path goes past the end of the request.
     PathSizeInvalid = 0x26,
-    /// No such member.
+    /// There is no such member.
     InvalidMemberId = 0x28,
 }
 
 impl GeneralStatus {
-    /// The status as a reply has it.
+    /// The status's number, as in a reply.
     #[inline(always)]
     pub fn number(self) -> u8
         ensures { result ≡ general_status_number self }
@@ -254,38 +254,38 @@ impl fmt::Display for GeneralStatus {
     }
 }
 
-/// Why a connection was refused: the additional word behind the general status "connection failure".
-/// (Volume 1, Connection Manager extended status codes.)
+/// Why a connection was refused: the additional status word after the general status "connection failure". (Volume
+/// 1, Connection Manager extended status codes.)
 #[derive(Clone, Copy, Debug, PartialEq, Eq)]
 pub enum ExtendedStatus {
-    /// An open connection has the same connection serial, originator vendor and originator serial.
+    /// An open connection already has this connection serial, originator vendor and originator serial.
     DoubleOpen = 0x0100,
-    /// The target is no server, or the class is not 3.
+    /// The target is not the server, or the transport class is not 3.
     Transport = 0x0103,
-    /// No connection of the session has these three numbers.
+    /// The session has no connection with this connection serial, originator vendor and originator serial.
     ConnectionNotFound = 0x0107,
-    /// The type of a direction is not point to point, or the multiplier is over 7.
+    /// A direction is not point to point, or the timeout multiplier is over 7.
     ConnectionParameter = 0x0108,
-    /// A size is not one that a connection can have.
+    /// A connection size is out of range.
     ConnectionSize = 0x0109,
     /// The O->T RPI is 0.
     Rpi = 0x0111,
-    /// All places are taken, or all IDs were drawn.
+    /// All connection slots are taken, or all connection IDs were used.
     OutOfConnections = 0x0113,
-    /// The electronic key has another vendor or product code.
+    /// The electronic key asks for another vendor or product code.
     VendorOrProduct = 0x0114,
-    /// The electronic key has another device type.
+    /// The electronic key asks for another device type.
     DeviceType = 0x0115,
-    /// The electronic key has another revision.
+    /// The electronic key asks for another revision.
     Revision = 0x0116,
-    /// The path is not the Message Router's.
+    /// The path does not lead to the Message Router.
     ApplicationPath = 0x0117,
-    /// The path is none.
+    /// The path is not an optional key followed by an application path.
     PathSegment = 0x0315,
 }
 
 impl ExtendedStatus {
-    /// The status as a reply has it.
+    /// The status's number, as in a reply.
     #[inline(always)]
     pub fn number(self) -> u16
         ensures { result ≡ extended_status_number self }

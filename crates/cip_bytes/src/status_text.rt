@@ -1,4 +1,4 @@
-//! The text of the status with which a device refuses a request.
+//! The text of the statuses with which a device refuses a request.
 
 use crate::protocol::{ExtendedStatus, GeneralStatus};
 use std::fmt;
@@ -38,13 +38,18 @@ static EXTENDED: [ExtendedStatus; 12] = [
     ExtendedStatus::PathSegment,
 ];
 
-/// A general status and its first additional status word, printed as the standard names them. (Volume 1, general
-/// status codes.)
+/// A general status and its first additional status word. `Display` prints the standard's name for them. (Volume 1,
+/// general status codes.)
+///
+/// ```
+/// let refused = StatusText { status: 0x05, extended: 0 };
+/// let text = format!(in alloc; "{refused}")?; // path destination unknown
+/// ```
 #[derive(Clone, Copy, Debug)]
 pub struct StatusText {
     /// The general status.
     pub status: u8,
-    /// The first additional word, or 0.
+    /// The first additional status word, or 0.
     pub extended: u16,
 }
 
@@ -64,7 +69,7 @@ impl fmt::Display for StatusText {
     }
 }
 
-/// Writes the text of a general status, or its number if the standard has no text for it.
+/// Writes the name of a general status, or its number if the standard does not name it.
 fn write_general<W: fmt::Write>(f: &mut fmt::Formatter<W>, status: u8) -> fmt::Result {
     if let Some(known) = GENERAL.iter().find(|known| known.number() == status) {
         return write!(f, "{known}");

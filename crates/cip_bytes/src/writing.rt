@@ -1,4 +1,4 @@
-//! Writing at the end of a buffer of fixed capacity.
+//! Appending to a buffer of fixed capacity.
 
 ghost use Rattle.std.specs.Prelude.{◌≡◌, ◌+◌, ◌^◌, ◌<◌, ◌≤◌, [], ◌∷◌, ◌++◌, length};
 ghost use Rattle.arrayvec.specs.ArrayVec.{array_vec_len};
@@ -7,12 +7,12 @@ ghost use Rattle.cip_bytes.specs.Numbers.{le, AreBytes};
 use arrayvec::ArrayVec;
 use thiserror::Error;
 
-/// The text doesn't fit into what is left of the buffer, which is unchanged.
+/// The bytes do not fit into the free part of the buffer. The buffer is unchanged.
 #[derive(Clone, Copy, Debug, PartialEq, Eq, Error)]
-#[error("the text doesn't fit")]
+#[error("the bytes do not fit")]
 pub struct Full;
 
-/// Appends the bytes, for which there is room.
+/// Appends the bytes. They must fit.
 pub fn append<const N: usize>(out: &mut ArrayVec<u8, N>, bytes: &[u8])
     requires { array_vec_len out.old + length bytes.now ≤ N }
     ensures text { out.new.items ≡ out.old.items ++ bytes.now }
@@ -22,7 +22,7 @@ pub fn append<const N: usize>(out: &mut ArrayVec<u8, N>, bytes: &[u8])
     let _written = out.try_extend_from_slice(bytes);
 }
 
-/// Appends a byte, for which there is room.
+/// Appends a byte. It must fit.
 pub fn append_u8<const N: usize>(out: &mut ArrayVec<u8, N>, value: u8)
     requires { array_vec_len out.old < N }
     ensures text { out.new.items ≡ out.old.items ++ value ∷ [] }
@@ -32,7 +32,7 @@ pub fn append_u8<const N: usize>(out: &mut ArrayVec<u8, N>, value: u8)
     out.push(value);
 }
 
-/// Appends the two bytes of a number, least first, for which there is room.
+/// Appends a 16-bit number, least byte first. It must fit.
 pub fn append_u16<const N: usize>(out: &mut ArrayVec<u8, N>, value: u16)
     requires { array_vec_len out.old + 2 ≤ N }
     ensures text { out.new.items ≡ out.old.items ++ le 2 value }
@@ -42,7 +42,7 @@ pub fn append_u16<const N: usize>(out: &mut ArrayVec<u8, N>, value: u16)
     append(out, &u16::to_le_bytes(value));
 }
 
-/// Appends the four bytes of a number, least first, for which there is room.
+/// Appends a 32-bit number, least byte first. It must fit.
 pub fn append_u32<const N: usize>(out: &mut ArrayVec<u8, N>, value: u32)
     requires { array_vec_len out.old + 4 ≤ N }
     ensures text { out.new.items ≡ out.old.items ++ le 4 value }

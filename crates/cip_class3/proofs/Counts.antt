@@ -7,7 +7,7 @@ use Rattle.cip_class3.specs.Calls.{OriginatorCall, Submit, Resend, Receive, Give
 use Rattle.cip_class3.specs.declared.originator.Refused.{Refused}
 use Rattle.cip_class3.specs.declared.originator.Refused.TheVariants as refusals
 
--- each count is the one after the count before it, from this one on
+-- each count is the one before it plus one, from this one on
 abbrev AreInOrder : ℕ → List ℕ → Type 0
 AreInOrder next counts = (n : ℕ) → n < length counts → slice_index counts n ≡ (next + n) % 65536
 
@@ -16,7 +16,7 @@ one_more : (next : ℕ) (counts : List ℕ) → next < 2 ^ 16 → AreInOrder ((n
 one_more next counts fits later zero below = omega arith
 one_more next counts fits later (suc n) below = later n (omega arith) ∙ omega arith
 
--- what is to hold of the counts that are taken from a state on
+-- what is claimed of the counts that are used from a state on
 abbrev InOrder : List OriginatorCall → Type 0
 InOrder calls = (originator : OriginatorState) → originator.next < 2 ^ 16 →
     AreInOrder originator.next (counts_taken (events_of originator calls))
@@ -53,7 +53,7 @@ in_order (Receive bytes ∷ calls) originator fits =
 in_order (GiveUp ∷ calls) originator fits =
     at_give_up (is_waiting originator.phase) originator calls fits (in_order calls)
 
--- the count of the n-th request that is taken, from 0 on
+-- the count of the n-th request that is submitted, from 0 on
 pub counts_taken-at : (first o_to_t_size t_to_o_size n : ℕ) (calls : List OriginatorCall) → first < 2 ^ 16 →
     n < length (counts_taken (events_of (originator_at_opening first o_to_t_size t_to_o_size) calls)) →
     slice_index (counts_taken (events_of (originator_at_opening first o_to_t_size t_to_o_size) calls)) n ≡ (first + n) % 65536
@@ -68,14 +68,14 @@ neighbours_differ next (sequence_count ∷ after ∷ counts) order = (
       (λ n below. order (suc n) (omega arith) ∙ ap (λ place. place % 65536) (omega arith)),
 )
 
--- no two requests that are taken one after the other have the same count
+-- no two requests that are submitted one after the other have the same count
 pub counts_taken-differ : (first o_to_t_size t_to_o_size : ℕ) (calls : List OriginatorCall) → first < 2 ^ 16 →
     NeighboursDiffer (counts_taken (events_of (originator_at_opening first o_to_t_size t_to_o_size) calls))
 counts_taken-differ first o_to_t_size t_to_o_size calls fits =
     neighbours_differ first (counts_taken (events_of (originator_at_opening first o_to_t_size t_to_o_size) calls))
     (λ n below. counts_taken-at first o_to_t_size t_to_o_size n calls fits below)
 
--- what is to hold of the events from a state on
+-- what is claimed of the events from a state on
 abbrev Sound : Phase → List Event → Type 0
 Sound Idle events = AcceptedOnce events
 Sound (Waiting sequence_count request) events = AcceptedOnce (Submitted sequence_count ∷ events)
@@ -99,7 +99,7 @@ submit_sound : (why : Option Refused) (o_to_t_size t_to_o_size next unaccepted :
 submit_sound None o_to_t_size t_to_o_size next unaccepted phase request calls later once = later o_to_t_size t_to_o_size ((next + 1) % 2 ^ 16) (unaccepted + 1) (Waiting next request)
 submit_sound (Some why) o_to_t_size t_to_o_size next unaccepted phase request calls later once = once
 
--- while a request waits, none is taken
+-- while a request is waiting, none is accepted
 waiting_sound : (room : Bool) (o_to_t_size t_to_o_size next unaccepted sequence_count : ℕ) (waiting request : List ℕ) (calls : List OriginatorCall) → AllSound calls →
     let originator = state o_to_t_size t_to_o_size next unaccepted (Waiting sequence_count waiting) in
     let why : Option Refused = if room then Some refusals.Busy else Some refusals.TooManyAbandoned in
@@ -139,11 +139,11 @@ sound (GiveUp ∷ calls) o_to_t_size t_to_o_size next unaccepted Idle = sound ca
 sound (GiveUp ∷ calls) o_to_t_size t_to_o_size next unaccepted (Waiting sequence_count request) = took_before sequence_count (events_of (state o_to_t_size t_to_o_size next unaccepted GivenUp) calls) (sound calls o_to_t_size t_to_o_size next unaccepted GivenUp)
 sound (GiveUp ∷ calls) o_to_t_size t_to_o_size next unaccepted GivenUp = sound calls o_to_t_size t_to_o_size next unaccepted GivenUp
 
--- from a state in which no request waits, a reply is accepted at most once for each request
+-- from a state in which no request is waiting, at most one reply is accepted for each request
 pub events_of-accepted_once : (first o_to_t_size t_to_o_size : ℕ) (calls : List OriginatorCall) → AcceptedOnce (events_of (originator_at_opening first o_to_t_size t_to_o_size) calls)
 events_of-accepted_once first o_to_t_size t_to_o_size calls = sound calls o_to_t_size t_to_o_size first 0 Idle
 
--- what holds where a request is not refused
+-- what holds if a request is not refused
 pub record IsAllowed (since_accepted : ℕ) (waits : Bool) (form : Option Refused) : Type 0 where
   pub room : since_accepted < MOST_UNACCEPTED
   pub free : waits ≡ false
@@ -160,7 +160,7 @@ first_refusal-none since_accepted waits form is = go (nat_lt since_accepted MOST
     go true false e f = record { room = ltb-true since_accepted MOST_UNACCEPTED e; free = refl; formed = f }
     go false waiting e f = absurd (cc)
 
--- what is to hold of the events from a state on, of how many requests were taken since the last accepted reply
+-- what is claimed of the events from a state on: how many requests are submitted since the last accepted reply
 abbrev Fewer : List OriginatorCall → Type 0
 Fewer calls = (originator : OriginatorState) → originator.unaccepted ≤ MOST_UNACCEPTED →
     taken_since_accepted originator.unaccepted (events_of originator calls) ≤ MOST_UNACCEPTED
@@ -195,7 +195,7 @@ fewer (Receive bytes ∷ calls) originator fits =
     receive_fewer (is_reply originator.t_to_o_size originator.phase bytes) originator bytes calls fits (fewer calls)
 fewer (GiveUp ∷ calls) originator fits = give_up_fewer (is_waiting originator.phase) originator calls fits (fewer calls)
 
--- since the last accepted reply never more requests are taken
+-- no more requests than that are submitted since the last accepted reply
 pub events_of-fewer : (first o_to_t_size t_to_o_size : ℕ) (calls : List OriginatorCall) →
     taken_since_accepted 0 (events_of (originator_at_opening first o_to_t_size t_to_o_size) calls) ≤ MOST_UNACCEPTED
 events_of-fewer first o_to_t_size t_to_o_size calls = fewer calls (originator_at_opening first o_to_t_size t_to_o_size) (omega arith)

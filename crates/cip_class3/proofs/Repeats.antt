@@ -1,4 +1,4 @@
--- A target over requests that come once and again.
+-- A target that receives requests once and again.
 use Rattle.std.proofs.Common.{◌≡◌, ℕ, zero, suc, ◌≤◌, ◌<◌, ◌^◌, true, false, Option, Some, None, List, [], ◌∷◌, ◌++◌, length, map, replicate, refl, ap, ◌∙◌, sym, arith}
 use Rattle.std.specs.List.{AllByRecursion}
 use Rattle.std.proofs.lemmas.Bool.{and_from, le-leb, eq-eqb, ne_eqb}
@@ -21,13 +21,13 @@ has_accepted_size-item target d fits =
 abbrev pub holding : TargetState → ℕ → List ℕ → TargetState
 holding target sequence_count reply = record target { held = Some (record { sequence_count = sequence_count; reply = reply }) }
 
--- the count of the next request isn't held
+-- the count of the next request is not held
 not_held : (held : Option KeptReply) (d : Delivery) (deliveries : List Delivery) → NeighboursDiffer (counts_from held (d ∷ deliveries)) →
     is_held held d.sequence_count ≡ false
 not_held None d deliveries another = refl
 not_held (Some kept) d deliveries another = ne_eqb _ _ another.0
 
--- and the counts from it on differ
+-- the counts from it on differ from their neighbors
 rest_differs : (held : Option KeptReply) (d : Delivery) (deliveries : List Delivery) → NeighboursDiffer (counts_from held (d ∷ deliveries)) →
     NeighboursDiffer (d.sequence_count ∷ map (λ x. x.sequence_count) deliveries)
 rest_differs None d deliveries another = another
@@ -45,7 +45,7 @@ module _ {M : Type 0} (after : M → ℕ → List ℕ → M) (answer : M → ℕ
       is_held target.held (sequence_count_of bytes) ≡ true → step target router bytes ≡ step_of Repeated target router
   step-repeats target router bytes sized same = rw (sized, same) refl
 
-  -- a request whose count isn't held is executed, and is then held
+  -- a request whose count is not held is executed, and is then held
   pub step-first : (target : TargetState) (router : M) (d : Delivery) → IsDeliverable target.o_to_t_size d → is_held target.held d.sequence_count ≡ false →
       step target router (item d.sequence_count d.request)
       ≡ step_of Executed (holding target d.sequence_count (answer router (max_reply_size target) d.request)) (after router (max_reply_size target) d.request)
@@ -114,7 +114,7 @@ module _ {M : Type 0} (after : M → ℕ → List ℕ → M) (answer : M → ℕ
       ≡ router_after_requests after answer (max_reply_size target) router (requests_of deliveries)
   router_after-items_of target router deliveries are = all_once deliveries target router are.each are.another
 
-  -- each time that it comes it is answered with the same bytes
+  -- each arrival is answered with the same bytes
   pub answers_to-items_of : (target : TargetState) (router : M) (deliveries : List Delivery) → AreDelivered target deliveries →
       answers_to after answer target router (items_of deliveries) ≡ answers_once after answer (max_reply_size target) router deliveries
   answers_to-items_of target router deliveries are = all_same deliveries target router are.each are.another

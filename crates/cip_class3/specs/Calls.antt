@@ -1,18 +1,18 @@
--- Calls of an originator in any order, and what is seen of them.
+-- Calls of an originator in any order, and the events that can be observed.
 use Rattle.std.specs.Prelude.{◌≡◌, ℕ, ◌+◌, if◌then◌else◌, Option, Some, None, List, [], ◌∷◌}
 use Rattle.cip_class3.specs.Item.{sequence_count_of}
 use Rattle.cip_class3.specs.OriginatorRule.{OriginatorState, submit_refusal, with_next_request, is_reply, after_item}
 use Rattle.cip_class3.specs.OriginatorRule.{after_give_up}
 use Rattle.cip_class3.specs.declared.originator.Refused.{Refused}
 
--- a call
+-- A call.
 pub data OriginatorCall : Type 0 where
   Submit : (request : List ℕ) → OriginatorCall
   Resend : OriginatorCall
   Receive : (bytes : List ℕ) → OriginatorCall
   GiveUp : OriginatorCall
 
--- what a call can be seen to do: a request is taken with this count, or a reply with this count is accepted
+-- An observable event: a request is accepted with this count, or a reply with this count is accepted.
 pub data Event : Type 0 where
   Submitted : (sequence_count : ℕ) → Event
   Accepted : (sequence_count : ℕ) → Event
@@ -27,12 +27,12 @@ after_call originator Resend = originator
 after_call originator (Receive bytes) = after_item originator bytes
 after_call originator GiveUp = after_give_up originator
 
--- what is seen of a submit, and then later
+-- The events of a submit, followed by later ones.
 abbrev pub events_of_submit : Option Refused → ℕ → List Event → List Event
 events_of_submit None sequence_count later = Submitted sequence_count ∷ later
 events_of_submit (Some why) sequence_count later = later
 
--- what is seen of a call, and then later
+-- The events of a call, followed by later ones.
 abbrev pub events_of_call : OriginatorState → OriginatorCall → List Event → List Event
 events_of_call originator (Submit request) later =
     events_of_submit (submit_refusal originator request) originator.next later
@@ -41,26 +41,26 @@ events_of_call originator (Receive bytes) later =
     if is_reply originator.t_to_o_size originator.phase bytes then Accepted (sequence_count_of bytes) ∷ later else later
 events_of_call originator GiveUp later = later
 
--- what is seen of the calls, in order
+-- The events of the calls, in order.
 abbrev pub events_of : OriginatorState → List OriginatorCall → List Event
 events_of originator [] = []
 events_of originator (call ∷ calls) = events_of_call originator call (events_of (after_call originator call) calls)
 
--- the counts of the requests that were taken
+-- The counts of the requests that were submitted.
 abbrev pub counts_taken : List Event → List ℕ
 counts_taken [] = []
 counts_taken (Submitted sequence_count ∷ events) = sequence_count ∷ counts_taken events
 counts_taken (Accepted sequence_count ∷ events) = counts_taken events
 
--- How many requests were taken since the last one whose reply was accepted, after these events, where so many were
--- before them.
+-- How many requests were submitted since the last accepted reply, after these events, if there were `before` of
+-- them at the start.
 abbrev pub taken_since_accepted : ℕ → List Event → ℕ
 taken_since_accepted before [] = before
 taken_since_accepted before (Submitted sequence_count ∷ events) = taken_since_accepted (before + 1) events
 taken_since_accepted before (Accepted sequence_count ∷ events) = taken_since_accepted 0 events
 
--- Each accepted reply has the count of the request that was taken last before it, and no other is accepted
--- before the next request is taken.
+-- Each accepted reply has the count of the last submitted request, and no other reply is accepted before the next
+-- request is submitted.
 abbrev pub AcceptedOnce : List Event → Type 0
 AcceptedOnce [] = Unit {0}
 AcceptedOnce (Accepted sequence_count ∷ events) = ⊥

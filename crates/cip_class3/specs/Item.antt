@@ -2,7 +2,7 @@
 use Rattle.std.specs.Prelude.{◌≢◌, ℕ, List, [], ◌∷◌, ◌++◌, drop}
 use Rattle.cip_bytes.specs.Numbers.{le, number_at}
 
--- two bytes of sequence count, least first, and a request or a reply
+-- A sequence count in two bytes, least first, then a request or a reply.
 abbrev pub item : ℕ → List ℕ → List ℕ
 item sequence_count message = le 2 sequence_count ++ message
 
@@ -12,7 +12,7 @@ sequence_count_of bytes = number_at 0 2 bytes
 abbrev pub message_of : List ℕ → List ℕ
 message_of bytes = drop 2 bytes
 
--- no two counts that stand side by side are the same
+-- No two neighboring counts are the same.
 abbrev pub NeighboursDiffer : List ℕ → Type 0
 NeighboursDiffer [] = Unit {0}
 NeighboursDiffer (sequence_count ∷ []) = Unit {0}

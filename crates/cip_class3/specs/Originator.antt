@@ -1,4 +1,4 @@
--- What a contract sees of an `Originator`.
+-- An `Originator`, as contracts see it.
 use Rattle.std.specs.Prelude.{◌≡◌, ℕ, ◌≤◌, List, length, take, drop}
 use Rattle.std.specs.Box.{boxed_slice_items}
 use Rattle.cip_bytes.specs.declared.protocol.TheConstants.{LARGEST_CONNECTION_SIZE, SMALLEST_O_TO_T_SIZE, SMALLEST_T_TO_O_SIZE}
@@ -8,7 +8,7 @@ use Rattle.cip_class3.specs.declared.originator.Progress.{Progress}
 use Rattle.cip_class3.specs.declared.originator.Progress.TheVariants as progress
 use Rattle.cip_class3.specs.declared.originator.Originator.TheInside.{Inside}
 
--- the request that waits stands behind the two bytes of its count, at the front of the block
+-- The waiting request is at the front of the block, after the two bytes of its sequence count.
 abbrev pub phase_of : Progress → List ℕ → Phase
 phase_of progress.Idle block = Idle
 phase_of (progress.Waiting sequence_count length) block = Waiting sequence_count (drop 2 (take length block))
@@ -23,13 +23,13 @@ originator_state originator = record {
   unaccepted = originator.unaccepted;
 }
 
--- an item of this count and length stands at the front of the block
+-- An item with this count and length is at the front of the block.
 pub record IsAtFront (sequence_count item_length : ℕ) (block : List ℕ) : Type 0 where
   pub from : 4 ≤ item_length
   pub to : item_length ≤ length block
   pub item : take item_length block ≡ item sequence_count (drop 2 (take item_length block))
 
--- the item of the request that waits, if one does, is in the block
+-- The item of the waiting request, if one is waiting, is in the block.
 abbrev pub HoldsItem : Progress → List ℕ → Type 0
 HoldsItem progress.Idle block = Unit {0}
 HoldsItem (progress.Waiting sequence_count length) block = IsAtFront sequence_count length block

@@ -8,14 +8,14 @@ use Rattle.cip_class3.specs.declared.originator.Stage.TheVariants as stages
 use Rattle.cip_class3.specs.declared.originator.Refused.{Refused}
 use Rattle.cip_class3.specs.declared.originator.Refused.TheVariants as refusals
 
--- no request waits, this one waits for its reply with this count, or the last one was given up
+-- No request is waiting, this request is waiting with this count, or the last one was given up.
 pub data Phase : Type 0 where
   Idle : Phase
   Waiting : (sequence_count : ℕ) (request : List ℕ) → Phase
   GivenUp : Phase
 
--- the originator's end: both sizes, the sequence count included, the count of the next request, the phase,
--- and how many requests were submitted since the last one whose reply was accepted
+-- The originator's end: both sizes (including the sequence count), the count of the next request, the phase, and
+-- how many requests were submitted since the last accepted reply.
 pub record OriginatorState : Type 0 where
   pub o_to_t_size : ℕ
   pub t_to_o_size : ℕ
@@ -23,12 +23,12 @@ pub record OriginatorState : Type 0 where
   pub phase : Phase
   pub unaccepted : ℕ
 
--- the originator of a connection that was just opened
+-- The originator of a connection that was just opened.
 abbrev pub originator_at_opening : ℕ → ℕ → ℕ → OriginatorState
 originator_at_opening first o_to_t_size t_to_o_size =
     record { o_to_t_size = o_to_t_size; t_to_o_size = t_to_o_size; next = first; phase = Idle; unaccepted = 0 }
 
--- the number of a refusal, by which it is printed
+-- The number of a refusal, as printed.
 abbrev pub refused_number : Refused → ℕ
 refused_number refusals.Busy = 1
 refused_number refusals.TooLong = 2
@@ -36,16 +36,16 @@ refused_number refusals.NoRequest = 3
 refused_number refusals.GivenUp = 4
 refused_number refusals.TooManyAbandoned = 5
 
--- The most requests that are submitted since the last one whose reply was accepted: one less than there are counts. One
--- more would have the count of that one, which a target may still hold.
+-- The most requests that may be submitted since the last accepted reply: one less than there are sequence counts.
+-- One more would have the count of that reply's request, which a target may still hold.
 abbrev pub MOST_UNACCEPTED : ℕ
 MOST_UNACCEPTED = 65535
 
--- two bytes at least, and a service without bit 7
+-- A request has two bytes at least, and a service without bit 7.
 abbrev pub is_request : List ℕ → Bool
 is_request request = nat_le 2 (length request) && nat_lt (slice_index request 0) 128
 
--- why a request of this form is not taken, at this O->T size
+-- Why a request is refused for its form or length, at this O->T size.
 abbrev pub form_refusal : ℕ → List ℕ → Option Refused
 form_refusal o_to_t_size request =
     if is_request request then (if nat_le (length request + 2) o_to_t_size then None else Some refusals.TooLong)
@@ -56,19 +56,19 @@ is_waiting Idle = false
 is_waiting (Waiting sequence_count request) = true
 is_waiting GivenUp = false
 
--- The first reason not to take a request, if there is one: so many were submitted since the last one whose reply was
--- accepted, one waits, or it is of no such form. One that was given up is no reason.
+-- The first reason to refuse a request, if there is one: too many were submitted since the last accepted reply, one
+-- is waiting, or its form is wrong. A request that was given up is not a reason.
 abbrev pub first_refusal : ℕ → Bool → Option Refused → Option Refused
 first_refusal since_accepted waits form =
     if nat_lt since_accepted MOST_UNACCEPTED then (if waits then Some refusals.Busy else form)
     else Some refusals.TooManyAbandoned
 
--- why a request is not taken now, if it isn't
+-- Why a request is refused now, if it is.
 abbrev pub submit_refusal : OriginatorState → List ℕ → Option Refused
 submit_refusal originator request =
     first_refusal originator.unaccepted (is_waiting originator.phase) (form_refusal originator.o_to_t_size request)
 
--- the request waits with the next count, and the count after it is the next one, modulo 65,536
+-- The request waits with the next count, and the next count rises by one, modulo 65,536.
 abbrev pub with_next_request : OriginatorState → List ℕ → OriginatorState
 with_next_request originator request =
     record originator {
@@ -77,40 +77,40 @@ with_next_request originator request =
       unaccepted = originator.unaccepted + 1;
     }
 
--- the item of the request that waits
+-- The item of the waiting request.
 abbrev pub waiting_item : Phase → Option (List ℕ)
 waiting_item Idle = None
 waiting_item (Waiting sequence_count request) = Some (item sequence_count request)
 waiting_item GivenUp = None
 
--- an item of 6 to `t_to_o_size` bytes, with this count, and with this service with bit 7 set
+-- An item of 6 to `t_to_o_size` bytes, with this count and this service with bit 7 set.
 abbrev pub answers : ℕ → ℕ → ℕ → List ℕ → Bool
 answers t_to_o_size sequence_count service bytes =
     nat_le 6 (length bytes) && nat_le (length bytes) t_to_o_size && (sequence_count_of bytes == sequence_count)
     && (slice_index bytes 2 == reply_service service)
 
--- the item has the reply to the request that waits
+-- The item is the reply to the waiting request.
 abbrev pub is_reply : ℕ → Phase → List ℕ → Bool
 is_reply t_to_o_size Idle bytes = false
 is_reply t_to_o_size (Waiting sequence_count request) bytes =
     answers t_to_o_size sequence_count (slice_index request 0) bytes
 is_reply t_to_o_size GivenUp bytes = false
 
--- no request waits any more, and the requests are counted from here
+-- No request is waiting any more, and the count of submitted requests starts again.
 abbrev pub idle_again : OriginatorState → OriginatorState
 idle_again originator = record originator { phase = Idle; unaccepted = 0 }
 
--- after an item came
+-- The originator after it received an item.
 abbrev pub after_item : OriginatorState → List ℕ → OriginatorState
 after_item originator bytes =
     if is_reply originator.t_to_o_size originator.phase bytes then idle_again originator else originator
 
--- the reply that was accepted of an item, if one was
+-- The reply that is accepted from an item, if one is.
 abbrev pub accepted_reply : OriginatorState → List ℕ → Option (List ℕ)
 accepted_reply originator bytes =
     if is_reply originator.t_to_o_size originator.phase bytes then Some (message_of bytes) else None
 
--- the request that waits is given up
+-- The waiting request is given up.
 abbrev pub after_give_up : OriginatorState → OriginatorState
 after_give_up originator = if is_waiting originator.phase then record originator { phase = GivenUp } else originator
 

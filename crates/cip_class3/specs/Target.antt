@@ -1,11 +1,11 @@
--- What a contract sees of a `Target`.
+-- A `Target`, as contracts see it.
 use Rattle.std.specs.Prelude.{ℕ, ◌+◌, ◌≤◌, Option, Some, None, List, length}
 use Rattle.cip_bytes.specs.declared.protocol.TheConstants.{LARGEST_CONNECTION_SIZE, SMALLEST_O_TO_T_SIZE, SMALLEST_T_TO_O_SIZE}
 use Rattle.cip_bytes.specs.declared.protocol.TheConstants.{SEQUENCE_COUNT_SIZE}
 use Rattle.cip_class3.specs.TargetRule.{TargetState, KeptReply}
 use Rattle.cip_class3.specs.declared.target.Target.TheInside.{Inside}
 
--- the held count, with the reply that is kept
+-- The held count, with the reply that is kept.
 abbrev pub held_of : Option ℕ → List ℕ → Option KeptReply
 held_of None reply = None
 held_of (Some sequence_count) reply = Some (record { sequence_count = sequence_count; reply = reply })

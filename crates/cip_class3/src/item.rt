@@ -1,5 +1,4 @@
-//! The item of a class 3 connection: a sequence count, and a request or a reply behind it.
-//! (Volume 2, connected data item.)
+//! The item of a class 3 connection: a sequence count, then a request or a reply. (Volume 2, connected data item.)
 //!
 //! ```text
 //!  [ sequence count | request or reply ]
@@ -12,7 +11,7 @@ ghost use Rattle.cip_class3.specs.Item.{item};
 use byteorder::{ByteOrder, LittleEndian};
 use cip_bytes::protocol::SEQUENCE_COUNT_SIZE;
 
-/// Writes a count, and a request or a reply behind it, to the front of a block.
+/// Writes a sequence count and a message to the front of a block.
 pub fn write_item(block: &mut [u8], sequence_count: u16, message: &[u8])
     requires { length message.now + 2 ≤ length block.old }
     ensures { block.new ≡ item sequence_count message.now ++ drop (length message.now + 2) block.old }

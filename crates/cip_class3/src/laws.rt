@@ -1,6 +1,6 @@
-//! What follows from the rules of the two ends over whole lists of items and calls.
+//! What follows from the rules of the two ends, for whole lists of items and calls.
 //!
-//! The functions do nothing: each one's clauses are the law.
+//! The functions do nothing: their clauses are the laws.
 
 ghost use Rattle.std.specs.Prelude.{◌≡◌, ℕ, ◌+◌, ◌%◌, ◌<◌, ◌≤◌, ◌^◌, List, length, slice_index};
 ghost use Rattle.cip_class3.specs.Item.{NeighboursDiffer};
@@ -12,26 +12,26 @@ ghost use Rattle.cip_class3.specs.Calls.{OriginatorCall, events_of, counts_taken
 
 use cip_objects::Router;
 
-/// Each request that reaches a target is executed once, however often it comes, and is answered with the
-/// same bytes each time.
+/// A target executes each request that reaches it once, however often it arrives, and answers it with the same
+/// bytes each time.
 ///
-/// The requests come in order, each any number of times in a row, and each has another count than the one
-/// before it.
+/// The requests arrive in order, each any number of times in a row. Each has a different sequence count than the
+/// one before it.
 pub fn each_request_once<R: Router>()
-    // The router has executed each request once, and in that order.
+    // The router has executed each request once, in that order.
     ensures once { (target : TargetState) (router : R) (deliveries : List Delivery) →
         AreDelivered target deliveries →
         router_after R.after R.answer target router (items_of deliveries)
         ≡ router_after_requests R.after R.answer (max_reply_size target) router (requests_of deliveries) }
-    // Each time a request comes, its count and the reply of its one execution answer it.
+    // Each arrival is answered with the request's count and the reply of its one execution.
     ensures same_bytes { (target : TargetState) (router : R) (deliveries : List Delivery) →
         AreDelivered target deliveries →
         answers_to R.after R.answer target router (items_of deliveries)
         ≡ answers_once R.after R.answer (max_reply_size target) router deliveries }
 {}
 
-/// The counts that an originator takes follow one another, whatever the calls: that of the n-th request, from 0
-/// on, is n more than the first one's, modulo 65,536.
+/// The originator's requests have consecutive sequence counts, whatever the calls: the n-th request, from 0, has
+/// the first count plus n, modulo 65,536.
 pub fn counts_in_order()
     ensures { (first o_to_t_size t_to_o_size n : ℕ) (calls : List OriginatorCall) → first < 2 ^ 16 →
         n < length (counts_taken (events_of (originator_at_opening first o_to_t_size t_to_o_size) calls)) →
@@ -39,20 +39,20 @@ pub fn counts_in_order()
         ≡ (first + n) % 65536 }
 {}
 
-/// Two requests that an originator takes one after the other never have the same count, whatever the calls.
+/// Two requests that an originator accepts one after the other never have the same count, whatever the calls.
 pub fn counts_differ()
     ensures { (first o_to_t_size t_to_o_size : ℕ) (calls : List OriginatorCall) → first < 2 ^ 16 →
         NeighboursDiffer (counts_taken (events_of (originator_at_opening first o_to_t_size t_to_o_size) calls)) }
 {}
 
-/// An originator never takes so many requests, without an accepted reply between them, that a count would come again.
+/// Between two accepted replies, an originator never accepts so many requests that a count is used again.
 pub fn fewer_than_counts()
     ensures { (first o_to_t_size t_to_o_size : ℕ) (calls : List OriginatorCall) →
         taken_since_accepted 0 (events_of (originator_at_opening first o_to_t_size t_to_o_size) calls)
         ≤ MOST_UNACCEPTED }
 {}
 
-/// A reply is accepted at most once for each request that an originator takes, whatever the calls.
+/// At most one reply is accepted for each request, whatever the calls.
 pub fn one_reply_each()
     ensures { (first o_to_t_size t_to_o_size : ℕ) (calls : List OriginatorCall) →
         AcceptedOnce (events_of (originator_at_opening first o_to_t_size t_to_o_size) calls) }

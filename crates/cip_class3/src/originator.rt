@@ -21,22 +21,22 @@ use std::boxed::BoxedSlice;
 use std::marker::Model;
 use thiserror::Error;
 
-/// Why a request was not taken. Nothing changed, and no count was taken.
+/// Why a request was refused. Nothing changed, and no sequence count was used.
 #[derive(Clone, Copy, Debug, PartialEq, Eq, Error)]
 pub enum Refused {
-    /// Another request waits for its reply.
+    /// Another request is waiting for its reply.
     #[error("another request is waiting for its reply")]
     Busy = 1,
-    /// The request and its count have more bytes than the O->T size.
+    /// The request with its sequence count is longer than the O->T size.
     #[error("the request is longer than the connection's size")]
     TooLong = 2,
-    /// The request has under 2 bytes, or a service with bit 7, as a reply has.
+    /// The request has fewer than 2 bytes, or its service has bit 7 set, which marks a reply.
     #[error("not a request: 2 bytes or more, and a service below 0x80")]
     NoRequest = 3,
-    /// Not answered any more: the originator goes on after it gave a request up.
+    /// Not used any more: an originator continues after it gave up a request.
     #[error("a request was given up")]
     GivenUp = 4,
-    /// 65,535 requests were submitted since the last one whose reply was accepted, or since the opening.
+    /// 65,535 requests were submitted since the last accepted reply, or since the opening.
     #[error("65,535 requests were submitted since the last accepted reply")]
     TooManyAbandoned = 5,
 }
@@ -44,7 +44,7 @@ pub enum Refused {
 impl Refused {
     ghost use Rattle.cip_class3.specs.OriginatorRule.{refused_number};
 
-    /// The number of the refusal, by which it is printed.
+    /// The number of the refusal, as printed.
     pub fn number(self) -> u8
         ensures { result ≡ refused_number self }
     {
@@ -52,31 +52,31 @@ impl Refused {
     }
 }
 
-/// Where the originator stands.
+/// The state of an originator.
 #[derive(Clone, Copy, Debug, PartialEq, Eq)]
 pub enum Stage {
     /// A request can be submitted.
     Idle,
-    /// A request waits for its reply.
+    /// A request is waiting for its reply.
     Waiting,
     /// The last request was given up. Another can be submitted.
     GivenUp,
 }
 
-/// The most requests that are submitted since the last one whose reply was accepted: one less than there are counts,
-/// so that what is held, on the way or awaited never has the count of another one.
+/// The most requests that may be submitted since the last accepted reply: one less than there are sequence counts.
+/// So a request that is held, delivered or awaited never has the count of another one.
 const MOST_UNACCEPTED: u16 = 65_535;
 
-/// What came in an item.
+/// The result of receiving an item.
 #[derive(Clone, Copy, Debug, PartialEq, Eq)]
 pub enum Came<'a> {
-    /// The reply to the request that waited.
+    /// The reply to the waiting request.
     Accepted(&'a [u8]),
     /// Anything else. Nothing changed.
     Ignored,
 }
 
-/// Where the originator stands, and how much of the block is the item that waits.
+/// The state of an originator, with the count and the length of the waiting item in the block.
 #[derive(Clone, Copy)]
 enum Progress {
     Idle,
@@ -84,17 +84,24 @@ enum Progress {
     GivenUp,
 }
 
-/// The originator's end: at most one request, which waits for its reply.
+/// The originator's end of a class 3 connection. At most one request waits for its reply.
+///
+/// ```
+/// let mut originator = Originator::new(alloc, 1, 500, 500)?;
+/// let item = originator.submit(&[0x0e, 0x03, 0x20, 0x64, 0x24, 0x01, 0x30, 0x01])?;
+/// assert_eq!(rt; &item[..2], [0x01, 0x00].as_slice()); // the sequence count
+/// assert_eq!(rt; originator.stage(), Stage::Waiting);
+/// ```
 #[derive(Drop)]
 pub struct Originator {
     o_to_t_size: u16,
     t_to_o_size: u16,
     /// The sequence count of the next request.
     next: u16,
-    /// How many requests were submitted since the last one whose reply was accepted.
+    /// How many requests were submitted since the last accepted reply.
     unaccepted: u16,
     progress: Progress,
-    /// The item of the request that waits, at the front of as many bytes as the O->T size.
+    /// A block of the O->T size. The waiting item is at its front.
     block: BoxedSlice<u8>,
 }
 
@@ -117,13 +124,13 @@ impl Originator {
     ghost use Rattle.cip_class3.specs.ReceivedReply.{reply_in};
     ghost use Rattle.cip_class3.specs.contracts.originator.Originator.{the_row};
 
-    /// The end of a connection that was just opened, whose first request has the count `first`.
+    /// The originator's end of a connection that was just opened. Its first request has the sequence count `first`.
     ///
-    /// The sizes are in bytes, and count the item's two bytes of sequence count. No later call takes memory.
+    /// The sizes are in bytes and include the two bytes of an item's sequence count. No later call allocates.
     ///
     /// # Errors
     ///
-    /// `AllocError` where the memory is refused.
+    /// `AllocError` if memory is refused.
     pub fn new(
         alloc: Global,
         first: u16,
@@ -146,11 +153,12 @@ impl Originator {
         })
     }
 
-    /// Takes a request with the next count, and lends the item to send.
+    /// Accepts a request with the next sequence count, and lends the item to send.
     ///
     /// # Errors
     ///
-    /// The first of these: `TooManyAbandoned`, `Busy`, `NoRequest`, `TooLong`. Nothing changed, and no count was taken.
+    /// The first of these: `TooManyAbandoned`, `Busy`, `NoRequest`, `TooLong`. Then nothing changes, and no count
+    /// is used.
     pub fn submit(&mut self, request: &[u8]) -> Result<&[u8], Refused>
         ensures refused { IfErr result (λ why. submit_refusal self.old request.now ≡ Some why) }
         ensures allowed { OnOk result (submit_refusal self.old request.now ≡ None) }
@@ -170,13 +178,13 @@ impl Originator {
             sequence_count,
             length,
         };
-        // After count 65,535 comes count 0 (the originator's end).
+        // After 65,535 the sequence count starts again at 0.
         self.next = sequence_count.wrapping_add(1);
         self.unaccepted += 1;
         Ok(&self.block.as_slice()[..length])
     }
 
-    /// The item of the request that waits, again.
+    /// Lends the item of the waiting request again.
     pub fn resend(&self) -> Option<&[u8]>
         ensures lent { option_map (λ lent. lent.now) result ≡ waiting_item self.now.phase }
         ensures fits { IfSome result (λ lent. length lent.now ≤ self.now.o_to_t_size) }
@@ -188,7 +196,7 @@ impl Originator {
         }
     }
 
-    /// Accepts the reply to the request that waits, and lends it from the item.
+    /// Accepts the reply to the waiting request, and lends it from the item.
     pub fn receive<'a>(&mut self, item: &'a [u8]) -> Came<'a>
         ensures reply { reply_in result ≡ accepted_reply self.old item.now }
         ensures state { self.new ≡ after_item self.old item.now }
@@ -201,9 +209,9 @@ impl Originator {
         Came::Accepted(&item[SEQUENCE_COUNT_SIZE..])
     }
 
-    /// Gives the request that waits up: its reply is never accepted. False where none waits.
+    /// Gives up the waiting request: its reply is never accepted. Returns false if no request is waiting.
     ///
-    /// It may be executed once or not at all, now or later. Another request can be submitted (the originator's end).
+    /// The request may be executed once or not at all, now or later. Another request can be submitted.
     pub fn give_up(&mut self) -> bool
         ensures waited { result ≡ is_waiting self.old.phase }
         ensures state { self.new ≡ after_give_up self.old }
@@ -215,7 +223,7 @@ impl Originator {
         waits
     }
 
-    /// Where the originator stands.
+    /// The state of the originator.
     pub fn stage(&self) -> Stage
         ensures { result ≡ stage_of self.now.phase }
     {
@@ -226,29 +234,29 @@ impl Originator {
         }
     }
 
-    /// Why a request is not taken now, in the order of the checks.
+    /// Why the request is refused now, in the order of the checks.
     fn submit_refusal(&self, request: &[u8]) -> Option<Refused>
         ensures { result ≡ submit_refusal self.now request.now }
     {
-        // The next count would be one that may still be held, or on the way (the originator's end).
+        // The next sequence count could be that of a request that is still held or delivered.
         if self.unaccepted == MOST_UNACCEPTED {
             return Some(Refused::TooManyAbandoned);
         }
         if matches!(self.progress, Progress::Waiting { .. }) {
             return Some(Refused::Busy);
         }
-        // A service and a path size at least, and bit 7 marks a reply (router messages).
+        // A request has a service and a path size at least. Bit 7 of the service marks a reply.
         if request.len() < SMALLEST_REQUEST || request[0] >= 0x80 {
             return Some(Refused::NoRequest);
         }
-        // The O->T size counts the sequence count (the item).
+        // The O->T size includes the sequence count.
         if SEQUENCE_COUNT_SIZE + request.len() > self.o_to_t_size as usize {
             return Some(Refused::TooLong);
         }
         None
     }
 
-    /// Whether the item has the reply to the request that waits.
+    /// Whether the item is the reply to the waiting request.
     fn is_reply(&self, item: &[u8]) -> bool
         ensures { result ≡ is_reply self.now.t_to_o_size self.now.phase item.now }
     {
@@ -262,7 +270,8 @@ impl Originator {
     }
 }
 
-/// Whether an item answers the request with this count and this service: sizes, count and service agree.
+/// Whether the item answers a request with this sequence count and service: the size is in range, and count and
+/// service match.
 fn answers(item: &[u8], t_to_o_size: u16, sequence_count: u16, service: u8) -> bool
     ensures { result ≡ answers t_to_o_size sequence_count service item.now }
 {

@@ -19,31 +19,38 @@ use std::marker::Model;
 /// What a target did with an item.
 #[derive(Clone, Copy, Debug, PartialEq, Eq)]
 pub enum Received {
-    /// The item has under 4 bytes or more than the connection's O->T size. Nothing changed.
+    /// The item has fewer than 4 bytes, or more than the connection's O->T size. Nothing changed.
     Dropped,
-    /// The item's count is the held one. Nothing changed, and what is kept answers it.
+    /// The item's sequence count is the one that is held. Nothing changed, and the kept reply answers it.
     Repeated,
-    /// The request was executed. Its count and reply are held.
+    /// The request was executed. Its sequence count and reply are held.
     Executed,
 }
 
-/// The sequence count and the reply of the request that was executed last.
+/// The sequence count and the reply of the last request that was executed.
 #[derive(Clone, Copy, Debug, PartialEq, Eq)]
 pub struct KeptReply<'a> {
     /// The request's sequence count.
     pub sequence_count: u16,
-    /// The reply to it.
+    /// The reply to that request.
     pub reply: &'a [u8],
 }
 
-/// The target's end: the count and reply of the request that was executed last.
+/// The target's end of a class 3 connection. It holds the sequence count and the reply of the last request that it
+/// executed.
+///
+/// ```
+/// let mut target = Target::new(500, 500);
+/// assert_eq!(rt; target.receive(objects, item), Received::Executed);
+/// assert_eq!(rt; target.receive(objects, item), Received::Repeated); // `objects` is unchanged
+/// ```
 #[derive(Drop)]
 pub struct Target {
     o_to_t_size: u16,
     t_to_o_size: u16,
-    /// The sequence count that is held.
+    /// The sequence count that is held, if any.
     held: Option<u16>,
-    /// The reply that is kept with it: the router writes it in place.
+    /// The reply that is held with it. The router writes it in place.
     reply: ReplyBuf,
 }
 
@@ -63,9 +70,9 @@ impl Target {
     ghost use Rattle.cip_class3.specs.TargetRule.{target_at_opening, step_of, target_step, IsAccepted, IsRepeat};
     ghost use Rattle.cip_class3.specs.TargetRule.{HasNewCount};
 
-    /// The end of a connection that was just opened, which holds nothing.
+    /// The target's end of a connection that was just opened. It holds nothing.
     ///
-    /// The sizes are in bytes, and count the item's two bytes of sequence count.
+    /// The sizes are in bytes and include the two bytes of an item's sequence count.
     pub fn new(o_to_t_size: u16, t_to_o_size: u16) -> Target
         requires o_to_t_from { SMALLEST_O_TO_T_SIZE ≤ o_to_t_size }
         requires o_to_t_to { o_to_t_size ≤ LARGEST_CONNECTION_SIZE }
@@ -81,7 +88,7 @@ impl Target {
         }
     }
 
-    /// Executes the item's request where its count is another than the held one.
+    /// Executes the item's request, unless its sequence count is the one that is held.
     #[inline(always)]
     pub fn receive<R: Router>(&mut self, router: &mut R, item: &[u8]) -> Received
         ensures rule { step_of result self.new router.new
@@ -91,19 +98,19 @@ impl Target {
         ensures repeat { IsAccepted self.old item.now → IsRepeat self.old item.now →
             (result ≡ Received.Repeated) × (router.new ≡ router.old)
             × (kept_bytes self.new.held ≡ kept_bytes self.old.held) }
-        // Any other count is executed, also with the bytes of the request before it.
+        // Any other count is executed, even if the request has the same bytes as the one before it.
         ensures another { IsAccepted self.old item.now → HasNewCount self.old item.now →
             (result ≡ Received.Executed)
             × (router.new ≡ R.after router.old (self.old.t_to_o_size - 2) (message_of item.now)) }
     {
-        // A count and a request, within the O->T size (the target's end).
+        // An item is a sequence count and a request, and fits the O->T size.
         if item.len() < SEQUENCE_COUNT_SIZE + SMALLEST_REQUEST
             || item.len() > self.o_to_t_size as usize
         {
             return Received::Dropped;
         }
         let sequence_count = LittleEndian::read_u16(item);
-        // The count alone decides, and holding nothing is not holding count 0 (the target's end).
+        // The sequence count alone decides. A target that holds nothing does not hold count 0.
         if self.held == Some(sequence_count) {
             return Received::Repeated;
         }
@@ -113,11 +120,11 @@ impl Target {
         Received::Executed
     }
 
-    /// The held count and reply: what answers the connection's last request. `None` before the first execution.
+    /// The held sequence count and reply, which answer the last request. `None` before the first execution.
     #[inline(always)]
     pub fn kept(&self) -> Option<KeptReply<'_>>
         ensures held { option_map kept_of result ≡ self.now.held }
-        // With its count the reply has no more bytes than the T->O size.
+        // The reply with its sequence count fits the T->O size.
         ensures fits { IfSome result (λ kept. length kept.reply.now + SEQUENCE_COUNT_SIZE ≤ self.now.t_to_o_size) }
         ensures within { IfSome result (λ kept. length kept.reply.now + SEQUENCE_COUNT_SIZE ≤ LARGEST_CONNECTION_SIZE) }
     {

@@ -1,4 +1,4 @@
--- What a call does to the connections, one of a few kinds of change.
+-- The effect of a call on the connections: one of a few kinds of change.
 use Rattle.std.proofs.Common.{false, ◌≡◌, ℕ, List, Option, Some, None, Result, Ok, Err, refl}
 use Rattle.std.specs.Prelude.{find, ◌==◌}
 use Rattle.cip_bytes.specs.declared.protocol.ManagerService.{ManagerService}
@@ -33,7 +33,7 @@ length-said LargeForwardOpen Long = refl
 length-said ForwardClose Short = refl
 length-said ForwardClose Long = refl
 
--- An open leaves all as it was and refuses, or opens what it asks for.
+-- An open refuses and changes nothing, or opens what it asks for.
 pub after_open : (P : Turn → Type 0) (layout : Layout) (manager : ManagerState) (now session : ℕ) (bytes : List ℕ)
     → ((reply : List ℕ) → (general_status reply == SUCCESS) ≡ false → P (record { manager = manager; reply = reply }))
     → ((opening : Opening) → opening_check manager opening ≡ Ok tt → P (decided_opening (service_in layout) manager now session opening (Ok tt)))
@@ -50,7 +50,7 @@ after_open P layout manager now session bytes stays opens = read (open_in layout
     read (Err fault) = stays (length_reply (service_in layout) fault) (length-said (service_in layout) fault)
     read (Ok request) = decide (opening_in layout request) (opening_check manager (opening_in layout request)) refl
 
--- A close leaves all as it was, or ends the connections that it names.
+-- A close changes nothing, or ends the connections that it names.
 pub after_close : (P : ManagerState → Type 0) (manager : ManagerState) (session : ℕ) (bytes : List ℕ)
     → P manager
     → ((request : Close) → close_of bytes ≡ Ok request → P (without (is_of_session_with session (triad_of request)) manager))
@@ -66,14 +66,14 @@ after_close P manager session bytes stays ends = read (close_of bytes) refl
     read (Err fault) e = stays
     read (Ok request) e = decide request e (closing_check manager session (triad_of request))
 
--- the same connection, but for its deadline and its target
+-- the same connection, except for its deadline and its target
 pub record IsSame (old new : Connection) : Type 0 where
   pub session : new.session ≡ old.session
   pub id : new.o_to_t_id ≡ old.o_to_t_id
   pub triad : new.triad ≡ old.triad
 
 module _ {M : Type 0} (after : M → ℕ → List ℕ → M) (answer : M → ℕ → List ℕ → List ℕ) where
-  -- An item leaves all as it was, or changes the first connection that it names.
+  -- An item changes nothing, or the first connection that it names.
   pub after_item_turn : (P : List Connection → Type 0) (cs : List Connection) (now session id : ℕ) (bytes : List ℕ) (router : M)
       → P cs
       → ((old new : Connection) → find (is_named session id) cs ≡ Some old → IsSame old new → P (with_first (is_named session id) new cs))

@@ -1,4 +1,4 @@
--- What the checks of an opening say of one that none of them refuses.
+-- What holds of an opening that no check refuses.
 use Rattle.std.proofs.Common.{◌≡◌, ℕ, ◌<◌, ◌^◌, ltb-true, eqb, List, [], ◌∷◌, ◌++◌, Bool, true, false, not, ◌&&◌, Option, Some, None, Result, Ok, Err, length, refl, ap, sym, ◌∙◌, arith}
 use Rattle.std.specs.Prelude.{◌==◌, nat_le, is_some}
 use Rattle.std.specs.List.{list_any, AllByRecursion}
@@ -22,7 +22,7 @@ first_failure-append [] rest = refl
 first_failure-append (Ok passed ∷ checks) rest = first_failure-append checks rest
 first_failure-append (Err extended ∷ checks) rest = refl
 
--- so an opening is refused by its path, or else by its other fields, or else by what is open
+-- so an opening is refused by its path, or else by its other fields, or else by the open connections
 pub opening_check-parts : (manager : ManagerState) (opening : Opening)
     → opening_check manager opening ≡ first_failure (path_checks manager.device opening) >> first_failure (field_checks opening) >> first_failure (table_checks manager opening.triad)
 opening_check-parts manager opening =
@@ -43,7 +43,7 @@ fields-refuse manager opening extended e f =
     ∙ ap (λ (path : Result (Unit {0}) ExtendedStatus). path >> first_failure (field_checks opening) >> first_failure (table_checks manager opening.triad)) e
     ∙ ap (λ (fields : Result (Unit {0}) ExtendedStatus). fields >> first_failure (table_checks manager opening.triad)) f
 
--- where none of joined lists fails, none of either does
+-- if none of two joined lists fails, none of either does
 both-pass : (a b : Result (Unit {0}) ExtendedStatus) → (a >> b) ≡ Ok tt → (a ≡ Ok tt) × (b ≡ Ok tt)
 both-pass (Ok passed) b e = (refl, e)
 both-pass (Err extended) b e = absurd cc
@@ -51,7 +51,7 @@ both-pass (Err extended) b e = absurd cc
 passed-append : (checks rest : List (Result (Unit {0}) ExtendedStatus)) → first_failure (checks ++ rest) ≡ Ok tt → (first_failure checks ≡ Ok tt) × (first_failure rest ≡ Ok tt)
 passed-append checks rest e = both-pass (first_failure checks) (first_failure rest) (sym (first_failure-append checks rest) ∙ e)
 
--- where none fails, each check passed
+-- if none fails, each check passed
 all-passed : (checks : List (Result (Unit {0}) ExtendedStatus)) → first_failure checks ≡ Ok tt → AllByRecursion (λ check. check ≡ Ok tt) checks
 all-passed [] e = tt
 all-passed (Ok passed ∷ checks) e = (refl, all-passed checks e)
@@ -72,7 +72,7 @@ not-false false e = refl
 above : (n : ℕ) → not (eqb n 0) ≡ true → 0 < n
 above n e = grind (arith, nat_tests)
 
--- its bytes are a path, with a key that the device meets, to the Message Router
+-- the path is an optional key that accepts the device, and leads to the Message Router
 pub record HasPath (device : Device) (opening : Opening) : Type 0 where
   pub path : is_some opening.path ≡ true
   pub key : key_refusal device (key_in opening.path) ≡ None
@@ -87,7 +87,7 @@ has_path device opening e =
       message_router = demand-passed _ ApplicationPath passed.1.1.0;
     }
 
--- transport, type and multiplier, sizes and O->T RPI are such as a connection can have
+-- transport, type and multiplier, sizes and O->T RPI are those of a class 3 connection
 pub record HasFields (opening : Opening) : Type 0 where
   pub transport : (opening.is_server && (opening.transport_class == 3)) ≡ true
   pub parameters : (are_point_to_point opening && nat_le opening.timeout_multiplier 7) ≡ true
@@ -104,7 +104,7 @@ has_fields opening e =
       rpi = above opening.o_to_t.rpi (demand-passed _ Rpi passed.1.1.1.0);
     }
 
--- no open connection has the triad, a place is free, and an ID is left
+-- no open connection has the triad, a slot is free, and an ID is left
 pub record HasRoom (manager : ManagerState) (triad : Triad) : Type 0 where
   pub new_triad : list_any (has_triad triad) manager.connections ≡ false
   pub place_left : length manager.connections < manager.places

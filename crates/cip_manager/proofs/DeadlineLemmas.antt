@@ -1,4 +1,4 @@
--- Connections whose deadlines are not before a moment.
+-- Lower bounds on the deadlines of connections.
 use Rattle.std.proofs.Common.{◌≡◌, ℕ, zero, suc, ◌+◌, ◌<◌, ◌≤◌, ◌⊎◌, inl, inr, List, [], ◌∷◌, ◌++◌, cond, set, get_or, take, length, Option, Some, None, refl, ap, subst, sym, ◌∙◌, arith}
 use Rattle.std.specs.Prelude.{filter, min, unwrap_or}
 use Rattle.std.specs.List.{remove, Any}
@@ -24,24 +24,24 @@ none-overdue now moment (c ∷ cs) h until =
     ap (λ b. cond b (c ∷ filter (is_open_at now) cs) (filter (is_open_at now) cs)) (lt-ltb now c.deadline (omega arith))
     ∙ ap (λ xs. c ∷ xs) (none-overdue now moment cs h (All-tail (EndsFrom moment) c cs until))
 
--- they are so until an earlier moment
+-- an earlier moment is a lower bound too
 pub AreOpenUntil-earlier : (earlier moment : ℕ) (connections : List Connection) → earlier ≤ moment → AreOpenUntil moment connections → AreOpenUntil earlier connections
 AreOpenUntil-earlier earlier moment connections h until =
     All-weaker (EndsFrom moment) (EndsFrom earlier) (λ c k. omega (arith, h, k)) connections until
 
--- with one more
+-- with one more connection
 pub AreOpenUntil-push : (earlier moment : ℕ) (connections : List Connection) (last : Connection) → earlier ≤ moment → earlier ≤ last.deadline
     → AreOpenUntil moment connections → AreOpenUntil earlier (connections ++ last ∷ [])
 AreOpenUntil-push earlier moment connections last h k until =
     All-push (EndsFrom earlier) connections last (AreOpenUntil-earlier earlier moment connections h until) k
 
--- with another one in a place
+-- with another connection at a position
 pub AreOpenUntil-set : (earlier moment : ℕ) (connections : List Connection) (i : ℕ) (new : Connection) → earlier ≤ moment → earlier ≤ new.deadline
     → AreOpenUntil moment connections → AreOpenUntil earlier (set connections i new)
 AreOpenUntil-set earlier moment connections i new h k until =
     All-set (EndsFrom earlier) connections i new k (AreOpenUntil-earlier earlier moment connections h until)
 
--- without one
+-- without a connection
 pub AreOpenUntil-remove : (moment : ℕ) (connections : List Connection) (i : ℕ) → AreOpenUntil moment connections → AreOpenUntil moment (remove connections i)
 AreOpenUntil-remove moment [] zero until = until
 AreOpenUntil-remove moment [] (suc i) until = until
@@ -50,7 +50,8 @@ AreOpenUntil-remove moment (c ∷ cs) (suc i) until =
     All-cons (EndsFrom moment) c (remove cs i) (All-head (EndsFrom moment) c cs until)
     (AreOpenUntil-remove moment cs i (All-tail (EndsFrom moment) c cs until))
 
--- with one that received an item in its own place, until a moment that its deadline would not be before, were it answered
+-- after a connection received an item, for a bound that is not after the deadline that it would have if the item is
+-- answered
 pub AreOpenUntil-received : (earlier moment now : ℕ) (connections : List Connection) (i : ℕ) (old : Connection) (received : Received) (target : TargetState)
     → i < length connections → get_or connections i old ≡ old → earlier ≤ moment → earlier ≤ moment_after now old.timeout
     → AreOpenUntil moment connections → AreOpenUntil earlier (set connections i (after_item now received target old))
@@ -63,7 +64,7 @@ AreOpenUntil-received earlier moment now connections i old received target withi
     go before Repeated = k
     go before Executed = k
 
--- the earliest, with one more behind them
+-- the earliest deadline, with one more connection after the others
 pub earliest_deadline-push : (connections : List Connection) (last : Connection)
     → earliest_deadline (connections ++ last ∷ []) ≡ Some (min last.deadline (unwrap_or (earliest_deadline connections) last.deadline))
 earliest_deadline-push [] last = refl
@@ -75,7 +76,7 @@ earliest_deadline-push (c ∷ cs) last =
     turned None = omega arith
     turned (Some m) = omega arith
 
--- the earliest of those up to a place, by the earliest of those before it
+-- the earliest deadline up to a position, by the earliest before it
 pub earliest_deadline-more : (connections : List Connection) (i : ℕ) (here : Connection) (before : Option ℕ) (moment : ℕ)
     → i < length connections → here ≡ get_or connections i here → before ≡ earliest_deadline (take i connections)
     → moment ≡ min here.deadline (unwrap_or before here.deadline) → Some moment ≡ earliest_deadline (take (i + 1) connections)
@@ -85,7 +86,7 @@ earliest_deadline-more connections i here before moment within there is said =
     ∙ ap (λ c. earliest_deadline (take i connections ++ c ∷ [])) there
     ∙ ap earliest_deadline (sym (take_more connections i here within))
 
--- none of these ends before the earliest deadline, or before any moment where there is none of them
+-- none of these ends before the earliest deadline. If there are none, any moment is a bound
 pub AreOpenUntil-earliest : (moment : ℕ) (connections : List Connection) → AreOpenUntil (unwrap_or (earliest_deadline connections) moment) connections
 AreOpenUntil-earliest moment [] = λ k d h. omega (arith, h)
 AreOpenUntil-earliest moment (c ∷ cs) =

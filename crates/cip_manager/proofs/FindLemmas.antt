@@ -1,4 +1,4 @@
--- A connection found by its ID, where IDs rise.
+-- Finding a connection by its ID, in ascending order of IDs.
 use Rattle.std.proofs.Common.{◌≡◌, ℕ, ◌+◌, ◌<◌, ◌≤◌, List, [], ◌∷◌, Bool, true, false, cond, not, ◌&&◌, ltb, get_or, length, map, Option, Some, None, refl, ap, subst, sym, ◌∙◌, inl, inr, arith}
 use Rattle.std.specs.Prelude.{nat_lt, ◌==◌, is_some, slice_index}
 use Rattle.std.specs.List.{position, position_or_len, list_any, AllByRecursion}
@@ -50,7 +50,7 @@ module _ {X : Type 0} (p : X → Bool) where
       go true t f = cc
       go false t f = fails_before_first p xs k d (omega (arith, h, ltb-false _ _ t))
 
-  -- some passes where one has a place
+  -- some passes if one has a position
   pub is_some-position : (xs : List X) → list_any p xs ≡ is_some (position p xs)
   is_some-position [] = refl
   is_some-position (x ∷ xs) = go (position p (x ∷ xs)) refl
@@ -61,7 +61,7 @@ module _ {X : Type 0} (p : X → Bool) where
           let there = position-Some p (x ∷ xs) i x e in
           list_any_at p (x ∷ xs) i x there.0 there.1
 
--- a connection that has not the ID is not named by it
+-- a connection that does not have the ID is not the one with it
 not_named : (session id : ℕ) (connection : Connection) → has_id id connection ≡ false → is_named session id connection ≡ false
 not_named session id connection e = go (is_of_session session connection)
   where
@@ -87,7 +87,7 @@ rising-ids connections i j d rises h k =
     λ n l. get_or-map (λ c. c.o_to_t_id) connections n d 0 l in
     omega (arith, Rises-at (ids_of connections) i j rises h (omega (arith, length-map connections (λ c. c.o_to_t_id), k)), at i (omega arith), at j k)
 
--- one connection has the ID: whether the session opened that one
+-- one connection has the ID: whether it belongs to the session
 pub named-some : (session id i : ℕ) (connections : List Connection) (d : Connection) → Rises (ids_of connections) → position (has_id id) connections ≡ Some i
     → (b : Bool) → is_of_session session (get_or connections i d) ≡ b
     → position (is_named session id) connections ≡ cond b (Some i) None
@@ -119,7 +119,7 @@ named-some session id i connections d rises e b s =
       | inr differ ↦ other k l differ
     ])
 
--- what a search of an index finds is the place of a connection
+-- what a search of the index finds is the position of a connection
 pub found-listed : (slab : Slab Connection) (entries : List Entry) (id : ℕ) (found : Option ℕ) → AllByRecursion (Names slab) entries
     → found ≡ position (λ other. other == id) (ids entries) → position (has_id id) (listed slab entries) ≡ found
 found-listed slab entries id found named e =
@@ -130,7 +130,7 @@ pub found-within : (entries : List Entry) (id i : ℕ) → position (λ other. o
 found-within entries id i e =
     omega (arith, (first_at (λ other. other == id) (ids entries) i e).within, length-map entries (λ entry. entry.id))
 
--- and so, with a session, the place that the session and the ID name
+-- and so, with a session, the position of its connection with the ID
 pub found-named : (slab : Slab Connection) (entries : List Entry) (session id i key : ℕ) (connection : Connection) → AllByRecursion (Names slab) entries → Rises (ids entries)
     → position (λ other. other == id) (ids entries) ≡ Some i → key ≡ slice_index (keys entries) i → get slab key ≡ Some connection
     → (b : Bool) → is_of_session session connection ≡ b → position (is_named session id) (listed slab entries) ≡ cond b (Some i) None

@@ -1,4 +1,4 @@
--- IDs are drawn one after the other, and open connections have other IDs and other triads.
+-- IDs are used one after another, and open connections have different IDs and different triads.
 use Rattle.std.proofs.Common.{◌≡◌, ℕ, ◌+◌, ◌<◌, List, [], ◌∷◌, ◌++◌, Bool, true, false, cond, not, ◌&&◌, ◌||◌, ◌⊎◌, inl, inr, Ok, get_or, refl, ap, subst, sym, ◌∙◌, arith}
 use Rattle.std.specs.Prelude.{filter, All, AllPairs, ◌==◌}
 use Rattle.std.specs.List.{list_any}
@@ -23,7 +23,7 @@ use Rattle.cip_manager.proofs.CheckLemmas.{HasRoom, passes_checks}
 use Rattle.cip_manager.proofs.CallLemmas.{after_open, after_close, after_item_turn}
 use Rattle.cip_manager.proofs.ListLemmas.{All-with_first, AllPairs-with_first}
 
--- a call draws no ID, or the next one
+-- a call uses no ID, or the next one
 record Draws (next after : ℕ) (ids : List ℕ) : Type 0 where
   drawn : ((ids ≡ []) × (after ≡ next)) ⊎ ((ids ≡ next ∷ []) × (after ≡ next + 1))
 
@@ -74,7 +74,7 @@ module _ {M : Type 0} (after : M → ℕ → List ℕ → M) (answer : M → ℕ
           subst (λ i. CountsFrom state.manager.next_id (i ++ ids_drawn after answer (state_after_call after answer state call) calls)) (sym h.0)
           (refl, subst (λ m. CountsFrom m (ids_drawn after answer (state_after_call after answer state call) calls)) h.1 rest)
 
--- the connections are apart, and their IDs were drawn
+-- the connections are apart, and their IDs were used
 record Differ (manager : ManagerState) : Type 0 where
   apart : AllPairs AreApart manager.connections
   drawn : All (λ c. c.o_to_t_id < manager.next_id) manager.connections

@@ -26,7 +26,7 @@ Rises-push [] last rises below = (tt, tt)
 Rises-push (entry ∷ entries) last rises below =
     (each-push (λ later. entry.id < later) entries last rises.0 below.0, Rises-push entries last rises.1 below.1)
 
--- what is behind a removed entry closes up
+-- entries after a removed one move up
 pub Rises-remove : (entries : List Entry) (i : ℕ) → Rises (ids entries) → Rises (ids (remove entries i))
 Rises-remove [] zero rises = tt
 Rises-remove [] (suc i) rises = tt
@@ -34,7 +34,7 @@ Rises-remove (entry ∷ entries) zero rises = rises.1
 Rises-remove (entry ∷ entries) (suc i) rises =
     (each-remove (λ later. entry.id < later) entries i rises.0, Rises-remove entries i rises.1)
 
--- of two places the later one has the greater number
+-- of two positions the later one has the greater number
 pub Rises-at : (ns : List ℕ) (i j : ℕ) → Rises ns → i < j → j < length ns → slice_index ns i < slice_index ns j
 Rises-at [] i j rises h k = absurd (omega arith)
 Rises-at (n ∷ ns) zero zero rises h k = absurd (omega arith)

@@ -1,4 +1,4 @@
--- What an item leaves, where nothing answers it and where something does.
+-- The effect of an item, if it is answered and if it is not.
 use Rattle.std.proofs.Common.{◌≡◌, ℕ, List, [], ◌∷◌, Bool, true, false, cond, Option, Some, None, refl, ap, sym, ◌∙◌}
 use Rattle.std.specs.Prelude.{find, is_some}
 use Rattle.cip_class3.specs.declared.target.Received.TheVariants.{Dropped, Repeated}
@@ -20,7 +20,7 @@ with_first-same {X} test x (y ∷ ys) e = go (test y) (λ f. with_first-same tes
     go false rest f = ap (λ zs. y ∷ zs) (rest f)
 
 module _ {M : Type 0} (after : M → ℕ → List ℕ → M) (answer : M → ℕ → List ℕ → List ℕ) where
-  -- a target answers an item exactly if it has a size that it takes, and else nothing is changed
+  -- a target answers an item if and only if it accepts its size, and otherwise nothing changes
   record Says (b : Bool) (target : TargetState) (router : M) (step : TargetStep M) : Type 0 where
     answered : is_answered step.received ≡ b
     same : b ≡ false → step.target ≡ target
@@ -40,7 +40,7 @@ module _ {M : Type 0} (after : M → ℕ → List ℕ → M) (answer : M → ℕ
         | false ↦ record { answered = refl; same = λ e. refl; still = λ e. refl }
       ]
 
-  -- an item is answered exactly if it is taken
+  -- an item is answered if and only if it is accepted
   pub answered_item : (cs : List Connection) (now session id : ℕ) (bytes : List ℕ) (router : M)
       → is_some (item_turn after answer cs now session id bytes router).reply ≡ is_taken cs session id bytes
   answered_item cs now session id bytes router = go (find (is_named session id) cs)
@@ -53,7 +53,7 @@ module _ {M : Type 0} (after : M → ℕ → List ℕ → M) (answer : M → ℕ
       go None = refl
       go (Some c) = option (is_answered (target_step after answer c.target router bytes).received) _ ∙ (target_step-says c.target router bytes).answered
 
-  -- and where nothing answers it, nothing is changed
+  -- if it is not answered, nothing changes
   pub unanswered_item : (cs : List Connection) (now session id : ℕ) (bytes : List ℕ) (router : M)
       → (item_turn after answer cs now session id bytes router).reply ≡ None
       → ((item_turn after answer cs now session id bytes router).connections ≡ cs) × ((item_turn after answer cs now session id bytes router).router ≡ router)

@@ -1,4 +1,4 @@
--- Filters, the first item that passes a test, and pairs.
+-- Filters, the first element that passes a test, and pairs.
 use Rattle.std.proofs.Common.{◌≡◌, suc, List, [], ◌∷◌, ◌++◌, Bool, true, false, cond, ◌&&◌, Some, refl, ap, subst, sym, ◌∙◌, arith}
 use Rattle.std.specs.Prelude.{filter, find, All, AllPairs}
 use Rattle.std.proofs.lemmas.List.Elements.{All-cons, All-head, All-tail, All-weaker, filter_agree}
@@ -51,7 +51,7 @@ module _ {X : Type 0} where
           ap p (sym same) ∙ hits
       go false misses rest f = rest f
 
-  -- the first that passes stays the first behind which others are put
+  -- the first that passes is still the first after others are appended
   pub find-append : (p : X → Bool) (c : X) (xs ys : List X) → find p xs ≡ Some c → find p (xs ++ ys) ≡ Some c
   find-append p c [] ys e = cc
   find-append p c (x ∷ xs) ys e = go (p x) (λ f. find-append p c xs ys f) e
@@ -77,7 +77,7 @@ module _ {X : Type 0} where
           ap (λ t. find p (cond t (x ∷ filter q xs) (filter q xs))) keeps ∙ (ap (λ t. cond t (Some x) (find p (filter q xs))) hits ∙ f)
       go false misses rest f = kept (q x) (rest f) misses
 
-  -- a change of the first that passes a test, to which another test says the same
+  -- a change of the first that passes a test, if another test gives the same result before and after it
   pub find-with_first : (p test : X → Bool) (c old new : X) (xs : List X) → find p xs ≡ Some c → find test xs ≡ Some old → test c ≡ false → p new ≡ p old
       → find p (with_first test new xs) ≡ Some c
   find-with_first p test c old new [] e f misses s = cc
@@ -97,7 +97,7 @@ module _ {X : Type 0} where
       go false away true here rest k l = ap (λ b. cond b (Some x) (find p (with_first test new xs))) here ∙ k
       go false away false here rest k l = ap (λ b. cond b (Some x) (find p (with_first test new xs))) here ∙ rest k l
 
-  -- a change of the first that passes a test, which another test drops before and after it
+  -- a change of the first that passes a test, if another test drops it before and after it
   pub filter-with_first : (p test : X → Bool) (old new : X) (xs : List X) → find test xs ≡ Some old → p old ≡ false → p new ≡ false
       → filter p (with_first test new xs) ≡ filter p xs
   filter-with_first p test old new [] f o n = refl
@@ -111,7 +111,7 @@ module _ {X : Type 0} where
           ap (λ b. cond b (new ∷ filter p xs) (filter p xs)) n ∙ sym (ap (λ b. cond b (x ∷ filter p xs) (filter p xs)) other)
       go false rest l = ap (λ ys. cond (p x) (x ∷ ys) ys) (rest l)
 
-  -- what holds of each holds after a change of one to another of which it holds
+  -- what holds of each element still holds after one is changed to another of which it holds
   pub All-with_first : (P : X → Type 0) (test : X → Bool) (old new : X) (xs : List X) → find test xs ≡ Some old → (P old → P new) → All P xs → All P (with_first test new xs)
   All-with_first P test old new [] f h a = a
   All-with_first P test old new (x ∷ xs) f h a = go (test x) (λ l. All-with_first P test old new xs l h (All-tail P x xs a)) f

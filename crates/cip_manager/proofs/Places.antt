@@ -1,4 +1,4 @@
--- The place of the first connection that passes a test.
+-- The position of the first connection that passes a test.
 use Rattle.std.proofs.Common.{◌≡◌, ℕ, zero, suc, ◌+◌, ◌<◌, ◌≤◌, List, [], ◌∷◌, Bool, true, false, cond, not, ltb, ltb-true, ltb-false, get_or, Some, None, length, refl, ap, subst, ◌∙◌, arith}
 use Rattle.std.specs.Prelude.{slice_get, slice_set, slice_index_or, find}
 use Rattle.std.specs.List.{position_or_len, position}
@@ -7,7 +7,7 @@ use Rattle.cip_manager.specs.declared.connection.Connection.{Connection}
 use Rattle.cip_manager.specs.Connection.{is_named}
 use Rattle.cip_manager.specs.Items.{with_first, ConnectionTurn, answer_of, turn_of_connection, turn_of_found, item_turn}
 
--- a change of the first is a change at its place
+-- a change of the first is a change at its position
 with_first-position : {X : Type 0} → (test : X → Bool) (y : X) (xs : List X) → with_first test y xs ≡ slice_set xs (position_or_len test xs) y
 with_first-position test y [] = refl
 with_first-position {X} test y (x ∷ xs) =
@@ -28,7 +28,7 @@ slice_get-past [] i h = refl
 slice_get-past (x ∷ xs) zero h = absurd (omega arith)
 slice_get-past (x ∷ xs) (suc i) h = slice_get-past xs i (omega arith)
 
--- the first that passes the test is at that place
+-- the first that passes the test is at that position
 pub record IsFirst {X : Type 0} (test : X → Bool) (xs : List X) (i : ℕ) : Type 0 where
   pub within : i < length xs
   pub found : (d : X) → find test xs ≡ Some (slice_index_or xs i d)
@@ -55,12 +55,12 @@ none_found {X} test xs e = go (ltb (position_or_len test xs) (length xs)) refl e
     go false t f = find_at test xs ∙ slice_get-past xs _ (ltb-false _ _ t)
 
 module _ {M : Type 0} (after : M → ℕ → List ℕ → M) (answer : M → ℕ → List ℕ → List ℕ) where
-  -- where no connection is named, nothing is changed
+  -- if no connection is named, nothing changes
   pub stays : (cs : List Connection) (now session id : ℕ) (bytes : List ℕ) (router : M) → position (is_named session id) cs ≡ None
       → item_turn after answer cs now session id bytes router ≡ record { connections = cs; router = router; reply = None }
   stays cs now session id bytes router e = ap (turn_of_found after answer cs now session id bytes router) (none_found (is_named session id) cs e)
 
-  -- the connection at the place of the first that is named receives the item
+  -- the connection at the position of the first that is named receives the item
   pub receives_at : (cs : List Connection) (now session id : ℕ) (bytes : List ℕ) (router : M) (i : ℕ) (old : Connection)
       → position (is_named session id) cs ≡ Some i → slice_index_or cs i old ≡ old
       → item_turn after answer cs now session id bytes router

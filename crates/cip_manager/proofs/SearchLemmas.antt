@@ -1,4 +1,4 @@
--- A search by halves: what is left of the list, and the steps that it still may take.
+-- Binary search: what is left of the list, and how many steps it may still take.
 use Rattle.std.proofs.Common.{◌≡◌, ℕ, ◌+◌, ◌-◌, ◌/◌, ◌^◌, ◌<◌, ◌≤◌, List, cond, length, Some, None, ap, subst, ◌∙◌, inl, inr, arith}
 use Rattle.std.specs.Prelude.{slice_index, nat_lt, ◌==◌}
 use Rattle.std.specs.List.{position, position_or_len}
@@ -23,8 +23,8 @@ digits-le m n h =
 pub digits-seven : (n : ℕ) → n ≤ 64 → binary_digits n ≤ 7
 digits-seven n h = length-digits_of-le 2 7 n (omega arith) (omega arith)
 
--- Numbers before `low` are below the one that is looked for, and those from `high` on are above it. The steps since
--- the start, and the digits of how many are left, are no more than the digits of how many there are.
+-- Numbers before `low` are below the one that is searched for, and those from `high` on are above it. The steps
+-- since the start, plus the digits of how many are left, are at most the digits of how many there are.
 pub record IsSearching (ns : List ℕ) (id low high start count : ℕ) : Type 0 where
   pub within : low ≤ high
   pub inside : high ≤ length ns
@@ -33,12 +33,12 @@ pub record IsSearching (ns : List ℕ) (id low high start count : ℕ) : Type 0 
   pub spent : count + binary_digits (high - low) ≤ start + binary_digits (length ns)
   pub rises : start ≤ count
 
--- where something is left, the next step has a digit to take
+-- if something is left, the next step has a digit to use
 pub IsSearching-digit : (ns : List ℕ) (id low high start count : ℕ) → IsSearching ns id low high start count → low < high
     → count + 1 ≤ start + binary_digits (length ns)
 IsSearching-digit ns id low high start count s h = omega (arith, s.spent, digits-half (high - low) (omega arith))
 
--- what is left after a step has a digit fewer
+-- after a step, the number of those left has one digit fewer
 left-after : (start count all n m : ℕ) → 0 < n → m ≤ n / 2 → count + binary_digits n ≤ start + all → count + 1 + binary_digits m ≤ start + all
 left-after start count all n m h le s = omega (arith, digits-half n h, digits-le m (n / 2) le, s)
 
@@ -70,7 +70,7 @@ IsSearching-greater ns id low high start count middle rising s h m greater = rec
   rises = omega (arith, s.rises);
 }
 
--- the number stands at the middle, and not before it
+-- the number is at the middle, and not before it
 pub found-at : (ns : List ℕ) (id middle : ℕ) → Rises ns → middle < length ns → slice_index ns middle ≡ id → position (λ other. other == id) ns ≡ Some middle
 found-at ns id middle rising h e =
     let first : position_or_len (λ other. other == id) ns ≡ middle =

@@ -1,4 +1,4 @@
--- What calls leave a session and a connection that they are not for.
+-- Calls for other sessions and connections leave a session and a connection unchanged.
 use Rattle.std.proofs.Common.{◌≡◌, ◌≢◌, ℕ, eqb, List, [], ◌∷◌, ◌++◌, Bool, true, false, cond, not, ◌&&◌, Some, append-nil, refl, ap, subst, sym, ◌∙◌}
 use Rattle.std.specs.Prelude.{find, filter}
 use Rattle.std.specs.List.{list_all, AllByRecursion}
@@ -11,7 +11,7 @@ use Rattle.cip_manager.specs.Runs.{ManagerCall, Opens, Closes, Receives, Expires
 use Rattle.cip_manager.proofs.CallLemmas.{after_open, after_close, after_item_turn}
 use Rattle.cip_manager.proofs.ListLemmas.{filter-true, filter-filter, filter-swap, filter-implied, find-passes, find-append, find-filter, find-with_first, filter-with_first}
 
--- what passes a test and another one passes the first
+-- what passes two tests passes the first
 first-passes : (a b : Bool) → (a && b) ≡ true → a ≡ true
 first-passes true b e = refl
 first-passes false b e = cc
@@ -24,16 +24,16 @@ not-passes : (a : Bool) → not a ≡ true → a ≡ false
 not-passes true e = cc
 not-passes false e = refl
 
--- a connection of a session is not of another
+-- a connection of one session is not of another
 of_session-other : (session other : ℕ) (c : Connection) → other ≢ session → is_of_session session c ≡ true → is_of_session other c ≡ false
 of_session-other session other c differ e = ne_eqb c.session other (λ same. differ (sym same ∙ eqb-true c.session session e))
 
--- and a test that asks for the other session misses it
+-- so a test for the other session fails
 misses-other : (session other : ℕ) (c : Connection) (b : Bool) → other ≢ session → is_of_session session c ≡ true → not (is_of_session other c && b) ≡ true
 misses-other session other c b differ e = ap (λ t. not (t && b)) (of_session-other session other c differ e)
 
 module _ {M : Type 0} (after : M → ℕ → List ℕ → M) (answer : M → ℕ → List ℕ → List ℕ) where
-  -- one call of another session leaves the session's connections, but for time-outs
+  -- one call of another session leaves the session's connections, except for timeouts
   call-of_other : (session : ℕ) (state : State M) (call : ManagerCall) → IsOfOther session call
       → of_session session (state_after_call after answer state call).manager.connections
       ≡ filter (λ c. is_open_after c call) (of_session session state.manager.connections)
@@ -72,7 +72,7 @@ module _ {M : Type 0} (after : M → ℕ → List ℕ → M) (answer : M → ℕ
       ∙ (ap (filter (is_open_after_all calls)) (call-of_other session state call others.0)
       ∙ filter-filter (λ c. is_open_after c call) (is_open_after_all calls) (of_session session state.manager.connections))
 
-  -- one call that spares a connection leaves it where it is found
+  -- one call that spares a connection leaves it as it is found
   call-is_spared : (session id : ℕ) (c : Connection) (state : State M) (call : ManagerCall) → find (is_named session id) state.manager.connections ≡ Some c → is_spared c call ≡ true
       → find (is_named session id) (state_after_call after answer state call).manager.connections ≡ Some c
   call-is_spared session id c state (Opens layout now other bytes) found spared =

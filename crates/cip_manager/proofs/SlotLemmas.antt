@@ -1,4 +1,4 @@
--- The connections that an index names in a slab, and what a change of one key does to them.
+-- The connections that an index names in a slab, and the effect of a change of one key.
 use Rattle.std.proofs.Common.{◌≡◌, ◌≢◌, ℕ, zero, suc, ◌<◌, List, [], ◌∷◌, ◌++◌, length, get_or, set, map, Option, Some, None, refl, ap, subst, sym, ◌∙◌, arith}
 use Rattle.std.specs.Prelude.{slice_index, is_some, cond}
 use Rattle.std.specs.List.{AllByRecursion, remove, cons_option}
@@ -21,12 +21,12 @@ module _ (slab : Slab Connection) where
   length-listed (entry ∷ entries) named =
       ap (λ o. length (cons_option o (listed slab entries))) named.0.kept ∙ ap suc (length-listed entries named.1)
 
-  -- a place of the connections is one of the entries
+  -- a position of the connections is one of the entries
   pub within : (entries : List Entry) (connections : List Connection) (i : ℕ) → AllByRecursion (Names slab) entries → listed slab entries ≡ connections
       → i < length connections → i < length entries
   within entries connections i named same h = omega (arith, length-listed entries named, ap length same, h)
 
-  -- where connections leave a place, the entries do
+  -- if there are fewer connections than slots, there are fewer entries
   pub leaves-position : (entries : List Entry) (connections : List Connection) (places : ℕ) → AllByRecursion (Names slab) entries → listed slab entries ≡ connections
       → length connections < places → length entries < places
   leaves-position entries connections places named same h = omega (arith, length-listed entries named, ap length same, h)
@@ -38,7 +38,7 @@ module _ (slab : Slab Connection) where
       ap (λ o. map (λ c. c.o_to_t_id) (cons_option o (listed slab entries))) named.0.kept
       ∙ (λ j. named.0.same j ∷ ids-listed entries named.1 j)
 
-  -- the slab has at a place's key the connection at that place
+  -- the slab has the connection of a position at the key of that position
   pub get-listed : (entries : List Entry) (i : ℕ) (d : Connection) → AllByRecursion (Names slab) entries → i < length entries
       → get slab (slice_index (keys entries) i) ≡ Some (get_or (listed slab entries) i d)
   get-listed [] i d named h = absurd (omega arith)
@@ -52,7 +52,7 @@ module _ (slab : Slab Connection) where
   has-key (entry ∷ entries) zero named h = ap is_some named.0.kept
   has-key (entry ∷ entries) (suc i) named h = has-key entries i named.1 (omega arith)
 
-  -- what the slab has at a place's key is the connection at that place
+  -- what the slab has at the key of a position is the connection at that position
   pub listed-at : (entries : List Entry) (i key : ℕ) (connection d : Connection) → AllByRecursion (Names slab) entries → i < length entries
       → key ≡ slice_index (keys entries) i → get slab key ≡ Some connection → get_or (listed slab entries) i d ≡ connection
   listed-at entries i key connection d named h at found =
@@ -64,7 +64,7 @@ module _ (slab : Slab Connection) where
       sym (get_or-map (λ c. c.o_to_t_id) (listed slab entries) i d 0 (omega (arith, length-listed entries named, h)))
       ∙ ap (λ ns. slice_index ns i) (ids-listed entries named)
 
-  -- IDs that are all below a number are so in the index
+  -- IDs that are all below a number are also below it in the index
   pub ids-below : (n : ℕ) (entries : List Entry) → AllByRecursion (Names slab) entries → AreBelow n (listed slab entries) → AllByRecursion (λ other. other < n) (ids entries)
   ids-below n entries named below =
       subst (AllByRecursion (λ other. other < n)) (ids-listed entries named) (mapped (listed slab entries) (recursion_from_All (λ c. c.o_to_t_id < n) (listed slab entries) below))
@@ -73,12 +73,12 @@ module _ (slab : Slab Connection) where
       mapped [] all = tt
       mapped (c ∷ cs) all = (all.0, mapped cs all.1)
 
-  -- a write at a key that has a connection keeps their number
+  -- a write at a key that has a connection does not change the number of connections
   pub slab_len-with_value : (key : ℕ) (connection : Connection) → ContainsKey slab key → slab_len (with_value slab key connection) ≡ slab_len slab
   slab_len-with_value key connection has =
       omega (arith, sum_by-set (λ o. cond (is_some o) 1 0) slab.slots key (Some connection) None (ContainsKey-within slab key has), ap {B = ℕ} (λ b. cond b 1 0) has)
 
-  -- what a key has, written back, changes nothing
+  -- writing back what a key has changes nothing
   pub with_value-same : (key : ℕ) (connection : Connection) → get slab key ≡ Some connection → with_value slab key connection ≡ slab
   with_value-same key connection found =
       λ j. record slab { slots = (ap (set slab.slots key) (sym found) ∙ set-get_or slab.slots key None) j }
@@ -96,7 +96,7 @@ module _ (slab : Slab Connection) where
   keys_apart entry (other ∷ entries) x below named =
       (apart entry other x named.0 below.0, keys_apart entry entries x below.1 named.1)
 
-  -- the key at a later place is another one
+  -- the key at a later position is another one
   key_apart : (entry : Entry) (entries : List Entry) (i : ℕ) → Names slab entry → AllByRecursion (λ later. entry.id < later) (ids entries) → AllByRecursion (Names slab) entries
       → i < length entries → entry.key ≢ slice_index (keys entries) i
   key_apart entry [] i x below named h = absurd (omega arith)
@@ -118,7 +118,7 @@ pub record Shows (slab : Slab Connection) (entries : List Entry) (shown : List C
   pub named : AllByRecursion (Names slab) entries
 
 module _ (old new : Slab Connection) (key : ℕ) (slot : Option Connection) (updates : Updates old new key slot) where
-  -- entries with other keys name what they did
+  -- entries with other keys name the same connections as before
   kept : (entries : List Entry) → AllByRecursion (λ other. key ≢ other.key) entries → AllByRecursion (Names old) entries → Shows new entries (listed old entries)
   kept [] differ named = record { connections = refl; named = tt }
   kept (entry ∷ entries) differ named =
@@ -129,7 +129,7 @@ module _ (old new : Slab Connection) (key : ℕ) (slot : Option Connection) (upd
         named = (record { connection = named.0.connection; kept = here ∙ named.0.kept; same = named.0.same }, rest.named);
       }
 
-  -- a new connection goes to the end
+  -- a new connection is appended
   pub Shows-push : (entries : List Entry) (connection : Connection) → get old key ≡ None → slot ≡ Some connection → AllByRecursion (Names old) entries
       → Shows new (entries ++ record { id = connection.o_to_t_id; key = key } ∷ []) (listed old entries ++ connection ∷ [])
   Shows-push entries connection none is named = go entries (no_key old key entries none named) named
@@ -154,7 +154,7 @@ module _ (old new : Slab Connection) (key : ℕ) (slot : Option Connection) (upd
             named = (record { connection = names.0.connection; kept = same ∙ names.0.kept; same = names.0.same }, rest.named);
           }
 
-  -- a removed entry takes its connection with it
+  -- removing an entry removes its connection
   pub Shows-remove : (entries : List Entry) (i : ℕ) → i < length entries → key ≡ slice_index (keys entries) i → Rises (ids entries) → AllByRecursion (Names old) entries
       → Shows new (remove entries i) (remove (listed old entries) i)
   Shows-remove [] i h at rises named = absurd (omega arith)
@@ -178,7 +178,7 @@ module _ (old new : Slab Connection) (key : ℕ) (slot : Option Connection) (upd
         named = (record { connection = named.0.connection; kept = same ∙ named.0.kept; same = named.0.same }, rest.named);
       }
 
-  -- another connection with the same ID takes the place of one
+  -- another connection with the same ID replaces one
   pub Shows-set : (entries : List Entry) (i : ℕ) (connection : Connection) → i < length entries → key ≡ slice_index (keys entries) i → Rises (ids entries) → AllByRecursion (Names old) entries
       → slot ≡ Some connection → connection.o_to_t_id ≡ slice_index (ids entries) i
       → Shows new entries (set (listed old entries) i connection)
@@ -207,7 +207,7 @@ module _ (old new : Slab Connection) (key : ℕ) (slot : Option Connection) (upd
         named = (record { connection = named.0.connection; kept = same ∙ named.0.kept; same = named.0.same }, rest.named);
       }
 
--- a connection that received an item takes its own place
+-- a connection that received an item replaces itself
 pub Shows-received : (slab : Slab Connection) (entries : List Entry) (i key : ℕ) (old new : Connection) → i < length entries → key ≡ slice_index (keys entries) i
     → Rises (ids entries) → AllByRecursion (Names slab) entries → get slab key ≡ Some old → new.o_to_t_id ≡ old.o_to_t_id
     → Shows (with_value slab key new) entries (set (listed slab entries) i new)

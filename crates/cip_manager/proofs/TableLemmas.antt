@@ -1,4 +1,4 @@
--- What an item leaves of a table.
+-- The effect of an item on a table.
 use Rattle.std.proofs.Common.{◌≡◌, ℕ, ◌<◌, List, Option, Some, None, subst, sym}
 use Rattle.std.specs.Prelude.{IfNone}
 use Rattle.std.specs.Option.{option_map}
@@ -12,7 +12,7 @@ use Rattle.cip_manager.proofs.ItemLemmas.{unanswered_item}
 use Rattle.cip_manager.proofs.ListLemmas.{All-with_first}
 
 module _ {M : Type 0} (after : M → ℕ → List ℕ → M) (answer : M → ℕ → List ℕ → List ℕ) where
-  -- the IDs stay
+  -- the IDs do not change
   pub AreBelow-received : (n : ℕ) (cs : List Connection) (now session id : ℕ) (bytes : List ℕ) (router : M)
       → AreBelow n cs → AreBelow n (item_turn after answer cs now session id bytes router).connections
   AreBelow-received n cs now session id bytes router below =
@@ -20,7 +20,7 @@ module _ {M : Type 0} (after : M → ℕ → List ℕ → M) (answer : M → ℕ
       (λ old new found same. All-with_first (λ c. c.o_to_t_id < n) (is_named session id) old new cs found
       (λ h. subst (λ i. i < n) (sym same.id) h) below)
 
-  -- where nothing that is lent answers, what follows from nothing being changed
+  -- if no answer is lent, what follows from nothing being changed
   pub silent : (P : Type 0) (cs : List Connection) (now session id : ℕ) (bytes : List ℕ) (router : M) (lent : Option KeptAnswer)
       → option_map view lent ≡ (item_turn after answer cs now session id bytes router).reply
       → ((item_turn after answer cs now session id bytes router).connections ≡ cs → (item_turn after answer cs now session id bytes router).router ≡ router → P)

@@ -1,4 +1,4 @@
--- A walk over a list from its end that takes out what fails a test.
+-- A walk over a list from its end that removes what fails a test.
 use Rattle.std.proofs.Common.{◌≡◌, ℕ, zero, suc, ◌+◌, ◌-◌, ◌<◌, ◌≤◌, List, [], ◌∷◌, Bool, true, false, cond, get_or, length, drop, refl, ap, sym, ◌∙◌, arith}
 use Rattle.std.specs.Prelude.{filter}
 use Rattle.std.specs.List.{remove}
@@ -18,7 +18,7 @@ module _ {X : Type 0} where
   drop-remove (x ∷ xs) zero = refl
   drop-remove (x ∷ xs) (suc i) = drop-remove xs i
 
-  -- what stands from the place on is what the test let through of what stood there
+  -- the elements from the position on are those of the old ones that pass the test
   pub record IsKeptFrom (p : X → Bool) (old now : List X) (position : ℕ) : Type 0 where
     pub within : position ≤ length now
     pub same : filter p now ≡ filter p old
@@ -47,7 +47,7 @@ module _ {X : Type 0} where
             ∙ (ap (λ xs. get_or now at d ∷ xs) kept.passes ∙ sym parts));
       }
 
-  -- one that fails is taken out
+  -- one that fails is removed
   pub IsKeptFrom-removed : (p : X → Bool) (old now : List X) (position : ℕ) (d : X) → 0 < position → p (get_or now (position - 1) d) ≡ false
       → IsKeptFrom p old now position → IsKeptFrom p old (remove now (position - 1)) (position - 1)
   IsKeptFrom-removed p old now position d h f kept =

@@ -1,13 +1,13 @@
--- A list of checks, by the first that fails.
+-- A list of checks. The first that fails decides.
 use Rattle.std.specs.Prelude.{Bool, true, false, List, [], ◌∷◌, Option, Some, None, Result, Ok, Err}
 use Rattle.cip_bytes.specs.declared.protocol.ExtendedStatus.{ExtendedStatus}
 
--- nothing, or the extended status where the test fails
+-- Nothing, or this extended status if the test fails.
 abbrev pub demand : Bool → ExtendedStatus → Result (Unit {0}) ExtendedStatus
 demand true extended = Ok tt
 demand false extended = Err extended
 
--- the extended status, where there is one
+-- A check that fails with this extended status, if there is one.
 abbrev pub refusal_by : Option ExtendedStatus → Result (Unit {0}) ExtendedStatus
 refusal_by None = Ok tt
 refusal_by (Some extended) = Err extended

@@ -1,8 +1,8 @@
--- One open connection (Volume 1, Connection Manager), and the moments at which connections end.
+-- One open connection (Volume 1, Connection Manager), and when connections end.
 --
--- `Connection` is the record that `src/connection.rt` declares: the session that opened it, the ID of either
--- direction, the triad of connection serial, originator vendor and originator serial, its time-out, its deadline,
--- and the target's end, which has both sizes and the count and reply that are held.
+-- `Connection` is the record that `src/connection.rt` declares: the session that opened it, the ID of each
+-- direction, the triad of connection serial, originator vendor and originator serial, its timeout, its deadline,
+-- and the target's end, with both sizes and the count and reply that are held.
 use Rattle.std.specs.Prelude.{ℕ, ◌+◌, ◌-◌, ◌*◌, ◌^◌, min, max, nat_lt, Bool, true, false, ◌&&◌, ◌==◌, if◌then◌else◌}
 use Rattle.std.specs.Prelude.{List, [], ◌∷◌, Option, Some, None, unwrap_or}
 use Rattle.cip_class3.specs.declared.target.Received.{Received}
@@ -11,15 +11,15 @@ use Rattle.cip_class3.specs.TargetRule.{TargetState}
 use Rattle.cip_manager.specs.declared.connection.Triad.{Triad}
 use Rattle.cip_manager.specs.declared.connection.Connection.{Connection}
 
--- the time-out: the O->T RPI times 4 times 2 to the multiplier, in microseconds
+-- The timeout: O->T RPI x 4 x 2^multiplier, in microseconds.
 abbrev pub timeout_of : ℕ → ℕ → ℕ
 timeout_of o_to_t_rpi timeout_multiplier = o_to_t_rpi * 4 * 2 ^ timeout_multiplier
 
--- so long after a moment; what would be past the greatest moment is that moment
+-- The moment `time` after `now`. A later moment than the greatest becomes the greatest.
 abbrev pub moment_after : ℕ → ℕ → ℕ
 moment_after now time = min (now + time) (2 ^ 64 - 1)
 
--- The deadline's rule: a connection ends a time-out after its last item, and at least ten seconds after its
+-- The rule of deadlines: a connection ends one timeout after its last item, and at least ten seconds after its
 -- opening.
 abbrev pub deadline_at_opening : ℕ → ℕ → ℕ
 deadline_at_opening now timeout = moment_after now (max timeout 10000000)
@@ -27,17 +27,17 @@ deadline_at_opening now timeout = moment_after now (max timeout 10000000)
 abbrev pub deadline_at_item : ℕ → ℕ → ℕ
 deadline_at_item now timeout = moment_after now timeout
 
--- the connection is open at this moment: its deadline is still to come
+-- The connection is open at this moment: its deadline is later.
 abbrev pub is_open_at : ℕ → Connection → Bool
 is_open_at now connection = nat_lt now connection.deadline
 
--- the earliest of the deadlines: none where no connection is open
+-- The earliest deadline, or None if no connection is open.
 abbrev pub earliest_deadline : List Connection → Option ℕ
 earliest_deadline [] = None
 earliest_deadline (connection ∷ others) =
     Some (min connection.deadline (unwrap_or (earliest_deadline others) connection.deadline))
 
--- two triads are the same
+-- The two triads are the same.
 abbrev pub is_same_triad : Triad → Triad → Bool
 is_same_triad a b =
     (a.connection_serial == b.connection_serial) && (a.originator_vendor == b.originator_vendor)
@@ -52,21 +52,22 @@ is_of_session session connection = connection.session == session
 abbrev pub has_id : ℕ → Connection → Bool
 has_id id connection = connection.o_to_t_id == id
 
--- the connection that a session and an O->T ID name
+-- The session's connection with this O->T ID.
 abbrev pub is_named : ℕ → ℕ → Connection → Bool
 is_named session id connection = is_of_session session connection && (connection.o_to_t_id == id)
 
--- the connection that a session and a triad name
+-- The session's connection with this triad.
 abbrev pub is_of_session_with : ℕ → Triad → Connection → Bool
 is_of_session_with session triad connection = is_of_session session connection && has_triad triad connection
 
--- an item that is dropped is not answered
+-- An item that is dropped is not answered.
 abbrev pub is_answered : Received → Bool
 is_answered Dropped = false
 is_answered Repeated = true
 is_answered Executed = true
 
--- a connection after an item, with what its target did and is then: an answered item moves the deadline
+-- A connection after an item, given what its target did and the target afterwards. An answered item moves the
+-- deadline.
 abbrev pub after_item : ℕ → Received → TargetState → Connection → Connection
 after_item now received target connection =
     record connection {

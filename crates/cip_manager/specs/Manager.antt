@@ -1,10 +1,10 @@
--- The Connection Manager's state (Volume 1, Connection Manager).
+-- The state of the Connection Manager (Volume 1, Connection Manager).
 use Rattle.std.specs.Prelude.{ℕ, List, []}
 use Rattle.cip_message.specs.declared.key.Device.{Device}
 use Rattle.cip_manager.specs.declared.connection.Connection.{Connection}
 
--- how many connections can be open, the ID that the next one gets, the device that keys ask for, and the open
--- connections in the order in which they were opened
+-- How many connections can be open, the ID of the next one, the device that keys are compared with, and the open
+-- connections in the order of opening.
 pub record ManagerState : Type 0 where
   pub places : ℕ
   pub next_id : ℕ
@@ -14,7 +14,7 @@ pub record ManagerState : Type 0 where
 abbrev pub no_connection : ℕ → ℕ → Device → ManagerState
 no_connection places first_id device = record { places = places; next_id = first_id; device = device; connections = [] }
 
--- what a request leaves, and the whole reply to it
+-- The manager after a request, and the whole reply to it.
 pub record Turn : Type 0 where
   pub manager : ManagerState
   pub reply : List ℕ

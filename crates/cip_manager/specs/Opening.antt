@@ -1,7 +1,8 @@
--- Forward_Open and Large_Forward_Open (Volume 1, Connection Manager): what an opening asks for, and why it is refused.
+-- Forward_Open and Large_Forward_Open (Volume 1, Connection Manager): what an opening asks for, and why it is
+-- refused.
 --
--- `Opening` and `Direction` are the records that `src/opening.rt` declares. They have what an opening asks for,
--- and not how its bytes say it: both layouts of the request share all but how the parameters are read.
+-- `Opening` and `Direction` are the records that `src/opening.rt` declares. They hold what an opening asks for,
+-- whatever its layout: the layouts differ only in how their parameters are read.
 use Rattle.std.specs.Prelude.{◌≡◌, ℕ, ◌+◌, ◌^◌, ◌≤◌, nat_lt, nat_le, ◌==◌, Bool, false, not, ◌&&◌, is_some, is_none}
 use Rattle.std.specs.Prelude.{List, [], ◌∷◌, ◌++◌, length, Option, Some, None, Result, Ok, Err}
 use Rattle.std.specs.List.{list_any}
@@ -32,17 +33,17 @@ use Rattle.cip_manager.specs.Connection.{has_triad, timeout_of, deadline_at_open
 use Rattle.cip_manager.specs.Manager.{ManagerState, Turn, turn}
 use Rattle.cip_manager.specs.Replies.{reply_of_service, length_reply, failure_reply, open_success_data, o_to_t_id_in}
 
--- what one direction asks for, by its RPI and its parameters of 16 bits
+-- One direction, from its RPI and its 16-bit parameters.
 abbrev pub direction_of : ℕ → ℕ → Direction
 direction_of rpi parameters =
     record { rpi = rpi; connection_type = connection_type parameters; size = size_of parameters }
 
--- and by its parameters of 32 bits
+-- One direction, from its RPI and its 32-bit parameters.
 abbrev pub large_direction_of : ℕ → ℕ → Direction
 large_direction_of rpi parameters =
     record { rpi = rpi; connection_type = large_connection_type parameters; size = large_size_of parameters }
 
--- what a request asks for, and what for either direction
+-- What a request asks for, with these two directions.
 abbrev pub opening_with : Direction → Direction → Open → Opening
 opening_with o_to_t t_to_o o = record {
   t_to_o_id = o.t_to_o_id;
@@ -59,29 +60,29 @@ opening_with o_to_t t_to_o o = record {
   path = open_path_of o.path;
 }
 
--- what a Forward_Open asks for
+-- What a Forward_Open asks for.
 abbrev pub opening_of : Open → Opening
 opening_of o =
     opening_with (direction_of o.o_to_t_rpi o.o_to_t_parameters) (direction_of o.t_to_o_rpi o.t_to_o_parameters) o
 
--- what a Large_Forward_Open asks for
+-- What a Large_Forward_Open asks for.
 abbrev pub large_opening_of : Open → Opening
 large_opening_of o =
     opening_with (large_direction_of o.o_to_t_rpi o.o_to_t_parameters)
     (large_direction_of o.t_to_o_rpi o.t_to_o_parameters) o
 
--- a connection of two ends, and not of many
+-- The connection type is point to point.
 abbrev pub is_point_to_point : Direction → Bool
 is_point_to_point direction = direction.connection_type == 2
 
 abbrev pub are_point_to_point : Opening → Bool
 are_point_to_point opening = is_point_to_point opening.o_to_t && is_point_to_point opening.t_to_o
 
--- the size of an item, its count included, is from the first number to the second
+-- The connection size, which includes the sequence count, is in this range.
 abbrev pub is_size : ℕ → ℕ → Direction → Bool
 is_size least greatest direction = nat_le least direction.size && nat_le direction.size greatest
 
--- the device refuses the key, where there is one
+-- The extended status with which the device refuses the key, if there is a key and it does.
 abbrev pub key_refusal : Device → Option Key → Option ExtendedStatus
 key_refusal device None = None
 key_refusal device (Some key) = refusal device key
@@ -90,7 +91,7 @@ abbrev pub key_in : Option OpenPath → Option Key
 key_in None = None
 key_in (Some o) = o.key
 
--- the Message Router, instance 1, with no attribute and no member
+-- The path leads to the Message Router: instance 1, with no attribute and no member.
 abbrev pub is_message_router : Path → Bool
 is_message_router path =
     (path.class == MESSAGE_ROUTER) && (path.instance == 1) && is_none path.attribute && is_none path.member
@@ -99,10 +100,10 @@ abbrev pub names_message_router : Option OpenPath → Bool
 names_message_router None = false
 names_message_router (Some o) = is_message_router o.path
 
--- The checks of an opening, each with the extended status that refuses it (beside the general status 0x01). That its
--- data are too short, 0x13, or too long, 0x15, was seen before, as they were read.
+-- The checks of an opening, each with the extended status that refuses it (in addition to the general status 0x01).
+-- Data that are too short (0x13) or too long (0x15) were refused before, when they were read.
 
--- those of its path: it names this device, and its Message Router
+-- The checks of the path: the key accepts this device, and the path leads to its Message Router.
 abbrev pub path_checks : Device → Opening → List (Result (Unit {0}) ExtendedStatus)
 path_checks device opening =
     demand (is_some opening.path) PathSegment
@@ -110,7 +111,7 @@ path_checks device opening =
     ∷ demand (names_message_router opening.path) ApplicationPath
     ∷ []
 
--- those of its other fields, whatever is open already
+-- The checks of the other fields, which do not depend on the open connections.
 abbrev pub field_checks : Opening → List (Result (Unit {0}) ExtendedStatus)
 field_checks opening =
     demand (opening.is_server && (opening.transport_class == 3)) Transport
@@ -120,23 +121,23 @@ field_checks opening =
     ∷ demand (not (opening.o_to_t.rpi == 0)) Rpi
     ∷ []
 
--- those of what is open already
+-- The checks against the open connections.
 abbrev pub table_checks : ManagerState → Triad → List (Result (Unit {0}) ExtendedStatus)
 table_checks manager triad =
     demand (not (list_any (has_triad triad) manager.connections)) DoubleOpen
     ∷ demand (nat_lt (length manager.connections) manager.places && nat_lt manager.next_id (2 ^ 32)) OutOfConnections
     ∷ []
 
--- all of them, in their order
+-- All checks, in their order.
 abbrev pub opening_checks : ManagerState → Opening → List (Result (Unit {0}) ExtendedStatus)
 opening_checks manager opening =
     path_checks manager.device opening ++ field_checks opening ++ table_checks manager opening.triad
 
--- why it is refused: the first check that fails
+-- Why the opening is refused: the first check that fails.
 abbrev pub opening_check : ManagerState → Opening → Result (Unit {0}) ExtendedStatus
 opening_check manager opening = first_failure (opening_checks manager opening)
 
--- what a connection can be made of
+-- What a connection needs of an opening.
 pub record CanBeOpened (opening : Opening) : Type 0 where
   pub multiplier : opening.timeout_multiplier ≤ 7
   pub o_to_t_from : SMALLEST_O_TO_T_SIZE ≤ opening.o_to_t.size
@@ -144,7 +145,7 @@ pub record CanBeOpened (opening : Opening) : Type 0 where
   pub t_to_o_from : SMALLEST_T_TO_O_SIZE ≤ opening.t_to_o.size
   pub t_to_o_to : opening.t_to_o.size ≤ LARGEST_CONNECTION_SIZE
 
--- the connection that an opening asks for, with this ID
+-- The connection that an opening asks for, with this ID.
 abbrev pub new_connection : ℕ → ℕ → ℕ → Opening → Connection
 new_connection id now session opening =
     let timeout = timeout_of opening.o_to_t.rpi opening.timeout_multiplier in
@@ -158,7 +159,7 @@ new_connection id now session opening =
       target = target_at_opening opening.o_to_t.size opening.t_to_o.size;
     }
 
--- it is opened behind the others, and draws the next ID
+-- The connection is opened after the others, and uses the next ID.
 abbrev pub with_opening : ManagerState → ℕ → ℕ → Opening → ManagerState
 with_opening manager now session opening =
     record manager {
@@ -166,7 +167,7 @@ with_opening manager now session opening =
       connections = manager.connections ++ new_connection manager.next_id now session opening ∷ [];
     }
 
--- The next ID is drawn, and the reply has it. One more connection, with this ID, is open behind the others.
+-- The next ID is used, and the reply has it. One more connection, with this ID, is open after the others.
 pub record OpensNext (old new : ManagerState) (reply : List ℕ) : Type 0 where
   pub places : new.places ≡ old.places
   pub device : new.device ≡ old.device
@@ -176,26 +177,25 @@ pub record OpensNext (old new : ManagerState) (reply : List ℕ) : Type 0 where
   pub id : connection.o_to_t_id ≡ old.next_id
   pub behind : new.connections ≡ old.connections ++ connection ∷ []
 
--- the reply to an opening that succeeds
+-- The reply to an opening that succeeds.
 abbrev pub open_success : ManagerService → ℕ → Opening → List ℕ
 open_success service id opening =
     reply_of_service service Success []
     (open_success_data id opening.t_to_o_id opening.triad opening.o_to_t.rpi opening.t_to_o.rpi)
 
--- what follows the checks
+-- After the checks.
 abbrev pub decided_opening : ManagerService → ManagerState → ℕ → ℕ → Opening → Result (Unit {0}) ExtendedStatus → Turn
 decided_opening service manager now session opening (Err extended) =
     turn manager (failure_reply service extended opening.triad)
 decided_opening service manager now session opening (Ok passed) =
     turn (with_opening manager now session opening) (open_success service manager.next_id opening)
 
--- An opening of a session at a moment, by one service or the other: the first check that fails refuses it, and then
--- nothing is changed.
+-- An opening of a session, by either service. The first check that fails refuses it, and then nothing changes.
 abbrev pub opening_turn : ManagerService → ManagerState → ℕ → ℕ → Opening → Turn
 opening_turn service manager now session opening =
     decided_opening service manager now session opening (opening_check manager opening)
 
--- a layout's service, what its bytes spell, and what that asks for
+-- For each layout: its service, how its bytes are read, and what they ask for.
 abbrev pub service_in : Layout → ManagerService
 service_in small = ForwardOpen
 service_in large = LargeForwardOpen
@@ -208,7 +208,7 @@ abbrev pub opening_in : Layout → Open → Opening
 opening_in small o = opening_of o
 opening_in large o = large_opening_of o
 
--- the same, as its data say it
+-- The same, from the data of the request.
 abbrev pub read_opening_turn : Layout → ManagerState → ℕ → ℕ → Result Open LengthFault → Turn
 read_opening_turn layout manager now session (Err fault) = turn manager (length_reply (service_in layout) fault)
 read_opening_turn layout manager now session (Ok request) =
@@ -218,10 +218,10 @@ abbrev pub open_turn_in : Layout → ManagerState → ℕ → ℕ → List ℕ �
 open_turn_in layout manager now session content =
     read_opening_turn layout manager now session (open_in layout content)
 
--- Forward_Open
+-- Forward_Open.
 abbrev pub open_turn : ManagerState → ℕ → ℕ → List ℕ → Turn
 open_turn manager now session content = open_turn_in small manager now session content
 
--- Large_Forward_Open
+-- Large_Forward_Open.
 abbrev pub open_large_turn : ManagerState → ℕ → ℕ → List ℕ → Turn
 open_large_turn manager now session content = open_turn_in large manager now session content

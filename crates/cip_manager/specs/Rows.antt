@@ -1,4 +1,4 @@
--- Worked rows: time-outs, deadlines and replies.
+-- Worked examples: timeouts, deadlines and replies.
 use Rattle.std.specs.Prelude.{◌≡◌, ◌-◌, ◌^◌, [], ◌∷◌, refl}
 use Rattle.cip_bytes.specs.declared.protocol.ManagerService.TheVariants.{ForwardOpen, LargeForwardOpen, ForwardClose}
 use Rattle.cip_bytes.specs.declared.protocol.ExtendedStatus.TheVariants.{DoubleOpen, ConnectionNotFound}
@@ -8,14 +8,14 @@ use Rattle.cip_manager.specs.declared.connection.Triad.{Triad}
 use Rattle.cip_manager.specs.Connection.{timeout_of, deadline_at_opening, deadline_at_item}
 use Rattle.cip_manager.specs.Replies.{length_reply, failure_reply, close_success}
 
--- an RPI of 2 seconds, with multipliers 0 and 7
+-- An RPI of 2 seconds, with multipliers 0 and 7.
 pub timeout-zero : timeout_of 2000000 0 ≡ 8000000
 timeout-zero = refl
 
 pub timeout-seven : timeout_of 2000000 7 ≡ 1024000000
 timeout-seven = refl
 
--- at the opening 8 seconds are too few, later not; and no deadline is past the greatest moment
+-- 8 seconds are too few at the opening, but not later. No deadline is past the greatest moment.
 pub deadline-opening : deadline_at_opening 0 8000000 ≡ 10000000
 deadline-opening = refl
 
@@ -25,7 +25,7 @@ deadline-item = refl
 pub deadline-greatest : deadline_at_item (2 ^ 64 - 2) 8000000 ≡ 2 ^ 64 - 1
 deadline-greatest = refl
 
--- connection serial 1, vendor 0x42, originator serial 0x12345678
+-- Connection serial 1, originator vendor 0x42, originator serial 0x12345678.
 abbrev triad : Triad
 triad = record { connection_serial = 1; originator_vendor = 0x42; originator_serial = 0x12345678 }
 

@@ -1,4 +1,4 @@
--- Lists of calls of the manager, over the router behind its connections.
+-- Lists of calls of the manager, with the router of its connections.
 use Rattle.std.specs.Prelude.{◌≡◌, ◌≢◌, ℕ, ◌+◌, ◌<◌, ◌==◌, Bool, true, false, not, if◌then◌else◌, List, [], ◌∷◌, ◌++◌}
 use Rattle.std.specs.Prelude.{filter, Result, Ok, Err, ⊤}
 use Rattle.std.specs.List.{list_all}
@@ -14,7 +14,7 @@ use Rattle.cip_manager.specs.Closing.{close_turn, triad_of, without_overdue, wit
 use Rattle.cip_manager.specs.Items.{item_turn}
 use Rattle.cip_manager.specs.Replies.{SUCCESS, o_to_t_id_in}
 
--- a call of the manager: of `open` or `open_large`, by the layout, of `close`, `connected`, `expire` or `end_session`
+-- A call of the manager: `open` or `open_large`, by the layout, `close`, `connected`, `expire` or `end_session`.
 pub data ManagerCall : Type 0 where
   Opens : (layout : Layout) (now session : ℕ) (bytes : List ℕ) → ManagerCall
   Closes : (session : ℕ) (bytes : List ℕ) → ManagerCall
@@ -22,13 +22,13 @@ pub data ManagerCall : Type 0 where
   Expires : (now : ℕ) → ManagerCall
   Ends : (session : ℕ) → ManagerCall
 
--- a manager, and the router that its connections lead to
+-- A manager, and the router of its connections.
 pub record State (M : Type 0) : Type 0 where
   pub manager : ManagerState
   pub router : M
 
 module _ {M : Type 0} (after : M → ℕ → List ℕ → M) (answer : M → ℕ → List ℕ → List ℕ) where
-  -- the state after a call
+  -- The state after a call.
   abbrev pub state_after_call : State M → ManagerCall → State M
   state_after_call state (Opens layout now session bytes) =
       record { manager = (open_turn_in layout state.manager now session bytes).manager; router = state.router }
@@ -41,12 +41,12 @@ module _ {M : Type 0} (after : M → ℕ → List ℕ → M) (answer : M → ℕ
   state_after_call state (Ends session) =
       record { manager = without_session state.manager session; router = state.router }
 
-  -- the state after calls, one after the other
+  -- The state after these calls, one after another.
   abbrev pub state_after : State M → List ManagerCall → State M
   state_after state [] = state
   state_after state (call ∷ calls) = state_after (state_after_call state call) calls
 
-  -- the IDs that the replies to calls of `open` and `open_large` give out, in their order
+  -- The IDs in the replies to calls of `open` and `open_large`, in their order.
   abbrev pub ids_of_call : State M → ManagerCall → List ℕ
   ids_of_call state (Opens layout now session bytes) =
       let reply = (open_turn_in layout state.manager now session bytes).reply in
@@ -60,12 +60,12 @@ module _ {M : Type 0} (after : M → ℕ → List ℕ → M) (answer : M → ℕ
   ids_drawn state [] = []
   ids_drawn state (call ∷ calls) = ids_of_call state call ++ ids_drawn (state_after_call state call) calls
 
--- n, n + 1, n + 2 and so on
+-- n, n + 1, n + 2 and so on.
 abbrev pub CountsFrom : ℕ → List ℕ → Type 0
 CountsFrom n [] = ⊤
 CountsFrom n (id ∷ ids) = (id ≡ n) × CountsFrom (n + 1) ids
 
--- the call comes from another session, or from none
+-- The call comes from another session, or from none.
 abbrev pub IsOfOther : ℕ → ManagerCall → Type 0
 IsOfOther session (Opens layout now other bytes) = other ≢ session
 IsOfOther session (Closes other bytes) = other ≢ session
@@ -73,11 +73,11 @@ IsOfOther session (Receives now other id bytes) = other ≢ session
 IsOfOther session (Expires now) = ⊤
 IsOfOther session (Ends other) = other ≢ session
 
--- the connections that a session opened
+-- The connections of a session.
 abbrev pub of_session : ℕ → List Connection → List Connection
 of_session session connections = filter (is_of_session session) connections
 
--- the connection is still open after the time-outs of a call
+-- The connection is still open after the timeouts of a call.
 abbrev pub is_open_after : Connection → ManagerCall → Bool
 is_open_after connection (Opens layout now session bytes) = true
 is_open_after connection (Closes session bytes) = true
@@ -88,12 +88,12 @@ is_open_after connection (Ends session) = true
 abbrev pub is_open_after_all : List ManagerCall → Connection → Bool
 is_open_after_all calls connection = list_all (is_open_after connection) calls
 
--- the data of a Forward_Close of this session name the connection
+-- A Forward_Close of this session with these data closes the connection.
 abbrev pub is_closed_by : ℕ → Result Close LengthFault → Connection → Bool
 is_closed_by session (Ok request) connection = is_of_session_with session (triad_of request) connection
 is_closed_by session (Err fault) connection = false
 
--- the call is for another session or another connection of it, and no time-out
+-- The call is for another session or another connection of it, and does not time the connection out.
 abbrev pub is_spared : Connection → ManagerCall → Bool
 is_spared connection (Opens layout now session bytes) = true
 is_spared connection (Closes session bytes) = not (is_closed_by session (close_of bytes) connection)
@@ -101,7 +101,7 @@ is_spared connection (Receives now session id bytes) = not (is_named session id 
 is_spared connection (Expires now) = is_open_at now connection
 is_spared connection (Ends session) = not (is_of_session session connection)
 
--- a connection and a later one: they have other IDs, which rise, and other triads
+-- A connection and a later one: the later one has a greater ID, and another triad.
 pub record AreApart (earlier later : Connection) : Type 0 where
   pub ids : earlier.o_to_t_id < later.o_to_t_id
   pub triads : earlier.triad ≢ later.triad

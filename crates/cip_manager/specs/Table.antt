@@ -7,7 +7,7 @@ use Rattle.cip_manager.specs.declared.group.Group.TheVariants.{Overdue, OfSessio
 use Rattle.cip_manager.specs.declared.index.Entry.{Entry}
 use Rattle.cip_manager.specs.Connection.{is_of_session, is_of_session_with, has_triad, is_open_at}
 
--- how many connections can be open, and those that are, in the order in which they were opened
+-- How many connections can be open, and the open ones, in the order of opening.
 pub record TableState : Type 0 where
   pub places : ℕ
   pub connections : List Connection
@@ -15,26 +15,26 @@ pub record TableState : Type 0 where
 abbrev pub no_entry : ℕ → TableState
 no_entry places = record { places = places; connections = [] }
 
--- the connection is one of the group
+-- The connection belongs to the group.
 abbrev pub is_in : Group → Connection → Bool
 is_in (Overdue now) connection = not (is_open_at now connection)
 is_in (OfSession session) connection = is_of_session session connection
 is_in (WithTriad triad) connection = has_triad triad connection
 is_in (OfSessionWith session triad) connection = is_of_session_with session triad connection
 
--- the O->T ID of each connection is below this one
+-- The O->T ID of each connection is below this one.
 abbrev pub AreBelow : ℕ → List Connection → Type 0
 AreBelow id connections = All (λ connection. connection.o_to_t_id < id) connections
 
--- no connection's deadline is before this moment
+-- No deadline is before this moment.
 abbrev pub AreOpenUntil : ℕ → List Connection → Type 0
 AreOpenUntil moment connections = All (λ connection. moment ≤ connection.deadline) connections
 
--- the connections that the slab has at the entries' keys, in the entries' order
+-- The connections that the slab has at the keys of the entries, in the order of the entries.
 abbrev pub listed : Slab Connection → List Entry → List Connection
 listed slab entries = filter_map (λ entry. get slab entry.key) entries
 
--- the slab has a connection at the entry's key, with the entry's ID
+-- The slab has a connection with the entry's ID at the entry's key.
 pub record Names (slab : Slab Connection) (entry : Entry) : Type 0 where
   pub connection : Connection
   pub kept : get slab entry.key ≡ Some connection

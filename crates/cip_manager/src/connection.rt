@@ -1,21 +1,21 @@
 //! One open connection (Volume 1, Connection Manager).
 //!
-//! Where it stands, and what moves it. T is its time in microseconds, and each moment the greatest so far:
+//! Its states and transitions. T is its timeout in microseconds, and `now` is the greatest moment so far:
 //!
 //! ```text
-//!         ┌──────┐  an opening that a check refuses: nothing changes, and no ID is drawn
+//!         ┌──────┐  an opening that is refused: nothing changes, and no ID is used
 //!         │ none │
 //!         └──┬───┘
-//!            │ Forward_Open, Large_Forward_Open: the next ID; the deadline is the moment and the greater of T and 10 s
+//!            │ Forward_Open, Large_Forward_Open: it gets the next ID; the deadline is now + max(T, 10 s)
 //!            ▼
-//!         ┌──────┐◀─┐ an item that is executed or repeated: the deadline is the moment and T
+//!         ┌──────┐◀─┐ an item that is executed or repeated: the deadline is now + T
 //!         │ open │──┘
 //!         └──┬───┘  an item that is dropped, a Forward_Close of another session: nothing changes
 //!            │
-//!            │ Forward_Close of its session; the end of its session; a moment at its deadline or past it
+//!            │ Forward_Close of its session; the end of its session; a moment at or past its deadline
 //!            ▼
 //!         ┌──────┐
-//!         │ over │  its ID never comes again
+//!         │ over │  its ID is never used again
 //!         └──────┘
 //! ```
 //!
@@ -39,7 +39,7 @@ use cip_objects::Router;
 /// The least time from an opening to the deadline, in microseconds.
 const LEAST_FIRST_TIMEOUT: u64 = 10_000_000;
 
-/// The three numbers by which an originator names its connection.
+/// The three numbers by which an originator names a connection.
 #[derive(Clone, Copy, PartialEq, Eq)]
 pub struct Triad {
     pub connection_serial: u16,
@@ -51,7 +51,7 @@ impl Triad {
     ghost use Rattle.cip_manager.specs.Closing.{triad_of};
     ghost use Rattle.cip_message.specs.Close.{view};
 
-    /// The connection that a Forward_Close names.
+    /// The triad in a Forward_Close.
     pub fn of(request: &CloseRequest<'_>) -> Triad
         ensures { result ≡ triad_of (view request.now) }
     {
@@ -63,40 +63,40 @@ impl Triad {
     }
 }
 
-/// What a look at an open connection tells.
+/// An open connection, as `Manager::connection_info` reports it.
 #[derive(Clone, Copy, Debug, Default)]
 pub struct ConnectionInfo {
-    /// The O->T connection ID, 32 bits. It never comes again.
+    /// The O->T connection ID, 32 bits. It is never used again.
     pub id: u32,
     /// The handle of the session that opened it, 32 bits.
     pub session: u32,
-    /// The moment at which it ends if no item comes on it, in microseconds.
+    /// When it ends if no item arrives on it, in microseconds.
     pub deadline: u64,
 }
 
-/// An open connection, as its target has it.
+/// An open connection, at the target.
 #[derive(Drop)]
 pub struct Connection {
     /// The session that opened it.
     pub session: u32,
-    // The ID of items to the target, which was drawn for it. Nothing reads it but `connection_info` and definitions: what is
-    // looked for by an ID is found in the index, which counts each comparison.
+    // The ID of items to the target. Only `connection_info` and definitions read it: a search by ID goes through
+    // the index, which counts each comparison.
     o_to_t_id: u32,
-    /// The ID of items to the originator, which asked for it.
+    /// The ID of items to the originator, which chose it.
     pub t_to_o_id: u32,
     pub triad: Triad,
     /// How long it stays open without an item, in microseconds.
     pub timeout: u64,
-    /// The moment at which it ends, in microseconds.
+    /// When it ends, in microseconds.
     pub deadline: u64,
-    /// Both sizes, and the count and reply that are held.
+    /// The target's end, with both sizes, and the count and reply that it holds.
     pub target: Target,
 }
 
 impl Connection {
     ghost use Rattle.cip_manager.specs.contracts.connection.Connection.{the_row};
 
-    /// The connection that an opening asks for, which holds nothing yet.
+    /// The connection that an opening asks for. Its target holds nothing yet.
     pub fn new(id: u32, now: u64, session: u32, opening: &Opening) -> Connection
         requires { CanBeOpened opening.now }
         ensures { result ≡ new_connection id now session opening.now }
@@ -113,7 +113,7 @@ impl Connection {
         }
     }
 
-    /// What a look at it tells.
+    /// The connection, as callers see it.
     pub fn connection_info(&self) -> ConnectionInfo
         ensures { result ≡ connection_info self.now }
     {
@@ -124,7 +124,7 @@ impl Connection {
         }
     }
 
-    /// The deadline that an item at a moment moves it to.
+    /// The deadline after an item at this moment.
     #[inline(always)]
     pub fn deadline_from(&self, now: u64) -> u64
         ensures { result ≡ moment_after now self.now.timeout }
@@ -132,14 +132,14 @@ impl Connection {
         moment_after(now, self.timeout)
     }
 
-    /// Whether a Forward_Close of a session with this triad means it.
+    /// Whether a Forward_Close of this session with this triad closes it.
     pub fn is_closed_by(&self, session: u32, triad: Triad) -> bool
         ensures { result ≡ is_of_session_with session triad self.now }
     {
         self.session == session && self.triad == triad
     }
 
-    /// Gives an item to the target, at a moment. What is not dropped moves the deadline.
+    /// Passes an item to the target. An item that is not dropped moves the deadline.
     #[inline(always)]
     pub fn receive<R: Router>(&mut self, now: u64, item: &[u8], router: &mut R) -> Received
         ensures { connection_turn result self.new router.new
@@ -152,7 +152,7 @@ impl Connection {
         received
     }
 
-    /// Gives an item to the target, at a moment, and lends what answers it: nothing where it is dropped.
+    /// Passes an item to the target, and lends the answer. `None` if the item is dropped.
     #[inline(always)]
     pub fn serve<R: Router>(
         &mut self,
@@ -171,7 +171,7 @@ impl Connection {
         self.answer_to(received)
     }
 
-    /// What answers an item that the connection received: nothing where it was dropped, else what is kept.
+    /// The answer to an item: the kept reply, or `None` if the item was dropped.
     #[inline(always)]
     pub fn answer_to(&self, received: Received) -> Option<KeptAnswer<'_>>
         ensures reply { option_map reply_in result ≡ (if is_answered received then held_reply self.now else None) }
@@ -189,7 +189,7 @@ impl Connection {
     }
 }
 
-/// How long a connection stays open without an item, in microseconds.
+/// The timeout: O->T RPI x 4 x 2^multiplier, in microseconds.
 fn timeout_of(rpi: u32, multiplier: u8) -> u64
     requires { multiplier ≤ 7 }
     ensures { result ≡ timeout_of rpi multiplier }
@@ -197,7 +197,7 @@ fn timeout_of(rpi: u32, multiplier: u8) -> u64
     u64::from(rpi) * 4 * 2u64.pow(u32::from(multiplier))
 }
 
-/// So long after a moment, at most the greatest moment.
+/// The moment `time` after `now`. A later moment than the greatest becomes the greatest.
 #[inline(always)]
 fn moment_after(now: u64, time: u64) -> u64
     ensures { result ≡ moment_after now time }

@@ -1,24 +1,24 @@
-//! Which of the open connections a call means (Volume 1, Connection Manager).
+//! Which of the open connections a call concerns (Volume 1, Connection Manager).
 ghost use Rattle.std.specs.Prelude.{◌≡◌};
 ghost use Rattle.cip_manager.specs.Table.{is_in};
 
 use crate::connection::{Connection, Triad};
 
-/// Some of the open connections.
+/// A subset of the open connections.
 #[derive(Drop)]
 pub enum Group {
-    /// Those whose deadline is at or before a moment, in microseconds.
+    /// Those whose deadline is at or before this moment, in microseconds.
     Overdue(u64),
-    /// Those that a session opened.
+    /// Those that this session opened.
     OfSession(u32),
-    /// Those with a triad.
+    /// Those with this triad.
     WithTriad(Triad),
-    /// Those that a session opened with a triad.
+    /// Those that this session opened with this triad.
     OfSessionWith(u32, Triad),
 }
 
 impl Group {
-    /// Whether a connection is one of them.
+    /// Whether a connection belongs to the group.
     #[inline(always)]
     pub fn has(&self, connection: &Connection) -> bool
         ensures { result ≡ is_in self.now connection.now }

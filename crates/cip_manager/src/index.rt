@@ -1,4 +1,4 @@
-//! Which connections are open, by their O->T IDs, and where each of them is kept.
+//! The index of the open connections by their O->T IDs. It says where each is kept.
 ghost use Rattle.std.specs.Prelude.{◌≡◌, ◌≤◌, ◌<◌, ◌+◌, ◌^◌, [], ◌∷◌, ◌++◌, length, slice_index};
 ghost use Rattle.std.specs.List.{AllByRecursion, remove};
 ghost use Rattle.std.specs.Ordering.{nat_cmp};
@@ -8,26 +8,26 @@ use arrayvec::ArrayVec;
 use std::cmp::Ordering;
 use std::marker::Model;
 
-/// The most entries that an index has room for.
+/// The most entries of an index.
 const MAX_ENTRIES: usize = 64;
 
-/// How many comparisons with an ID were made.
+/// Counts comparisons with an ID.
 #[derive(Clone, Copy, Debug, Default, PartialEq, Eq)]
 pub struct Steps {
     pub count: u64,
 }
 
-/// The ID of an open connection, and the key under which that connection is kept. A key is no ID: it comes again.
+/// The ID of an open connection, and the key of its slot. A key is not an ID: keys are used again.
 #[derive(Clone, Copy, Default)]
 pub struct Entry {
     id: u32,
     key: usize,
 }
 
-/// An entry for each open connection, by rising ID.
+/// An entry for each open connection, in ascending order of IDs.
 ///
-/// What is looked for by its ID is found by `compare` alone, which tells of one entry and counts that. A walk over
-/// all connections takes their keys, one place after the other, and no ID.
+/// Only `compare` reads an ID: it compares one entry and counts that. A walk over all connections reads their keys,
+/// one position after another, and no ID.
 #[derive(Drop)]
 pub struct Index {
     entries: ArrayVec<Entry, MAX_ENTRIES>,
@@ -66,7 +66,7 @@ impl Index {
         self.entries.len()
     }
 
-    /// How the ID of the entry at a place stands to an ID. This is one step.
+    /// Compares the ID of the entry at this position with an ID. This is one step.
     #[inline(always)]
     pub fn compare(&self, position: usize, id: u32, steps: &mut Steps) -> Ordering
         requires position { position < length self.now }
@@ -78,7 +78,7 @@ impl Index {
         self.entries[position].id.cmp(&id)
     }
 
-    /// The key of the entry at a place.
+    /// The key of the entry at this position.
     #[inline(always)]
     pub fn key(&self, position: usize) -> usize
         requires { position < length self.now }
@@ -88,7 +88,7 @@ impl Index {
         self.entries[position].key
     }
 
-    /// Puts an entry at the end, with an ID above the others.
+    /// Appends an entry. Its ID must be above the others.
     pub fn push(&mut self, id: u32, key: usize)
         requires room { length self.old < 64 }
         requires above { AllByRecursion (λ other. other < id) (ids self.old) }
@@ -97,7 +97,7 @@ impl Index {
         self.entries.push(Entry { id, key });
     }
 
-    /// Takes out the entry at a place, and answers its key. Those behind it close up.
+    /// Removes the entry at this position, and returns its key. Later entries move up.
     pub fn remove(&mut self, position: usize) -> usize
         requires { position < length self.old }
         ensures key { result ≡ slice_index (keys self.old) position }

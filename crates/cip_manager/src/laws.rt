@@ -1,6 +1,6 @@
-//! What follows for every list of calls of the manager, over any router.
+//! What follows for every list of calls of the manager, with any router.
 //!
-//! The functions do nothing: each one's clauses are the law.
+//! The functions do nothing: their clauses are the laws.
 ghost use Rattle.std.specs.Prelude.{◌≡◌, ℕ, ◌≤◌, ◌^◌, true, List, [], Some, filter, find, AllPairs};
 ghost use Rattle.std.specs.List.{list_all, AllByRecursion, Any};
 ghost use Rattle.std.specs.Option.{MatchOption};
@@ -14,16 +14,16 @@ ghost use Rattle.cip_manager.specs.Runs.{is_open_after_all, is_spared, AreApart}
 
 use cip_objects::Router;
 
-/// Calls of other sessions, and time-outs, leave a session exactly those of its connections whose deadline no
-/// moment reached, each with its count, kept reply and deadline.
+/// Calls of other sessions, and timeouts, leave a session exactly those of its connections whose deadline no moment
+/// reached. Each keeps its count, kept reply and deadline.
 pub fn sessions_apart<R: Router>()
     ensures { (session : ℕ) (state : State R) (calls : List ManagerCall) → AllByRecursion (IsOfOther session) calls →
         of_session session (state_after R.after R.answer state calls).manager.connections
         ≡ filter (is_open_after_all calls) (of_session session state.manager.connections) }
 {}
 
-/// Calls for other sessions, and for other IDs and triads of the same session, leave a connection as it is found,
-/// with its count, kept reply and deadline, as long as no moment reaches its deadline.
+/// Calls for other sessions, and for other IDs and triads of the same session, do not change a connection, while no
+/// moment reaches its deadline. It keeps its count, kept reply and deadline, and is still found.
 pub fn connections_apart<R: Router>()
     ensures { (session id : ℕ) (connection : Connection) (state : State R) (calls : List ManagerCall) →
         find (is_named session id) state.manager.connections ≡ Some connection →
@@ -31,22 +31,22 @@ pub fn connections_apart<R: Router>()
         find (is_named session id) (state_after R.after R.answer state calls).manager.connections ≡ Some connection }
 {}
 
-/// The IDs that are given out are the next ID, and so on by one: none comes again.
+/// The IDs of connections count up by one from the next ID. So none is used twice.
 pub fn ids_rise<R: Router>()
     ensures { (state : State R) (calls : List ManagerCall) →
         CountsFrom state.manager.next_id (ids_drawn R.after R.answer state calls) }
 {}
 
-/// Whatever the calls of a manager that had no connection, no two open connections have the same ID, nor the same
-/// triad. They stand in the order of their IDs.
+/// Whatever the calls of a manager that began with no connection, no two open connections have the same ID or the
+/// same triad. They are in the order of their IDs.
 pub fn connections_differ<R: Router>()
     ensures { (places first_id : ℕ) (device : Device) (router : R) (calls : List ManagerCall) →
         AllPairs AreApart (state_after R.after R.answer
         (record { manager = no_connection places first_id device; router = router }) calls).manager.connections }
 {}
 
-/// The earliest deadline is that of a connection, and none of them ends before it. There is none exactly where there is
-/// no connection.
+/// The earliest deadline is that of a connection, and none of them ends before it. It is `None` if and only if
+/// there is no connection.
 pub fn earliest_is_a_deadline()
     ensures { (connections : List Connection) → MatchOption (earliest_deadline connections) (connections ≡ [])
         (λ moment. Any (λ connection. connection.deadline ≡ moment) connections × AreOpenUntil moment connections) }

@@ -1,12 +1,12 @@
-//! The Connection Manager (ODVA CIP Networks Library, Volume 1): connections of transport class 3, opened by
-//! Forward_Open, ended by Forward_Close, by their time-out or with their session, and answered item by item.
+//! The Connection Manager (ODVA CIP Networks Library, Volume 1). It opens class 3 connections by Forward_Open, and
+//! ends them by Forward_Close, on timeout, or with their session. It passes items to them and returns the answers.
 //!
-//! A `Manager` has room for all its connections from `new` on: no later call takes memory. It has no clock and
-//! no sessions of its own: each call is handed the moment, in microseconds, and the handle of the session that
-//! it comes from. `connected` ends nothing by itself; who calls it calls `expire` first, with the same moment. `deadline`
-//! is the next moment at which `expire` ends a connection.
+//! [`Manager`] allocates all connection slots in `new`, and no later call allocates. It has no clock and no
+//! sessions of its own: each call gets the moment, in microseconds, and the handle of the session that it comes
+//! from. `connected` ends no connection, so call `expire` with the same moment first. `deadline` is the next moment
+//! at which `expire` ends a connection.
 //!
-//! Left out: connections of class 0 and 1, null and listen-only opens, multicast, and routes through ports.
+//! Left out are connections of class 0 and 1, null and listen-only opens, multicast, and routes through ports.
 #![tactic(auto)]
 
 mod connection;

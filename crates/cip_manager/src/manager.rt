@@ -27,24 +27,33 @@ use cip_objects::{ReplyBuf, Router};
 use std::alloc::{AllocError, Global};
 use std::marker::Model;
 
-/// The most bytes that a reply to a Forward_Open, a Large_Forward_Open or a Forward_Close has.
+/// The most bytes of a reply to a Forward_Open, a Large_Forward_Open or a Forward_Close.
 pub const LONGEST_REPLY: usize = 30;
 
-/// What answers an item on a connection: the count and the reply that the connection keeps.
+/// The answer to an item: the sequence count and the reply that the connection keeps.
 #[derive(Clone, Copy, Debug)]
 pub struct KeptAnswer<'a> {
     /// The T->O connection ID.
     pub id: u32,
-    /// The sequence count of the request that was executed last.
+    /// The sequence count of the last request that was executed.
     pub sequence_count: u16,
     /// The reply to that request.
     pub reply: &'a [u8],
 }
 
 /// The open connections of a device.
+///
+/// ```
+/// let mut manager = Manager::new(alloc, 8, 1, objects.device())?;
+/// manager.open(now, session, data, &mut reply); // `reply` is the reply to the Forward_Open
+/// manager.expire(now);
+/// if let Some(answer) = manager.connected(now, session, id, item, objects) {
+///     // Send `answer.sequence_count` and `answer.reply` on connection `answer.id`.
+/// }
+/// ```
 #[derive(Drop)]
 pub struct Manager {
-    // Past the greatest ID once that was drawn.
+    // It is past the greatest ID after that was used.
     next_id: u64,
     device: Device,
     table: Table,
@@ -75,7 +84,8 @@ impl Manager {
     ghost use Rattle.cip_objects.specs.Router.{general_status};
     ghost use Rattle.cip_manager.specs.Replies.{SUCCESS};
 
-    /// A manager with no connection, whose first O->T ID is `first_id`. All its memory is taken here.
+    /// A manager with `places` slots and no connection. The first O->T ID is `first_id`. It allocates all its
+    /// memory here.
     pub fn new(
         alloc: Global,
         places: u16,
@@ -94,21 +104,21 @@ impl Manager {
         })
     }
 
-    /// How many places are free.
+    /// How many slots are free.
     pub fn free(&self) -> u16
         ensures { result ≡ self.now.places - length self.now.connections }
     {
         self.table.free()
     }
 
-    /// Forward_Open: opens the connection that the data of a session's request ask for, at a moment, and leaves
-    /// the whole router reply in `reply`.
+    /// Forward_Open: opens the connection that the data of a session's request ask for. Leaves the whole router
+    /// reply in `reply`.
     #[inline(never)]
     pub fn open(&mut self, now: u64, session: u32, data: &[u8], reply: &mut ReplyBuf)
         ensures turn { turn self.new reply.new.items ≡ open_turn self.old now session «data».now }
 
-        // A refused open changes nothing, and draws no ID. Any other draws the next one, and opens one connection
-        // more, behind the others.
+        // A refused open changes nothing, and uses no ID. Any other uses the next ID, and opens one more
+        // connection, after the others.
         ensures refused { general_status reply.new.items ≢ SUCCESS → self.new ≡ self.old }
         ensures opened { general_status reply.new.items ≡ SUCCESS → OpensNext self.old self.new reply.new.items }
         ensures fits { length reply.new.items ≤ LONGEST_REPLY }
@@ -122,13 +132,13 @@ impl Manager {
         }
     }
 
-    /// Large_Forward_Open: the same as `open`, for data with parameters of 32 bits.
+    /// Large_Forward_Open: the same as `open`, for data with 32-bit parameters.
     #[inline(never)]
     pub fn open_large(&mut self, now: u64, session: u32, data: &[u8], reply: &mut ReplyBuf)
         ensures turn { turn self.new reply.new.items ≡ open_large_turn self.old now session «data».now }
 
-        // A refused open changes nothing, and draws no ID. Any other draws the next one, and opens one connection
-        // more, behind the others.
+        // A refused open changes nothing, and uses no ID. Any other uses the next ID, and opens one more
+        // connection, after the others.
         ensures refused { general_status reply.new.items ≢ SUCCESS → self.new ≡ self.old }
         ensures opened { general_status reply.new.items ≡ SUCCESS → OpensNext self.old self.new reply.new.items }
         ensures fits { length reply.new.items ≤ LONGEST_REPLY }
@@ -148,8 +158,8 @@ impl Manager {
         }
     }
 
-    /// Forward_Close: ends the connection that the data of a session's request name, where that session has it,
-    /// and leaves the whole router reply in `reply`.
+    /// Forward_Close: ends the connection that the data of a session's request name, if it belongs to that session.
+    /// Leaves the whole router reply in `reply`.
     #[inline(never)]
     pub fn close(&mut self, session: u32, data: &[u8], reply: &mut ReplyBuf)
         ensures turn { turn self.new reply.new.items ≡ close_turn self.old session «data».now }
@@ -164,10 +174,10 @@ impl Manager {
         }
     }
 
-    /// Gives an item to the connection that a session and an O->T ID name, at a moment, and lends what answers it:
-    /// `None` where the session has no connection with that ID, or where the item is dropped.
+    /// Passes an item to the session's connection with this O->T ID, and lends the answer. `None` if the session
+    /// has no connection with that ID, or if the item is dropped.
     ///
-    /// It ends no connection: `expire` with the same moment comes first.
+    /// It ends no connection: call `expire` with the same moment first.
     #[tactic(auto, using(crate::proofs::ItemLemmas::answered_item))]
     #[inline(always)]
     pub fn connected<R: Router>(
@@ -184,22 +194,23 @@ impl Manager {
                   (item_turn R.after R.answer self.old.connections now session id item.now router.old).connections;
             })
             × IfNone result (last ≡ self.old))) }
-        // An item is answered exactly where the session has a connection with that ID, and the item a size that its
-        // target takes. What is not answered leaves the router as it was, and by `state` each connection too.
+        // An item is answered if and only if the session has a connection with that ID, and the item has a size
+        // that its target accepts. An item that is not answered changes neither the router nor, by `state`, any
+        // connection.
         ensures taken { is_some result ≡ is_taken self.old.connections session id item.now }
         ensures silent { IfNone result (router.new ≡ router.old) }
         ensures answer { option_map reply_in result
             ≡ (item_turn R.after R.answer self.old.connections now session id item.now router.old).reply }
         ensures router { router.new
             ≡ (item_turn R.after R.answer self.old.connections now session id item.now router.old).router }
-        // With its count the reply has no more bytes than the largest size.
+        // The reply with its sequence count fits the largest connection size.
         ensures fits { IfSome result (λ answer. length answer.reply.now + SEQUENCE_COUNT_SIZE ≤ LARGEST_CONNECTION_SIZE) }
     {
         self.table.receive(now, session, id, item, router)
     }
 
-    /// Whether a connection with an O->T ID is open, whichever session opened it. Each comparison of an ID with it adds
-    /// 1 to `steps`: no more than the number of open connections has binary digits, so at most 7.
+    /// Whether a connection with this O->T ID is open, in any session. Each comparison of IDs adds 1 to `steps`.
+    /// There are at most as many as the number of open connections has binary digits, so at most 7.
     pub fn find(&self, id: u32, steps: &mut Steps) -> bool
         requires { steps.old.count ≤ 18446744073709551608 }
         ensures found { result ≡ list_any (has_id id) self.now.connections }
@@ -218,7 +229,7 @@ impl Manager {
         self.table.len()
     }
 
-    /// What a look at the connection at a place tells. Places count from 0, in the order of opening.
+    /// The connection at this position. Positions start at 0 and follow the order of opening.
     pub fn connection_info(&self, position: usize) -> ConnectionInfo
         requires { position < length self.now.connections }
         ensures { (d : OpenConnection) → result ≡ connection_info (slice_index_or self.now.connections position d) }
@@ -226,15 +237,15 @@ impl Manager {
         self.table.connection_info(position)
     }
 
-    /// The earliest moment, in microseconds, at which `expire` ends a connection: the earliest deadline of an open one.
-    /// `None` where no connection is open.
+    /// The next moment at which `expire` ends a connection, in microseconds: the earliest deadline. `None` if no
+    /// connection is open.
     pub fn deadline(&self) -> Option<u64>
         ensures { result ≡ earliest_deadline self.now.connections }
     {
         self.table.deadline()
     }
 
-    /// Ends the connections whose deadline is at or before the moment.
+    /// Ends the connections whose deadline is at or before this moment.
     #[inline(always)]
     pub fn expire(&mut self, now: u64)
         ensures { self.new ≡ without_overdue self.old now }
@@ -242,7 +253,7 @@ impl Manager {
         self.table.expire(now);
     }
 
-    /// Ends the connections that a session opened.
+    /// Ends the connections of a session.
     pub fn end_session(&mut self, session: u32)
         ensures { self.new ≡ without_session self.old session }
     {
@@ -303,7 +314,7 @@ impl Manager {
         self.check_table(opening.triad)
     }
 
-    /// The checks of what is open already.
+    /// The checks against the open connections.
     fn check_table(&self, triad: Triad) -> Result<(), ExtendedStatus>
         ensures check { result ≡ first_failure (table_checks self.now triad) }
         ensures position { OnOk result (length self.now.connections < self.now.places) }

@@ -1,4 +1,4 @@
-//! What a Forward_Open or a Large_Forward_Open asks for, and the checks of it (Volume 1, Connection Manager).
+//! What a Forward_Open or a Large_Forward_Open asks for, and its checks (Volume 1, Connection Manager).
 //! Text: docs/PROTOCOL.md, "Connections: opened, closed, timed out".
 ghost use Rattle.std.specs.Prelude.{◌≡◌, ℕ, OnOk};
 ghost use Rattle.cip_message.specs.Open.{view, large_view, view_by};
@@ -19,14 +19,14 @@ use cip_message::{
 /// The greatest timeout multiplier: 512 times the RPI.
 const GREATEST_TIMEOUT_MULTIPLIER: u8 = 7;
 
-/// What is asked for one direction of a connection.
+/// What an opening asks for in one direction.
 #[derive(Clone, Copy)]
 pub struct Direction {
-    /// The requested packet interval, in microseconds.
+    /// The requested packet interval (RPI), in microseconds.
     pub rpi: u32,
-    /// 2 is point to point.
+    /// The connection type. 2 is point to point.
     pub connection_type: u8,
-    /// The greatest size of an item in bytes, its count included.
+    /// The connection size: the most bytes of an item, including its sequence count.
     pub size: u16,
 }
 
@@ -64,19 +64,19 @@ impl Direction {
     }
 }
 
-/// What an opening asks for, in whichever layout it came.
+/// What an opening asks for, in either layout.
 #[derive(Clone, Copy)]
 pub struct Opening {
     pub t_to_o_id: u32,
     pub triad: Triad,
-    /// The time-out is the O->T RPI times 4 times 2 to this power.
+    /// The timeout is O->T RPI x 4 x 2^multiplier.
     pub timeout_multiplier: u8,
     pub o_to_t: Direction,
     pub t_to_o: Direction,
     /// Whether the target is the server.
     pub is_server: bool,
     pub transport_class: u8,
-    /// The key, if any, and the path; `None` where the bytes are not these.
+    /// The optional key and the path, or `None` if the bytes are anything else.
     pub path: Option<OpenPath>,
 }
 
@@ -99,7 +99,7 @@ impl Opening {
         Opening::with_directions(o_to_t, t_to_o, request)
     }
 
-    /// What a request asks for in either layout, and what for either direction.
+    /// What a request asks for, with these two directions.
     fn with_directions<P>(
         o_to_t: Direction,
         t_to_o: Direction,
@@ -123,7 +123,7 @@ impl Opening {
         }
     }
 
-    /// The checks of the path: it names this device, and its Message Router.
+    /// Checks the path: the key accepts this device, and the path leads to its Message Router.
     pub fn check_path(&self, device: &Device) -> Result<(), ExtendedStatus>
         ensures { result ≡ first_failure (path_checks device.now self.now) }
     {
@@ -139,7 +139,7 @@ impl Opening {
         Ok(())
     }
 
-    /// The checks of what is asked for, whatever is open already.
+    /// Checks the other fields, which do not depend on the open connections.
     pub fn check_fields(&self) -> Result<(), ExtendedStatus>
         ensures check { result ≡ first_failure (field_checks self.now) }
         ensures can_be { OnOk result (CanBeOpened self.now) }
@@ -165,7 +165,7 @@ impl Opening {
     }
 }
 
-/// The extended status by which the device refuses the key, if there is one.
+/// The extended status with which the device refuses the key, if it does.
 fn key_refusal(device: &Device, key: Option<Key>) -> Option<ExtendedStatus>
     ensures { result ≡ key_refusal device.now key }
 {
@@ -175,7 +175,7 @@ fn key_refusal(device: &Device, key: Option<Key>) -> Option<ExtendedStatus>
     }
 }
 
-/// The Message Router, instance 1, with no attribute and no member.
+/// Whether the path leads to the Message Router: instance 1, with no attribute and no member.
 fn is_message_router(path: &Path) -> bool
     ensures { result ≡ is_message_router path.now }
 {

@@ -1,4 +1,5 @@
-//! The router replies to Forward_Open, Large_Forward_Open and Forward_Close, written in place (Volume 1, Connection Manager).
+//! The replies to Forward_Open, Large_Forward_Open and Forward_Close, written in place (Volume 1, Connection
+//! Manager).
 ghost use Rattle.std.specs.Prelude.{◌≡◌, ◌≤◌, ◌<◌, ◌+◌, [], ◌∷◌, ◌++◌, length};
 ghost use Rattle.arrayvec.specs.ArrayVec.{array_vec_len};
 ghost use Rattle.cip_bytes.specs.Protocol.{extended_status_number};
@@ -13,7 +14,7 @@ use cip_bytes::{append, append_u16, append_u32};
 use cip_message::{LengthFault, write_reply};
 use cip_objects::ReplyBuf;
 
-/// Leaves a reply with this status and no data.
+/// Begins a reply with this status and no data.
 fn begin(service: ManagerService, status: GeneralStatus, reply: &mut ReplyBuf)
     ensures text { reply.new.items ≡ reply_of_service service status [] [] }
     ensures len { array_vec_len reply.new ≡ 4 }
@@ -22,7 +23,7 @@ fn begin(service: ManagerService, status: GeneralStatus, reply: &mut ReplyBuf)
     let _ = write_reply(reply, service.number(), status.number(), &[], &[]);
 }
 
-/// Leaves a reply that refuses with this extended status, and has no data yet.
+/// Begins a reply that refuses with this extended status, without its data.
 fn begin_failure(service: ManagerService, extended: ExtendedStatus, reply: &mut ReplyBuf)
     ensures text { reply.new.items
         ≡ reply_of_service service GeneralStatus.ConnectionFailure (extended_status_number extended ∷ []) [] }
@@ -44,7 +45,7 @@ fn append_triad(triad: Triad, reply: &mut ReplyBuf)
     append_u32(reply, triad.originator_serial);
 }
 
-/// The data of the request are too short or too long.
+/// Writes the reply to data that are too short or too long.
 pub fn write_length_fault(service: ManagerService, fault: LengthFault, reply: &mut ReplyBuf)
     ensures { reply.new.items ≡ length_reply service fault }
 {
@@ -55,7 +56,7 @@ pub fn write_length_fault(service: ManagerService, fault: LengthFault, reply: &m
     begin(service, status, reply);
 }
 
-/// The connection is refused with this extended status.
+/// Writes a reply that refuses with this extended status.
 pub fn write_failure(
     service: ManagerService,
     extended: ExtendedStatus,
@@ -69,7 +70,7 @@ pub fn write_failure(
     append(reply, &[0, 0]);
 }
 
-/// The connection was opened with this O->T ID.
+/// Writes the reply to an opening that succeeded with this O->T ID.
 pub fn write_open_success(service: ManagerService, id: u32, opening: &Opening, reply: &mut ReplyBuf)
     ensures { reply.new.items ≡ open_success service id opening.now }
 {
@@ -82,7 +83,7 @@ pub fn write_open_success(service: ManagerService, id: u32, opening: &Opening, r
     append(reply, &[0, 0]);
 }
 
-/// The connection with this triad was closed.
+/// Writes the reply to a Forward_Close that closed the connection with this triad.
 pub fn write_close_success(triad: Triad, reply: &mut ReplyBuf)
     ensures { reply.new.items ≡ close_success triad }
 {

@@ -1,4 +1,4 @@
-//! The search for an ID.
+//! Binary search for an ID.
 ghost use Rattle.std.specs.Prelude.{◌≡◌, ◌≤◌, ◌+◌, ◌==◌, length};
 ghost use Rattle.std.specs.List.{position};
 ghost use Rattle.cip_manager.specs.Index.{ids, binary_digits};
@@ -6,7 +6,8 @@ ghost use Rattle.cip_manager.specs.Index.{ids, binary_digits};
 use crate::index::{Index, Steps};
 use std::cmp::Ordering;
 
-/// The place of the entry with an ID. It takes no more steps than the number of entries has binary digits.
+/// The position of the entry with this ID. It takes at most as many steps as the number of entries has binary
+/// digits.
 #[inline(always)]
 pub fn position_of(index: &Index, id: u32, steps: &mut Steps) -> Option<usize>
     requires { steps.old.count ≤ 18446744073709551608 }

@@ -1,6 +1,6 @@
-//! Where the open connections are kept: places that are all made at once.
+//! The slots of the open connections. They are all allocated at once.
 //!
-//! `Slots` has no call that grows: what it takes after `new` are places that `new` made.
+//! `Slots` has no call that grows: after `new` it uses only slots that `new` allocated.
 ghost use Rattle.std.specs.Prelude.{◌≡◌, ◌≤◌, ◌+◌, [], Some, None, length, IfOk, IfSome};
 ghost use Rattle.std.specs.Option.{option_map};
 ghost use Rattle.std.specs.Borrow.{sem};
@@ -17,7 +17,7 @@ use slab::Slab;
 use std::alloc::{AllocError, Global};
 use std::marker::Model;
 
-/// The open connections, each under a key that comes again once its connection ended.
+/// The open connections, each under a key. A key is used again after its connection ended.
 #[derive(Drop)]
 pub struct Slots {
     kept: Slab<Connection>,
@@ -35,7 +35,7 @@ impl Model for Slots {
 impl Slots {
     ghost use Rattle.cip_manager.specs.contracts.slots.Slots.{the_row};
 
-    /// No connection, and room for so many.
+    /// Allocates this many slots. None is taken.
     pub fn new(alloc: Global, places: u16) -> Result<Slots, AllocError>
         ensures empty { IfOk result (λ slots. slots.slots ≡ []) }
         ensures room { IfOk result (λ slots. places ≤ slots.capacity) }
@@ -45,7 +45,7 @@ impl Slots {
         })
     }
 
-    /// Keeps a connection, and answers its key.
+    /// Stores a connection, and returns its key.
     pub fn insert(&mut self, connection: Connection) -> usize
         requires { HasRoomFor self.old 1 }
         ensures was_vacant { get self.old result ≡ None }
@@ -56,7 +56,7 @@ impl Slots {
         self.kept.insert_reserved(connection)
     }
 
-    /// Ends the connection under a key.
+    /// Ends the connection with this key.
     pub fn remove(&mut self, key: usize)
         requires { ContainsKey self.old key }
         ensures updates { Updates self.old self.new key None }
@@ -66,7 +66,7 @@ impl Slots {
         self.kept.remove(key);
     }
 
-    /// The connection under a key.
+    /// The connection with this key.
     #[inline(always)]
     pub fn at(&self, key: usize) -> &Connection
         requires { ContainsKey self.now key }
@@ -75,7 +75,7 @@ impl Slots {
         &self.kept[key]
     }
 
-    /// Gives an item to the connection under a key, at a moment, and lends what answers it from there.
+    /// Passes an item to the connection with this key, and lends the answer from there.
     #[inline(always)]
     pub fn serve<R: Router>(
         &mut self,

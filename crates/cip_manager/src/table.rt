@@ -28,7 +28,7 @@ use std::marker::Model;
 #[derive(Drop)]
 pub struct Table {
     places: u16,
-    // No open connection's deadline is before this moment.
+    // A lower bound on all deadlines.
     earliest: u64,
     index: Index,
     connections: Slots,
@@ -50,7 +50,7 @@ impl Model for Table {
 impl Table {
     ghost use Rattle.cip_manager.specs.contracts.table.Table.{the_row};
 
-    /// A table with no connection. All its memory is taken here.
+    /// A table with this many slots and no connection. It allocates all its memory here.
     pub fn new(alloc: Global, places: u16) -> Result<Table, AllocError>
         requires from { 1 ≤ places }
         requires to { places ≤ 64 }
@@ -74,14 +74,14 @@ impl Table {
         self.index.len()
     }
 
-    /// How many places are free.
+    /// How many slots are free.
     pub fn free(&self) -> u16
         ensures { result ≡ self.now.places - length self.now.connections }
     {
         self.places - self.len() as u16
     }
 
-    /// Whether a connection of the group is open.
+    /// Whether any connection of the group is open.
     pub fn has_any(&self, group: &Group) -> bool
         ensures { result ≡ list_any (is_in group.now) self.now.connections }
     {
@@ -93,8 +93,8 @@ impl Table {
         false
     }
 
-    /// Whether a connection with an O->T ID is open. It takes no more steps than the number of open connections has
-    /// binary digits.
+    /// Whether a connection with this O->T ID is open. It takes at most as many steps as the number of open
+    /// connections has binary digits.
     pub fn find(&self, id: u32, steps: &mut Steps) -> bool
         requires { steps.old.count ≤ 18446744073709551608 }
         ensures found { result ≡ list_any (has_id id) self.now.connections }
@@ -105,7 +105,7 @@ impl Table {
         position_of(&self.index, id, steps).is_some()
     }
 
-    /// What a look at the connection at a place tells. Places count from 0, in the order of opening.
+    /// The connection at this position. Positions start at 0 and follow the order of opening.
     pub fn connection_info(&self, position: usize) -> ConnectionInfo
         requires { position < length self.now.connections }
         ensures { (d : OpenConnection) → result ≡ connection_info (slice_index_or self.now.connections position d) }
@@ -113,7 +113,7 @@ impl Table {
         self.at(position).connection_info()
     }
 
-    /// Opens a connection behind the others. Its ID is above theirs.
+    /// Opens a connection, after the others. Its ID must be above theirs.
     pub fn push(&mut self, id: u32, connection: Connection)
         requires position { length self.old.connections < self.old.places }
         requires id { id ≡ connection.o_to_t_id }
@@ -141,7 +141,7 @@ impl Table {
         }
     }
 
-    /// Ends the connections whose deadline is at or before a moment. Before `earliest` it looks at none of them.
+    /// Ends the connections whose deadline is at or before this moment. Before `earliest` it reads none of them.
     #[inline(always)]
     pub fn expire(&mut self, now: u64)
         ensures ended { self.new
@@ -154,7 +154,7 @@ impl Table {
         self.end_overdue(now);
     }
 
-    /// The earliest of the deadlines, in microseconds: `None` where no connection is open.
+    /// The earliest deadline, in microseconds. `None` if no connection is open.
     pub fn deadline(&self) -> Option<u64>
         ensures { result ≡ earliest_deadline self.now.connections }
     {
@@ -165,8 +165,7 @@ impl Table {
         earliest
     }
 
-    /// Gives an item to the connection that a session and an O->T ID name, at a moment, and lends what answers it, from
-    /// that connection.
+    /// Passes an item to the session's connection with this O->T ID, and lends the answer from there.
     #[inline(always)]
     pub fn receive<R: Router>(
         &mut self,
@@ -201,7 +200,7 @@ impl Table {
         self.connections.serve(key, now, item, router)
     }
 
-    /// The connection at a place.
+    /// The connection at this position.
     #[inline(always)]
     fn at(&self, position: usize) -> &Connection
         requires { position < length self.now.connections }
@@ -210,7 +209,8 @@ impl Table {
         self.connections.at(self.index.key(position))
     }
 
-    /// Ends the connections whose deadline is at or before a moment, and finds the earliest deadline of the others.
+    /// Ends the connections whose deadline is at or before this moment, and finds the earliest deadline of the
+    /// others.
     #[inline(never)]
     fn end_overdue(&mut self, now: u64)
         ensures ended { self.new
@@ -221,7 +221,7 @@ impl Table {
         self.earliest = self.deadline().unwrap_or(u64::MAX);
     }
 
-    /// Ends the connection at a place.
+    /// Ends the connection at this position.
     fn remove(&mut self, position: usize)
         requires { position < length self.old.connections }
         ensures { self.new ≡ record self.old { connections = remove self.old.connections position } }
@@ -231,7 +231,7 @@ impl Table {
     }
 }
 
-/// The earlier of a deadline and another one, if there is another.
+/// The earlier of a deadline and an optional other one.
 fn earlier(deadline: u64, other: Option<u64>) -> u64
     ensures { result ≡ min deadline (unwrap_or other deadline) }
 {

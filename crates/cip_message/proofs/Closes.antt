@@ -24,12 +24,12 @@ made priority_and_tick_time timeout_ticks serial vendor originator path = record
 same_close : (c : Close) (p t a b d : ℕ) (q : List ℕ) → p ≡ c.priority_and_tick_time → t ≡ c.timeout_ticks → a ≡ c.connection_serial → b ≡ c.originator_vendor → d ≡ c.originator_serial → q ≡ c.path → made p t a b d q ≡ c
 same_close c p t a b d q ep et ea eb ed eq = rw (ep, et, ea, eb, ed, eq) refl
 
--- ---- what is read is spelled so
+-- ---- what is read is a spelling
 
 half_of : (n k : ℕ) → k ≡ 2 * n → (k / 2 ≡ n) × (k % 2 ≡ 0)
 half_of n k e = (omega arith, omega arith)
 
--- the spelling with any number in place of the path's
+-- the spelling with any number as the path size
 abbrev close_by : ℕ → ℕ → Close → List ℕ
 close_by words reserved c =
     c.priority_and_tick_time ∷ c.timeout_ticks ∷ [] ++ le 2 c.connection_serial ++ le 2 c.originator_vendor ++ le 4 c.originator_serial ++ words ∷ reserved ∷ [] ++ c.path
@@ -139,7 +139,7 @@ long_iff b = (
   (λ h. let low : ltb (length b) (expected_length b) ≡ false = le-ltb _ _ (omega arith) in rw (low, lt-ltb (expected_length b) (length b) h) refl),
 )
 
--- ---- of what a reader returned
+-- ---- what a reader returned
 
 pub reads_close : (b : List ℕ) (r : Result CloseRequest LengthFault) → AreBytes b → Gives view r (close_of b) → (c : Close) → Gives view r (Ok c) ↔ SpellsClose c b
 reads_close b r fits e c = iff_then (gives_iff view r (close_of b) (Ok c) e) (close_taken b c fits, close_again b c)

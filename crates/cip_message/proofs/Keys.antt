@@ -1,4 +1,4 @@
--- A key that is read is the one spelled, what is spelled is read, and a device's answer by its tests.
+-- A key that is read is the one spelled, and what is spelled is read. A device's answer to a key follows its tests.
 use Rattle.std.proofs.Common.{◌≡◌, ◌⊎◌, ◌↔◌, ℕ, ◌+◌, ◌*◌, ◌-◌, ◌^◌, ◌<◌, ◌≤◌, Bool, true, false, cond, ltb, leb, eqb, List, [], ◌∷◌, ◌++◌, length, slice_index, Option, Some, None, refl, sym, ap, subst, ◌∙◌, arith, inl, inr}
 use Rattle.std.specs.Prelude.{◌&&◌, ◌||◌, IsTrue, IsNone}
 use Rattle.std.proofs.lemmas.Bool.{le-ltb, lt-ltb, eqb-true, cases_lt}
@@ -31,7 +31,7 @@ both_true : (a b : Bool) → (a && b) ≡ true → (a ≡ true) × (b ≡ true)
 both_true true b e = (refl, e)
 both_true false b e = absurd cc
 
--- a revision's byte, apart and together
+-- the byte of a revision, split and joined
 revision_fits : (h : ℕ) → h < 256 → cond (ltb h 128) h (h - 128) < 2 ^ 7
 revision_fits h lt =
     elim (cases_lt h 128) [

@@ -1,4 +1,4 @@
--- The key and the path of an open request: what is read is spelled so, and what is spelled so is read.
+-- The key and the path of an open request: one is read if and only if the bytes spell it.
 use Rattle.std.proofs.Common.{◌≡◌, ◌↔◌, ℕ, Bool, true, false, cond, eqb, ltb, length, arith, List, [], ◌∷◌, ◌++◌, slice_index, take, drop, Option, Some, None, Result, Ok, Err, refl, sym, ap, subst, ◌∙◌, inl, inr}
 use Rattle.std.specs.Prelude.{IfSome}
 use Rattle.std.proofs.lemmas.Bool.{eqb-true, le-ltb}

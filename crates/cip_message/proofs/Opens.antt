@@ -37,7 +37,7 @@ pub same_open : (o : Open) (p t a b c d e m f g h i j : ℕ) (q : List ℕ) → 
 same_open o p t a b c d e m f g h i j q ep et ea eb ec ed ee em ef eg eh ei ej eq =
     rw (ep, et, ea, eb, ec, ed, ee, em, ef, eg, eh, ei, ej, eq) refl
 
--- ---- what is read is spelled so
+-- ---- what is read is a spelling
 
 half_of : (n k : ℕ) → k ≡ 2 * n → (k / 2 ≡ n) × (k % 2 ≡ 0)
 half_of n k e = (omega arith, omega arith)
@@ -58,16 +58,16 @@ at_parameters : (layout : Layout) (k : ℕ) (b : List ℕ) → AreBytes b → k 
 at_parameters small k b fits h = at2 k b fits h
 at_parameters large k b fits h = at4 k b fits h
 
--- the same place, written in another way
+-- the same offset, written in another way
 until : {b text : List ℕ} (whole : List ℕ) (k m : ℕ) → k ≡ m → Parts b text (drop k whole) → Parts b text (drop m whole)
 until {b} {text} whole k m e p = subst (λ (i : ℕ). Parts b text (drop i whole)) e p
 
--- the fields behind, with any number in place of the path's
+-- the second half of the fields, with any number as the path size
 abbrev back_by : Layout → ℕ → ℕ → Open → List ℕ
 back_by layout words reserved o =
     o.timeout_multiplier ∷ [] ++ le 3 reserved ++ le 4 o.o_to_t_rpi ++ le (width layout) o.o_to_t_parameters ++ le 4 o.t_to_o_rpi ++ le (width layout) o.t_to_o_parameters ++ o.transport ∷ words ∷ []
 
--- the byte before the path, which counts its words
+-- the byte before the path: its size in words
 abbrev words_at : Layout → List ℕ → ℕ
 words_at layout b = slice_index b (31 + 2 * width layout)
 
@@ -209,7 +209,7 @@ long_iff layout b =
       (λ h. let low : ltb (length b) expected ≡ false = le-ltb _ _ (omega arith) in rw (low, lt-ltb expected (length b) h) refl),
     )
 
--- ---- of what a reader returned
+-- ---- what a reader returned
 
 module _ {P : Type 0} (view : OpenRequest P → Open) (layout : Layout) (b : List ℕ) (r : Result (OpenRequest P) LengthFault) where
   pub reads_open : AreBytes b → Gives view r (open_of_in layout b) → (o : Open) → Gives view r (Ok o) ↔ SpellsIn layout o b
@@ -223,7 +223,7 @@ module _ {P : Type 0} (view : OpenRequest P → Open) (layout : Layout) (b : Lis
 
 -- ---- one open request at the front
 
--- the byte before the path stands in the spelling itself
+-- the byte before the path is part of the spelling itself
 counted_within : (layout : Layout) (o : Open) (b : List ℕ) → SpellsIn layout o b → 31 + 2 * width layout < length b
 counted_within layout o b h = let len = ap length h.spelled ∙ spelled_length layout h.reserved o in omega arith
 

@@ -1,4 +1,4 @@
--- Where reading stopped there is a fault, and both laws of a path.
+-- Where reading stops there is a fault. Both laws of a path follow.
 use Rattle.std.proofs.Common.{◌≡◌, ◌≢◌, ◌⊎◌, ◌↔◌, ℕ, List, [], ◌∷◌, ◌++◌, Option, Some, None, Result, Ok, Err, refl, sym, ap, subst, ◌∙◌, append_assoc, inl, inr}
 use Rattle.std.proofs.lemmas.List.{append-nil}
 use Rattle.cip_message.specs.declared.path.Segment.{Segment}
@@ -88,7 +88,7 @@ whole_broken p (x ∷ xs) k e =
       | inr a ↦ inr (a.0.0, a.0.1, a.1, sym (err_is {A = Path} fault.Order k a.2))
     ]
 
--- reading stopped at r, behind text that spells gs
+-- reading stopped at r, after bytes that spell gs
 record Stopped (k : PathFault) (gs : List Segment) (b : List ℕ) : Type 0 where
   after : List Segment
   text : List ℕ
@@ -183,7 +183,7 @@ path_faulty k b fits e =
               after_instance c i.0.0 tc.text ti.text r i.0.1 tc.spelled ti.spelled tc.joined ti.joined (tail_stopped c i.0.0 i.0.1 k fits_i i.2)
         ]
 
--- ---- both laws, of what a reader returned
+-- ---- both laws, for what a reader returned
 
 pub path_iff : (b : List ℕ) (read : Result Path PathFault) → AreBytes b → read ≡ path_of b → (p : Path) → (read ≡ Ok p) ↔ IsPath p b
 path_iff b read fits e p = ((λ q. path_spelled b p fits (sym e ∙ q)), (λ h. e ∙ path_again b p h))

@@ -1,4 +1,5 @@
--- A path that is read is the one spelled, what is spelled is read, and each fault comes where it is stated.
+-- A path that is read is the one spelled, what is spelled is read, and each fault is reported exactly where it is
+-- defined.
 use Rattle.std.proofs.Common.{◌≡◌, ◌≢◌, ℕ, List, [], ◌∷◌, ◌++◌, Option, Some, None, Result, Ok, Err, refl, sym, ap, subst, ◌∙◌, append_assoc, inl, inr}
 use Rattle.std.proofs.lemmas.List.{append-nil}
 use Rattle.cip_message.specs.declared.path.Segment.{Segment}
@@ -16,7 +17,7 @@ use Rattle.cip_message.proofs.Segments.{SegmentFault, segment_taken, segment_aga
 
 -- ---- where reading stops
 
--- why reading stops at b, behind the segments gs, told by the segment at its front
+-- why reading stops at b, after the segments gs, by the segment at its front
 pub data Stop (k : PathFault) (gs : List Segment) (b : List ℕ) : Type 0 where
   broken : b ≢ [] → segment_of b ≡ Err k → Stop k gs b
   misplaced : (g : Segment) (r : List ℕ) → segment_of b ≡ Ok (g, r) → (Begins (gs ++ g ∷ []) → ⊥) → k ≡ fault.Order → Stop k gs b
@@ -98,7 +99,7 @@ instance_err : (b : List ℕ) (k : PathFault) → segment_of b ≡ Err k → ins
 unfolding instance_of
 instance_err b k e = ap (λ (x : Result (Segment × List ℕ) PathFault). x >>= λ g. as_instance g.0 g.1) e
 
--- a segment in the place of a class or an instance
+-- a segment where a class or an instance is required
 as_class_wrong : (g : Segment) (r : List ℕ) → (Begins ([] ++ g ∷ []) → ⊥) → as_class g r ≡ Err fault.Order
 as_class_wrong (Class v) r no_ = absurd (no_ (record { class = v; instance = 0; attribute = None; member = None }, Instance 0 ∷ [], refl))
 as_class_wrong (Instance v) r no_ = refl
@@ -195,7 +196,7 @@ whole_at_end : (p : Path) → whole_of p [] ≡ Ok p
 unfolding whole_of
 whole_at_end p = refl
 
--- what a reader of an optional segment found at b: the end, one of its kind, or another
+-- what a reader of an optional segment found at b: the end, a segment of its type, or another one
 pub data Reads (kind : ℕ → Segment) (b : List ℕ) : Option ℕ → List ℕ → Type 0 where
   nothing : b ≡ [] → Reads kind b None []
   one : (v : ℕ) (r : List ℕ) → segment_of b ≡ Ok (kind v, r) → Reads kind b (Some v) r
@@ -315,7 +316,7 @@ tail_from c i b a r e = ap (λ (y : Result (Option ℕ × List ℕ) PathFault). 
 member_from : (c i : ℕ) (a : Option ℕ) (b : List ℕ) (m : Option ℕ) (r : List ℕ) → member_of b ≡ Ok (m, r) → after_attribute c i a b ≡ whole_of (made c i a m) r
 member_from c i a b m r e = ap (λ (y : Result (Option ℕ × List ℕ) PathFault). y >>= λ m. whole_of (made c i a m.0) m.1) e
 
--- behind spellings of an attribute and a member the tail reads on as at r
+-- after spellings of an attribute and a member the tail reads as at r
 tail_again : (c i : ℕ) (a m : Option ℕ) (t r : List ℕ) (read : Result Path PathFault) → AreSegments (optional Attribute a ++ optional Member m) t
     → whole_of (made c i a m) r ≡ read → (m ≡ None → after_attribute c i a r ≡ read) → (a ≡ None → m ≡ None → tail_of c i r ≡ read)
     → tail_of c i (t ++ r) ≡ read
@@ -339,7 +340,7 @@ tail_again c i (Some a) (Some m) t r read h whole_ member_ tail_ =
     let second = segment_again (Member m) z r q.2 in
     ap (tail_of c i) text ∙ tail_from c i (s ++ (z ++ r)) (Some a) (z ++ r) (attribute_at (s ++ (z ++ r)) (Attribute a) (z ++ r) first) ∙ member_from c i (Some a) (z ++ r) (Some m) r (member_at (z ++ r) (Member m) r second) ∙ whole_
 
--- behind a class and an instance the tail is read
+-- after a class and an instance the tail is read
 front_again : (c i : ℕ) (s z r : List ℕ) → IsSegment (Class c) s → IsSegment (Instance i) z → path_of (s ++ (z ++ r)) ≡ tail_of c i r
 unfolding path_of
 front_again c i s z r h g =
@@ -370,7 +371,7 @@ path_again b p h =
     (λ e. at_end p.class p.instance p.attribute ∙ ap (λ (m : Option ℕ). Ok (made p.class p.instance p.attribute m)) (sym e))
     (λ d e. tail_from p.class p.instance [] None [] attribute_at_end ∙ at_end p.class p.instance None ∙ rw (d, e) refl)
 
--- ---- a fault is met where it stands
+-- ---- a fault is reported where it occurs
 
 whole_stop : (p : Path) (k : PathFault) (b : List ℕ) → Stop k (segments p) b → whole_of p b ≡ Err k
 whole_stop p k b (broken some e) = whole_err p b k some e

@@ -59,7 +59,7 @@ words_again (w ∷ ws) fits =
 
 -- ---- reading
 
--- the two tests behind the four bytes
+-- the two tests after the four bytes
 abbrev tested : ℕ → ℕ → List ℕ → Reply → Result Reply ReplyFault
 tested service words rest a = cond (ltb service 128) (Err NotReply) (cond (ltb (length rest) (2 * words)) (Err Extra) (Ok a))
 
@@ -154,7 +154,7 @@ extra_iff (s ∷ r ∷ t ∷ n ∷ rest) = (
     past false true a e = (refl, refl)
     past false false a e = absurd cc
 
--- ---- of what a reader returned
+-- ---- what a reader returned
 
 pub reads_reply : (b : List ℕ) (r : Result ReplyView ReplyFault) → AreBytes b → Gives view r (reply_of b) → (a : Reply) → Gives view r (Ok a) ↔ SpellsReply a b
 reads_reply b r fits e a = iff_then (gives_iff view r (reply_of b) (Ok a) e) (reply_iff b a fits)
@@ -186,6 +186,6 @@ no_word (x ∷ []) i le_ = refl
 no_word (x ∷ y ∷ rest) zero le_ = absurd (omega arith)
 no_word (x ∷ y ∷ rest) (suc i) le_ = no_word rest i (omega arith)
 
--- a front of whole words
+-- a prefix of whole words
 pub even_front : (n : ℕ) (rest : List ℕ) → 2 * n ≤ length rest → length (take (2 * n) rest) % 2 ≡ 0
 even_front n rest h = omega (arith, length-take (2 * n) rest)

@@ -57,7 +57,7 @@ path_size_iff (s ∷ n ∷ rest) = (
   (λ h. let lt : length rest < 2 * n = omega (arith, h.1) in rw (lt-ltb _ _ lt) refl),
 )
 
--- ---- of what a reader returned
+-- ---- what a reader returned
 
 pub reads_request : (b : List ℕ) (r : Result RequestView RequestFault) → AreBytes b → Gives view r (request_of b) → (q : Request) → Gives view r (Ok q) ↔ (IsRequest q × (b ≡ request q))
 reads_request b r fits e q = iff_then (gives_iff view r (request_of b) (Ok q) e) (request_iff b q fits)

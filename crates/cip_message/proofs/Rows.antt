@@ -1,11 +1,11 @@
--- Worked rows, which compute.
+-- Worked examples, proved by computation.
 use Rattle.std.proofs.Common.{◌≡◌, [], ◌∷◌, None, Ok, Err, refl}
 use Rattle.cip_message.specs.declared.path.PathFault.TheVariants as fault
 use Rattle.cip_message.specs.PathReading.{segment_of, class_of, instance_of, attribute_of, member_of, whole_of, path_of}
 use Rattle.cip_message.specs.PathWriting.{short}
 use Rattle.cip_message.specs.Open.{large_open_of, large_connection_type, large_size_of}
 
--- a class in 16 bits behind a pad byte, an instance in 8
+-- a class in 16 bits after a pad byte, an instance in 8 bits
 wide_class : path_of (0x21 ∷ 0x77 ∷ 0xff ∷ 0 ∷ 0x24 ∷ 1 ∷ []) ≡ Ok (record { class = 255; instance = 1; attribute = None; member = None })
 unfolding segment_of class_of instance_of attribute_of member_of whole_of path_of
 wide_class = refl

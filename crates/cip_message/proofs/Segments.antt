@@ -29,13 +29,13 @@ guard_err : {A : Type 0} (b : Bool) (x : A) (k : PathFault) → guarded b x ≡ 
 guard_err true x k e = (refl, cc)
 guard_err false x k e = absurd cc
 
--- a text that is cut within n bytes
+-- bytes that are cut within n bytes
 is_short : (n : ℕ) (r more t : List ℕ) → r ++ more ≡ t → length t ≡ n → more ≢ [] → length r < n
 is_short n r [] t e len ne = absurd (ne refl)
 is_short n r (m ∷ more) t e len ne =
     omega (arith, ap length e, length-append r (m ∷ more))
 
--- what was read is spelled at the front
+-- what was read is spelled at the front of the bytes
 pub record Found (Spelled : ℕ → List ℕ → Type 0) (b : List ℕ) (v : ℕ) (r : List ℕ) : Type 0 where
   pub text : List ℕ
   pub spelled : Spelled v text
@@ -98,7 +98,7 @@ again32 x v s r h =
     let number = le4_again v h.fits r in
     ap (λ (t : List ℕ). value32_of (t ++ r)) h.spelled ∙ rw (long, number) refl
 
--- what is too short is a proper front of a value
+-- what is too short is a proper prefix of a value
 pub record Part (Spelled : ℕ → List ℕ → Type 0) (b : List ℕ) : Type 0 where
   pub value : ℕ
   pub more : List ℕ
@@ -127,7 +127,7 @@ part32 x (p ∷ a ∷ b ∷ c ∷ []) fits lt =
     record { value = a + 256 * (b + 256 * (c + 256 * 0)); more = 0 ∷ []; proper = λ e. absurd cc; spelled = record { fits = omega (arith, fits 2, fits 3, fits 4); pad = p; pad_fits = fits 1; spelled = ap (λ (t : List ℕ). x ∷ p ∷ t) (sym (le4_back a b c 0 (fits 2) (fits 3) (fits 4) (omega arith))) } }
 part32 x (p ∷ a ∷ b ∷ c ∷ d ∷ ys) fits lt = absurd (omega arith)
 
--- a proper front of a value is cut
+-- a proper prefix of a value is cut
 pub record IsCut (x : ℕ) (read : List ℕ → Result (ℕ × List ℕ) PathFault) (r : List ℕ) : Type 0 where
   pub tail : List ℕ
   pub begins : r ≡ x ∷ tail
@@ -159,7 +159,7 @@ cut32 x v (y ∷ ys) more ne some h =
 
 -- ---- a segment
 
--- which row of the table the first byte picks
+-- which row of the table the first byte selects
 data Row (x : ℕ) (b : List ℕ) (read : Result (Segment × List ℕ) PathFault) : Type 0 where
   row8 : (kind : ℕ → Segment) → ((v : ℕ) (s : List ℕ) → In8 x v s → IsSegment (kind v) s) → IsFirstByte x → read ≡ with_kind kind (value8_of b) → Row x b read
   row16 : (kind : ℕ → Segment) → ((v : ℕ) (s : List ℕ) → In16 x v s → IsSegment (kind v) s) → IsFirstByte x → read ≡ with_kind kind (value16_of b) → Row x b read
@@ -295,7 +295,7 @@ segment_again (Attribute v) s r (inr h) = again_from16 0x31 v s r Attribute (λ 
 
 -- ---- the faults of a segment
 
--- what a segment's reader found wrong with bytes that aren't empty
+-- the fault that a segment's reader found in bytes that are not empty
 abbrev pub SegmentFault : PathFault → List ℕ → Type 0
 SegmentFault fault.Segment b = BeginsNoSegment b
 SegmentFault fault.Cut b = IsFront b

@@ -6,7 +6,7 @@ use Rattle.cip_message.specs.declared.close.CloseRequest.{CloseRequest}
 use Rattle.cip_message.specs.declared.open.LengthFault.{LengthFault}
 use Rattle.cip_message.specs.declared.open.LengthFault.TheVariants.{Short, Long}
 
--- a close request, apart from where its path lies in memory
+-- A close request, without where its path lies in memory.
 pub record Close : Type 0 where
   pub priority_and_tick_time : ℕ
   pub timeout_ticks : ℕ
@@ -15,7 +15,7 @@ pub record Close : Type 0 where
   pub originator_serial : ℕ
   pub path : List ℕ
 
--- what has a spelling: each number is within its field, and the path is of whole words, at most 255
+-- The close requests that have a spelling: each number fits its field, and the path is whole words, at most 255.
 pub record IsClose (c : Close) : Type 0 where
   pub priority_and_tick_time : c.priority_and_tick_time < 2 ^ 8
   pub timeout_ticks : c.timeout_ticks < 2 ^ 8
@@ -26,25 +26,25 @@ pub record IsClose (c : Close) : Type 0 where
   pub counted : length c.path ≤ 510
   pub path : AreBytes c.path
 
--- its spellings, one for each value of the reserved byte: priority and tick time, timeout ticks, the three numbers that
--- name the connection, path size in words, reserved, path
+-- The spellings of a close request, one for each value of the reserved byte: priority and tick time, timeout ticks,
+-- connection serial, originator vendor, originator serial, path size in words, reserved byte, path.
 abbrev pub close_with : ℕ → Close → List ℕ
 close_with reserved c =
     c.priority_and_tick_time ∷ c.timeout_ticks ∷ [] ++ le 2 c.connection_serial ++ le 2 c.originator_vendor
     ++ le 4 c.originator_serial
     ++ (length c.path / 2) ∷ reserved ∷ [] ++ c.path
 
--- b is a spelling of the close request c
+-- b is a spelling of the close request c.
 pub record SpellsClose (c : Close) (b : List ℕ) : Type 0 where
   pub reserved : ℕ
   pub is_close : IsClose c
   pub spelled : b ≡ close_with reserved c
 
--- the spelling that is written, with 0 in the reserved byte
+-- The spelling that is written: its reserved byte is 0.
 abbrev pub close : Close → List ℕ
 close c = close_with 0 c
 
--- what a close request of the code shows
+-- A close request of the code, as one of the specification.
 abbrev pub view : CloseRequest → Close
 view v = record {
   priority_and_tick_time = v.priority_and_tick_time;
@@ -55,11 +55,12 @@ view v = record {
   path = v.path.now;
 }
 
--- how long a text says it is: 12 bytes, and the path that byte 10 counts in words (0 where it ends before)
+-- The length that the bytes should have: 12, and the path, whose size in words is byte 10 (0 if the bytes end
+-- before it).
 abbrev pub expected_length : List ℕ → ℕ
 expected_length b = 12 + 2 * slice_index b 10
 
--- the fields at their places
+-- The fields, each at its offset.
 unfoldable pub close_fields : List ℕ → Close
 close_fields b = record {
   priority_and_tick_time = slice_index b 0;
@@ -70,7 +71,7 @@ close_fields b = record {
   path = drop 12 b;
 }
 
--- reading a close request
+-- Reads a close request.
 unfoldable pub close_of : List ℕ → Result Close LengthFault
 close_of b =
     if nat_lt (length b) (expected_length b) then Err Short

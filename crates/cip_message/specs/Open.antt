@@ -1,7 +1,7 @@
 -- The data of a Forward_Open and of a Large_Forward_Open request (Volume 1, Connection Manager).
 --
--- The two layouts differ in how many bytes the parameters of a direction have, and so in where the fields behind
--- them stand. What is said of a layout by name is said of it by one definition over both.
+-- The two layouts differ in the size of the parameters of a direction, and so in the offsets of the fields after
+-- them. Each definition is written once, over the layout, and then named for each layout.
 use Rattle.std.specs.Prelude.{◌≡◌, ℕ, ◌+◌, ◌*◌, ◌/◌, ◌%◌, ◌<◌, ◌≤◌, ◌^◌, Bool, List, [], ◌∷◌, ◌++◌, length, slice_index}
 use Rattle.std.specs.Prelude.{drop, Result, Ok, Err, nat_lt, nat_le, if◌then◌else◌}
 use Rattle.cip_bytes.specs.Numbers.{le, AreBytes, number_at}
@@ -11,21 +11,21 @@ use Rattle.cip_message.specs.declared.parameters.LargeParameters.{LargeParameter
 use Rattle.cip_message.specs.declared.open.LengthFault.{LengthFault}
 use Rattle.cip_message.specs.declared.open.LengthFault.TheVariants.{Short, Long}
 
--- the layout of a Forward_Open, and that of a Large_Forward_Open
+-- The layouts of a Forward_Open and of a Large_Forward_Open.
 pub data Layout : Type 0 where
   small : Layout
   large : Layout
 
--- how many bytes the parameters of a direction have
+-- The size of the parameters of a direction, in bytes.
 abbrev pub width : Layout → ℕ
 width small = 2
 width large = 4
 
--- how many bytes stand before the path: 36, and in the large layout 40
+-- How many bytes come before the path: 36, in the large layout 40.
 abbrev pub before_path : Layout → ℕ
 before_path layout = 32 + 2 * width layout
 
--- an open request, apart from its layout and from where its path lies in memory
+-- An open request, without its layout and where its path lies in memory.
 pub record Open : Type 0 where
   pub priority_and_tick_time : ℕ
   pub timeout_ticks : ℕ
@@ -42,7 +42,7 @@ pub record Open : Type 0 where
   pub transport : ℕ
   pub path : List ℕ
 
--- each number is within its field, in the first half
+-- Each number in the first half fits its field.
 pub record FrontFits (o : Open) : Type 0 where
   pub priority_and_tick_time : o.priority_and_tick_time < 2 ^ 8
   pub timeout_ticks : o.timeout_ticks < 2 ^ 8
@@ -52,7 +52,7 @@ pub record FrontFits (o : Open) : Type 0 where
   pub originator_vendor : o.originator_vendor < 2 ^ 16
   pub originator_serial : o.originator_serial < 2 ^ 32
 
--- and in the second
+-- Each number in the second half fits its field.
 pub record BackFitsIn (layout : Layout) (o : Open) : Type 0 where
   pub timeout_multiplier : o.timeout_multiplier < 2 ^ 8
   pub o_to_t_rpi : o.o_to_t_rpi < 2 ^ 32
@@ -61,7 +61,7 @@ pub record BackFitsIn (layout : Layout) (o : Open) : Type 0 where
   pub t_to_o_parameters : o.t_to_o_parameters < 2 ^ (8 * width layout)
   pub transport : o.transport < 2 ^ 8
 
--- what has a spelling: the numbers fit, and the path is of whole words, at most 255
+-- The open requests that have a spelling: the numbers fit, and the path is whole words, at most 255.
 pub record IsOpenIn (layout : Layout) (o : Open) : Type 0 where
   pub front : FrontFits o
   pub back : BackFitsIn layout o
@@ -69,40 +69,40 @@ pub record IsOpenIn (layout : Layout) (o : Open) : Type 0 where
   pub counted : length o.path ≤ 510
   pub path : AreBytes o.path
 
--- the fields up to the three numbers that name the connection
+-- The fields up to connection serial, originator vendor and originator serial, which name the connection.
 abbrev pub front : Open → List ℕ
 front o =
     o.priority_and_tick_time ∷ o.timeout_ticks ∷ [] ++ le 4 o.o_to_t_id ++ le 4 o.t_to_o_id
     ++ le 2 o.connection_serial ++ le 2 o.originator_vendor ++ le 4 o.originator_serial
 
--- the fields from the timeout multiplier on, with the three reserved bytes behind it
+-- The fields from the timeout multiplier on. Three reserved bytes follow the multiplier.
 abbrev pub back_in : Layout → ℕ → Open → List ℕ
 back_in layout reserved o =
     o.timeout_multiplier ∷ [] ++ le 3 reserved ++ le 4 o.o_to_t_rpi ++ le (width layout) o.o_to_t_parameters
     ++ le 4 o.t_to_o_rpi ++ le (width layout) o.t_to_o_parameters
     ++ o.transport ∷ (length o.path / 2) ∷ []
 
--- its spellings, one for each value of the reserved bytes: the fields, and then the path
+-- The spellings of an open request, one for each value of the reserved bytes: the fields, then the path.
 abbrev pub open_with_in : Layout → ℕ → Open → List ℕ
 open_with_in layout reserved o = front o ++ back_in layout reserved o ++ o.path
 
--- b is a spelling of the open request o
+-- b is a spelling of the open request o.
 pub record SpellsIn (layout : Layout) (o : Open) (b : List ℕ) : Type 0 where
   pub reserved : ℕ
   pub is_open : IsOpenIn layout o
   pub spelled : b ≡ open_with_in layout reserved o
 
--- an open request that spells a front of a text is the only one that does
+-- At most one open request spells a prefix of some bytes.
 abbrev pub OneOpenIn : Layout → Type 0
 OneOpenIn layout = (o q : Open) (a b x y : List ℕ) → SpellsIn layout o a → SpellsIn layout q b → a ++ x ≡ b ++ y
     → (o ≡ q) × (a ≡ b) × (x ≡ y)
 
--- how long a text says it is: the bytes before the path, and the path that the last of them counts in words (0
--- where the text ends before)
+-- The length that the bytes should have: those before the path, and the path, whose size in words is the last byte
+-- before it (0 if the bytes end there).
 abbrev pub expected_length_in : Layout → List ℕ → ℕ
 expected_length_in layout b = before_path layout + 2 * slice_index b (31 + 2 * width layout)
 
--- the fields at their places
+-- The fields, each at its offset.
 abbrev pub open_fields_in : Layout → List ℕ → Open
 open_fields_in layout b = record {
   priority_and_tick_time = slice_index b 0;
@@ -121,14 +121,14 @@ open_fields_in layout b = record {
   path = drop (before_path layout) b;
 }
 
--- reading an open request
+-- Reads an open request.
 abbrev pub open_of_in : Layout → List ℕ → Result Open LengthFault
 open_of_in layout b =
     if nat_lt (length b) (expected_length_in layout b) then Err Short
     else if nat_lt (expected_length_in layout b) (length b) then Err Long
     else Ok (open_fields_in layout b)
 
--- what an open request of the code shows, by the bits of its parameters
+-- An open request of the code, as one of the specification. `bits` gives its parameters as a number.
 abbrev pub view_by : {P : Type 0} → (P → ℕ) → OpenRequest P → Open
 view_by bits v = record {
   priority_and_tick_time = v.priority_and_tick_time;
@@ -149,7 +149,7 @@ view_by bits v = record {
 
 -- ---- Forward_Open
 
--- what has a spelling, and which
+-- The requests that have a spelling, and their spellings.
 abbrev pub IsOpen : Open → Type 0
 IsOpen o = IsOpenIn small o
 
@@ -159,21 +159,21 @@ SpellsOpen o b = SpellsIn small o b
 abbrev pub OneOpen : Type 0
 OneOpen = OneOpenIn small
 
--- the spelling that is written, with 0 in the reserved bytes
+-- The spelling that is written: its reserved bytes are 0.
 abbrev pub «open» : Open → List ℕ
 «open» o = open_with_in small 0 o
 
 abbrev pub view : OpenRequest Parameters → Open
 view v = view_by (λ (parameters : Parameters). parameters.bits) v
 
--- 36 bytes, and the path that byte 35 counts in words
+-- 36 bytes, and the path, whose size in words is byte 35.
 abbrev pub expected_length : List ℕ → ℕ
 expected_length b = expected_length_in small b
 
 unfoldable pub open_fields : List ℕ → Open
 open_fields b = open_fields_in small b
 
--- reading an open request
+-- Reads an open request.
 unfoldable pub open_of : List ℕ → Result Open LengthFault
 open_of b = open_of_in small b
 
@@ -194,7 +194,7 @@ large_open o = open_with_in large 0 o
 abbrev pub large_view : OpenRequest LargeParameters → Open
 large_view v = view_by (λ (parameters : LargeParameters). parameters.bits) v
 
--- 40 bytes, and the path that byte 39 counts in words
+-- 40 bytes, and the path, whose size in words is byte 39.
 abbrev pub large_expected_length : List ℕ → ℕ
 large_expected_length b = expected_length_in large b
 
@@ -204,33 +204,33 @@ large_open_fields b = open_fields_in large b
 unfoldable pub large_open_of : List ℕ → Result Open LengthFault
 large_open_of b = open_of_in large b
 
--- the number by which a fault is printed
+-- The number of a fault, as printed.
 abbrev pub length_fault_number : LengthFault → ℕ
 length_fault_number Short = 1
 length_fault_number Long = 2
 
 -- ---- the bits of the parameters, and of the transport
 
--- in the parameters of a direction, bits 14 and 13 are the connection's type (2 is point to point)
+-- In the parameters of a direction, bits 14 and 13 are the connection type. 2 is point to point.
 abbrev pub connection_type : ℕ → ℕ
 connection_type bits = bits / 2 ^ 13 % 4
 
--- and bits 8 to 0 the size of an item in bytes, its count included
+-- Bits 8 to 0 are the size of an item in bytes, including its sequence count.
 abbrev pub size_of : ℕ → ℕ
 size_of bits = bits % 2 ^ 9
 
--- in those of the large layout bits 30 and 29 are the type
+-- In the large layout, bits 30 and 29 are the connection type.
 abbrev pub large_connection_type : ℕ → ℕ
 large_connection_type bits = bits / 2 ^ 29 % 4
 
--- and bits 15 to 0 the size
+-- In the large layout, bits 15 to 0 are the size.
 abbrev pub large_size_of : ℕ → ℕ
 large_size_of bits = bits % 2 ^ 16
 
--- in the transport, bit 7 says that the target is the server
+-- In the transport, bit 7 is set if the target is the server.
 abbrev pub is_server_of : ℕ → Bool
 is_server_of bits = nat_le (2 ^ 7) bits
 
--- and bits 3 to 0 are the transport class
+-- Bits 3 to 0 are the transport class.
 abbrev pub class_of_transport : ℕ → ℕ
 class_of_transport bits = bits % 2 ^ 4

@@ -7,64 +7,64 @@ use Rattle.cip_message.specs.declared.path.Path.{Path}
 use Rattle.cip_message.specs.declared.path.PathFault.{PathFault}
 use Rattle.cip_message.specs.declared.path.PathFault.TheVariants as fault
 
--- a value in 8 bits, behind the first byte of its segment
+-- A segment with an 8-bit value: its first byte and the value.
 pub record In8 (first value : ℕ) (b : List ℕ) : Type 0 where
   pub fits : value < 2 ^ 8
   pub spelled : b ≡ first ∷ value ∷ []
 
--- a value in 16 bits, behind the first byte and a pad byte of any value
+-- A segment with a 16-bit value: its first byte, a pad byte of any value, and the value.
 pub record In16 (first value : ℕ) (b : List ℕ) : Type 0 where
   pub fits : value < 2 ^ 16
   pub pad : ℕ
   pub pad_fits : pad < 2 ^ 8
   pub spelled : b ≡ first ∷ pad ∷ le 2 value
 
--- the same in 32 bits
+-- The same with a 32-bit value.
 pub record In32 (first value : ℕ) (b : List ℕ) : Type 0 where
   pub fits : value < 2 ^ 32
   pub pad : ℕ
   pub pad_fits : pad < 2 ^ 8
   pub spelled : b ≡ first ∷ pad ∷ le 4 value
 
--- the spellings of a segment: any width that holds its value
+-- The spellings of a segment, in any width that holds its value.
 abbrev pub IsSegment : Segment → List ℕ → Type 0
 IsSegment (Class v) b = In8 0x20 v b ⊎ In16 0x21 v b
 IsSegment (Instance v) b = In8 0x24 v b ⊎ (In16 0x25 v b ⊎ In32 0x26 v b)
 IsSegment (Member v) b = In8 0x28 v b ⊎ In16 0x29 v b
 IsSegment (Attribute v) b = In8 0x30 v b ⊎ In16 0x31 v b
 
--- spellings of these segments, joined in order
+-- b is spellings of these segments, joined in order.
 abbrev pub AreSegments : List Segment → List ℕ → Type 0
 AreSegments [] b = b ≡ []
 AreSegments (g ∷ gs) b = (s t : List ℕ) × IsSegment g s × AreSegments gs t × (b ≡ s ++ t)
 
--- a segment where there is a value for it
+-- The segment of an optional value, if there is one.
 abbrev pub optional : (ℕ → Segment) → Option ℕ → List Segment
 optional kind None = []
 optional kind (Some v) = kind v ∷ []
 
--- the segments of a path: class, instance, attribute if any, member if any
+-- The segments of a path: class, instance, attribute if any, member if any.
 abbrev pub segments : Path → List Segment
 segments p = Class p.class ∷ Instance p.instance ∷ (optional Attribute p.attribute ++ optional Member p.member)
 
--- b is a spelling of the path p
+-- b is a spelling of the path p.
 unfoldable pub IsPath : Path → List ℕ → Type 0
 IsPath p b = AreSegments (segments p) b
 
--- the first bytes of segments
+-- The bytes that begin a segment.
 abbrev pub IsFirstByte : ℕ → Type 0
 IsFirstByte x =
     (x ≡ 0x20) ⊎ ((x ≡ 0x21) ⊎ ((x ≡ 0x24) ⊎ ((x ≡ 0x25) ⊎ ((x ≡ 0x26) ⊎ ((x ≡ 0x28)
     ⊎ ((x ≡ 0x29) ⊎ ((x ≡ 0x30) ⊎ (x ≡ 0x31))))))))
 
--- the bytes begin with the first byte of no segment
+-- The bytes begin with a byte that begins no segment.
 pub record BeginsNoSegment (b : List ℕ) : Type 0 where
   pub first : ℕ
   pub more : List ℕ
   pub begins : b ≡ first ∷ more
   pub not_first : ¬ IsFirstByte first
 
--- the bytes are a proper front of a segment, and not empty
+-- The bytes are a proper prefix of a segment, and not empty.
 pub record IsFront (b : List ℕ) : Type 0 where
   pub segment : Segment
   pub more : List ℕ
@@ -72,11 +72,11 @@ pub record IsFront (b : List ℕ) : Type 0 where
   pub proper : more ≢ []
   pub spelled : IsSegment segment (b ++ more)
 
--- segments that begin the segments of some path
+-- A path begins with these segments.
 abbrev pub Begins : List Segment → Type 0
 Begins gs = (p : Path) × (more : List Segment) × (segments p ≡ gs ++ more)
 
--- the bytes begin with a segment that can't follow gs
+-- The bytes begin with a segment that cannot follow the segments gs.
 pub record IsOutOfOrder (gs : List Segment) (b : List ℕ) : Type 0 where
   pub segment : Segment
   pub text : List ℕ
@@ -85,24 +85,24 @@ pub record IsOutOfOrder (gs : List Segment) (b : List ℕ) : Type 0 where
   pub begins : b ≡ text ++ more
   pub wrong : ¬ Begins (gs ++ segment ∷ [])
 
--- the bytes are at their end, and gs are not the segments of a path: class or instance is missing
+-- The bytes end, but the class or the instance is still missing in gs.
 pub record EndsEarly (gs : List Segment) (b : List ℕ) : Type 0 where
   pub ends : b ≡ []
   pub missing : (p : Path) → segments p ≢ gs
 
--- what is wrong with b, which follows the segments gs
+-- What is wrong with the bytes b, which follow the segments gs.
 abbrev pub IsWrong : PathFault → List Segment → List ℕ → Type 0
 IsWrong fault.Segment gs b = BeginsNoSegment b
 IsWrong fault.Cut gs b = IsFront b
 IsWrong fault.Order gs b = IsOutOfOrder gs b ⊎ EndsEarly gs b
 
--- the number by which a fault is printed
+-- The number of a fault, as printed.
 abbrev pub path_fault_number : PathFault → ℕ
 path_fault_number fault.Segment = 1
 path_fault_number fault.Order = 2
 path_fault_number fault.Cut = 3
 
--- the bytes b are segments that begin a path's, and then what is wrong
+-- The bytes b are segments that begin a path, followed by this fault.
 pub record path_fault (k : PathFault) (b : List ℕ) : Type 0 where
   pub before : List Segment
   pub front : List ℕ

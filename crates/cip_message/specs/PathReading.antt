@@ -1,4 +1,4 @@
--- Reading a path from left to right. What it means is said in `Path`, without an order of steps.
+-- Reading a path from left to right. `Path` defines what is read, without an order of steps.
 use Rattle.std.specs.Prelude.{ℕ, ◌*◌, ◌/◌, ◌%◌, ◌&&◌, Bool, true, false, List, [], ◌∷◌, length, drop, slice_index}
 use Rattle.std.specs.Prelude.{Option, Some, None, Result, Ok, Err, nat_lt, ◌==◌, if◌then◌else◌}
 use Rattle.cip_bytes.specs.Numbers.{number_at}
@@ -11,7 +11,7 @@ use Rattle.cip_message.specs.declared.path.Path.{Path}
 use Rattle.cip_message.specs.declared.path.PathFault.{PathFault}
 use Rattle.cip_message.specs.declared.path.PathFault.TheVariants as fault
 
--- a value in 8, 16 or 32 bits behind the first byte, and what follows it
+-- Reads a value of 8, 16 or 32 bits after the first byte, and returns it with the rest.
 abbrev pub value8_of : List ℕ → Result (ℕ × List ℕ) PathFault
 value8_of b = if nat_lt (length b) 2 then Err fault.Cut else Ok (slice_index b 1, drop 2 b)
 
@@ -21,11 +21,11 @@ value16_of b = if nat_lt (length b) 4 then Err fault.Cut else Ok (number_at 2 2 
 abbrev pub value32_of : List ℕ → Result (ℕ × List ℕ) PathFault
 value32_of b = if nat_lt (length b) 6 then Err fault.Cut else Ok (number_at 2 4 b, drop 6 b)
 
--- the segment of that kind whose value was read, and what follows it
+-- The segment of this type with the value that was read, and the rest.
 abbrev pub with_kind : (ℕ → Segment) → Result (ℕ × List ℕ) PathFault → Result (Segment × List ℕ) PathFault
 with_kind kind read = read >>= λ x. Ok (kind x.0, x.1)
 
--- the kinds of logical segment, by the first byte without its two lowest bits (Volume 1, logical segment: type)
+-- The type of a logical segment, by its first byte without the two lowest bits (Volume 1, logical segment: type).
 abbrev pub kind_of : ℕ → Option Kind
 kind_of base =
     if base == 0x20 then Some kinds.Class else
@@ -34,19 +34,19 @@ kind_of base =
     if base == 0x30 then Some kinds.Attribute else
     None
 
--- the segment of a kind
+-- The segment of this type with this value.
 abbrev pub segment_of_kind : Kind → ℕ → Segment
 segment_of_kind kinds.Class v = Class v
 segment_of_kind kinds.Instance v = Instance v
 segment_of_kind kinds.Member v = Member v
 segment_of_kind kinds.Attribute v = Attribute v
 
--- an instance alone has a value in 32 bits
+-- Only an instance may have a 32-bit value.
 abbrev pub has_32_bits : Kind → Bool
 has_32_bits kinds.Instance = true
 has_32_bits _ = false
 
--- the formats of its value, by the two lowest bits (Volume 1, logical segment: format)
+-- The format of the value, by the two lowest bits (Volume 1, logical segment: format).
 abbrev pub in_format : ℕ → Kind → List ℕ → Result (Segment × List ℕ) PathFault
 in_format format kind b =
     if format == 0 then with_kind (segment_of_kind kind) (value8_of b) else
@@ -58,11 +58,11 @@ abbrev pub of_kind : Option Kind → ℕ → List ℕ → Result (Segment × Lis
 of_kind None format b = Err fault.Segment
 of_kind (Some kind) format b = in_format format kind b
 
--- the segment at the front of bytes that begin with x: bits 7 to 2 are its kind, bits 1 and 0 the format
+-- Reads the segment whose first byte is x: bits 7 to 2 are its type, bits 1 and 0 the format of its value.
 abbrev pub segment_at : ℕ → List ℕ → Result (Segment × List ℕ) PathFault
 segment_at x b = of_kind (kind_of (x / 4 * 4)) (x % 4) b
 
--- the segment at the front, where one is wanted
+-- Reads the segment at the front, where one is required.
 unfoldable pub segment_of : List ℕ → Result (Segment × List ℕ) PathFault
 segment_of [] = Err fault.Order
 segment_of (x ∷ xs) = segment_at x (x ∷ xs)
@@ -75,7 +75,7 @@ abbrev pub as_instance : Segment → List ℕ → Result (ℕ × List ℕ) PathF
 as_instance (Instance v) rest = Ok (v, rest)
 as_instance _ rest = Err fault.Order
 
--- an attribute or a member may be left out: what stands there is then left for the next
+-- An attribute or a member is optional: any other segment is left for the next reader.
 abbrev pub as_attribute : Segment → List ℕ → List ℕ → Result (Option ℕ × List ℕ) PathFault
 as_attribute (Attribute v) rest b = Ok (Some v, rest)
 as_attribute _ rest b = Ok (None, b)
@@ -106,7 +106,7 @@ member_of (x ∷ xs) = do
   g ← segment_of (x ∷ xs)
   as_member g.0 g.1 (x ∷ xs)
 
--- the path p, where nothing is left
+-- The path p, if nothing is left.
 unfoldable pub whole_of : Path → List ℕ → Result Path PathFault
 whole_of p [] = Ok p
 whole_of p (x ∷ xs) = do

@@ -7,18 +7,18 @@ use Rattle.cip_message.specs.declared.reply.ReplyView.{ReplyView}
 use Rattle.cip_message.specs.declared.reply.ReplyFault.{ReplyFault}
 use Rattle.cip_message.specs.declared.reply.ReplyFault.TheVariants.{Short, NotReply, Extra}
 
--- the service of the reply to a request of this service: bit 7 is set
+-- The service of the reply to a request with this service: bit 7 is set.
 abbrev pub reply_service : ℕ → ℕ
 reply_service service = if nat_lt service 128 then service + 128 else service
 
--- a reply, apart from where it lies in memory
+-- A reply, without where it lies in memory.
 pub record Reply : Type 0 where
   pub service : ℕ
   pub status : ℕ
   pub additional : List ℕ
   pub «data» : List ℕ
 
--- what has a spelling: its service has bit 7 set, and there are at most 255 additional words
+-- The replies that have a spelling: bit 7 of the service is set, and there are at most 255 additional status words.
 pub record IsReply (a : Reply) : Type 0 where
   pub service : a.service < 2 ^ 8
   pub bit7 : 128 ≤ a.service
@@ -27,42 +27,42 @@ pub record IsReply (a : Reply) : Type 0 where
   pub additional : AreWords a.additional
   pub «data» : AreBytes a.data
 
--- its spellings, one for each value of the reserved byte:
--- service, reserved, general status, number of additional words, these words, data
+-- The spellings of a reply, one for each value of the reserved byte: service, reserved byte, general status, number
+-- of additional status words, these words, data.
 abbrev pub reply_with : ℕ → Reply → List ℕ
 reply_with reserved a =
     a.service ∷ reserved ∷ a.status ∷ length a.additional ∷ (flat_map (le 2) a.additional ++ a.data)
 
--- b is a spelling of the reply a
+-- b is a spelling of the reply a.
 pub record SpellsReply (a : Reply) (b : List ℕ) : Type 0 where
   pub reserved : ℕ
   pub is_reply : IsReply a
   pub spelled : b ≡ reply_with reserved a
 
--- the spelling that is written, with 0 in the reserved byte
+-- The spelling that is written: its reserved byte is 0.
 abbrev pub reply : Reply → List ℕ
 reply a = reply_with 0 a
 
--- the reply of these fields
+-- The reply with these fields.
 abbrev pub reply_of_fields : ℕ → ℕ → List ℕ → List ℕ → Reply
 reply_of_fields service status additional bytes =
     record { service = service; status = status; additional = additional; «data» = bytes }
 
--- the reply to a request of this service
+-- The reply to a request with this service.
 abbrev pub reply_to : ℕ → ℕ → List ℕ → List ℕ → Reply
 reply_to service status additional bytes = reply_of_fields (reply_service service) status additional bytes
 
--- what a view of a reply shows
+-- A reply of the code, as one of the specification.
 abbrev pub view : ReplyView → Reply
 view v = reply_of_fields v.service v.status (words_of v.additional.now) v.data.now
 
--- the number by which a fault is printed
+-- The number of a fault, as printed.
 abbrev pub reply_fault_number : ReplyFault → ℕ
 reply_fault_number Short = 1
 reply_fault_number NotReply = 2
 reply_fault_number Extra = 3
 
--- reading a reply
+-- Reads a reply.
 unfoldable pub reply_of : List ℕ → Result Reply ReplyFault
 reply_of [] = Err Short
 reply_of (service ∷ []) = Err Short

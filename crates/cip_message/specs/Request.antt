@@ -6,13 +6,13 @@ use Rattle.cip_message.specs.declared.request.RequestView.{RequestView}
 use Rattle.cip_message.specs.declared.request.RequestFault.{RequestFault}
 use Rattle.cip_message.specs.declared.request.RequestFault.TheVariants.{Short, PathSize}
 
--- a request, apart from where it lies in memory
+-- A request, without where it lies in memory.
 pub record Request : Type 0 where
   pub service : ℕ
   pub path : List ℕ
   pub «data» : List ℕ
 
--- what has a spelling: the path is of whole words, at most 255 of them
+-- The requests that have a spelling: the path is whole words, at most 255 of them.
 pub record IsRequest (q : Request) : Type 0 where
   pub service : q.service < 2 ^ 8
   pub whole_words : length q.path % 2 ≡ 0
@@ -20,20 +20,20 @@ pub record IsRequest (q : Request) : Type 0 where
   pub path : AreBytes q.path
   pub «data» : AreBytes q.data
 
--- its spelling: service, size of the path in words, path, data
+-- The spelling of a request: service, path size in words, path, data.
 abbrev pub request : Request → List ℕ
 request q = q.service ∷ (length q.path / 2) ∷ (q.path ++ q.data)
 
--- what a view of a request shows
+-- A request of the code, as one of the specification.
 abbrev pub view : RequestView → Request
 view v = record { service = v.service; path = v.path.now; «data» = v.data.now }
 
--- the number by which a fault is printed
+-- The number of a fault, as printed.
 abbrev pub request_fault_number : RequestFault → ℕ
 request_fault_number Short = 1
 request_fault_number PathSize = 2
 
--- reading a request
+-- Reads a request.
 unfoldable pub request_of : List ℕ → Result Request RequestFault
 request_of [] = Err Short
 request_of (service ∷ []) = Err Short

@@ -11,32 +11,32 @@ use arrayvec::ArrayVec;
 use byteorder::{ByteOrder, LittleEndian};
 use cip_bytes::{Full, append, append_u8, append_u16, append_u32};
 
-/// How many bytes stand before the path, the reserved one included.
+/// How many bytes come before the path, including the reserved one.
 const SIZE_BEFORE_PATH: usize = 12;
 
-/// Which connection a request to close means: the three numbers that its opening gave. `path` is its
-/// bytes, of whole words.
+/// The data of a Forward_Close. Connection serial, originator vendor and originator serial name the connection, as
+/// its opening did.
 #[derive(Clone, Copy, Debug)]
 pub struct CloseRequest<'a> {
     /// Priority and tick time.
     pub priority_and_tick_time: u8,
     /// Timeout ticks.
     pub timeout_ticks: u8,
-    /// The originator's number of the connection.
+    /// The originator's number for the connection.
     pub connection_serial: u16,
-    /// The originator's vendor.
+    /// The originator's vendor ID.
     pub originator_vendor: u16,
     /// The originator's serial number.
     pub originator_serial: u32,
-    /// The bytes of the path, of whole words.
+    /// The bytes of the path: an even number, as a path is whole 16-bit words.
     pub path: &'a [u8],
 }
 
 impl<'a> CloseRequest<'a> {
-    /// The close request that is the whole text, whose reserved byte may have any value. The path is
-    /// lent from it.
+    /// Reads all of the bytes as a close request. The reserved byte may have any value. The path is lent from the
+    /// bytes.
     pub fn read(bytes: &'a [u8]) -> Result<CloseRequest<'a>, LengthFault>
-        // What is read is spelled so, and what is spelled so is read.
+        // A request is read if and only if the bytes spell it.
         ensures close_request { (c : Close) → Gives view result (Ok c) ↔ SpellsClose c bytes.now }
         ensures short { Gives view result (Err LengthFault.Short) ↔ (length bytes.now < expected_length bytes.now) }
         ensures long { Gives view result (Err LengthFault.Long) ↔ (expected_length bytes.now < length bytes.now) }
@@ -45,12 +45,11 @@ impl<'a> CloseRequest<'a> {
         close_at(bytes)
     }
 
-    /// Appends the request's spelling, with 0 in the reserved byte. The path is whole words, at most
-    /// 255 of them.
+    /// Appends the request, with 0 in the reserved byte. The path must be whole words, at most 255 of them.
     ///
     /// # Errors
     ///
-    /// `Full` where the request doesn't fit, and then nothing is written.
+    /// `Full` if the request does not fit. Then nothing is written.
     pub fn write<const N: usize>(&self, out: &mut ArrayVec<u8, N>) -> Result<(), Full>
         requires whole_words { length self.now.path.now % 2 ≡ 0 }
         requires counted { length self.now.path.now ≤ 510 }
@@ -73,7 +72,7 @@ impl<'a> CloseRequest<'a> {
     }
 }
 
-/// The close request that is the whole text, as a computation.
+/// Reads all of the bytes as a close request: the computation.
 #[tactic(auto, unfolding(crate::specs::Close::close_of))]
 fn close_at(bytes: &[u8]) -> Result<CloseRequest<'_>, LengthFault>
     ensures { Gives view result (close_of bytes.now) }
@@ -81,7 +80,7 @@ fn close_at(bytes: &[u8]) -> Result<CloseRequest<'_>, LengthFault>
     if bytes.len() < SIZE_BEFORE_PATH {
         return Err(LengthFault::Short);
     }
-    // byte 10 counts the words of the path; a reserved byte follows it (Forward_Close)
+    // Byte 10 is the path size in words, and a reserved byte follows it.
     let expected = SIZE_BEFORE_PATH + 2 * usize::from(bytes[10]);
     if bytes.len() < expected {
         return Err(LengthFault::Short);
@@ -92,7 +91,7 @@ fn close_at(bytes: &[u8]) -> Result<CloseRequest<'_>, LengthFault>
     Ok(fields_at(bytes))
 }
 
-/// The fields, each read at its place.
+/// Reads each field at its offset.
 #[tactic(auto, unfolding(crate::specs::Close::close_fields))]
 fn fields_at(bytes: &[u8]) -> CloseRequest<'_>
     requires { 12 ≤ length bytes.now }

@@ -1,5 +1,5 @@
-//! The electronic key, by which who opens a connection says which device it means (Volume 1, appendix
-//! on segments, and Connection Manager).
+//! The electronic key, with which the opener of a connection says which device it expects (Volume 1, appendix on
+//! segments, and Connection Manager).
 //!
 //! Text: docs/PROTOCOL.md, "Paths".
 
@@ -15,44 +15,45 @@ use byteorder::{ByteOrder, LittleEndian};
 use cip_bytes::protocol::ExtendedStatus;
 use cip_bytes::{Full, append, append_u8, append_u16};
 
-/// What an electronic key asks of a device. A number 0 asks nothing.
+/// What an electronic key requires of a device. A field of 0 requires nothing.
 #[derive(Clone, Copy, Debug, PartialEq, Eq)]
 pub struct Key {
-    /// The vendor's number, 0 for any.
+    /// The vendor ID, 0 for any.
     pub vendor: u16,
-    /// The device type of the vendor's profile, 0 for any.
+    /// The device type, 0 for any.
     pub device_type: u16,
-    /// The vendor's number of the product, 0 for any.
+    /// The product code, 0 for any.
     pub product_code: u16,
-    /// The major revision, up to 127, 0 for any.
+    /// The major revision, 0 to 127, 0 for any.
     pub major: u8,
-    /// Bit 7 of the byte of the major revision: a minor revision up to the device's will do.
+    /// The compatibility bit, bit 7 of the byte of the major revision. If it is set, a minor revision up to the
+    /// device's own is accepted.
     pub compatible: bool,
     /// The minor revision, 0 for any.
     pub minor: u8,
 }
 
-/// The segment type of a key, and its format. (Volume 1, key segment, format 4.)
+/// The segment type and the format of a key. (Volume 1, key segment, format 4.)
 pub(crate) const KEY_SEGMENT: [u8; 2] = [0x34, 0x04];
 
-/// How many bytes a key has, its type and format included.
+/// The size of a key in bytes, including its segment type and format.
 pub(crate) const KEY_SIZE: usize = 10;
 
-/// The bit above the major revision: a minor revision up to the device's will do.
+/// The compatibility bit, above the seven bits of the major revision.
 const COMPATIBILITY: u8 = 0x80;
 
 impl Key {
-    /// Appends the key's spelling.
+    /// Appends the key.
     ///
     /// # Errors
     ///
-    /// `Full` where the key doesn't fit, and then nothing is written.
+    /// `Full` if the key does not fit. Then nothing is written.
     pub fn write<const N: usize>(&self, out: &mut ArrayVec<u8, N>) -> Result<(), Full>
         requires { self.now.major < 2 ^ 7 }
         ensures fits { IsOk result ↔ (array_vec_len out.old + length (key_text self.now) ≤ N) }
         ensures ok { OnOk result (out.new.items ≡ out.old.items ++ key_text self.now) }
         ensures err { OnErr result (out.new ≡ out.old) }
-        // What is written is a key's spelling, and is read as this key.
+        // What is written spells a key, and reads as this key again.
         ensures spelled { OnOk result (IsKey self.now) }
         ensures again { OnOk result (key_of (key_text self.now) ≡ Some self.now) }
     {
@@ -68,7 +69,7 @@ impl Key {
         Ok(())
     }
 
-    /// The major revision with the compatibility bit above it.
+    /// The major revision, with the compatibility bit above it.
     fn major_byte(&self) -> u8
         requires { self.now.major < 2 ^ 7 }
         ensures { result ≡ self.now.major + (if self.now.compatible then 128 else 0) }
@@ -81,14 +82,20 @@ impl Key {
     }
 }
 
-/// What a device is, as a key asks for it.
+/// The numbers of a device that an electronic key is compared with.
+///
+/// ```
+/// let device = Device { vendor: 0x1234, device_type: 0x2b, product_code: 7, major: 2, minor: 5 };
+/// let key = Key { vendor: 0x1234, device_type: 0, product_code: 0, major: 2, compatible: true, minor: 3 };
+/// assert_eq!(rt; device.accepts(&key), None);
+/// ```
 #[derive(Clone, Copy, Debug, PartialEq, Eq)]
 pub struct Device {
-    /// The vendor's number.
+    /// The vendor ID.
     pub vendor: u16,
-    /// The device type of the vendor's profile.
+    /// The device type.
     pub device_type: u16,
-    /// The vendor's number of the product.
+    /// The product code.
     pub product_code: u16,
     /// The major revision, 1 to 127.
     pub major: u8,
@@ -96,25 +103,25 @@ pub struct Device {
     pub minor: u8,
 }
 
-/// The key that is the whole text, or `None` where it isn't exactly one key.
+/// Reads all of the bytes as one key. `None` if they are not exactly one key.
 pub fn read_key(bytes: &[u8]) -> Option<Key>
-    // What is read is spelled so, and what is spelled so is read.
+    // A key is read if and only if the bytes spell it.
     ensures key { (k : Key) → (result ≡ Some k) ↔ (IsKey k × (bytes.now ≡ key_text k)) }
     ensures exact { result ≡ key_of bytes.now }
 {
     key_at(bytes)
 }
 
-/// The key that is the whole text, as a computation.
+/// Reads all of the bytes as one key: the computation.
 #[tactic(auto, unfolding(crate::specs::Key::key_of))]
 fn key_at(bytes: &[u8]) -> Option<Key>
     ensures { result ≡ key_of bytes.now }
 {
-    // a key is its type, its format and eight bytes, and nothing more (key segment)
+    // A key is its segment type, its format and eight bytes, and nothing more.
     if bytes.len() != KEY_SIZE || bytes[0] != KEY_SEGMENT[0] || bytes[1] != KEY_SEGMENT[1] {
         return None;
     }
-    // bit 7 of the major revision is the compatibility bit (key segment)
+    // Bit 7 of the byte of the major revision is the compatibility bit.
     let revision = bytes[8];
     Some(Key {
         vendor: LittleEndian::read_u16(&bytes[2..]),
@@ -130,7 +137,7 @@ fn key_at(bytes: &[u8]) -> Option<Key>
     })
 }
 
-/// Whether a number meets what a key asks of it: 0 asks nothing (key segment).
+/// Whether a number meets what the key requires. 0 requires nothing.
 fn is_met(asked: u16, has: u16) -> bool
     ensures { result ≡ is_met_by asked has }
 {
@@ -138,11 +145,11 @@ fn is_met(asked: u16, has: u16) -> bool
 }
 
 impl Device {
-    /// The extended status that refuses the key, or `None` where the device meets it.
+    /// The extended status with which the device refuses the key, or `None` if it accepts it.
     pub fn accepts(&self, key: &Key) -> Option<ExtendedStatus>
         ensures accepted { IsNone result
             ↔ (MeetsVendor self.now key.now × MeetsType self.now key.now × MeetsRevision self.now key.now) }
-        // The first test that fails gives the status.
+        // The first test that fails decides the status.
         ensures vendor { (result ≡ Some ExtendedStatus.VendorOrProduct) ↔ ¬ MeetsVendor self.now key.now }
         ensures device_type { (result ≡ Some ExtendedStatus.DeviceType)
             ↔ (MeetsVendor self.now key.now × ¬ MeetsType self.now key.now) }
@@ -153,11 +160,11 @@ impl Device {
         self.refusal_of(key)
     }
 
-    /// The first test that fails, as a computation.
+    /// The status of the first test that fails: the computation.
     fn refusal_of(&self, key: &Key) -> Option<ExtendedStatus>
         ensures { result ≡ refusal self.now key.now }
     {
-        // vendor and product code first, then the device type, then the revision (ours)
+        // Vendor and product code are tested first, then the device type, then the revision (our choice).
         if !is_met(key.vendor, self.vendor) || !is_met(key.product_code, self.product_code) {
             return Some(ExtendedStatus::VendorOrProduct);
         }
@@ -165,7 +172,7 @@ impl Device {
             return Some(ExtendedStatus::DeviceType);
         }
         let same_major = is_met(u16::from(key.major), u16::from(self.major));
-        // with the compatibility bit a minor revision up to the device's will do (key segment)
+        // With the compatibility bit, a minor revision up to the device's own is accepted.
         let same_minor = is_met(u16::from(key.minor), u16::from(self.minor));
         if same_major && (same_minor || key.compatible && key.minor <= self.minor) {
             None

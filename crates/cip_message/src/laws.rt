@@ -3,17 +3,17 @@
 ghost use Rattle.cip_message.specs.Open.{OneOpen, OneLargeOpen};
 ghost use Rattle.cip_message.specs.PathWriting.{OneSegment};
 
-/// A segment that spells a front of a text is the only one that does.
+/// At most one segment spells a prefix of some bytes.
 pub fn one_segment()
     ensures { OneSegment }
 {}
 
-/// An open request that spells a front of a text is the only one that does.
+/// At most one open request spells a prefix of some bytes.
 pub fn one_open_request()
     ensures { OneOpen }
 {}
 
-/// A large open request that spells a front of a text is the only one that does.
+/// At most one large open request spells a prefix of some bytes.
 pub fn one_large_open_request()
     ensures { OneLargeOpen }
 {}

@@ -1,16 +1,23 @@
-//! Messages of the CIP message router as bytes (ODVA CIP Networks Library, Volume 1): paths to an
-//! object, router requests and replies, the electronic key, and the data of the requests that open and
-//! close a class 3 connection.
+//! Messages of the CIP message router as bytes (ODVA CIP Networks Library, Volume 1): paths to an object, router
+//! requests and replies, the electronic key, and the data of the requests that open and close a class 3 connection.
 //!
-//! Each reader answers exactly the value that the bytes spell, or the first fault, and lends what it
-//! can from the bytes. Each writer appends exactly one spelling to a buffer of fixed capacity, or
-//! changes nothing. Nothing here takes memory.
+//! Each reader returns exactly the value that the bytes spell, or the first fault. It lends what it can from the
+//! bytes. Each writer appends exactly one spelling to a buffer of fixed capacity, or changes nothing. Nothing here
+//! allocates.
 //!
-//! The body of each public reader stands in a private function of the same name with `_at`, whose clause is the
-//! reading as a computation; what its public clauses say of the grammar follows from that by a lemma.
+//! Start with [`Path`], [`RequestView`] and [`ReplyView`]. To serve or open connections you also need
+//! [`OpenRequest`], [`CloseRequest`], [`Key`] and [`Device`].
 //!
-//! The types to know are [`Path`], [`RequestView`] and [`ReplyView`]; who serves or opens connections
-//! needs [`OpenRequest`], [`CloseRequest`], [`Key`] and [`Device`] too.
+//! The body of each public reader is a private function whose name ends in `_at`. Its clause states the reading as
+//! a computation. The public clauses, which speak of the grammar, follow from it by a lemma.
+//!
+//! ```
+//! let mut path = ArrayVec::<u8, 16>::new();
+//! write_path(&mut path, Path { class: 1, instance: 1, attribute: Some(1), member: None })?;
+//! let mut request = ArrayVec::<u8, 16>::new();
+//! RequestView { service: 0x0e, path: path.as_slice(), data: &[] }.write(&mut request)?;
+//! // 0e 03 20 01 24 01 30 01
+//! ```
 #![tactic(auto)]
 
 mod close;

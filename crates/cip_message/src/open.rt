@@ -17,10 +17,10 @@ use byteorder::{ByteOrder, LittleEndian};
 use cip_bytes::{Full, append, append_u8, append_u16, append_u32};
 use thiserror::Error;
 
-/// A connection's transport: who serves, what triggers, and the class.
+/// The transport of a connection: which end is the server, what triggers production, and the class.
 #[derive(Clone, Copy, Debug, PartialEq, Eq)]
 pub struct Transport {
-    /// Bit 7 server, 6 to 4 trigger, 3 to 0 class.
+    /// Bit 7 is the server bit, bits 6 to 4 the trigger, bits 3 to 0 the class.
     pub bits: u8,
 }
 
@@ -40,53 +40,52 @@ impl Transport {
     }
 }
 
-/// What a request to open a connection asks for, a Forward_Open, or with `LargeParameters` a
-/// Large_Forward_Open. Intervals (RPI) are in microseconds; `path` is its bytes, of whole words.
+/// The data of a Forward_Open, or with `LargeParameters` of a Large_Forward_Open.
 #[derive(Clone, Copy, Debug)]
 pub struct OpenRequest<'a, P = Parameters> {
     /// Priority and tick time.
     pub priority_and_tick_time: u8,
     /// Timeout ticks.
     pub timeout_ticks: u8,
-    /// The ID from originator to target, which the target chooses.
+    /// The O->T connection ID. The target chooses it.
     pub o_to_t_id: u32,
-    /// The ID from target to originator.
+    /// The T->O connection ID.
     pub t_to_o_id: u32,
-    /// The originator's number of the connection.
+    /// The originator's number for the connection.
     pub connection_serial: u16,
-    /// The originator's vendor.
+    /// The originator's vendor ID.
     pub originator_vendor: u16,
     /// The originator's serial number.
     pub originator_serial: u32,
-    /// The timeout multiplier: the time-out is the RPI times 4 times 2 to it.
+    /// The timeout multiplier: the timeout is O->T RPI x 4 x 2^multiplier.
     pub timeout_multiplier: u8,
-    /// The requested interval from originator to target, in microseconds.
+    /// The requested packet interval (RPI) from originator to target, in microseconds.
     pub o_to_t_rpi: u32,
-    /// The parameters from originator to target.
+    /// The connection parameters from originator to target.
     pub o_to_t_parameters: P,
-    /// The requested interval from target to originator, in microseconds.
+    /// The requested packet interval (RPI) from target to originator, in microseconds.
     pub t_to_o_rpi: u32,
-    /// The parameters from target to originator.
+    /// The connection parameters from target to originator.
     pub t_to_o_parameters: P,
-    /// Who serves, what triggers, and the class.
+    /// The transport class and trigger.
     pub transport: Transport,
-    /// The bytes of the path, of whole words.
+    /// The bytes of the path: an even number, as a path is whole 16-bit words.
     pub path: &'a [u8],
 }
 
-/// Why data are no open or close request.
+/// Why data are not an open or a close request.
 #[derive(Clone, Copy, Debug, PartialEq, Eq, Error)]
 pub enum LengthFault {
-    /// They end before their fields or their path do.
+    /// The data end before their fields or their path do.
     #[error("data too short")]
     Short = 1,
-    /// They go on behind their path.
+    /// Bytes follow the path.
     #[error("data too long")]
     Long = 2,
 }
 
 impl LengthFault {
-    /// The number of the fault, by which it is printed.
+    /// The fault's number, as printed.
     pub fn number(self) -> u8
         ensures { result ≡ length_fault_number self }
     {
@@ -95,10 +94,10 @@ impl LengthFault {
 }
 
 impl<'a> OpenRequest<'a> {
-    /// The open request that is the whole text, whose reserved bytes may have any value. The path is
-    /// lent from it.
+    /// Reads all of the bytes as an open request. The reserved bytes may have any value. The path is lent from the
+    /// bytes.
     pub fn read(bytes: &'a [u8]) -> Result<OpenRequest<'a>, LengthFault>
-        // What is read is spelled so, and what is spelled so is read.
+        // A request is read if and only if the bytes spell it.
         ensures open_request { (o : Open) → Gives view result (Ok o) ↔ SpellsOpen o bytes.now }
         ensures short { Gives view result (Err LengthFault.Short) ↔ (length bytes.now < expected_length bytes.now) }
         ensures long { Gives view result (Err LengthFault.Long) ↔ (expected_length bytes.now < length bytes.now) }
@@ -107,12 +106,11 @@ impl<'a> OpenRequest<'a> {
         open_at(bytes)
     }
 
-    /// Appends the request's spelling, with 0 in the reserved bytes. The path is whole words, at most
-    /// 255 of them.
+    /// Appends the request, with 0 in the reserved bytes. The path must be whole words, at most 255 of them.
     ///
     /// # Errors
     ///
-    /// `Full` where the request doesn't fit, and then nothing is written.
+    /// `Full` if the request does not fit. Then nothing is written.
     pub fn write<const N: usize>(&self, out: &mut ArrayVec<u8, N>) -> Result<(), Full>
         requires whole_words { length self.now.path.now % 2 ≡ 0 }
         requires counted { length self.now.path.now ≤ 510 }
@@ -126,10 +124,10 @@ impl<'a> OpenRequest<'a> {
 }
 
 impl<'a> OpenRequest<'a, LargeParameters> {
-    /// The large open request that is the whole text, whose reserved bytes may have any value. The path is
-    /// lent from it.
+    /// Reads all of the bytes as a large open request. The reserved bytes may have any value. The path is lent from
+    /// the bytes.
     pub fn read_large(bytes: &'a [u8]) -> Result<OpenRequest<'a, LargeParameters>, LengthFault>
-        // What is read is spelled so, and what is spelled so is read.
+        // A request is read if and only if the bytes spell it.
         ensures open_request { (o : Open) → Gives large_view result (Ok o) ↔ SpellsLarge o bytes.now }
         ensures short { Gives large_view result (Err LengthFault.Short) ↔ (length bytes.now < large_expected_length bytes.now) }
         ensures long { Gives large_view result (Err LengthFault.Long) ↔ (large_expected_length bytes.now < length bytes.now) }
@@ -138,12 +136,11 @@ impl<'a> OpenRequest<'a, LargeParameters> {
         open_at(bytes)
     }
 
-    /// Appends the request's spelling, with 0 in the reserved bytes. The path is whole words, at most
-    /// 255 of them.
+    /// Appends the request, with 0 in the reserved bytes. The path must be whole words, at most 255 of them.
     ///
     /// # Errors
     ///
-    /// `Full` where the request doesn't fit, and then nothing is written.
+    /// `Full` if the request does not fit. Then nothing is written.
     pub fn write_large<const N: usize>(&self, out: &mut ArrayVec<u8, N>) -> Result<(), Full>
         requires whole_words { length self.now.path.now % 2 ≡ 0 }
         requires counted { length self.now.path.now ≤ 510 }
@@ -157,7 +154,7 @@ impl<'a> OpenRequest<'a, LargeParameters> {
 }
 
 impl<P: DirectionParameters> OpenRequest<'_, P> {
-    /// Appends the request's spelling in the layout of its parameters.
+    /// Appends the request, in the layout of its parameters.
     fn append_to<const N: usize>(&self, out: &mut ArrayVec<u8, N>) -> Result<(), Full>
         requires whole_words { length self.now.path.now % 2 ≡ 0 }
         requires counted { length self.now.path.now ≤ 510 }
@@ -176,7 +173,7 @@ impl<P: DirectionParameters> OpenRequest<'_, P> {
         Ok(())
     }
 
-    /// Appends the fields up to the originator's serial.
+    /// Appends the fields up to the originator serial.
     fn append_front<const N: usize>(&self, out: &mut ArrayVec<u8, N>)
         requires { array_vec_len out.old + 18 ≤ N }
         ensures text { out.new.items ≡ out.old.items ++ front (view_by P.bits self.now) }
@@ -192,7 +189,7 @@ impl<P: DirectionParameters> OpenRequest<'_, P> {
         append_u32(out, self.originator_serial);
     }
 
-    /// Appends the fields from the timeout multiplier on, up to the path.
+    /// Appends the fields from the timeout multiplier up to the path.
     fn append_back<const N: usize>(&self, out: &mut ArrayVec<u8, N>)
         requires capacity { array_vec_len out.old + 14 + 2 * width P.layout ≤ N }
         requires counted { length self.now.path.now ≤ 510 }
@@ -211,7 +208,7 @@ impl<P: DirectionParameters> OpenRequest<'_, P> {
     }
 }
 
-/// How many bytes stand before the path.
+/// How many bytes come before the path.
 fn size_before_path<P: DirectionParameters>() -> usize
     ensures exact { result ≡ before_path P.layout }
     ensures narrow { result ≤ 40 }
@@ -219,7 +216,7 @@ fn size_before_path<P: DirectionParameters>() -> usize
     32 + 2 * P::width()
 }
 
-/// The open request that is the whole text, as a computation.
+/// Reads all of the bytes as an open request: the computation.
 fn open_at<P: DirectionParameters>(bytes: &[u8]) -> Result<OpenRequest<'_, P>, LengthFault>
     ensures { Gives (view_by P.bits) result (open_of_in P.layout bytes.now) }
 {
@@ -227,7 +224,7 @@ fn open_at<P: DirectionParameters>(bytes: &[u8]) -> Result<OpenRequest<'_, P>, L
     if bytes.len() < before_path {
         return Err(LengthFault::Short);
     }
-    // the byte before the path counts the words of it (Forward_Open, Large_Forward_Open)
+    // The byte before the path is the path size in words.
     let expected = before_path + 2 * usize::from(bytes[before_path - 1]);
     if bytes.len() < expected {
         return Err(LengthFault::Short);
@@ -238,7 +235,7 @@ fn open_at<P: DirectionParameters>(bytes: &[u8]) -> Result<OpenRequest<'_, P>, L
     Ok(fields_at(bytes))
 }
 
-/// The fields, each read at its place.
+/// Reads each field at its offset.
 fn fields_at<P: DirectionParameters>(bytes: &[u8]) -> OpenRequest<'_, P>
     requires { before_path P.layout ≤ length bytes.now }
     ensures { view_by P.bits result ≡ open_fields_in P.layout bytes.now }

@@ -8,31 +8,30 @@ ghost use Rattle.cip_message.specs.PathReading.{path_of};
 use crate::key::{KEY_SEGMENT, KEY_SIZE, Key, read_key};
 use crate::path::{Path, read_path};
 
-/// What a request to open a connection means: the device, if a key says which, and what of it.
+/// The path of an open request: which device it expects, if a key says so, and which object it opens.
 #[derive(Clone, Copy, Debug, PartialEq, Eq)]
 pub struct OpenPath {
-    /// The electronic key, if one stands before the path.
+    /// The electronic key, if one comes before the path.
     pub key: Option<Key>,
-    /// The object that is opened.
+    /// The path of the object.
     pub path: Path,
 }
 
-/// The key, if there is one, and the path that are the whole text, or `None` where it isn't exactly
-/// these.
+/// Reads all of the bytes as an optional key followed by a path. `None` if they are anything else.
 pub fn read_open_path(bytes: &[u8]) -> Option<OpenPath>
-    // What is read is spelled so, and what is spelled so is read.
+    // An open path is read if and only if the bytes spell it.
     ensures open_path { (o : OpenPath) → (result ≡ Some o) ↔ IsOpenPath o bytes.now }
     ensures exact { result ≡ open_path_of bytes.now }
 {
     open_path_at(bytes)
 }
 
-/// The key and the path, as a computation.
+/// Reads an optional key and a path: the computation.
 #[tactic(auto, unfolding(crate::specs::OpenPath::open_path_of))]
 fn open_path_at(bytes: &[u8]) -> Option<OpenPath>
     ensures { result ≡ open_path_of bytes.now }
 {
-    // a key may stand before the path, and nothing else (Connection Manager)
+    // Only a key may come before the path.
     if bytes.is_empty() || bytes[0] != KEY_SEGMENT[0] {
         return with_key(None, bytes);
     }
@@ -43,7 +42,7 @@ fn open_path_at(bytes: &[u8]) -> Option<OpenPath>
     with_key(Some(key), &bytes[KEY_SIZE..])
 }
 
-/// The path that the bytes spell, behind this key.
+/// The key, if any, with the path that the bytes spell.
 fn with_key(key: Option<Key>, bytes: &[u8]) -> Option<OpenPath>
     ensures { result ≡ with_key_by key (path_of bytes.now) }
 {

@@ -13,27 +13,28 @@ use arrayvec::ArrayVec;
 use byteorder::{ByteOrder, LittleEndian};
 use cip_bytes::append;
 
-/// The parameters of one direction of a connection. (Volume 1, network connection parameters.)
+/// The parameters of one direction in a Forward_Open. (Volume 1, network connection parameters.)
 #[derive(Clone, Copy, Debug, PartialEq, Eq)]
 pub struct Parameters {
-    /// Bit 15 redundant owner, 14 and 13 type, 11 and 10 priority, 9 variable, 8 to 0 size.
+    /// Bit 15 is redundant owner, bits 14 and 13 the type, 11 and 10 the priority, 9 variable size, 8 to 0 the
+    /// size.
     pub bits: u16,
 }
 
 impl Parameters {
-    /// The connection's type; 2 is point to point.
+    /// The connection type. 2 is point to point.
     pub fn connection_type(self) -> u8
         ensures { result ≡ connection_type self.bits }
     {
-        // bits 14 and 13 (network connection parameters)
+        // Bits 14 and 13 of the network connection parameters.
         (self.bits >> 13 & 3) as u8
     }
 
-    /// The size of an item in bytes, its count included.
+    /// The connection size: the most bytes of an item, including its sequence count.
     pub fn size(self) -> u16
         ensures { result ≡ size_of self.bits }
     {
-        // bits 8 to 0 (network connection parameters)
+        // Bits 8 to 0 of the network connection parameters.
         self.bits & 0x1ff
     }
 }
@@ -41,45 +42,46 @@ impl Parameters {
 /// The parameters of one direction in a Large_Forward_Open. (Volume 1, network connection parameters.)
 #[derive(Clone, Copy, Debug, PartialEq, Eq)]
 pub struct LargeParameters {
-    /// Bit 31 redundant owner, 30 and 29 type, 27 and 26 priority, 25 variable, 15 to 0 size.
+    /// Bit 31 is redundant owner, bits 30 and 29 the type, 27 and 26 the priority, 25 variable size, 15 to 0 the
+    /// size.
     pub bits: u32,
 }
 
 impl LargeParameters {
-    /// The connection's type; 2 is point to point.
+    /// The connection type. 2 is point to point.
     pub fn connection_type(self) -> u8
         ensures { result ≡ large_connection_type self.bits }
     {
-        // bits 30 and 29 (network connection parameters, of a Large_Forward_Open)
+        // Bits 30 and 29 of the network connection parameters of a Large_Forward_Open.
         (self.bits >> 29 & 3) as u8
     }
 
-    /// The size of an item in bytes, its count included.
+    /// The connection size: the most bytes of an item, including its sequence count.
     pub fn size(self) -> u16
         ensures { result ≡ large_size_of self.bits }
     {
-        // bits 15 to 0 (network connection parameters, of a Large_Forward_Open)
+        // Bits 15 to 0 of the network connection parameters of a Large_Forward_Open.
         (self.bits & 0xffff) as u16
     }
 }
 
-/// How a layout has the parameters of one direction.
+/// The parameters of one direction, in one of the two layouts.
 pub(crate) trait DirectionParameters: Copy {
     ghost layout: { Layout };
 
     ghost bits: { Self → ℕ };
 
-    /// How many bytes they have.
+    /// The size of the parameters in bytes.
     fn width() -> usize
         ensures exact { result ≡ width layout }
         ensures narrow { result ≤ 4 };
 
-    /// The parameters that the bytes begin with.
+    /// Reads the parameters at the front of the bytes.
     fn read_front(bytes: &[u8]) -> Self
         requires { width layout ≤ length bytes.now }
         ensures { bits result ≡ number_at 0 (width layout) bytes.now };
 
-    /// Their bits as a number.
+    /// The parameters as a number.
     fn number(self) -> u32
         ensures exact { result ≡ bits self }
         ensures fits { result < 2 ^ (8 * width layout) };
@@ -125,7 +127,7 @@ impl DirectionParameters for LargeParameters {
     }
 }
 
-/// Appends the parameters of a direction, for which there is room.
+/// Appends the parameters of a direction. They must fit.
 pub(crate) fn append_parameters<P: DirectionParameters, const N: usize>(
     out: &mut ArrayVec<u8, N>,
     parameters: P,

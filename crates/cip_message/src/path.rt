@@ -1,4 +1,4 @@
-//! Paths to an object, as logical segments in padded form (Volume 1, appendix on segments).
+//! Paths to an object: logical segments in padded form (Volume 1, appendix on segments).
 //! Text: docs/PROTOCOL.md, "Paths".
 
 ghost use Rattle.std.specs.Prelude.{◌≡◌, ◌↔◌, ℕ, ◌+◌, ◌*◌, ◌/◌, ◌<◌, ◌≤◌, ◌^◌, ◌++◌, length, IsOk, OnOk, OnErr, IfSome};
@@ -17,21 +17,25 @@ use byteorder::{ByteOrder, LittleEndian};
 use cip_bytes::{Full, append};
 use thiserror::Error;
 
-/// Where a request goes: a class, an instance of it (0 is the class itself), and perhaps one of its
-/// attributes and a member of that.
+/// The path of a request: a class and an instance, and optionally an attribute and a member.
+///
+/// ```
+/// let path = read_path(&[0x20, 0x01, 0x24, 0x01, 0x30, 0x07])?;
+/// assert_eq!(rt; path, Path { class: 1, instance: 1, attribute: Some(7), member: None });
+/// ```
 #[derive(Clone, Copy, Debug, PartialEq, Eq)]
 pub struct Path {
     /// The class.
     pub class: u16,
-    /// The instance, 0 for the class itself.
+    /// The instance. Instance 0 is the class itself.
     pub instance: u32,
-    /// The attribute, if one is named.
+    /// The attribute, if the path names one.
     pub attribute: Option<u16>,
-    /// The member, if one is named.
+    /// The member, if the path names one.
     pub member: Option<u16>,
 }
 
-/// One logical segment of a path: what it names, and its number.
+/// A logical segment of a path: its type and its value.
 #[derive(Clone, Copy, Debug, PartialEq, Eq)]
 pub enum Segment {
     Class(u16),
@@ -40,13 +44,13 @@ pub enum Segment {
     Attribute(u16),
 }
 
-/// Why bytes are no path: the first fault from the left.
+/// Why bytes are not a path: the first fault from the left.
 #[derive(Clone, Copy, Debug, PartialEq, Eq, Error)]
 pub enum PathFault {
-    /// A byte that begins no segment of a class, instance, member or attribute.
-    #[error("no segment begins so")]
+    /// A byte does not begin a class, instance, member or attribute segment.
+    #[error("not a segment type")]
     Segment = 1,
-    /// A segment that can't come next, or the end where the class or the instance is missing.
+    /// A segment is out of order, or the bytes end before the class and the instance.
     #[error("segments out of order")]
     Order = 2,
     /// The bytes end within a segment.
@@ -55,7 +59,7 @@ pub enum PathFault {
 }
 
 impl PathFault {
-    /// The number of the fault, by which it is printed.
+    /// The fault's number, as printed.
     pub fn number(self) -> u8
         ensures { result ≡ path_fault_number self }
     {
@@ -63,7 +67,7 @@ impl PathFault {
     }
 }
 
-/// A value of 8 bits behind the first byte, and what follows it.
+/// Reads the 8-bit value after the first byte. Returns it with the rest.
 #[inline(always)]
 fn value8(bytes: &[u8]) -> Result<(u16, &[u8]), PathFault>
     ensures { Gives (λ x. (x.0, x.1.now)) result (value8_of bytes.now) }
@@ -74,7 +78,7 @@ fn value8(bytes: &[u8]) -> Result<(u16, &[u8]), PathFault>
     Ok((u16::from(bytes[1]), &bytes[2..]))
 }
 
-/// A value of 16 bits behind the first byte and a pad, and what follows it.
+/// Reads the 16-bit value after the first byte and a pad byte. Returns it with the rest.
 #[inline(always)]
 fn value16(bytes: &[u8]) -> Result<(u16, &[u8]), PathFault>
     ensures { Gives (λ x. (x.0, x.1.now)) result (value16_of bytes.now) }
@@ -82,11 +86,11 @@ fn value16(bytes: &[u8]) -> Result<(u16, &[u8]), PathFault>
     if bytes.len() < 4 {
         return Err(PathFault::Cut);
     }
-    // the byte behind the first is a pad: any value (segments)
+    // The pad byte may have any value.
     Ok((LittleEndian::read_u16(&bytes[2..]), &bytes[4..]))
 }
 
-/// A value of 32 bits behind the first byte and a pad, and what follows it.
+/// Reads the 32-bit value after the first byte and a pad byte. Returns it with the rest.
 #[inline(always)]
 fn value32(bytes: &[u8]) -> Result<(u32, &[u8]), PathFault>
     ensures { Gives (λ x. (x.0, x.1.now)) result (value32_of bytes.now) }
@@ -97,7 +101,7 @@ fn value32(bytes: &[u8]) -> Result<(u32, &[u8]), PathFault>
     Ok((LittleEndian::read_u32(&bytes[2..]), &bytes[6..]))
 }
 
-/// What a logical segment names: bits 7 to 2 of its first byte. (Volume 1, logical segment: type.)
+/// The logical type of a segment: bits 7 to 2 of its first byte. (Volume 1, logical segment: type.)
 #[derive(Clone, Copy, PartialEq, Eq)]
 enum Kind {
     Class,
@@ -107,7 +111,7 @@ enum Kind {
 }
 
 impl Kind {
-    /// The kind of a segment with this first byte.
+    /// The type of the segment that begins with this byte.
     #[inline(always)]
     fn of(first: u8) -> Option<Kind>
         ensures { result ≡ kind_of (first / 4 * 4) }
@@ -121,7 +125,7 @@ impl Kind {
         }
     }
 
-    /// The segment of this kind with a value of 16 bits.
+    /// The segment of this type with a 16-bit value.
     #[inline(always)]
     fn segment(self, value: u16) -> Segment
         ensures { result ≡ segment_of_kind self value }
@@ -135,7 +139,7 @@ impl Kind {
     }
 }
 
-/// The segment at the front, and what follows it.
+/// Reads the segment at the front. Returns it with the rest.
 #[inline(always)]
 #[tactic(auto, unfolding(crate::specs::PathReading::segment_of))]
 fn first_segment(bytes: &[u8]) -> Result<(Segment, &[u8]), PathFault>
@@ -147,7 +151,7 @@ fn first_segment(bytes: &[u8]) -> Result<(Segment, &[u8]), PathFault>
     let Some(kind) = Kind::of(*first) else {
         return Err(PathFault::Segment);
     };
-    // bits 1 and 0 are the format of the value (segments)
+    // Bits 1 and 0 of the first byte are the format of the value.
     match *first % 4 {
         0 => {
             let (value, rest) = value8(bytes)?;
@@ -157,7 +161,7 @@ fn first_segment(bytes: &[u8]) -> Result<(Segment, &[u8]), PathFault>
             let (value, rest) = value16(bytes)?;
             Ok((kind.segment(value), rest))
         }
-        // an instance alone has 32 bits (segments)
+        // Only an instance may have a 32-bit value.
         2 if kind == Kind::Instance => {
             let (value, rest) = value32(bytes)?;
             Ok((Segment::Instance(value), rest))
@@ -166,7 +170,7 @@ fn first_segment(bytes: &[u8]) -> Result<(Segment, &[u8]), PathFault>
     }
 }
 
-/// The class, which comes first, and what follows it. (Volume 1, order of logical segments.)
+/// Reads the class, which comes first. Returns it with the rest. (Volume 1, order of logical segments.)
 #[inline(always)]
 #[tactic(auto, unfolding(crate::specs::PathReading::class_of))]
 fn class(bytes: &[u8]) -> Result<(u16, &[u8]), PathFault>
@@ -178,7 +182,7 @@ fn class(bytes: &[u8]) -> Result<(u16, &[u8]), PathFault>
     }
 }
 
-/// The instance, which follows the class, and what follows it.
+/// Reads the instance, which follows the class. Returns it with the rest.
 #[inline(always)]
 #[tactic(auto, unfolding(crate::specs::PathReading::instance_of))]
 fn instance(bytes: &[u8]) -> Result<(u32, &[u8]), PathFault>
@@ -190,7 +194,7 @@ fn instance(bytes: &[u8]) -> Result<(u32, &[u8]), PathFault>
     }
 }
 
-/// The attribute at the front, if one stands there. Another segment is left where it is.
+/// Reads the attribute, if the next segment is one. Any other segment is left for the next reader.
 #[inline(always)]
 #[tactic(auto, unfolding(crate::specs::PathReading::attribute_of))]
 fn attribute(bytes: &[u8]) -> Result<(Option<u16>, &[u8]), PathFault>
@@ -205,7 +209,7 @@ fn attribute(bytes: &[u8]) -> Result<(Option<u16>, &[u8]), PathFault>
     }
 }
 
-/// The member at the front, if one stands there. Another segment is left where it is.
+/// Reads the member, if the next segment is one. Any other segment is left for the next reader.
 #[inline(always)]
 #[tactic(auto, unfolding(crate::specs::PathReading::member_of))]
 fn member(bytes: &[u8]) -> Result<(Option<u16>, &[u8]), PathFault>
@@ -220,7 +224,8 @@ fn member(bytes: &[u8]) -> Result<(Option<u16>, &[u8]), PathFault>
     }
 }
 
-/// The path, where nothing follows it. What follows is told from a segment out of order first.
+/// The path, if nothing follows it. A malformed segment after it is reported as such, before a segment out of
+/// order.
 #[inline(always)]
 #[tactic(auto, unfolding(crate::specs::PathReading::whole_of))]
 fn whole(path: Path, bytes: &[u8]) -> Result<Path, PathFault>
@@ -233,19 +238,19 @@ fn whole(path: Path, bytes: &[u8]) -> Result<Path, PathFault>
     Err(PathFault::Order)
 }
 
-/// The path that the bytes spell, all of the bytes.
+/// Reads all of the bytes as a path.
 #[inline(always)]
 pub fn read_path(bytes: &[u8]) -> Result<Path, PathFault>
-    // What is read is spelled so, and what is spelled so is read.
+    // A path is read if and only if the bytes spell it.
     ensures path { (p : Path) → (result ≡ Ok p) ↔ IsPath p bytes.now }
-    // Which fault it is.
+    // Each fault is answered if and only if it is the first one.
     ensures refused { (k : PathFault) → (result ≡ Err k) ↔ path_fault k bytes.now }
     ensures exact { result ≡ path_of bytes.now }
 {
     path_at(bytes)
 }
 
-/// The path that the bytes spell, as a computation.
+/// Reads all of the bytes as a path: the computation.
 #[inline(always)]
 #[tactic(auto, unfolding(crate::specs::PathReading::path_of))]
 fn path_at(bytes: &[u8]) -> Result<Path, PathFault>
@@ -264,7 +269,7 @@ fn path_at(bytes: &[u8]) -> Result<Path, PathFault>
     whole(path, rest)
 }
 
-/// How many bytes the shortest spelling of a value of 16 bits has, its first byte included.
+/// The size of the shortest spelling of a segment with a 16-bit value, in bytes.
 fn size16(value: u16) -> usize
     ensures size { (first : ℕ) → result ≡ length (short16 first value) }
     ensures small { result ≤ 6 }
@@ -273,7 +278,7 @@ fn size16(value: u16) -> usize
     if value < 0x100 { 2 } else { 4 }
 }
 
-/// The same of a value of 32 bits.
+/// The same for a 32-bit value.
 fn size32(value: u32) -> usize
     ensures size { (first : ℕ) → result ≡ length (short32 first value) }
     ensures small { result ≤ 6 }
@@ -288,7 +293,7 @@ fn size32(value: u32) -> usize
     }
 }
 
-/// The same of a value that may be missing.
+/// The same for an optional value.
 fn size_optional(value: Option<u16>) -> usize
     ensures size { (first : ℕ) → result ≡ length (short_optional first value) }
     ensures small { result ≤ 6 }
@@ -300,7 +305,7 @@ fn size_optional(value: Option<u16>) -> usize
     }
 }
 
-/// Appends the shortest spelling of a value of 16 bits, `first` being that of 8 bits.
+/// Appends the shortest spelling of a segment with a 16-bit value. `first` is its first byte in 8-bit format.
 fn append16<const N: usize>(out: &mut ArrayVec<u8, N>, first: u8, value: u16)
     requires first { first < 2 ^ 7 }
     requires capacity { array_vec_len out.old + length (short16 first value) ≤ N }
@@ -314,7 +319,7 @@ fn append16<const N: usize>(out: &mut ArrayVec<u8, N>, first: u8, value: u16)
     }
 }
 
-/// The same of a value of 32 bits.
+/// The same for a 32-bit value.
 fn append32<const N: usize>(out: &mut ArrayVec<u8, N>, first: u8, value: u32)
     requires first { first < 2 ^ 7 }
     requires capacity { array_vec_len out.old + length (short32 first value) ≤ N }
@@ -328,7 +333,7 @@ fn append32<const N: usize>(out: &mut ArrayVec<u8, N>, first: u8, value: u32)
     }
 }
 
-/// The same of a value that may be missing.
+/// The same for an optional value.
 fn append_optional<const N: usize>(out: &mut ArrayVec<u8, N>, first: u8, value: Option<u16>)
     requires first { first < 2 ^ 7 }
     requires capacity { array_vec_len out.old + length (short_optional first value) ≤ N }
@@ -343,7 +348,7 @@ fn append_optional<const N: usize>(out: &mut ArrayVec<u8, N>, first: u8, value: 
 ///
 /// # Errors
 ///
-/// `Full` where it doesn't fit, and then nothing is written.
+/// `Full` if it does not fit. Then nothing is written.
 #[tactic(auto, unfolding(crate::specs::PathWriting::short))]
 pub fn write_path<const N: usize>(out: &mut ArrayVec<u8, N>, path: Path) -> Result<(), Full>
     ensures fits { IsOk result ↔ (array_vec_len out.old + length (short path) ≤ N) }

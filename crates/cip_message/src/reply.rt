@@ -15,36 +15,42 @@ use byteorder::{ByteOrder, LittleEndian};
 use cip_bytes::{Full, append};
 use thiserror::Error;
 
-/// A reply as it lies in a text: the request's service with bit 7 set, the general status, the
-/// additional status words as bytes (two each, least first), and the data.
+/// A reply, lent from the bytes that spell it.
+///
+/// ```
+/// let reply = ReplyView::read(&[0x8e, 0, 0, 0, 0x34, 0x12])?;
+/// assert_eq!(rt; reply.service, reply_service(0x0e));
+/// assert_eq!(rt; reply.status, 0);
+/// assert_eq!(rt; reply.data, [0x34, 0x12].as_slice());
+/// ```
 #[derive(Clone, Copy, Debug)]
 pub struct ReplyView<'a> {
     /// The request's service with bit 7 set.
     pub service: u8,
     /// The general status.
     pub status: u8,
-    /// The additional status words, two bytes each, least first.
+    /// The additional status words: two bytes each, least first.
     pub additional: &'a [u8],
     /// The data of the reply.
     pub data: &'a [u8],
 }
 
-/// Why a text is no reply: the first of these that holds.
+/// Why bytes are not a reply: the first of these that holds.
 #[derive(Clone, Copy, Debug, PartialEq, Eq, Error)]
 pub enum ReplyFault {
-    /// Fewer than the four bytes before the additional words.
+    /// There are fewer than the four bytes before the additional status words.
     #[error("shorter than a reply's first four bytes")]
     Short = 1,
     /// Bit 7 of the service is clear.
     #[error("not a reply")]
     NotReply = 2,
-    /// The additional words go past the end.
+    /// The additional status words go past the end.
     #[error("the additional words go past the end")]
     Extra = 3,
 }
 
 impl ReplyFault {
-    /// The number of the fault, by which it is printed.
+    /// The fault's number, as printed.
     pub fn number(self) -> u8
         ensures { result ≡ reply_fault_number self }
     {
@@ -53,10 +59,10 @@ impl ReplyFault {
 }
 
 impl<'a> ReplyView<'a> {
-    /// The reply that is the whole text. Words and data are lent from it; the reserved byte may have
-    /// any value.
+    /// Reads all of the bytes as a reply. Additional words and data are lent from the bytes. The reserved byte may
+    /// have any value.
     pub fn read(bytes: &'a [u8]) -> Result<ReplyView<'a>, ReplyFault>
-        // What is read is spelled so, and what is spelled so is read.
+        // A reply is read if and only if the bytes spell it.
         ensures reply { (a : Reply) → Gives view result (Ok a) ↔ SpellsReply a bytes.now }
         ensures short { Gives view result (Err ReplyFault.Short) ↔ (length bytes.now < 4) }
         ensures not_reply { Gives view result (Err ReplyFault.NotReply)
@@ -65,13 +71,13 @@ impl<'a> ReplyView<'a> {
             ↔ ((4 ≤ length bytes.now) × (128 ≤ slice_index bytes.now 0)
             × (length bytes.now < 4 + 2 * slice_index bytes.now 3)) }
         ensures exact { Gives view result (reply_of bytes.now) }
-        // The bytes of the additional words are no more than those.
+        // The additional words are an even number of bytes.
         ensures whole_words { IfOk result (λ v. length v.additional.now % 2 ≡ 0) }
     {
         reply_at(bytes)
     }
 
-    /// The additional status word at that place, if there is one.
+    /// The additional status word at this index, if there is one. Indices start at 0.
     pub fn additional_word(&self, index: usize) -> Option<u16>
         ensures { result ≡ slice_get (view self.now).additional index }
     {
@@ -83,7 +89,7 @@ impl<'a> ReplyView<'a> {
     }
 }
 
-/// The reply that is the whole text, as a computation.
+/// Reads all of the bytes as a reply: the computation.
 #[tactic(auto, using(crate::proofs::Replies::even_front), unfolding(crate::specs::Reply::reply_of))]
 fn reply_at(bytes: &[u8]) -> Result<ReplyView<'_>, ReplyFault>
     ensures exact { Gives view result (reply_of bytes.now) }
@@ -92,11 +98,11 @@ fn reply_at(bytes: &[u8]) -> Result<ReplyView<'_>, ReplyFault>
     let [service, _reserved, status, words, rest @ ..] = bytes else {
         return Err(ReplyFault::Short);
     };
-    // bit 7 tells a reply from a request (message router)
+    // Bit 7 of the service distinguishes a reply from a request.
     if *service < 0x80 {
         return Err(ReplyFault::NotReply);
     }
-    // the reserved byte may have any value; the additional status is counted in words (message router)
+    // The reserved byte may have any value. The size of the additional status is in words.
     let size = 2 * usize::from(*words);
     if rest.len() < size {
         return Err(ReplyFault::Extra);
@@ -109,7 +115,7 @@ fn reply_at(bytes: &[u8]) -> Result<ReplyView<'_>, ReplyFault>
     })
 }
 
-/// Appends the words, each of two bytes, least first.
+/// Appends the words, two bytes each, least first.
 fn append_words<const N: usize>(out: &mut ArrayVec<u8, N>, words: &[u16])
     requires { array_vec_len out.old + 2 * length words.now ≤ N }
     ensures words { out.new.items ≡ out.old.items ++ flat_map (le 2) words.now }
@@ -120,8 +126,8 @@ fn append_words<const N: usize>(out: &mut ArrayVec<u8, N>, words: &[u16])
     }
 }
 
-/// The service of the reply to a request of this service: bit 7 is set.
-/// (Volume 1, message router response format.)
+/// The service of the reply to a request with this service: bit 7 is set. (Volume 1, message router response
+/// format.)
 pub fn reply_service(service: u8) -> u8
     ensures { result ≡ reply_service service }
 {
@@ -132,12 +138,12 @@ pub fn reply_service(service: u8) -> u8
     }
 }
 
-/// Appends the whole reply to a request of this service: the service with bit 7 set, the reserved byte 0,
-/// the general status, the additional status words, and the data.
+/// Appends a whole reply to a request with this service: the service with bit 7 set, the reserved byte 0, the
+/// general status, the additional status words, and the data.
 ///
 /// # Errors
 ///
-/// `Full` where the reply doesn't fit, and then nothing is written.
+/// `Full` if the reply does not fit. Then nothing is written.
 #[tactic(auto, using(crate::proofs::Replies::length_words))]
 pub fn write_reply<const N: usize>(
     out: &mut ArrayVec<u8, N>,
@@ -152,7 +158,7 @@ pub fn write_reply<const N: usize>(
     ensures ok { OnOk result
         (out.new.items ≡ out.old.items ++ reply (reply_to service status additional.now «data».now)) }
     ensures err { OnErr result (out.new ≡ out.old) }
-    // It is a reply's spelling, and is read as that reply.
+    // What is written spells a reply, and reads as that reply again.
     ensures spelled { SpellsReply (reply_to service status additional.now «data».now)
         (reply (reply_to service status additional.now «data».now)) }
     ensures again { reply_of (reply (reply_to service status additional.now «data».now))

@@ -11,21 +11,27 @@ use arrayvec::ArrayVec;
 use cip_bytes::{Full, append, append_u8};
 use thiserror::Error;
 
-/// A request as it lies in a text: its service, the bytes of its path, and its data.
+/// A request, lent from the bytes that spell it.
+///
+/// ```
+/// let request = RequestView::read(&[0x0e, 0x03, 0x20, 0x01, 0x24, 0x01, 0x30, 0x01])?;
+/// assert_eq!(rt; request.service, 0x0e);
+/// let path = read_path(request.path); // class 1, instance 1, attribute 1
+/// ```
 #[derive(Clone, Copy, Debug)]
 pub struct RequestView<'a> {
-    /// The service, bit 7 of which is clear in a request.
+    /// The service. Bit 7 is clear in a request.
     pub service: u8,
-    /// The bytes of the path, of whole words.
+    /// The bytes of the path: an even number, as a path is whole 16-bit words.
     pub path: &'a [u8],
     /// The data of the service.
     pub data: &'a [u8],
 }
 
-/// Why a text is no request.
+/// Why bytes are not a request.
 #[derive(Clone, Copy, Debug, PartialEq, Eq, Error)]
 pub enum RequestFault {
-    /// Fewer than the two bytes before the path.
+    /// There are fewer than the two bytes before the path.
     #[error("shorter than a request's first two bytes")]
     Short = 1,
     /// The path goes past the end.
@@ -34,7 +40,7 @@ pub enum RequestFault {
 }
 
 impl RequestFault {
-    /// The number of the fault, by which it is printed.
+    /// The fault's number, as printed.
     pub fn number(self) -> u8
         ensures { result ≡ request_fault_number self }
     {
@@ -43,9 +49,9 @@ impl RequestFault {
 }
 
 impl<'a> RequestView<'a> {
-    /// The request that is the whole text. Path and data are lent from it.
+    /// Reads all of the bytes as a request. Path and data are lent from the bytes.
     pub fn read(bytes: &'a [u8]) -> Result<RequestView<'a>, RequestFault>
-        // What is read is spelled so, and what is spelled so is read.
+        // A request is read if and only if the bytes spell it.
         ensures request { (q : Request) → Gives view result (Ok q) ↔ (IsRequest q × (bytes.now ≡ request q)) }
         ensures short { Gives view result (Err RequestFault.Short) ↔ (length bytes.now < 2) }
         ensures path_size { Gives view result (Err RequestFault.PathSize)
@@ -55,11 +61,11 @@ impl<'a> RequestView<'a> {
         request_at(bytes)
     }
 
-    /// Appends the request's spelling. The path is whole words, at most 255 of them.
+    /// Appends the request. The path must be whole words, at most 255 of them.
     ///
     /// # Errors
     ///
-    /// `Full` where the request doesn't fit, and then nothing is written.
+    /// `Full` if the request does not fit. Then nothing is written.
     #[tactic(auto, using(crate::proofs::Requests::length_parts))]
     pub fn write<const N: usize>(&self, out: &mut ArrayVec<u8, N>) -> Result<(), Full>
         requires whole_words { length self.now.path.now % 2 ≡ 0 }
@@ -82,7 +88,7 @@ impl<'a> RequestView<'a> {
     }
 }
 
-/// The request that is the whole text, as a computation.
+/// Reads all of the bytes as a request: the computation.
 #[tactic(auto, unfolding(crate::specs::Request::request_of))]
 fn request_at(bytes: &[u8]) -> Result<RequestView<'_>, RequestFault>
     ensures { Gives view result (request_of bytes.now) }
@@ -90,7 +96,7 @@ fn request_at(bytes: &[u8]) -> Result<RequestView<'_>, RequestFault>
     let [service, words, rest @ ..] = bytes else {
         return Err(RequestFault::Short);
     };
-    // the path is counted in words of two bytes (message router)
+    // The path size is in words of two bytes.
     let size = 2 * usize::from(*words);
     if rest.len() < size {
         return Err(RequestFault::PathSize);

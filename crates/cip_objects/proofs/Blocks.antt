@@ -1,4 +1,4 @@
--- The first assembly of an instance number, by its place.
+-- The first assembly with an instance number, by its index.
 use Rattle.std.proofs.Common.{◌≡◌, ℕ, zero, suc, ◌<◌, eqb, true, false, cond, List, [], ◌∷◌, length, get_or, Some, None, refl, ap, ◌∙◌, arith}
 use Rattle.std.proofs.lemmas.Bool.Decides.{nat_tests}
 use Rattle.cip_objects.specs.Entries.{AssemblyValues, assembly_at}
@@ -10,7 +10,7 @@ eqb-same a b h = grind (arith, nat_tests)
 pub eqb-other : (a b : ℕ) → (a ≡ b → ⊥) → eqb a b ≡ false
 eqb-other a b h = grind (arith, nat_tests)
 
--- where no block has the number, there is none of it
+-- if no assembly has the number, none is found
 pub none_at : (bs : List AssemblyValues) (i : ℕ) → ((k : ℕ) (d : AssemblyValues) → k < length bs → (get_or bs k d).instance ≡ i → ⊥) → assembly_at i bs ≡ None
 none_at [] i h = refl
 none_at (b ∷ bs) i h =

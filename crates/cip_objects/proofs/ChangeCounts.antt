@@ -1,4 +1,4 @@
--- The changes of an assembly over a run of requests.
+-- The changes of an assembly over a list of requests.
 use Rattle.std.proofs.Common.{◌≡◌, ℕ, ◌+◌, ◌%◌, ◌^◌, ◌<◌, ◌⊎◌, inl, inr, eqb, Bool, true, false, cond, ◌&&◌, ◌||◌, nat_lt, List, [], ◌∷◌, length, Option, Some, None, option_map, Result, Ok, Err, refl, sym, ap, ◌∙◌, arith, subst}
 use Rattle.std.proofs.Math.Nat.{mod-eq_of_lt}
 use Rattle.std.proofs.lemmas.Bool.Decides.{nat_tests}
@@ -29,7 +29,7 @@ use Rattle.cip_objects.proofs.Executed.{answered_by}
 use Rattle.cip_objects.proofs.Offers.{table, offered}
 use Rattle.cip_objects.proofs.Refuses.{no_success}
 
--- the count of i once a change was counted where t says so
+-- the count of i, after a change was counted if t says so
 abbrev counted_if : Bool → Option ℕ → Option ℕ
 counted_if t now = cond t (option_map one_more now) now
 
@@ -62,7 +62,7 @@ counted_read i j (t ∷ ts) =
     ∙ by_tests (eqb t.instance j) (eqb t.instance i) (eqb j i) t.changes (changes_of i ts) (changes_of i (counted_in j ts))
     (same_test t.instance i j) (other_test t.instance i j) (counted_read i j ts)
 
--- what a request that went well did to the count of an assembly
+-- the effect of a request that succeeded on the count of an assembly
 record Effect (m : Contents) (i : ℕ) (text : List ℕ) (o : Outcome) : Type 0 where
   count : changes_of i o.after.changes ≡ counted_if (sets_data i (request_of text)) (changes_of i m.changes)
   done : (o.status ≡ Whole) ⊎ (sets_data i (request_of text) ≡ false)
@@ -74,7 +74,7 @@ a_setting : (i : ℕ) (text : List ℕ) (q : Request) (p : Path) → request_of 
 a_setting i text q p e f h =
     ap (sets_data i) e ∙ ap (λ t. t && leads_to i (path_of q.path)) h ∙ ap (leads_to i) f
 
--- a request of another service leaves the counts
+-- a request of another service does not change the counts
 unmoved : (m : Contents) (i : ℕ) (text : List ℕ) (o : Outcome) (q : Request) → request_of text ≡ Ok q → eqb q.service 0x10 || eqb q.service 0x19 ≡ false → o.after.changes ≡ m.changes → Effect m i text o
 unmoved m i text o q e h same =
     let none = no_setting i text q e h in
@@ -149,7 +149,7 @@ effect m i text o e =
     let g = goes m text o e in
     by_service m i text o g.request g.path g.service g.is_request g.is_path g.is_chosen (chosen_code m.shapes g.path.class g.path.instance g.request.service g.service g.is_chosen) g.is_performed
 
--- what one execution does to the count, told by the request and its reply
+-- the effect of one execution on the count, by the request and its reply
 record Stepped (m : Contents) (i : ℕ) (text : List ℕ) (x : Executed) : Type 0 where
   count : changes_of i x.after.changes ≡ counted_if (is_write i text x.answer) (changes_of i m.changes)
 
@@ -196,7 +196,7 @@ twice a b c = omega arith
 below : (n : ℕ) → n % 2 ^ 32 < 2 ^ 32
 below n = omega arith
 
--- the changes count, over every run
+-- the changes count the writes, over every list of requests
 pub changes_count : changes_law
 changes_count m [] i n e h = e ∙ ap (λ k. Some k) (small n h)
 changes_count m (r ∷ requests) i n e h =

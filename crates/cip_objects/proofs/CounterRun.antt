@@ -1,4 +1,4 @@
--- The counter over a run of requests.
+-- The counter over a list of requests.
 use Rattle.std.proofs.Common.{◌≡◌, ℕ, ◌+◌, ◌%◌, ◌^◌, ◌<◌, ◌≤◌, ◌⊎◌, inl, inr, eqb, Bool, true, false, cond, ◌&&◌, nat_lt, List, [], ◌∷◌, length, Option, Some, None, is_some, option_map, unwrap_or, Result, Ok, Err, refl, sym, ap, ◌∙◌, arith, subst, suc, take, drop, ◌*◌}
 use Rattle.std.proofs.Math.Nat.{mod-eq_of_lt}
 use Rattle.std.proofs.lemmas.Bool.Decides.{nat_tests}
@@ -85,7 +85,7 @@ added_by text = option_map (little_number 4) (to_counter 0x32 (request_of text))
 abbrev pub clears_by : List ℕ → Bool
 clears_by text = is_some (to_counter 0x33 (request_of text))
 
--- what a request that went well did to the counter
+-- the effect of a request that succeeded on the counter
 pub record Effect (m : Contents) (text : List ℕ) (o : Outcome) : Type 0 where
   pub value : value_of o.after ≡ cond (clears_by text) 0 (value_of m + unwrap_or (added_by text) 0)
   pub additions : additions_of o.after ≡ (additions_of m + cond (is_some (added_by text)) 1 0) % 2 ^ 32
@@ -106,7 +106,7 @@ to_it code text q p e f h c i =
 small : (n : ℕ) → n < 2 ^ 32 → n ≡ (n + 0) % 2 ^ 32
 small n h = let e : n + 0 ≡ n = omega arith in sym (ap (λ k. k % 2 ^ 32) e ∙ mod-eq_of_lt h)
 
--- a request that wasn't for the counter's value
+-- a request that was not for the counter's value
 quiet : (m : Contents) (text : List ℕ) (o : Outcome) → to_counter 0x32 (request_of text) ≡ None → to_counter 0x33 (request_of text) ≡ None → value_of o.after ≡ value_of m → additions_of o.after ≡ additions_of m → additions_of m < 2 ^ 32 → IsCounter o.after → Effect m text o
 quiet m text o na nc v a h counter = record {
   value = v ∙ let e : value_of m ≡ value_of m + 0 = omega arith in e ∙ sym (ap (λ x. cond (is_some x) 0 (value_of m + unwrap_or (added_by text) 0)) nc ∙ ap (λ x. value_of m + unwrap_or (option_map (little_number 4) x) 0) na);
@@ -118,7 +118,7 @@ quiet m text o na nc v a h counter = record {
 counter_like : (m n : Contents) → value_of n ≡ value_of m → limit_of n ≡ limit_of m → additions_of n ≡ additions_of m → IsCounter m → IsCounter n
 counter_like m n v l a h = record { within = omega (arith, h.within); limit = omega (arith, h.limit); additions = omega (arith, h.additions) }
 
--- a request of another service that left the counter's numbers
+-- a request of another service that did not change the counter's numbers
 unmoved : (m : Contents) (text : List ℕ) (o : Outcome) (q : Request) → request_of text ≡ Ok q → eqb q.service 0x32 ≡ false → eqb q.service 0x33 ≡ false → value_of o.after ≡ value_of m → limit_of o.after ≡ limit_of m → additions_of o.after ≡ additions_of m → IsCounter m → Effect m text o
 unmoved m text o q e na nc v l a h =
     quiet m text o (to_other 0x32 text q e na) (to_other 0x33 text q e nc) v a h.additions (counter_like m o.after v l a h)
@@ -242,13 +242,13 @@ effect m text o hc hb e =
     let g = goes m text o e in
     by_service m text o g.request g.path g.service hc (data_bytes text g.request hb g.is_request) g.is_request g.is_path g.is_chosen (chosen_code m.shapes g.path.class g.path.instance g.request.service g.service g.is_chosen) g.is_performed
 
--- what one execution does to the counter, told by the request and its reply
+-- the effect of one execution on the counter, by the request and its reply
 record Stepped (m : Contents) (text : List ℕ) (x : Executed) : Type 0 where
   value : value_of x.after ≡ sum_after (value_of m) text x.answer
   additions : additions_of x.after ≡ (additions_of m + cond (is_some (addition text x.answer)) 1 0) % 2 ^ 32
   counter : IsCounter x.after
 
--- a reply that isn't a success tells of nothing
+-- a reply that is not a success counts for nothing
 silent : (m : Contents) (text reply : List ℕ) → IsCounter m → eqb (general_status reply) 0 ≡ false → Stepped m text (record { after = m; answer = reply })
 silent m text reply h e = record {
   value = (let n : value_of m ≡ value_of m + 0 = omega arith in n)
@@ -296,7 +296,7 @@ stepped m max_size text h b = by_outcome m max_size text (outcome m text) h (λ 
 twice : (a b c : ℕ) → ((a + b) % 2 ^ 32 + c) % 2 ^ 32 ≡ (a + (b + c)) % 2 ^ 32
 twice a b c = omega arith
 
--- the counter counts, over every run
+-- the counter counts, over every list of requests
 pub counts : counter_law
 counts m [] h b = record {
   value = refl;

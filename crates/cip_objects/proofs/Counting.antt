@@ -10,7 +10,7 @@ use Rattle.cip_objects.proofs.Blocks.{eqb-same, eqb-other}
 use Rattle.cip_objects.proofs.Lookup.{blocks_of}
 use Rattle.cip_objects.proofs.Writes.{assembled}
 
--- the assemblies with one more change at one place
+-- the assemblies with one more change at one index
 abbrev pub with_count : List AssemblyValues → ℕ → List AssemblyValues
 with_count [] k = []
 with_count (b ∷ bs) zero = record b { changes = one_more b.changes } ∷ bs
@@ -65,7 +65,7 @@ count_written d bs c i k e f =
       changes = tallies-count bs i k e f j;
     }
 
--- the contents once a change of the first assembly of a number was counted
+-- the contents after a change of the first assembly with a number was counted
 pub count_set : (d : IdentityValues) (bs : List AssemblyValues) (c : CounterValues) (m : Contents) (i k : ℕ) (b new : AssemblyValues) → contents_of d bs c ≡ m → IsFirst (λ b. b.instance) bs i k → b ≡ get_or bs k b → new ≡ record b { changes = one_more b.changes } → contents_of d (set bs k new) c ≡ counted m ASSEMBLY i
 count_set d bs c m i k b new is f here e =
     ap (λ x. contents_of d (set bs k x) c) (e ∙ ap (λ (x : AssemblyValues). record x { changes = one_more x.changes }) here)

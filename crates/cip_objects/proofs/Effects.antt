@@ -1,4 +1,4 @@
--- What each service that went well has left.
+-- The effect of each service that succeeded.
 use Rattle.std.proofs.Common.{◌≡◌, ℕ, ◌+◌, ◌≤◌, eqb, Bool, true, false, cond, nat_le, List, [], ◌∷◌, length, Option, Some, None, Result, Ok, Err, refl, sym, ap, ◌∙◌, arith}
 use Rattle.std.proofs.lemmas.Bool.Decides.{nat_tests}
 use Rattle.std.specs.Option.{ok_or}
@@ -22,7 +22,7 @@ use Rattle.cip_objects.specs.Service.{service_code, service_in}
 use Rattle.cip_objects.specs.Tables.{Shape, services_of, settable_size}
 use Rattle.cip_objects.proofs.Settable.{exact_size}
 
--- what a check that held found
+-- what a check that passed found
 pub record Found {A B : Type 0} (r : Result A Refusal) (f : A → Result B Refusal) (y : B) : Type 0 where
   pub value : A
   pub first : r ≡ Ok value
@@ -132,7 +132,7 @@ clear_effect m content c e =
       answers = sym (ap (λ z. z.content) done);
     }
 
--- a service that reads leaves all as it was
+-- a service that reads changes nothing
 pub read_effect : (m : Contents) (r : Result Answer Refusal) (o : Outcome) → outcome_of_read m r ≡ Ok o → o.after ≡ m
 read_effect m (Ok a) o e = sym (ap (λ z. z.after) (same_ok _ o e))
 read_effect m (Err s) o e = absurd (cc)
@@ -156,7 +156,7 @@ change_effect (Ok c) o e = let done = same_ok (record { after = c.after; status 
     }
 change_effect (Err s) o e = absurd (cc)
 
--- the steps of a request that went well
+-- the steps of a request that succeeded
 pub record Goes (m : Contents) (text : List ℕ) (o : Outcome) : Type 0 where
   pub request : Request
   pub path : Path

@@ -11,7 +11,7 @@ use Rattle.cip_objects.specs.ExecutionLaws.{reply_of_outcome}
 use Rattle.cip_bytes.specs.Protocol.{general_status_number}
 use Rattle.cip_objects.specs.Status.{completion_status, refusal_status}
 
--- the reply once its status was put in
+-- the reply after its status was set
 abbrev pub finished : List ℕ → Result Completion Refusal → List ℕ → List ℕ
 finished text (Ok completion) reply = set reply 2 (general_status_number (completion_status completion))
 finished text (Err s) reply = reply_to text (refusal_status s) []
@@ -26,17 +26,17 @@ same_err s t e = cc
 same_ok : (o p : Outcome) → ◌≡◌ {A = Result Outcome Refusal} (Ok o) (Ok p) → o ≡ p
 same_ok o p e = cc
 
--- an outcome whose text is in the room, or isn't
+-- an outcome whose bytes fit the maximum size, or do not
 abbrev pub left_by : Bool → List ℕ → Outcome → Result Outcome Refusal
 left_by over text o = cond {A = Result (List ℕ) Refusal} over (Err ReplyDataTooLarge) (Ok (reply_to text Success [] ++ o.content))
     >>= λ content. Ok (record { after = o.after; status = o.status; content = content })
 
--- an outcome with its reply, where that is in the room
+-- an outcome with its reply, if that fits the maximum size
 abbrev pub answered_by : Bool → List ℕ → Outcome → Result Executed Refusal
 answered_by over text o = cond {A = Result (List ℕ) Refusal} over (Err ReplyDataTooLarge) (Ok (reply_of_outcome text o))
     >>= λ answer. Ok (record { after = o.after; answer = answer })
 
--- the room was too small, or it was not
+-- the maximum size was too small, or it was not
 went : (over : Bool) (m : Contents) (text : List ℕ) (o : Outcome) (new : Contents) (result : Result Completion Refusal) (reply : List ℕ) → OnErr result (new ≡ m)
     → outcome_result new result reply ≡ left_by over text o
     → IsExecuted (or_refusal m text (answered_by over text o)) text new result reply

@@ -49,7 +49,7 @@ identity_written d e bs c a v h same =
     (updates_at IDENTITY 1 a v (identity_attributes d) (identity_attributes e) h)))
     refl refl refl
 
--- vendor, device type, product code and revision stand before the status
+-- vendor, device type, product code and revision come before the status
 abbrev before_status : IdentityValues → Attributes
 before_status d =
     (1, little_bytes 2 d.vendor)

@@ -1,4 +1,4 @@
--- A list of attributes is its single gets, joined.
+-- A Get_Attribute_List is the single gets of its attributes, joined.
 use Rattle.std.proofs.Common.{◌≡◌, ℕ, ◌+◌, ◌*◌, ◌≤◌, eqb, Bool, true, false, ◌&&◌, zero, nat_le, List, [], ◌∷◌, ◌++◌, length, map, drop, flat_map, Option, Some, None, is_some, Result, Ok, Err, refl, sym, ap, ◌∙◌, arith, subst, suc}
 use Rattle.std.proofs.lemmas.List.{length-append, append_assoc, length-drop}
 use Rattle.std.specs.List.{list_all}
@@ -57,7 +57,7 @@ table_list false false false true false true x s e = refl
 table_list false false false true false false x s e = absurd (cc)
 table_list false false false false z o x s e = absurd (cc)
 
--- where a list can be got, so can one attribute
+-- if a list can be read, so can one attribute
 list_offers : (shapes : List Shape) (class instance : ℕ) (s : Service) → service_at shapes class instance 0x03 ≡ Ok s
     → service_at shapes class instance 0x0e ≡ Ok GetAttributeSingle
 unfolding service_at services_of
@@ -65,14 +65,14 @@ list_offers shapes class instance s e =
     table_list (eqb class 1) (eqb class 4) (eqb class 6) (eqb class 100) (eqb instance 0) (eqb instance 1)
     (shape_at instance shapes) s e
 
--- what a single get makes where the attribute isn't there
+-- the outcome of a single get if the attribute does not exist
 get_misses : (m : Contents) (get path : List ℕ) (p : Path) (a : ℕ) → IsRequestWith get 0x0e path [] → path_of path ≡ Ok p
     → service_at m.shapes p.class p.instance 0x0e ≡ Ok GetAttributeSingle → p.attribute ≡ Some a
     → value_at m p.class p.instance a ≡ None → outcome m get ≡ Err AttributeNotSupported
 unfolding outcome get_attribute_single
 get_misses m get path p a e f g h v = rw (e, f, g, h, v) refl
 
--- what a reply tells of one attribute
+-- what a reply says of one attribute
 record Tells (m : Contents) (p : Path) (a : ℕ) (reply : List ℕ) : Type 0 where
   entry : le 2 a ++ (le 2 (general_status reply) ++ drop 4 reply) ≡ list_entry m p a
   there : eqb (general_status reply) 0x00 ≡ has_attribute m p a
@@ -98,7 +98,7 @@ get_refuses : (m : Contents) (max_size : ℕ) (get : List ℕ) → outcome m get
 unfolding exec
 get_refuses m max_size get e = ap (λ r. (or_refusal m get (r >>= with_reply max_size get)).answer) e
 
--- the entry of an attribute that is there has its value
+-- the entry of an attribute that exists has its value
 length-list_entry : (m : Contents) (p : Path) (a : ℕ) (value : List ℕ) → value_at m p.class p.instance a ≡ Some value
     → length (list_entry m p a) ≡ 4 + length value
 unfolding list_entry
@@ -118,7 +118,7 @@ tells_of m max_size p a get None v c g h =
     told_missing m p a get (exec m max_size get).answer v
     (get_refuses m max_size get (get_misses m get g.path q a g.reads g.names c refl v))
 
--- what the single replies tell of all attributes
+-- what the single replies say of all attributes
 record TellAll (m : Contents) (p : Path) (attributes : List ℕ) (replies : List (List ℕ)) : Type 0 where
   entries : entries_of_replies attributes replies ≡ flat_map (list_entry m p) attributes
   there : list_all (λ reply. eqb (general_status reply) 0x00) replies ≡ has_all_attributes m p attributes
@@ -164,7 +164,7 @@ length-gets p (a ∷ attributes) (get ∷ gets) g = ap suc (length-gets p attrib
 same_ok : {A : Type 0} (x y : A) → ◌≡◌ {A = Result A Refusal} (Ok x) (Ok y) → x ≡ y
 same_ok x y e = cc
 
--- a list that was got
+-- a list that was read
 record Lists (m : Contents) (p : Path) (content : List ℕ) (o : Outcome) : Type 0 where
   size : length content ≡ 2 + 2 * little_number 2 content
   status : o.status ≡ list_completion (has_all_attributes m p (words_of (drop 2 content)))

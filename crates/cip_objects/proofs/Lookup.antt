@@ -13,7 +13,7 @@ use Rattle.cip_objects.specs.Entries.{IdentityValues, AssemblyValues, CounterVal
 use Rattle.cip_objects.proofs.Blocks.{first_at}
 use Rattle.cip_objects.proofs.Map.{find_append, find_at, key_total}
 
--- the contents as a reader of the objects meets them: by class, then instance, then attribute
+-- the contents in the order in which the code looks them up: by class, then instance, then attribute
 abbrev pub class_or_instance : ℕ → Option (List ℕ) → Option (List ℕ) → Option (List ℕ)
 class_or_instance instance of_class of_instance =
     if instance == 0 then of_class else (if instance == 1 then of_instance else None)
@@ -61,7 +61,7 @@ or_none (Some x) y h = refl
 eqb-turned : (a b : ℕ) → eqb a b ≡ eqb b a
 eqb-turned a b = grind (arith, nat_tests)
 
--- one block in front of the others
+-- one assembly before the others
 one_more : (class_is same : Bool) (x y : Option (List ℕ)) → (x ≡ None → y ≡ None) → option_or (cond (class_is && same) x None) (cond class_is y None) ≡ cond class_is (cond same x y) None
 one_more true true x y h = or_none x y h
 one_more true false x y h = refl

@@ -19,7 +19,7 @@ is_eq-then Less b = refl
 is_eq-then Equal b = refl
 is_eq-then Greater b = refl
 
--- two keys tie where all three numbers are equal
+-- two keys compare equal if all three numbers are equal
 pub tied : (q k : Key) → eq_by_cmp key_cmp q k ≡ eqb q.class k.class && (eqb q.instance k.instance && eqb q.attribute k.attribute)
 tied q k =
     is_eq-then (nat_cmp q.class k.class) (ordering_then (nat_cmp q.instance k.instance) (nat_cmp q.attribute k.attribute))
@@ -32,7 +32,7 @@ both_true : (a b : Bool) → a && b ≡ true → (a ≡ true) × (b ≡ true)
 both_true true b h = (refl, h)
 both_true false b h = absurd (cc)
 
--- keys that tie are equal in each number
+-- keys that compare equal are equal in each number
 pub tied_parts : (q k : Key) → eq_by_cmp key_cmp q k ≡ true → (q.class ≡ k.class) × (q.instance ≡ k.instance) × (q.attribute ≡ k.attribute)
 tied_parts q k e =
     let a = both_true (eqb q.class k.class) _ (sym (tied q k) ∙ e) in
@@ -68,7 +68,7 @@ none_either : {A : Type 0} (b : Bool) → ◌≡◌ {A = Option A} None (cond b 
 none_either true = refl
 none_either false = refl
 
--- what the entries of one instance hold
+-- the entries of one instance
 pub find_at : (q : Key) (class instance : ℕ) (attributes : Attributes) → find key_cmp q (entries_at class instance attributes) ≡ cond (eqb q.class class && eqb q.instance instance) (attribute_in q.attribute attributes) None
 find_at q class instance [] = none_either (eqb q.class class && eqb q.instance instance)
 find_at q class instance (a ∷ attributes) =

@@ -96,7 +96,7 @@ table_member false false false true false true x s e = absurd (cc)
 table_member false false false true false false x s e = absurd (cc)
 table_member false false false false z o x s e = absurd (cc)
 
--- what has members that can be set has members that can be got
+-- an assembly whose members can be set also has Get_Member
 member_offers : (shapes : List Shape) (class instance : ℕ) (s : Service) → service_at shapes class instance 0x19 ≡ Ok s
     → service_at shapes class instance 0x18 ≡ Ok GetMember
 unfolding service_at services_of
@@ -104,7 +104,7 @@ member_offers shapes class instance s e =
     table_member (eqb class 1) (eqb class 4) (eqb class 6) (eqb class 100) (eqb instance 0) (eqb instance 1)
     (shape_at instance shapes) s e
 
--- what a set of a member that went well has done
+-- what a Set_Member that succeeded has done
 pub record WasMember (m : Contents) (path value : List ℕ) (p : Path) (o : Outcome) : Type 0 where
   pub is_path : path_of path ≡ Ok p
   pub offers : service_at m.shapes p.class p.instance 0x19 ≡ Ok SetMember
@@ -144,7 +144,7 @@ was_member m set path value o e done =
       },
     )
 
--- what a get of a member makes
+-- the outcome of a Get_Member
 member_makes : (m : Contents) (get path value : List ℕ) (p : Path) (span : Span) → IsRequestWith get 0x18 path []
     → path_of path ≡ Ok p → service_at m.shapes p.class p.instance 0x18 ≡ Ok GetMember → named_member m.shapes p ≡ Ok span
     → take span.size (drop span.offset (bytes_at m 4 p.instance 3)) ≡ value
@@ -152,7 +152,7 @@ member_makes : (m : Contents) (get path value : List ℕ) (p : Path) (span : Spa
 unfolding outcome get_member
 member_makes m get path value p span e f g h v = rw (e, f, g, h, v) refl
 
--- where the member lies in the data
+-- the bytes of the member in the data
 pub fits_in : (m : Contents) (p : Path) (span : Span) → AreWhole m → Names m.shapes p span
     → span.offset + span.size ≤ length (bytes_at m 4 p.instance 3)
 fits_in m p span whole n = omega

@@ -9,11 +9,11 @@ use Rattle.cip_objects.specs.Entries.{IdentityValues, AssemblyValues, CounterVal
 use Rattle.cip_objects.specs.Run.{IsCounter}
 use Rattle.cip_objects.proofs.Lookup.{value_at-contents_of}
 
--- a number is read again from its four bytes
+-- the four bytes of a number read as that number
 pub number-bytes : (v : ℕ) → v < 2 ^ 32 → little_number 4 (little_bytes 4 v) ≡ v
 number-bytes v h = little_from-bytes 4 0 v [] ∙ ap (λ x. x % 256 ^ 4) (div-one v) ∙ mod-eq_of_lt (omega arith)
 
--- the numbers of the counter, as the contents have them
+-- the numbers of the counter, in the contents
 pub counter_read : (d : IdentityValues) (bs : List AssemblyValues) (c : CounterValues) (m : Contents) (a v : ℕ) → contents_of d bs c ≡ m → NoneIsClass bs → v < 2 ^ 32 → attribute_in a (counter_attributes c) ≡ Some (little_bytes 4 v) → v ≡ udint_at m COUNTER 1 a
 unfolding udint_at
 counter_read d bs c m a v is h small e =
@@ -21,7 +21,7 @@ counter_read d bs c m a v is h small e =
     ∙ ap (little_number 4) (sym (ap (λ o. unwrap_or o []) (value_at-contents_of d bs c h COUNTER 1 a ∙ e)))
     ∙ ap (λ x. (little_number 4) (bytes_at x COUNTER 1 a)) is
 
--- a counter to which nothing was added is one
+-- a counter with no addition yet satisfies the invariant
 pub new_counts : (d : IdentityValues) (bs : List AssemblyValues) → NoneIsClass bs → (value limit : ℕ) → value ≤ limit → limit < 2 ^ 32 → IsCounter (contents_of d bs (record { value = value; limit = limit; additions = 0 }))
 new_counts d bs h value limit within small =
     let c : CounterValues = record { value = value; limit = limit; additions = 0 } in

@@ -1,4 +1,4 @@
--- What class and instance lead to, in the contents that the objects make.
+-- What class and instance lead to, in the contents of the objects.
 use Rattle.std.specs.Prelude.{if◌then◌else◌}
 use Rattle.std.proofs.Common.{◌≡◌, ℕ, zero, suc, ◌<◌, eqb, Bool, true, false, cond, List, [], ◌∷◌, length, map, get_or}
 use Rattle.std.proofs.Common.{MatchOption, Option, Some, None, option_map, refl, sym, ap, ◌∙◌, arith, subst}
@@ -24,7 +24,7 @@ use Rattle.cip_objects.proofs.Offers.{table}
 use Rattle.cip_objects.proofs.Shapes.{shape_at-contents, shapes-contents}
 use Rattle.cip_objects.proofs.Writes.{first_above}
 
--- the objects hold these contents
+-- the objects have these contents
 abbrev Shows : Inside → Contents → Type 0
 Shows o m = contents_of o.identity (boxed_slice_items o.assemblies) (counter_values o.counter) ≡ m
 
@@ -46,7 +46,7 @@ with_shape s = record { instance = s.instance; settable = s.settable; members = 
 abbrev no_block : AssemblyValues
 no_block = record { instance = 0; settable = false; members = []; content = []; changes = 0 }
 
--- the first assembly of a number has the first shape of it
+-- the first assembly with a number has the first shape with it
 first_shape : (bs : List AssemblyValues) (i k : ℕ) → IsFirstBlock bs i k → IsFirstShape (map shape_of bs) i k
 first_shape bs i k f = record {
   within = omega (arith, f.within, length-map bs shape_of);
@@ -61,7 +61,7 @@ first_block bs i k f = record {
   before = λ j b lt e. f.before j (shape_of b) lt (ap (λ x. x.instance) (shape-get bs j b) ∙ e);
 }
 
--- the first of a number has that number
+-- the first with a number has that number
 number_here : (shapes : List Shape) (i k : ℕ) → IsFirstShape shapes i k → number_at shapes k ≡ i
 number_here [] i k f = absurd (omega (arith, f.within))
 number_here (s ∷ shapes) i zero f = f.here s
@@ -72,7 +72,7 @@ number_here (s ∷ shapes) i (suc k) f =
       before = λ j e lt. f.before (suc j) e (omega arith);
     })
 
--- an assembly that was found stands at a place, with the number that was looked for
+-- an assembly that was found is at an index, with the number that was looked up
 pub found : (o : Inside) (m : Contents) (i k : ℕ) → Shows o m → IsFirstBlock (boxed_slice_items o.assemblies) i k
     → IsAssemblyAt m.shapes i k
 found o m i k is f =
@@ -85,7 +85,7 @@ found o m i k is f =
       there = subst (λ n. IsFirstShape m.shapes n k) (sym number) first;
     }
 
--- the place where the first assembly of a number was looked for
+-- the index at which the first assembly with a number was looked up
 pub placed : (o : Inside) (m : Contents) (i : ℕ) (r : Option ℕ) → Shows o m
     → MatchOption r (assembly_at i (boxed_slice_items o.assemblies) ≡ None)
     (IsFirst (λ b. b.instance) (boxed_slice_items o.assemblies) i)
@@ -95,7 +95,7 @@ placed o m i None is h =
     ∙ ap (option_map shape_of) h
 placed o m i (Some k) is h = found o m i k is h
 
--- what stands at a place is the first of its number
+-- the assembly at the index is the first with its number
 pub first_at_place : (o : Inside) (m : Contents) (k : ℕ) → Shows o m → IsAssemblyIndex m.shapes k
     → IsFirstBlock (boxed_slice_items o.assemblies) (number_at m.shapes k) k
 first_at_place o m k is p =
@@ -103,12 +103,12 @@ first_at_place o m k is p =
     first_block (boxed_slice_items o.assemblies) (number_at m.shapes k) k
     (subst (λ ss. IsFirstShape ss (number_at m.shapes k) k) all p)
 
--- and is no farther than the assemblies go
+-- and the index is within the assemblies
 pub place_within : (o : Inside) (m : Contents) (k : ℕ) → Shows o m → IsAssemblyIndex m.shapes k
     → k < boxed_slice_len o.assemblies
 place_within o m k is p = omega (arith, o.assemblies.items.ok.0, (first_at_place o m k is p).within)
 
--- the value of an attribute of the assembly at a place
+-- the value of an attribute of the assembly at an index
 pub place_value : (o : Inside) (m : Contents) (k attribute : ℕ) (b : AssemblyValues) → Shows o m
     → NoneIsClass (boxed_slice_items o.assemblies) → IsAssemblyIndex m.shapes k
     → value_at m ASSEMBLY (number_at m.shapes k) attribute ≡ attribute_in attribute (assembly_attributes (get_or (boxed_slice_items o.assemblies) k b))
@@ -123,7 +123,7 @@ place_value o m k attribute b is h p =
     (eqb-other i 0 (let above = first_above bs i k b h f in λ z. omega arith))
     ∙ ap (block_value attribute) (first_at bs i k b f)
 
--- an instance that isn't 0 has the services of an assembly where there is one of its number
+-- an instance other than 0 has the services of an assembly, if one has its number
 services_at_number : (shapes : List Shape) (class instance : ℕ) → class ≡ 4 → (instance ≡ 0 → ⊥)
     → services_of shapes class instance ≡ option_map (λ _. assembly_services) (shape_at instance shapes)
 unfolding services_of
@@ -174,7 +174,7 @@ no_block_value : (attribute : ℕ) (o : Option AssemblyValues) → option_map sh
 no_block_value attribute None e = refl
 no_block_value attribute (Some b) e = absurd (cc)
 
--- where there are no services, no attribute is there
+-- without services there is no attribute
 pub no_value : (d : IdentityValues) (bs : List AssemblyValues) (c : CounterValues) (m : Contents) (class instance : ℕ)
     → contents_of d bs c ≡ m → NoneIsClass bs → services_of m.shapes class instance ≡ None
     → (attribute : ℕ) → value_at m class instance attribute ≡ None

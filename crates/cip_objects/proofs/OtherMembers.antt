@@ -1,4 +1,4 @@
--- A set of one member leaves the others.
+-- A Set_Member does not change other members.
 use Rattle.std.proofs.Common.{◌≡◌, ℕ, ◌+◌, ◌-◌, ◌<◌, ◌≤◌, ◌⊎◌, inl, inr, eqb, Bool, true, false, ◌&&◌, nat_lt, List, [], length, take, drop, Option, Some, unwrap_or, Result, Ok, Err, refl, sym, ap, ◌∙◌, arith, subst}
 use Rattle.std.proofs.lemmas.Bool.Decides.{nat_tests, eqb_tells}
 use Rattle.cip_message.specs.declared.path.Path.{Path}
@@ -104,7 +104,7 @@ other_assembly m n i v q e h =
 same_some : {A : Type 0} (x y : A) → ◌≡◌ {A = Option A} (Some x) (Some y) → x ≡ y
 same_some x y e = cc
 
--- another member of the same data lies before or behind
+-- another member of the same data is before or after it
 by_order : (less : Bool) (sizes old value : List ℕ) (j k : ℕ) (one written : Span) → IsAt sizes j one
     → IsAt sizes k written → length value ≡ written.size → written.offset + written.size ≤ length old → (j ≡ k → ⊥)
     → nat_lt j k ≡ less

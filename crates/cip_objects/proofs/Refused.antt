@@ -1,4 +1,5 @@
--- Replies that say neither success nor a missing attribute, the room of a reply, and what is never set.
+-- Replies that are neither a success nor an attribute list error, the maximum size of a reply, and what is never
+-- set.
 use Rattle.std.proofs.Common.{◌≡◌, ℕ, ◌≤◌, ◌⊎◌, inl, inr, Bool, true, false, nat_lt, List, length, Result, Ok, Err, refl, sym, ◌∙◌, arith, subst}
 use Rattle.std.proofs.lemmas.Bool.Decides.{nat_tests}
 use Rattle.cip_bytes.specs.Reading.{◌>>=◌}
@@ -21,7 +22,7 @@ use Rattle.cip_objects.proofs.Refuses.{IsFine}
 use Rattle.cip_objects.proofs.Effects.{goes, read_effect}
 use Rattle.cip_objects.proofs.Sets.{changes_fit}
 
--- a reply of four bytes, with the map as it was
+-- a reply of four bytes, and unchanged contents
 record IsBare (m : Contents) (x : Executed) : Type 0 where
   few : length x.answer ≡ 4
   same : x.after ≡ m
@@ -50,7 +51,7 @@ exec_bare m max_size text f g = bare m max_size text (outcome m text) (outcome m
 pub refused : refused_law
 refused m max_size text f g = let b = exec_bare m max_size text f g in (b.few, b.same)
 
--- an outcome left the map, or its reply is short
+-- an outcome did not change the contents, or its reply is short
 abbrev IsQuick : Contents → List ℕ → Outcome → Type 0
 IsQuick m text o = (o.after ≡ m) ⊎ (length (reply_of_outcome text o) ≤ 8)
 
@@ -71,7 +72,7 @@ outcome_quick m text o e =
     let g = goes m text o e in
     perform_quick m g.service g.path g.request.data text o g.is_performed
 
--- the map after an outcome, whatever the room
+-- the contents after an outcome, whatever the maximum size
 abbrev settled : Contents → Result Outcome Refusal → Contents
 settled m (Ok o) = o.after
 settled m (Err s) = m
@@ -89,7 +90,7 @@ reply_settled m max_size text (Err s) h q = refl
 reply_settled m max_size text (Ok o) h q = placed_settled
     (nat_lt max_size (length (reply_of_outcome text o))) m max_size text o refl h (q o refl)
 
--- with room for 8 bytes, the map after an execution is that of its outcome
+-- if replies may have 8 bytes or more, the contents after an execution are those of its outcome
 pub exec_settled : (m : Contents) (max_size : ℕ) (text : List ℕ) → 8 ≤ max_size
     → (exec m max_size text).after ≡ settled m (outcome m text)
 unfolding exec

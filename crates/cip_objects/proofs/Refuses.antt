@@ -61,7 +61,7 @@ either : (m : Contents) (max_size : ℕ) (text : List ℕ) (r : Result Outcome R
 either m max_size text r (Ok x) e = let p = is_outcome max_size text r x e in inr (p.made, p.is_made, p.after)
 either m max_size text r (Err s) e = inl refl
 
--- an execution leaves the contents, or what its outcome left
+-- an execution does not change the contents, or leaves those of its outcome
 pub exec_left : (m : Contents) (max_size : ℕ) (text : List ℕ)
     → ((exec m max_size text).after ≡ m) ⊎ ((o : Outcome) × (outcome m text ≡ Ok o) × ((exec m max_size text).after ≡ o.after))
 unfolding exec

@@ -60,7 +60,7 @@ is_set SetMember e = absurd (omega arith)
 is_set Add e = absurd (omega arith)
 is_set Clear e = absurd (omega arith)
 
--- what a set that went well has done
+-- what a set that succeeded has done
 record WasSet (m : Contents) (path value : List ℕ) (p : Path) (o : Outcome) : Type 0 where
   attribute : ℕ
   named : p.attribute ≡ Some attribute
@@ -106,13 +106,13 @@ table_get false false false true false true x s e = refl
 table_get false false false true false false x s e = absurd (cc)
 table_get false false false false z o x s e = absurd (cc)
 
--- what can be set can be got
+-- what can be set can be read
 offers_get : (shapes : List Shape) (class instance : ℕ) (s : Service) → service_at shapes class instance 0x10 ≡ Ok s → service_at shapes class instance 0x0e ≡ Ok GetAttributeSingle
 unfolding service_at services_of
 offers_get shapes class instance s e =
     table_get (eqb class 1) (eqb class 4) (eqb class 6) (eqb class 100) (eqb instance 0) (eqb instance 1) (shape_at instance shapes) s e
 
--- what a get makes where the attribute is there
+-- the outcome of a get if the attribute exists
 pub get_makes : (m : Contents) (get path value : List ℕ) (p : Path) (a : ℕ) → IsRequestWith get 0x0e path [] → path_of path ≡ Ok p → service_at m.shapes p.class p.instance 0x0e ≡ Ok GetAttributeSingle → p.attribute ≡ Some a → value_at m p.class p.instance a ≡ Some value → outcome m get ≡ Ok (record { after = m; status = Whole; content = value })
 unfolding outcome get_attribute_single
 get_makes m get path value p a e f g h v = rw (e, f, g, h, v) refl
@@ -134,7 +134,7 @@ unfolding exec
 got m later get value e h =
     ap (λ r. (or_refusal m get (r >>= with_reply later get)).answer) e ∙ fits_later m later get value h
 
--- a reply that says success is that of an outcome, which was left
+-- a reply that says success is that of an outcome, whose contents were left
 pub went_well : (m : Contents) (max_size : ℕ) (text : List ℕ) → general_status (exec m max_size text).answer ≡ 0 → (o : Outcome) × (outcome m text ≡ Ok o) × ((exec m max_size text).after ≡ o.after)
 went_well m max_size text s = let p = exec_outcome m max_size text (inl s) in (p.made, p.is_made, p.after)
 

@@ -1,4 +1,4 @@
--- What can be set, and the length that it has.
+-- What can be set, and its length.
 use Rattle.std.proofs.Common.{◌≡◌, ℕ, List, length, Some, Ok, arith}
 use Rattle.std.proofs.lemmas.Bool.Decides.{nat_tests}
 use Rattle.cip_objects.specs.Check.{check_size}

@@ -14,13 +14,13 @@ shape_at-map i (b ∷ bs) =
       | false ↦ shape_at-map i bs
     ]
 
--- the shapes in the contents that the assemblies make
+-- the shapes in the contents of these assemblies
 pub shapes-contents : (d : IdentityValues) (bs : List AssemblyValues) (c : CounterValues) (m : Contents) → contents_of d bs c ≡ m
     → m.shapes ≡ map shape_of bs
 unfolding contents_of
 shapes-contents d bs c m e = ap (λ x. x.shapes) (sym e)
 
--- how often the data of an instance were written is what its assembly tells
+-- the assembly knows how often its data were written
 pub changes_of-map : (i : ℕ) (bs : List AssemblyValues) → changes_of i (map tally_of bs) ≡ option_map (λ b. b.changes) (assembly_at i bs)
 changes_of-map i [] = refl
 changes_of-map i (b ∷ bs) =
@@ -33,6 +33,6 @@ pub changes_of-contents : (d : IdentityValues) (bs : List AssemblyValues) (c : C
 unfolding contents_of
 changes_of-contents d bs c m i e = ap (λ x. changes_of i x.changes) (sym e) ∙ changes_of-map i bs
 
--- the shape of an instance in the contents that the assemblies make
+-- the shape of an instance in the contents of these assemblies
 pub shape_at-contents : (d : IdentityValues) (bs : List AssemblyValues) (c : CounterValues) (m : Contents) (i : ℕ) → contents_of d bs c ≡ m → shape_at i m.shapes ≡ option_map shape_of (assembly_at i bs)
 shape_at-contents d bs c m i e = ap (shape_at i) (shapes-contents d bs c m e) ∙ shape_at-map i bs

@@ -1,4 +1,4 @@
--- Members of an assembly lie one behind another, and what is written to one leaves the others.
+-- Members of an assembly follow one another, and a write to one does not change the others.
 use Rattle.std.proofs.Common.{◌≡◌, ℕ, ◌+◌, ◌-◌, ◌<◌, ◌≤◌, eqb, Bool, true, false, cond, ◌||◌, nat_lt, List, ◌++◌, length, take, drop, sum, get_or, Option, Some, None, refl, sym, ap, ◌∙◌, arith}
 use Rattle.std.proofs.lemmas.Bool.Decides.{nat_tests}
 use Rattle.std.proofs.lemmas.List.{length-append, length-take-le, length-drop, append_assoc, take-take, take-append-le, take_at, drop_at, drop-take}
@@ -8,7 +8,7 @@ use Rattle.cip_objects.specs.declared.assembly.Span.{Span}
 use Rattle.cip_objects.specs.ChangeServices.{with_bytes_at}
 use Rattle.cip_objects.specs.Tables.{span_of}
 
--- the members before a place and the one at it
+-- the members before an index and the one at it
 sum-through : (sizes : List ℕ) (k : ℕ) → k < length sizes
     → sum (take (k + 1) sizes) ≡ sum (take k sizes) + get_or sizes k 0
 sum-through sizes k h = sum_by_more (λ x. x) sizes k 0 h
@@ -22,7 +22,7 @@ sum_grows sizes j k h =
     let same : sum (take j (take k sizes)) ≡ sum (take j sizes) = ap (λ xs. sum xs) (take-take j k sizes h) in
     omega (arith, part)
 
--- the member at this place, counted from 0, lies there
+-- the bytes of the member at this index, counted from 0
 pub record IsAt (sizes : List ℕ) (k : ℕ) (span : Span) : Type 0 where
   pub within : k < length sizes
   pub begins : span.offset ≡ sum (take k sizes)
@@ -87,7 +87,7 @@ slice_same old bytes k h =
     (drop_at (take k old) (bytes ++ drop (k + length bytes) old) k (length-take-le k old (omega arith)))
     ∙ take_at bytes (drop (k + length bytes) old) (length bytes) refl
 
--- what lies before it is as it was
+-- what is before it is unchanged
 pub slice_before : (old bytes : List ℕ) (k offset size : ℕ) → k + length bytes ≤ length old → offset + size ≤ k
     → take size (drop offset (with_bytes_at old k bytes)) ≡ take size (drop offset old)
 slice_before old bytes k offset size h near =
@@ -96,7 +96,7 @@ slice_before old bytes k offset size h near =
     (omega (arith, length-take-le k old (omega arith))) ∙ take-take (offset + size) k old near)
     ∙ drop-take offset size old
 
--- and so is what lies behind it
+-- and so is what is after it
 pub slice_behind : (old bytes : List ℕ) (k offset : ℕ) → k + length bytes ≤ length old → k + length bytes ≤ offset
     → drop offset (with_bytes_at old k bytes) ≡ drop offset old
 slice_behind old bytes k offset h far =

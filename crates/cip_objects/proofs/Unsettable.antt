@@ -1,4 +1,4 @@
--- What is never set stays, over every run.
+-- What is never set does not change, over every list of requests.
 use Rattle.std.proofs.Common.{◌≡◌, ℕ, ◌+◌, ◌⊎◌, inl, inr, eqb, false, ◌&&◌, List, [], ◌∷◌, length, Some, None, Result, Ok, refl, sym, ap, ◌∙◌, arith, ◌^◌, ◌%◌}
 use Rattle.std.proofs.lemmas.Bool.Decides.{nat_tests}
 use Rattle.std.specs.Option.{ok_or}
@@ -21,7 +21,7 @@ use Rattle.cip_objects.proofs.ReadAfterSet.{value_at-other}
 use Rattle.cip_objects.proofs.Settable.{exact_size}
 use Rattle.cip_objects.proofs.Refuses.{exec_left}
 
--- a set member: where it lies, and the new data of its assembly
+-- a Set_Member: the bytes of the member, and the new data of its assembly
 pub record Splices (m : Contents) (path : Path) (content : List ℕ) (c : Change) : Type 0 where
   pub span : Span
   pub all : ℕ
@@ -49,13 +49,13 @@ splices m path content c e =
       leaves = sym (ap (λ z. z.after) (same_ok _ c x.1));
     }
 
--- this key is none of those that a service changes
+-- this key is not one that a service changes
 record IsKept (shapes : List Shape) (class instance attribute : ℕ) : Type 0 where
   unsettable : settable_size shapes class instance attribute ≡ None
   no_value : (class ≡ 100) × (instance ≡ 1) × (attribute ≡ 1) → ⊥
   no_additions : (class ≡ 100) × (instance ≡ 1) × (attribute ≡ 3) → ⊥
 
--- the tables and the value at the key are as before
+-- the tables and the value at the key are unchanged
 record Keeps (m n : Contents) (class instance attribute : ℕ) : Type 0 where
   shapes : n.shapes ≡ m.shapes
   value : value_at n class instance attribute ≡ value_at m class instance attribute

@@ -1,4 +1,5 @@
--- The data of each assembly have the size of its members: from the configuration on, over every run.
+-- The size of each assembly's data is the sum of its member sizes: from the configuration on, over every list of
+-- requests.
 use Rattle.std.proofs.Common.{◌≡◌, ℕ, ◌+◌, ◌<◌, ◌⊎◌, inl, inr, eqb, Bool, true, false, cond, ◌&&◌, List, [], ◌∷◌, length, map, sum, Option, Some, None, option_map, unwrap_or, Ok, refl, sym, ap, ◌∙◌, arith, subst, ◌%◌, ◌^◌}
 use Rattle.std.proofs.lemmas.Bool.{eqb-true}
 use Rattle.std.proofs.lemmas.Bool.Decides.{eqb_tells}
@@ -59,7 +60,7 @@ at_instance m n i j v s e f h g (inr apart) =
     ∙ ap (λ o. unwrap_or o []) (value_at-other m 4 i 3 v 4 j 3 (ap (λ t. t && true) apart.0)) in
     ap length read ∙ h j s g
 
--- data of the size that the members have
+-- data whose size is the sum of the member sizes
 data_whole : (m n : Contents) (i : ℕ) (v : List ℕ) → n ≡ with_change m 4 i 3 v
     → ((t : Shape) → shape_at i m.shapes ≡ Some t → length v ≡ sum t.members) → AreWhole m → AreWhole n
 data_whole m n i v e f h j s g = at_instance m n i j v s e f h (ap (λ k. shape_at j k.shapes) (sym e) ∙ g)

@@ -9,7 +9,7 @@ words_head [] h = absurd (omega arith)
 words_head (a ∷ []) h = absurd (omega arith)
 words_head (a ∷ b ∷ rest) h = ap (λ n. n ∷ words_of rest) (omega arith)
 
--- the numbers from place k on begin with the one that stands there
+-- the numbers from index k on begin with the one at k
 pub words_step : (k : ℕ) (xs : List ℕ) → 2 * k + 2 ≤ length xs → words_of (drop (2 * k) xs) ≡ little_number 2 (drop (2 * k) xs) ∷ words_of (drop (2 * (k + 1)) xs)
 words_step k xs h =
     words_head (drop (2 * k) xs) (omega (arith, length-drop (2 * k) xs))

@@ -17,7 +17,7 @@ use Rattle.cip_objects.specs.ChangeServices.{with_bytes_at}
 use Rattle.cip_objects.proofs.Lookup.{blocks_of, value_at-contents_of}
 use Rattle.cip_objects.proofs.Map.{find_append, Updates, Absent, insert_updates, updates_front, updates_back, absent_at, updates_at}
 
--- the assemblies with these data at one place
+-- the assemblies with these data at one index
 abbrev pub with_content : List AssemblyValues → ℕ → List ℕ → List AssemblyValues
 with_content [] k v = []
 with_content (b ∷ bs) zero v = record b { content = v } ∷ bs
@@ -84,14 +84,14 @@ blocks_update (b ∷ bs) i (suc k) v d f =
     (absent_at (key ASSEMBLY i 3) ASSEMBLY b.instance (assembly_attributes b) (other_instance i b.instance (f.before 0 d (omega arith))))
     (blocks_update bs i k v d (record { within = omega (arith, f.within); here = f.here; before = λ j e lt. f.before (suc j) e (omega arith) }))
 
--- the first with that number is of no class itself
+-- the first with that number is not a class itself
 pub first_above : (bs : List AssemblyValues) (i k : ℕ) (d : AssemblyValues) → NoneIsClass bs → IsFirst (λ b. b.instance) bs i k → 0 < i
 first_above [] i k d h f = absurd (omega (arith, f.within))
 first_above (b ∷ bs) i zero d h f = let e = f.here d in omega (arith, h.0, e)
 first_above (b ∷ bs) i (suc k) d h f =
     first_above bs i k d h.1 (record { within = omega (arith, f.within); here = f.here; before = λ j e lt. f.before (suc j) e (omega arith) })
 
--- all entries, with these numbers for the class of the assemblies, these entries of the assemblies and these of the counter
+-- all entries, with these numbers for the Assembly class, these entries of the assemblies and these of the counter
 abbrev pub assembled : IdentityValues → ℕ → ℕ → Entries → Entries → Entries
 assembled d greatest number blocks counter =
     entries_at IDENTITY 0 (class_attributes 1 1 1)
@@ -189,7 +189,7 @@ additions_written d bs c v =
     counter_written d bs c (record c { additions = v }) 3 (little_bytes 4 v)
     (λ x. third_set (eqb x 1) (eqb x 2) (eqb x 3) (little_bytes 4 c.value) (little_bytes 4 c.limit) (little_bytes 4 c.additions) (little_bytes 4 v) (apart x 3 1 (λ e. omega arith)) (apart x 3 2 (λ e. omega arith)))
 
--- the data of an assembly are what the map holds at its attribute 3
+-- the data of an assembly are the value of its attribute 3
 pub content_read : (d : IdentityValues) (bs : List AssemblyValues) (c : CounterValues) (m : Contents) (i k : ℕ) (e : AssemblyValues) → contents_of d bs c ≡ m → NoneIsClass bs → IsFirst (λ b. b.instance) bs i k → bytes_at m ASSEMBLY i 3 ≡ (get_or bs k e).content
 content_read d bs c m i k e is h f =
     ap (λ x. bytes_at x ASSEMBLY i 3) (sym is)
@@ -197,7 +197,7 @@ content_read d bs c m i k e is h f =
     ∙ ap (λ t. unwrap_or (cond t (attribute_in 3 (class_attributes 2 (greatest_of bs) (length bs))) (block_value 3 (assembly_at i bs))) []) (eqb-other i 0 (let above = first_above bs i k e h f in λ z. omega arith))
     ∙ ap (λ o. unwrap_or (block_value 3 o) []) (first_at bs i k e f)
 
--- the contents once the first assembly of a number has other data
+-- the contents after the first assembly with a number got other data
 pub content_set : (d : IdentityValues) (bs : List AssemblyValues) (c : CounterValues) (m : Contents) (i k : ℕ) (b : AssemblyValues) (new : AssemblyValues) (offset : ℕ) (bytes : List ℕ) → contents_of d bs c ≡ m → NoneIsClass bs → IsFirst (λ b. b.instance) bs i k → b ≡ get_or bs k b → new ≡ record b { content = with_bytes_at b.content offset bytes } → contents_of d (set bs k new) c ≡ with_value m ASSEMBLY i 3 (with_bytes_at (bytes_at m ASSEMBLY i 3) offset bytes)
 content_set d bs c m i k b new offset bytes is h f here e =
     ap (λ x. contents_of d (set bs k x) c) (e ∙ ap (λ (x : AssemblyValues). record x { content = with_bytes_at b.content offset bytes }) here)

@@ -1,4 +1,4 @@
--- What each assembly keeps: the data have the size that the members have together.
+-- The invariant of an assembly: the size of its data is the sum of its member sizes.
 use Rattle.std.specs.Prelude.{◌≡◌, ◌≤◌, sum}
 use Rattle.std.specs.Box.{boxed_slice_items, boxed_slice_len}
 use Rattle.cip_objects.specs.Limits.{LONGEST_DATA}

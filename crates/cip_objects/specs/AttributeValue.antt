@@ -13,6 +13,6 @@ value_bytes (Udint v) = little_bytes 4 v
 value_bytes (Text size t) = size ∷ t.now
 value_bytes (Bytes t) = t.now
 
--- a value that isn't longer than the data of an assembly can be
+-- The value is not longer than an assembly's data can be.
 abbrev pub IsShort : AttributeValue → Type 0
 IsShort v = length (value_bytes v) ≤ LONGEST_DATA

@@ -1,5 +1,5 @@
--- The services that change, each by its first check that fails (Volume 1, common services; Add and Clear are the
--- counter's own).
+-- The services that change objects. In each, the first check that fails decides (Volume 1, common services; Add and
+-- Clear are the counter's own).
 use Rattle.std.specs.Prelude.{ℕ, ◌+◌, ◌%◌, ◌^◌, Bool, ◌==◌, not, ◌||◌, nat_le, List, [], ◌++◌, take, drop, length}
 use Rattle.std.specs.Prelude.{Result, Ok, Err}
 use Rattle.std.specs.Option.{ok_or}
@@ -16,7 +16,7 @@ use Rattle.cip_objects.specs.ReadServices.{named_member}
 use Rattle.cip_objects.specs.Tables.{settable_size}
 use Rattle.cip_bytes.specs.declared.protocol.TheConstants.{ASSEMBLY, COUNTER}
 
--- what a service that changes leaves, and the data of its reply
+-- The contents after a service that changes, and the data of its reply.
 pub record Change : Type 0 where
   pub after : Contents
   pub content : List ℕ
@@ -24,22 +24,22 @@ pub record Change : Type 0 where
 abbrev pub change : Contents → List ℕ → Result Change Refusal
 change after content = Ok (record { after = after; content = content })
 
--- what a call answered, with the data that its answer stands for, and the contents that it left
+-- The result of a call of the code: its return value as reply data, with the contents afterwards.
 abbrev pub change_result : {A : Type 0} → (A → List ℕ) → Contents → Result A Refusal → Result Change Refusal
 change_result bytes after (Ok x) = change after (bytes x)
 change_result bytes after (Err s) = Err s
 
--- the counter's limit is never set below its value
+-- The counter's limit is never set below its value.
 abbrev pub is_allowed : Contents → ℕ → List ℕ → Bool
 is_allowed m class content = not (class == COUNTER) || nat_le (udint_at m COUNTER 1 1) (little_number 4 content)
 
--- the counter's limit set, where that is allowed
+-- Sets the counter's limit, if that is allowed.
 abbrev pub limit_change : Contents → List ℕ → Result Change Refusal
 limit_change m content = do
   demand (is_allowed m COUNTER content) InvalidAttributeValue
   change (with_value m COUNTER 1 2 content) []
 
--- Set_Attribute_Single: the attribute has these data from then on
+-- Set_Attribute_Single: sets the attribute to these data.
 unfoldable pub set_attribute_single : Contents → Path → List ℕ → Result Change Refusal
 set_attribute_single m path content = do
   attribute ← ok_or path.attribute AttributeNotSupported
@@ -49,11 +49,11 @@ set_attribute_single m path content = do
   demand (is_allowed m path.class content) InvalidAttributeValue
   change (with_change m path.class path.instance attribute content) []
 
--- old with these bytes from a place on
+-- The list `old`, with these bytes in it from an offset on.
 abbrev pub with_bytes_at : List ℕ → ℕ → List ℕ → List ℕ
 with_bytes_at old offset bytes = take offset old ++ (bytes ++ drop (offset + length bytes) old)
 
--- Set_Member: the member has these data from then on
+-- Set_Member: sets the member to these data.
 unfoldable pub set_member : Contents → Path → List ℕ → Result Change Refusal
 set_member m path content = do
   span ← named_member m.shapes path
@@ -62,12 +62,12 @@ set_member m path content = do
   change (with_change m ASSEMBLY path.instance 3
       (with_bytes_at (bytes_at m ASSEMBLY path.instance 3) span.offset content)) []
 
--- the counter once it was added to
+-- The contents after an addition with this sum.
 abbrev pub after_add : Contents → ℕ → Contents
 after_add m total =
     with_value (with_value m COUNTER 1 1 (le 4 total)) COUNTER 1 3 (le 4 ((udint_at m COUNTER 1 3 + 1) % 2 ^ 32))
 
--- Add: the value grows by the number in the data, unless it came over the limit
+-- Add: adds the number in the data to the value, unless the sum is over the limit.
 unfoldable pub add : Contents → List ℕ → Result Change Refusal
 add m content = do
   check_size 4 content
@@ -75,7 +75,7 @@ add m content = do
   change (after_add m (udint_at m COUNTER 1 1 + little_number 4 content))
       (le 4 (udint_at m COUNTER 1 1 + little_number 4 content))
 
--- Clear: the value is 0, and the old one is answered
+-- Clear: sets the value to 0 and answers the old value.
 unfoldable pub clear : Contents → List ℕ → Result Change Refusal
 clear m content = do
   check_size 0 content

@@ -1,4 +1,4 @@
--- The changes of an assembly over a run of requests: how many of them wrote its data.
+-- The changes of an assembly over a list of requests: how many of them wrote its data.
 use Rattle.std.specs.Prelude.{◌≡◌, ℕ, ◌+◌, ◌%◌, ◌^◌, ◌<◌, Bool, false, ◌&&◌, ◌||◌, ◌==◌, if◌then◌else◌, List, [], ◌∷◌}
 use Rattle.std.specs.Prelude.{Some, Result, Ok, Err}
 use Rattle.cip_message.specs.declared.path.Path.{Path}
@@ -16,23 +16,24 @@ abbrev pub leads_to : ℕ → Result Path PathFault → Bool
 leads_to instance (Ok p) = (p.class == ASSEMBLY) && (p.instance == instance)
 leads_to instance (Err f) = false
 
--- the request sets data of this assembly: Set_Attribute_Single, by which nothing else of it can be set, or Set_Member
+-- The request is to set data of this assembly: a Set_Attribute_Single, which can set nothing else of it, or a
+-- Set_Member.
 abbrev pub sets_data : ℕ → Result Request RequestFault → Bool
 sets_data instance (Ok q) = ((q.service == 0x10) || (q.service == 0x19)) && leads_to instance (path_of q.path)
 sets_data instance (Err f) = false
 
--- it did: its reply says success
+-- It set them: its reply says success.
 abbrev pub is_write : ℕ → List ℕ → List ℕ → Bool
 is_write instance request reply = (general_status reply == 0) && sets_data instance (request_of request)
 
--- how many requests wrote its data
+-- How many requests wrote the assembly's data.
 abbrev pub number_of_writes : ℕ → List (ℕ × List ℕ) → List (List ℕ) → ℕ
 number_of_writes instance [] replies = 0
 number_of_writes instance (r ∷ requests) [] = 0
 number_of_writes instance (r ∷ requests) (reply ∷ replies) =
     (if is_write instance r.1 reply then 1 else 0) + number_of_writes instance requests replies
 
--- For every list of requests: the changes of an assembly count those that wrote its data, modulo 2^32, and nothing else.
+-- For every list of requests, the changes of an assembly count exactly those that wrote its data, modulo 2^32.
 abbrev pub changes_law : Type 0
 changes_law =
     (m : Contents) (requests : List (ℕ × List ℕ)) (instance count : ℕ) → changes_of instance m.changes ≡ Some count

@@ -1,4 +1,4 @@
--- What a configuration makes, and what is refused: the first check that fails.
+-- The objects that a configuration describes, and its checks: the first that fails refuses it.
 use Rattle.std.specs.Prelude.{ℕ, Bool, false, ◌==◌, ◌||◌, nat_lt, if◌then◌else◌, List, [], ◌∷◌, length, map, sum}
 use Rattle.std.specs.Prelude.{replicate, Option, Some, None}
 use Rattle.std.specs.List.{list_any}
@@ -12,7 +12,7 @@ use Rattle.cip_objects.specs.Limits.{LONGEST_DATA}
 use Rattle.cip_objects.specs.Contents.{Contents}
 use Rattle.cip_objects.specs.Entries.{IdentityValues, AssemblyValues, CounterValues, contents_of}
 
--- the numbers by which the faults are printed
+-- The numbers of the faults, as printed.
 abbrev pub config_fault_number : ConfigFault → ℕ
 config_fault_number Name = 1
 config_fault_number Size = 2
@@ -21,19 +21,19 @@ config_fault_number DoubleInstance = 4
 config_fault_number Limit = 5
 config_fault_number Memory = 6
 
--- a name of over 32 bytes, or with a byte outside 0x20 to 0x7e
+-- The name has over 32 bytes, or a byte outside 0x20 to 0x7e.
 abbrev pub is_invalid_name : List ℕ → Bool
 is_invalid_name name = nat_lt 32 (length name) || list_any (λ byte. nat_lt byte 0x20 || nat_lt 0x7e byte) name
 
--- an assembly of no byte, or of more than one can have
+-- The assembly has no byte, or more than an assembly can have.
 abbrev pub is_invalid_size : AssemblyConfig → Bool
 is_invalid_size a = (sum a.members.items == 0) || nat_lt LONGEST_DATA (sum a.members.items)
 
--- an assembly of over 64 members, or with one of 0 bytes
+-- The assembly has over 64 members, or one of 0 bytes.
 abbrev pub are_invalid_members : AssemblyConfig → Bool
 are_invalid_members a = nat_lt 64 (length a.members.items) || list_any (λ size. size == 0) a.members.items
 
--- a number that is 0, the class itself, or stands twice
+-- A number is 0, which is the class itself, or is used twice.
 abbrev pub are_invalid_instances : List ℕ → Bool
 are_invalid_instances [] = false
 are_invalid_instances (n ∷ ns) = ((n == 0) || list_any (λ m. m == n) ns) || are_invalid_instances ns
@@ -41,7 +41,7 @@ are_invalid_instances (n ∷ ns) = ((n == 0) || list_any (λ m. m == n) ns) || a
 abbrev pub instances : List AssemblyConfig → List ℕ
 instances assemblies = map (λ a. a.instance) assemblies
 
--- the first check that fails, but for want of memory
+-- The first check that fails. Running out of memory is not one of them.
 unfoldable pub fault_of : Config → Option ConfigFault
 fault_of c =
     if is_invalid_name (string_bytes c.name) then Some Name
@@ -51,7 +51,7 @@ fault_of c =
     else (if nat_lt c.counter.limit c.counter.value then Some Limit
     else None))))
 
--- the Identity object of a configuration
+-- The Identity object of a configuration.
 abbrev pub identity_of : Config → IdentityValues
 identity_of c = record {
   vendor = c.vendor;
@@ -65,7 +65,7 @@ identity_of c = record {
   state = c.state;
 }
 
--- an assembly of a configuration: its data begin as zeros, and nobody has written them
+-- An assembly of a configuration. Its data are zeros, and nobody has written them.
 abbrev pub assembly_of_config : AssemblyConfig → AssemblyValues
 assembly_of_config a = record {
   instance = a.instance;
@@ -75,10 +75,10 @@ assembly_of_config a = record {
   changes = 0;
 }
 
--- the counter of a configuration: nothing was added yet
+-- The counter of a configuration. Nothing was added yet.
 abbrev pub counter_of : Config → CounterValues
 counter_of c = record { value = c.counter.value; limit = c.counter.limit; additions = 0 }
 
--- the contents of a configuration
+-- The contents of a configuration.
 unfoldable pub contents_of_config : Config → Contents
 contents_of_config c = contents_of (identity_of c) (map assembly_of_config c.assemblies.items) (counter_of c)

@@ -1,4 +1,4 @@
--- What the objects are to a caller: the object map, and the constant tables beside it.
+-- The objects as contracts see them: the object map and the constant tables.
 use Rattle.std.specs.Prelude.{ℕ, Bool, List, [], Option, unwrap_or, ◌==◌, if◌then◌else◌, refl}
 use Rattle.std.specs.FinMap.{get, insert, code}
 use Rattle.std.specs.Coded.{Coded, code_by, coded×, coded_ℕ, coded_bool, coded_list}
@@ -9,40 +9,40 @@ use Rattle.cip_objects.specs.Tables.{Shape}
 use Rattle.cip_objects.specs.Changes.{Tally, counted_in}
 use Rattle.cip_bytes.specs.declared.protocol.TheConstants.{ASSEMBLY}
 
--- the map, of the tables what differs from one configuration to another, which are the assemblies' shapes and the five
--- numbers that an electronic key is tested against, and how often each assembly was written by a peer
+-- The object map, what the configuration decides of the tables (the assemblies' shapes and the five numbers that an
+-- electronic key is compared with), and how often peers wrote each assembly.
 pub record Contents : Type 0 where
   pub values : ObjectMap
   pub shapes : List Shape
   pub device : Device
   pub changes : List Tally
 
--- the value of an attribute, None where there is no such attribute
+-- The value of an attribute, or None if there is no such attribute.
 abbrev pub value_at : Contents → ℕ → ℕ → ℕ → Option (List ℕ)
 value_at m class instance attribute = get m.values (key class instance attribute)
 
--- its bytes, none where there is no such attribute
+-- Its bytes, or no byte if there is no such attribute.
 abbrev pub bytes_at : Contents → ℕ → ℕ → ℕ → List ℕ
 bytes_at m class instance attribute = unwrap_or (value_at m class instance attribute) []
 
--- its number, where it is one of four bytes
+-- Its number, if it has four bytes.
 unfoldable pub udint_at : Contents → ℕ → ℕ → ℕ → ℕ
 udint_at m class instance attribute = little_number 4 (bytes_at m class instance attribute)
 
--- the contents with that value at that key, all else as before
+-- The contents with this value at this key. Nothing else changes.
 abbrev pub with_value : Contents → ℕ → ℕ → ℕ → List ℕ → Contents
 with_value m class instance attribute value = record m { values = insert m.values (key class instance attribute) value }
 
--- the contents once a change of an instance of this class was counted: of an assembly alone
+-- The contents after a change of an instance of this class was counted. Only changes of assemblies are counted.
 abbrev pub counted : Contents → ℕ → ℕ → Contents
 counted m class instance =
     record m { changes = (if class == ASSEMBLY then counted_in instance m.changes else m.changes) }
 
--- the contents once a peer has set that value there, which is counted
+-- The contents after a peer set this value at this key, which is counted.
 abbrev pub with_change : Contents → ℕ → ℕ → ℕ → List ℕ → Contents
 with_change m class instance attribute value = counted (with_value m class instance attribute value) class instance
 
--- how such values are stored
+-- How contents are stored.
 abbrev pub key_code : Coded Key
 key_code =
     code_by (ℕ × (ℕ × ℕ)) (coded× coded_ℕ (coded× coded_ℕ coded_ℕ)) (λ k. (k.class, (k.instance, k.attribute)))

@@ -1,4 +1,4 @@
--- The counter's numbers, as its struct holds them.
+-- The counter of the code, as one of the specification.
 use Rattle.cip_objects.specs.declared.counter.Counter.{Counter}
 use Rattle.cip_objects.specs.Entries.{CounterValues}
 

@@ -1,4 +1,5 @@
--- What the device itself writes, beside the requests of its peers (Volume 1: Assembly and Identity objects).
+-- What the device itself writes, in addition to the requests of its peers (Volume 1: Assembly and Identity
+-- objects).
 use Rattle.std.specs.Prelude.{ℕ, ◌+◌, nat_le, if◌then◌else◌, List, [], ◌∷◌, length, Option, Some, None}
 use Rattle.cip_bytes.specs.Numbers.{le}
 use Rattle.cip_bytes.specs.declared.protocol.TheConstants.{IDENTITY, ASSEMBLY}
@@ -6,24 +7,24 @@ use Rattle.cip_objects.specs.ChangeServices.{with_bytes_at}
 use Rattle.cip_objects.specs.Contents.{Contents, bytes_at, with_value}
 use Rattle.cip_objects.specs.Tables.{Shape, shape_at}
 
--- the contents once the data of this assembly have these bytes from a place on, where they end within the data
+-- The contents with these bytes in this assembly's data, from an offset on, if they end within the data.
 abbrev pub with_data : Contents → ℕ → ℕ → List ℕ → Option Contents
 with_data m instance offset bytes =
     if nat_le (offset + length bytes) (length (bytes_at m ASSEMBLY instance 3)) then
     Some (with_value m ASSEMBLY instance 3 (with_bytes_at (bytes_at m ASSEMBLY instance 3) offset bytes))
     else None
 
--- where there is such an assembly
+-- The same, if there is such an assembly.
 abbrev pub with_data_of : Contents → ℕ → ℕ → List ℕ → Option Shape → Option Contents
 with_data_of m instance offset bytes None = None
 with_data_of m instance offset bytes (Some s) = with_data m instance offset bytes
 
--- what the device leaves that writes bytes from an offset on into an assembly's data, settable or not: None where
--- there is no such assembly, or the bytes go past the end of its data
+-- The contents after the device wrote bytes into an assembly's data, from an offset on, settable or not. None if
+-- there is no such assembly, or if the bytes go past the end of its data.
 unfoldable pub device_write : Contents → ℕ → ℕ → List ℕ → Option Contents
 device_write m instance offset bytes = with_data_of m instance offset bytes (shape_at instance m.shapes)
 
--- the device's status and state: attributes 5 and 8 of the Identity object
+-- The device's status and state are attributes 5 and 8 of the Identity object.
 abbrev pub with_device_status : Contents → ℕ → Contents
 with_device_status m status = with_value m IDENTITY 1 5 (le 2 status)
 

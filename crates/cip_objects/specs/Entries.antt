@@ -1,5 +1,5 @@
--- What the object map holds, instance by instance (Volume 1: Identity and Assembly objects; the counter is the
--- vendor's own).
+-- The entries of the object map, instance by instance (Volume 1: Identity and Assembly objects; the counter is
+-- vendor-specific).
 use Rattle.std.specs.Prelude.{ℕ, ◌<◌, Bool, List, [], ◌∷◌, ◌++◌, Option, Some, None, ◌==◌, if◌then◌else◌, length, sum}
 use Rattle.std.specs.Prelude.{map, max}
 use Rattle.std.specs.List.{flat_map}
@@ -15,7 +15,7 @@ use Rattle.cip_objects.specs.Contents.{Contents}
 abbrev pub Entries : Type 0
 Entries = List (Key × List ℕ)
 
--- the Identity object's values
+-- The values of the Identity object.
 pub record IdentityValues : Type 0 where
   pub vendor : ℕ
   pub device_type : ℕ
@@ -27,7 +27,7 @@ pub record IdentityValues : Type 0 where
   pub name : List ℕ
   pub state : ℕ
 
--- an assembly: its shape, its data, and how often a peer wrote them
+-- An assembly: its shape, its data, and how often peers wrote them.
 pub record AssemblyValues : Type 0 where
   pub instance : ℕ
   pub settable : Bool
@@ -35,32 +35,32 @@ pub record AssemblyValues : Type 0 where
   pub content : List ℕ
   pub changes : ℕ
 
--- the counter's three numbers
+-- The three numbers of the counter.
 pub record CounterValues : Type 0 where
   pub value : ℕ
   pub limit : ℕ
   pub additions : ℕ
 
--- the attributes of one instance, each a number and a value
+-- The attributes of one instance: each a number and a value.
 abbrev pub Attributes : Type 0
 Attributes = List (ℕ × List ℕ)
 
--- the value of the attribute of this number
+-- The value of the attribute with this number.
 abbrev pub attribute_in : ℕ → Attributes → Option (List ℕ)
 attribute_in attribute [] = None
 attribute_in attribute (a ∷ attributes) = if attribute == a.0 then Some a.1 else attribute_in attribute attributes
 
--- the entries of an instance of a class
+-- The entries of an instance of a class.
 abbrev pub entries_at : ℕ → ℕ → Attributes → Entries
 entries_at class instance [] = []
 entries_at class instance (a ∷ attributes) = (key class instance a.0, a.1) ∷ entries_at class instance attributes
 
--- a class: revision, greatest instance, number of instances
+-- A class: revision, greatest instance, number of instances.
 abbrev pub class_attributes : ℕ → ℕ → ℕ → Attributes
 class_attributes revision greatest number =
     (1, little_bytes 2 revision) ∷ (2, little_bytes 2 greatest) ∷ (3, little_bytes 2 number) ∷ []
 
--- vendor, device type, product code, revision, status, serial number, product name, state
+-- Vendor, device type, product code, revision, status, serial number, product name, state.
 abbrev pub identity_attributes : IdentityValues → Attributes
 identity_attributes d =
     (1, little_bytes 2 d.vendor)
@@ -73,20 +73,20 @@ identity_attributes d =
     ∷ (8, d.state ∷ [])
     ∷ []
 
--- number of members, data, size
+-- Number of members, data, size.
 abbrev pub assembly_attributes : AssemblyValues → Attributes
 assembly_attributes b = (1, little_bytes 2 (length b.members)) ∷ (3, b.content) ∷ (4, little_bytes 2 (sum b.members)) ∷ []
 
--- value, limit, additions
+-- Value, limit, additions.
 abbrev pub counter_attributes : CounterValues → Attributes
 counter_attributes c = (1, little_bytes 4 c.value) ∷ (2, little_bytes 4 c.limit) ∷ (3, little_bytes 4 c.additions) ∷ []
 
--- the greatest instance number, 0 where there is none
+-- The greatest instance number, or 0 if there is no assembly.
 abbrev pub greatest_of : List AssemblyValues → ℕ
 greatest_of [] = 0
 greatest_of (b ∷ bs) = max b.instance (greatest_of bs)
 
--- every entry of the map, instance by instance
+-- All entries of the map, instance by instance.
 unfoldable pub entries_of : IdentityValues → List AssemblyValues → CounterValues → Entries
 entries_of d bs c =
     entries_at IDENTITY 0 (class_attributes 1 1 1)
@@ -111,7 +111,7 @@ device_of d = record {
   minor = d.minor;
 }
 
--- the contents that these values make
+-- The contents with these values.
 unfoldable pub contents_of : IdentityValues → List AssemblyValues → CounterValues → Contents
 contents_of d bs c =
     record {
@@ -121,12 +121,12 @@ contents_of d bs c =
       changes = map tally_of bs;
     }
 
--- the assembly of this instance number: the first, if one stood twice
+-- The assembly with this instance number: the first, if there are two.
 abbrev pub assembly_at : ℕ → List AssemblyValues → Option AssemblyValues
 assembly_at instance [] = None
 assembly_at instance (b ∷ bs) = if b.instance == instance then Some b else assembly_at instance bs
 
--- no assembly has the number of the class itself
+-- No assembly has instance number 0, which is the class itself.
 abbrev pub NoneIsClass : List AssemblyValues → Type 0
 NoneIsClass [] = Unit {0}
 NoneIsClass (b ∷ bs) = (0 < b.instance) × NoneIsClass bs

@@ -1,4 +1,5 @@
--- Execution of router requests by the objects (Volume 1, Message Router): the map after a request, and its reply.
+-- Execution of router requests by the objects (Volume 1, Message Router): the object map after a request, and its
+-- reply.
 use Rattle.std.specs.Prelude.{ℕ, List, [], ◌∷◌, ◌++◌, length, slice_index, nat_lt, if◌then◌else◌, Result, Ok, Err}
 use Rattle.cip_message.specs.declared.path.Path.{Path}
 use Rattle.cip_message.specs.declared.path.PathFault.{PathFault}
@@ -24,13 +25,13 @@ use Rattle.cip_message.specs.Reply.{reply_service}
 use Rattle.cip_bytes.specs.Protocol.{general_status_number}
 use Rattle.cip_objects.specs.Status.{completion_status, refusal_status}
 
--- what an execution leaves, how much it has done, and the data of the reply
+-- The contents after an execution, how completely the service was performed, and the data of the reply.
 pub record Outcome : Type 0 where
   pub after : Contents
   pub status : Completion
   pub content : List ℕ
 
--- a service that reads leaves all as it was
+-- A service that reads changes nothing.
 abbrev pub outcome_of_read : Contents → Result Answer Refusal → Result Outcome Refusal
 outcome_of_read m (Ok a) = Ok (record { after = m; status = a.status; content = a.content })
 outcome_of_read m (Err s) = Err s
@@ -49,7 +50,7 @@ perform m SetMember path content = outcome_of_change (set_member m path content)
 perform m Add path content = outcome_of_change (add m content)
 perform m Clear path content = outcome_of_change (clear m content)
 
--- a request whose path goes past its end, and a path that is none
+-- The refusals of a request whose path goes past its end, and of a malformed path.
 abbrev pub request_or_refusal : Result Request RequestFault → Result Request Refusal
 request_or_refusal (Ok q) = Ok q
 request_or_refusal (Err f) = Err PathSizeInvalid
@@ -58,23 +59,23 @@ abbrev pub path_or_refusal : Result Path PathFault → Result Path Refusal
 path_or_refusal (Ok p) = Ok p
 path_or_refusal (Err f) = Err PathSegmentError
 
--- a text that has no more bytes than the room
+-- The bytes, if there are at most `max_size` of them.
 abbrev pub within_max_size : ℕ → List ℕ → Result (List ℕ) Refusal
 within_max_size max_size text = if nat_lt max_size (length text) then Err ReplyDataTooLarge else Ok text
 
--- an outcome whose data are written behind a front, where that fits into the room
+-- An outcome with its data appended to `front`, if that has at most `max_size` bytes.
 abbrev pub outcome_within : ℕ → List ℕ → Result Outcome Refusal → Result Outcome Refusal
 outcome_within max_size front r = do
   o ← r
   text ← within_max_size max_size (front ++ o.content)
   Ok (record { after = o.after; status = o.status; content = text })
 
--- what a call answered, and the contents and the text that it left
+-- The result of a call of the code: its return value, with the contents and the reply afterwards.
 abbrev pub outcome_result : Contents → Result Completion Refusal → List ℕ → Result Outcome Refusal
 outcome_result after (Ok completion) text = Ok (record { after = after; status = completion; content = text })
 outcome_result after (Err s) text = Err s
 
--- the outcome of a request, apart from the room for its reply: the first check that fails decides
+-- The outcome of a request, before the size of its reply is checked. The first check that fails decides.
 unfoldable pub outcome : Contents → List ℕ → Result Outcome Refusal
 outcome m text = do
   request ← request_or_refusal (request_of text)
@@ -82,32 +83,33 @@ outcome m text = do
   service ← service_at m.shapes path.class path.instance request.service
   perform m service path request.data
 
--- a reply of this status: the service of the request with bit 7, no additional words
+-- A reply with this status: the service of the request with bit 7 set, and no additional status words.
 abbrev pub reply_to : List ℕ → GeneralStatus → List ℕ → List ℕ
 reply_to text status content =
     reply (reply_of_fields (reply_service (slice_index text 0)) (general_status_number status) [] content)
 
--- the map after a request and its reply
+-- The contents after a request, and its reply.
 pub record Executed : Type 0 where
   pub after : Contents
   pub answer : List ℕ
 
--- an outcome with its reply, where that fits into the room
+-- An outcome with its reply, if that has at most `max_size` bytes.
 abbrev pub with_reply : ℕ → List ℕ → Outcome → Result Executed Refusal
 with_reply max_size text o = do
   answer ← within_max_size max_size (reply_to text (completion_status o.status) o.content)
   Ok (record { after = o.after; answer = answer })
 
--- a request that is refused changes nothing, and its reply has no data
+-- A refused request changes nothing, and its reply has no data.
 abbrev pub or_refusal : Contents → List ℕ → Result Executed Refusal → Executed
 or_refusal m text (Ok executed) = executed
 or_refusal m text (Err s) = record { after = m; answer = reply_to text (refusal_status s) [] }
 
--- the execution of a request, with so much room for its reply: the room is the last check
+-- Executes a request whose reply may have `max_size` bytes. The size of the reply is checked last.
 unfoldable pub exec : Contents → ℕ → List ℕ → Executed
 exec m max_size text = or_refusal m text (outcome m text >>= with_reply max_size text)
 
--- the map after these requests, each a room and a text, from left to right, and their replies
+-- The contents after these requests, from left to right, and their replies. Each request comes with the maximum
+-- size of its reply.
 pub record Ran : Type 0 where
   pub after : Contents
   pub answers : List (List ℕ)

@@ -1,4 +1,4 @@
--- What holds of every execution: what the laws of the trait `Router` say of the objects.
+-- What holds of every execution: the laws of the trait `Router` for the objects.
 use Rattle.std.specs.Prelude.{◌≡◌, ℕ, ◌≤◌, Bool, true, false, cond, nat_lt, List, length, Result, Ok, Err, refl}
 use Rattle.std.proofs.Common.{sym, ap, subst, arith}
 use Rattle.std.proofs.lemmas.Bool.Decides.{nat_tests}
@@ -13,11 +13,11 @@ use Rattle.cip_objects.specs.Router.{general_status, IsReplyTo, REPLY_TOO_LARGE}
 use Rattle.cip_bytes.specs.Protocol.{general_status_number}
 use Rattle.cip_objects.specs.Status.{completion_status}
 
--- the reply to an outcome
+-- The reply to an outcome.
 abbrev pub reply_of_outcome : List ℕ → Outcome → List ℕ
 reply_of_outcome text o = reply_to text (completion_status o.status) o.content
 
--- x is an outcome with its reply, which fits into the room
+-- x is an outcome with its reply, which has at most `max_size` bytes.
 pub record IsOutcome (max_size : ℕ) (text : List ℕ) (r : Result Outcome Refusal) (x : Executed) : Type 0 where
   pub made : Outcome
   pub is_made : r ≡ Ok made
@@ -44,7 +44,7 @@ by_test false max_size text o x e f =
       answer = sym (ap (λ z. z.answer) same);
     }
 
--- what isn't refused is an outcome with its reply
+-- A request that is not refused has an outcome with its reply.
 pub is_outcome : (max_size : ℕ) (text : List ℕ) (r : Result Outcome Refusal) (x : Executed)
     → (r >>= with_reply max_size text) ≡ Ok x → IsOutcome max_size text r x
 is_outcome max_size text (Ok o) x e = by_test (nat_lt max_size (length (reply_of_outcome text o))) max_size text o x refl e
@@ -62,7 +62,7 @@ too_large m max_size text r (Ok x) e f =
     let p = is_outcome max_size text r x e in
     absurd (not_too_large p.made.status (subst (λ a. general_status a ≡ REPLY_TOO_LARGE) p.answer f))
 
--- a reply that is too large goes with the contents as they were
+-- If a reply is too large, the contents are unchanged.
 pub exec_too_large : (m : Contents) (max_size : ℕ) (text : List ℕ)
     → general_status (exec m max_size text).answer ≡ REPLY_TOO_LARGE → (exec m max_size text).after ≡ m
 unfolding exec
@@ -75,7 +75,7 @@ begins m max_size text r (Ok x) e =
     let p = is_outcome max_size text r x e in
     subst (IsReplyTo text) (sym p.answer) (record { head = omega arith; service = refl })
 
--- each reply has a head, and answers the service of the request
+-- Each reply has a head, and answers the service of the request.
 pub exec_begins : (m : Contents) (max_size : ℕ) (text : List ℕ) → IsReplyTo text (exec m max_size text).answer
 unfolding exec
 exec_begins m max_size text = begins m max_size text (outcome m text) (outcome m text >>= with_reply max_size text) refl
@@ -86,7 +86,7 @@ within m max_size text r (Err s) h e = omega arith
 within m max_size text r (Ok x) h e =
     let p = is_outcome max_size text r x e in subst (λ a. length a ≤ max_size) (sym p.answer) p.fits
 
--- each reply is within its room
+-- Each reply has at most `max_size` bytes.
 pub exec_within : (m : Contents) (max_size : ℕ) (text : List ℕ) → 8 ≤ max_size → length (exec m max_size text).answer ≤ max_size
 unfolding exec
 exec_within m max_size text h = within m max_size text (outcome m text) (outcome m text >>= with_reply max_size text) h refl

@@ -1,6 +1,6 @@
--- A limit of this profile (ours).
+-- A limit of this adapter (our choice).
 use Rattle.std.specs.Prelude.{ℕ}
 
--- the most bytes of an assembly's data: no attribute has a longer value
+-- The most bytes of an assembly's data. No attribute has a longer value.
 abbrev pub LONGEST_DATA : ℕ
 LONGEST_DATA = 3900

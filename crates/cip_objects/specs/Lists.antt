@@ -11,7 +11,7 @@ use Rattle.cip_objects.specs.ReadServices.{list_completion}
 use Rattle.cip_objects.specs.Router.{general_status}
 use Rattle.cip_objects.specs.Status.{completion_status}
 
--- the text is a Get_Attribute_Single of this attribute of the instance that the path names
+-- The bytes are a Get_Attribute_Single of this attribute, of the instance that the path names.
 pub record IsGet (p : Path) (attribute : ℕ) (text : List ℕ) : Type 0 where
   pub path : List ℕ
   pub member : Option ℕ
@@ -19,14 +19,14 @@ pub record IsGet (p : Path) (attribute : ℕ) (text : List ℕ) : Type 0 where
   pub names :
       path_of path ≡ Ok (record { class = p.class; instance = p.instance; attribute = Some attribute; member = member })
 
--- the texts are the gets of these attributes, one each
+-- These are the Get_Attribute_Single requests of these attributes, one each.
 abbrev pub AreGets : Path → List ℕ → List (List ℕ) → Type 0
 AreGets p [] [] = Unit {0}
 AreGets p [] (get ∷ gets) = ⊥
 AreGets p (a ∷ attributes) [] = ⊥
 AreGets p (a ∷ attributes) (get ∷ gets) = IsGet p a get × AreGets p attributes gets
 
--- each attribute's number, then the status and the data of its own reply
+-- The number of each attribute, then the status and the data of its own reply.
 abbrev pub entries_of_replies : List ℕ → List (List ℕ) → List ℕ
 entries_of_replies [] replies = []
 entries_of_replies (a ∷ attributes) [] = []
@@ -36,8 +36,8 @@ entries_of_replies (a ∷ attributes) (reply ∷ replies) =
 abbrev pub is_success : List ℕ → Bool
 is_success reply = general_status reply == 0x00
 
--- A list that is answered has the count, and for each attribute what Get_Attribute_Single answers for it: its status
--- and its data. It is a success where each of these is.
+-- The reply to a Get_Attribute_List has the count and, for each attribute, the status and the data that
+-- Get_Attribute_Single answers for it. It is a success if each of these is.
 abbrev pub list_law : Type 0
 list_law =
     (m : Contents) (max_size : ℕ) (list path content : List ℕ) (p : Path) (gets : List (List ℕ))

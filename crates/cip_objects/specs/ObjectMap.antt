@@ -1,5 +1,5 @@
--- The object map: what each attribute of each instance of each class holds, as bytes (Volume 1, object model:
--- a class, an instance and an attribute ID name one value).
+-- The object map: the value of each attribute of each instance of each class, as bytes (Volume 1, object model: a
+-- class, an instance and an attribute ID name one value).
 use Rattle.std.specs.Prelude.{ℕ, List}
 use Rattle.std.specs.declared.cmp.Ordering.{Ordering}
 use Rattle.std.specs.Ordering.{nat_cmp, ordering_then}
@@ -13,7 +13,7 @@ pub record Key : Type 0 where
 abbrev pub key : ℕ → ℕ → ℕ → Key
 key class instance attribute = record { class = class; instance = instance; attribute = attribute }
 
--- by class, then instance, then attribute
+-- Keys are ordered by class, then instance, then attribute.
 abbrev pub key_cmp : Key → Key → Ordering
 key_cmp a b =
     ordering_then (nat_cmp a.class b.class)

@@ -1,4 +1,5 @@
--- What the class and the instance of a path lead to (Volume 1, object model), and what of it can be set.
+-- The object that the class and the instance of a path lead to (Volume 1, object model), and its settable
+-- attributes.
 use Rattle.std.specs.Prelude.{◌≡◌, ℕ, ◌+◌, ◌≤◌, List, [], ◌∷◌, length, map, slice_index, Option, Some, None}
 use Rattle.std.specs.Prelude.{Result, Ok, Err, ⊤}
 use Rattle.cip_message.specs.declared.path.Path.{Path}
@@ -29,7 +30,7 @@ class_number classes.Identity = IDENTITY
 class_number classes.Assembly = ASSEMBLY
 class_number classes.Counter = COUNTER
 
--- its class
+-- The object's class.
 abbrev pub class_at : ObjectRef → ℕ
 class_at (object_refs.Class c) = class_number c
 class_at object_refs.Identity = IDENTITY
@@ -37,11 +38,11 @@ class_at (object_refs.Assembly assembly_index) = ASSEMBLY
 class_at object_refs.ConnectionManager = CONNECTION_MANAGER
 class_at object_refs.Counter = COUNTER
 
--- the instance number of the assembly at this place
+-- The instance number of the assembly at this index.
 abbrev pub number_at : List Shape → ℕ → ℕ
 number_at shapes assembly_index = slice_index (map (λ s. s.instance) shapes) assembly_index
 
--- its instance: a class itself is instance 0
+-- The object's instance. A class itself is instance 0.
 abbrev pub instance_at : List Shape → ObjectRef → ℕ
 instance_at shapes (object_refs.Class c) = 0
 instance_at shapes object_refs.Identity = 1
@@ -49,7 +50,7 @@ instance_at shapes (object_refs.Assembly assembly_index) = number_at shapes asse
 instance_at shapes object_refs.ConnectionManager = 1
 instance_at shapes object_refs.Counter = 1
 
--- its services
+-- The object's services.
 abbrev pub services_at : ObjectRef → List Service
 services_at (object_refs.Class c) = services.GetAttributeSingle ∷ []
 services_at object_refs.Identity =
@@ -60,20 +61,20 @@ services_at object_refs.Counter =
     services.Add ∷ services.Clear ∷ services.GetAttributeList ∷ services.GetAttributeSingle
     ∷ services.SetAttributeSingle ∷ []
 
--- an assembly stands at this place, the first of its number
+-- The index is that of an assembly, the first with its instance number.
 abbrev pub IsAssemblyIndex : List Shape → ℕ → Type 0
 IsAssemblyIndex shapes assembly_index = IsFirst (λ s. s.instance) shapes (number_at shapes assembly_index) assembly_index
 
--- the assembly of this instance number, the first of it, stands at this place
+-- The first assembly with this instance number is at this index.
 pub record IsAssemblyAt (shapes : List Shape) (instance assembly_index : ℕ) : Type 0 where
   pub number : instance ≡ number_at shapes assembly_index
   pub there : IsAssemblyIndex shapes assembly_index
 
--- it has this service
+-- The object has this service.
 abbrev pub HasService : ObjectRef → Service → Type 0
 HasService object service = service_in (service_code service) (services_at object) ≡ Some service
 
--- it is there: a class itself where no assembly has its instance, 0
+-- The object exists. A class itself exists if no assembly has its instance number, 0.
 abbrev pub Exists : List Shape → ObjectRef → Type 0
 Exists shapes (object_refs.Class c) = shape_at 0 shapes ≡ None
 Exists shapes object_refs.Identity = ⊤
@@ -88,30 +89,30 @@ IsAssembly (object_refs.Assembly assembly_index) = ⊤
 IsAssembly object_refs.ConnectionManager = ⊥
 IsAssembly object_refs.Counter = ⊥
 
--- class and instance lead to it
+-- Class and instance lead to this object.
 pub record Resolves (shapes : List Shape) (class instance : ℕ) (object : ObjectRef) : Type 0 where
   pub same_class : class ≡ class_at object
   pub same_instance : instance ≡ instance_at shapes object
   pub there : Exists shapes object
 
--- this class and instance have no attribute
+-- This class and instance have no attribute.
 abbrev pub HasNoValue : Contents → ℕ → ℕ → Type 0
 HasNoValue m class instance = (attribute : ℕ) → value_at m class instance attribute ≡ None
 
--- the value of an attribute of a destination
+-- The value of an attribute of an object.
 abbrev pub value_to : Contents → ObjectRef → ℕ → Option (List ℕ)
 value_to m object attribute = value_at m (class_at object) (instance_at m.shapes object) attribute
 
--- its bytes, none where there is no such attribute
+-- Its bytes, or no byte if there is no such attribute.
 abbrev pub bytes_to : Contents → ObjectRef → ℕ → List ℕ
 bytes_to m object attribute = bytes_at m (class_at object) (instance_at m.shapes object) attribute
 
--- the contents once a peer has set that value there, all else as before
+-- The contents after a peer set this value there. Nothing else changes.
 abbrev pub with_change_to : Contents → ObjectRef → ℕ → List ℕ → Contents
 with_change_to m object attribute value =
     with_change m (class_at object) (instance_at m.shapes object) attribute value
 
--- the path of a subject
+-- A resolved path, as a path.
 abbrev pub path_to : List Shape → ResolvedPath → Path
 path_to shapes resolved = record {
   class = class_at resolved.object;
@@ -120,21 +121,21 @@ path_to shapes resolved = record {
   member = resolved.member;
 }
 
--- the data of the assembly at a place
+-- The data of the assembly at this index.
 abbrev pub data_at : Contents → ℕ → List ℕ
 data_at m assembly_index = bytes_at m ASSEMBLY (number_at m.shapes assembly_index) 3
 
--- where a member lies in the data of its assembly
+-- The bytes of a member in the data of its assembly.
 abbrev pub span_result : Result Member Refusal → Result Span Refusal
 span_result (Ok m) = Ok m.span
 span_result (Err s) = Err s
 
--- the member lies within the data of this destination
+-- The member is within the data of this object.
 pub record IsInside (m : Contents) (object : ObjectRef) (member : Member) : Type 0 where
   pub of_assembly : object ≡ object_refs.Assembly member.assembly_index
   pub inside : member.span.offset + member.span.size ≤ length (data_at m member.assembly_index)
 
--- what can be set, as an attribute of a destination
+-- The object and the attribute that can be set.
 abbrev pub object_of : Settable → ObjectRef
 object_of (Data assembly_index size) = object_refs.Assembly assembly_index
 object_of Limit = object_refs.Counter
@@ -143,23 +144,23 @@ abbrev pub attribute_of : Settable → ℕ
 attribute_of (Data assembly_index size) = 3
 attribute_of Limit = 2
 
--- how many bytes it has
+-- The size of the attribute in bytes.
 abbrev pub size_to_set : Settable → ℕ
 size_to_set (Data assembly_index size) = size
 size_to_set Limit = 4
 
--- that many bytes are there
+-- The attribute has that size.
 abbrev pub HasSize : Contents → Settable → Type 0
 HasSize m (Data assembly_index size) = size ≡ length (data_at m assembly_index)
 HasSize m Limit = ⊤
 
--- this attribute of a destination can be set
+-- This attribute of an object can be set.
 pub record CanBeSet (m : Contents) (object : ObjectRef) (attribute : ℕ) (settable : Settable) : Type 0 where
   pub of_object : object ≡ object_of settable
   pub of_attribute : attribute ≡ attribute_of settable
   pub whole : HasSize m settable
 
--- what was set, where it may have that value
+-- Sets the attribute, if it may have that value.
 abbrev pub after_set : Contents → Settable → List ℕ → Result Change Refusal
 after_set m settable content = do
   demand (is_allowed m (class_at (object_of settable)) content) InvalidAttributeValue

@@ -1,4 +1,4 @@
--- What the objects keep.
+-- The invariant of the objects.
 use Rattle.std.specs.Prelude.{◌≤◌, ◌<◌, ◌^◌}
 use Rattle.std.specs.Box.{boxed_slice_items, boxed_slice_len}
 use Rattle.cip_objects.specs.declared.objects.Objects.TheInside.{Inside}

@@ -1,4 +1,4 @@
--- The services that read, each by its first check that fails (Volume 1, common services).
+-- The services that read objects. In each, the first check that fails decides (Volume 1, common services).
 use Rattle.std.specs.Prelude.{ℕ, ◌+◌, ◌*◌, Bool, true, false, ◌&&◌, ◌==◌, nat_le, if◌then◌else◌, List, [], ◌∷◌, ◌++◌}
 use Rattle.std.specs.Prelude.{length, take, drop, Option, Some, None, is_some, Result, Ok, Err}
 use Rattle.std.specs.Option.{ok_or}
@@ -22,13 +22,13 @@ use Rattle.cip_objects.specs.Status.{completion_status, refusal_status}
 use Rattle.cip_objects.specs.Tables.{Shape, services_of, member_at}
 use Rattle.cip_bytes.specs.declared.protocol.TheConstants.{ASSEMBLY}
 
--- the service of this code, where the class and instance are there and have it
+-- The service with this code, if the class and instance exist and have it.
 unfoldable pub service_at : List Shape → ℕ → ℕ → ℕ → Result Service Refusal
 service_at shapes class instance code = do
   offered ← ok_or (services_of shapes class instance) PathDestinationUnknown
   ok_or (service_in code offered) ServiceNotSupported
 
--- what a service that reads answers: how much it has done, and the data of the reply
+-- What a service that reads answers: how completely it was performed, and the data of the reply.
 pub record Answer : Type 0 where
   pub status : Completion
   pub content : List ℕ
@@ -36,12 +36,12 @@ pub record Answer : Type 0 where
 abbrev pub answer : Completion → List ℕ → Result Answer Refusal
 answer status content = Ok (record { status = status; content = content })
 
--- what a call that reads answered, with the data that its answer stands for
+-- The result of a call of the code: its return value as reply data.
 abbrev pub answer_result : {A : Type 0} → (A → List ℕ) → Result A Refusal → Result Answer Refusal
 answer_result bytes (Ok x) = answer Whole (bytes x)
 answer_result bytes (Err s) = Err s
 
--- Get_Attribute_Single: the value of the attribute
+-- Get_Attribute_Single: the value of the attribute.
 unfoldable pub get_attribute_single : Contents → Path → List ℕ → Result Answer Refusal
 get_attribute_single m path content = do
   attribute ← ok_or path.attribute AttributeNotSupported
@@ -49,17 +49,17 @@ get_attribute_single m path content = do
   check_size 0 content
   answer Whole value
 
--- the attributes that Get_Attributes_All gives
+-- The attributes that Get_Attributes_All reads.
 abbrev pub ALL_ATTRIBUTES : List ℕ
 ALL_ATTRIBUTES = 1 ∷ 2 ∷ 3 ∷ 4 ∷ 5 ∷ 6 ∷ 7 ∷ []
 
--- Get_Attributes_All: the values of attributes 1 to 7, joined. This profile ends there
+-- Get_Attributes_All: the values of attributes 1 to 7, joined. The reply ends after attribute 7 (our choice).
 unfoldable pub get_attributes_all : Contents → Path → List ℕ → Result Answer Refusal
 get_attributes_all m path content = do
   check_size 0 content
   answer Whole (flat_map (bytes_at m path.class path.instance) ALL_ATTRIBUTES)
 
--- one attribute of a list: its number, its status, and its value where it is there
+-- An entry of a list: the attribute's number, its status, and its value if it exists.
 abbrev pub list_entry_of : ℕ → Option (List ℕ) → List ℕ
 list_entry_of attribute None = le 2 attribute ++ le 2 (general_status_number (refusal_status AttributeNotSupported))
 list_entry_of attribute (Some value) = le 2 attribute ++ (le 2 (general_status_number (completion_status Whole)) ++ value)
@@ -70,16 +70,17 @@ list_entry m path attribute = list_entry_of attribute (value_at m path.class pat
 abbrev pub has_attribute : Contents → Path → ℕ → Bool
 has_attribute m path attribute = is_some (value_at m path.class path.instance attribute)
 
--- whether all of these attributes are there
+-- Whether all of these attributes exist.
 abbrev pub has_all_attributes : Contents → Path → List ℕ → Bool
 has_all_attributes m path [] = true
 has_all_attributes m path (a ∷ attributes) = has_attribute m path a && has_all_attributes m path attributes
 
--- all of the list, or not every attribute
+-- Whether the list is complete.
 abbrev pub list_completion : Bool → Completion
 list_completion complete = if complete then Whole else Partial
 
--- Get_Attribute_List: the data are a count and so many attribute numbers; the answer has the count and each of them
+-- Get_Attribute_List: the data are a count, then that many attribute numbers. The reply has the count and an entry
+-- for each attribute.
 unfoldable pub get_attribute_list : Contents → Path → List ℕ → Result Answer Refusal
 get_attribute_list m path content = do
   demand (nat_le 2 (length content)) NotEnoughData
@@ -87,19 +88,19 @@ get_attribute_list m path content = do
   answer (list_completion (has_all_attributes m path (words_of (drop 2 content))))
       (le 2 (little_number 2 content) ++ flat_map (list_entry m path) (words_of (drop 2 content)))
 
--- whether the attribute is the data of an assembly
+-- Whether the attribute is the data of an assembly.
 abbrev pub is_data : Option ℕ → Bool
 is_data None = false
 is_data (Some attribute) = attribute == 3
 
--- where the member that the path names lies
+-- The bytes of the member that the path names.
 unfoldable pub named_member : List Shape → Path → Result Span Refusal
 named_member shapes path = do
   demand (is_data path.attribute) AttributeNotSupported
   number ← ok_or path.member InvalidMemberId
   ok_or (member_at shapes path.instance number) InvalidMemberId
 
--- Get_Member: the member's part of the data
+-- Get_Member: the member's bytes of the data.
 unfoldable pub get_member : Contents → Path → List ℕ → Result Answer Refusal
 get_member m path content = do
   span ← named_member m.shapes path

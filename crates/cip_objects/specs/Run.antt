@@ -1,4 +1,4 @@
--- The counter over a run of requests: its value is the sum of what was added since it was last cleared.
+-- The counter over a list of requests: its value is the sum of the additions since the last Clear.
 use Rattle.std.specs.Prelude.{◌≡◌, ℕ, ◌+◌, ◌%◌, ◌^◌, ◌<◌, ◌≤◌, Bool, false, ◌&&◌, ◌==◌, if◌then◌else◌, List, [], ◌∷◌}
 use Rattle.std.specs.Prelude.{Option, Some, None, option_map, unwrap_or, is_some, Result, Ok, Err}
 use Rattle.byteorder.specs.Endian.{little_number}
@@ -22,7 +22,7 @@ limit_of m = udint_at m COUNTER 1 2
 abbrev pub additions_of : Contents → ℕ
 additions_of m = udint_at m COUNTER 1 3
 
--- the value is not over the limit, and the numbers are of 32 bits
+-- The value is not over the limit, and the numbers have 32 bits.
 pub record IsCounter (m : Contents) : Type 0 where
   pub within : value_of m ≤ limit_of m
   pub limit : limit_of m < 2 ^ 32
@@ -32,31 +32,31 @@ abbrev pub is_counter : Result Path PathFault → Bool
 is_counter (Ok p) = (p.class == COUNTER) && (p.instance == 1)
 is_counter (Err f) = false
 
--- the data of a request of this service to the counter
+-- The data of a request of this service to the counter.
 abbrev pub to_counter : ℕ → Result Request RequestFault → Option (List ℕ)
 to_counter code (Ok q) = if (q.service == code) && is_counter (path_of q.path) then Some q.data else None
 to_counter code (Err f) = None
 
--- the number that a request added: it was an addition, and its reply says success
+-- The number that a request added: it was an Add, and its reply says success.
 abbrev pub addition : List ℕ → List ℕ → Option ℕ
 addition request reply =
     if general_status reply == 0 then option_map (little_number 4) (to_counter 0x32 (request_of request)) else None
 
--- the request cleared the counter
+-- The request cleared the counter.
 abbrev pub is_clearing : List ℕ → List ℕ → Bool
 is_clearing request reply = (general_status reply == 0) && is_some (to_counter 0x33 (request_of request))
 
--- the sum once this request was answered so
+-- The sum after this request had this reply.
 abbrev pub sum_after : ℕ → List ℕ → List ℕ → ℕ
 sum_after sum request reply = if is_clearing request reply then 0 else sum + unwrap_or (addition request reply) 0
 
--- what was added since the counter was last cleared, to the sum of before
+-- The sum of the additions since the last Clear, starting from a sum.
 abbrev pub sum_since_cleared : ℕ → List (ℕ × List ℕ) → List (List ℕ) → ℕ
 sum_since_cleared sum [] replies = sum
 sum_since_cleared sum (r ∷ requests) [] = sum
 sum_since_cleared sum (r ∷ requests) (reply ∷ replies) = sum_since_cleared (sum_after sum r.1 reply) requests replies
 
--- how many requests added to the counter
+-- How many requests added to the counter.
 abbrev pub number_of_additions : List (ℕ × List ℕ) → List (List ℕ) → ℕ
 number_of_additions [] replies = 0
 number_of_additions (r ∷ requests) [] = 0
@@ -67,14 +67,14 @@ abbrev pub AllBytes : List (ℕ × List ℕ) → Type 0
 AllBytes [] = Unit {0}
 AllBytes (r ∷ requests) = AreBytes r.1 × AllBytes requests
 
--- the counter after a run from m
+-- The counter after these requests, from contents m.
 pub record Counts (m : Contents) (requests : List (ℕ × List ℕ)) (ran : Ran) : Type 0 where
   pub value : value_of ran.after ≡ sum_since_cleared (value_of m) requests ran.answers
   pub within : value_of ran.after ≤ limit_of ran.after
   pub additions : additions_of ran.after ≡ (additions_of m + number_of_additions requests ran.answers) % 2 ^ 32
 
--- For every list of requests: the counter's value is what was added since it was last cleared, never over its limit,
--- and its additions count those that were accepted, modulo 2^32.
+-- For every list of requests, the counter's value is the sum of the additions since the last Clear, and never over
+-- its limit. Its additions count those that were accepted, modulo 2^32.
 abbrev pub counter_law : Type 0
 counter_law = (m : Contents) (requests : List (ℕ × List ℕ)) → IsCounter m → AllBytes requests
     → Counts m requests (run m requests)

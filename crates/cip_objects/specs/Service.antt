@@ -15,7 +15,7 @@ service_code SetMember = 0x19
 service_code Add = 0x32
 service_code Clear = 0x33
 
--- the service of this code among those that an instance has
+-- The service with this code, among those of an instance.
 abbrev pub service_in : ℕ → List Service → Option Service
 service_in code [] = None
 service_in code (s ∷ services) = if service_code s == code then Some s else service_in code services

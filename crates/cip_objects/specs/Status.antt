@@ -1,4 +1,4 @@
--- The general status of what a service has done, and of what refuses it (Volume 1, general status codes).
+-- The general statuses of services that were performed, and of refusals (Volume 1, general status codes).
 use Rattle.cip_bytes.specs.declared.protocol.GeneralStatus.{GeneralStatus}
 use Rattle.cip_bytes.specs.declared.protocol.GeneralStatus.TheVariants as general
 use Rattle.cip_objects.specs.declared.status.Completion.{Completion}
@@ -6,12 +6,12 @@ use Rattle.cip_objects.specs.declared.status.Completion.TheVariants.{Whole, Part
 use Rattle.cip_objects.specs.declared.status.Refusal.{Refusal}
 use Rattle.cip_objects.specs.declared.status.Refusal.TheVariants as refusals
 
--- a service that is done says success, or that an attribute of a list couldn't be read
+-- A service that was performed answers success, or that an attribute of a list could not be read.
 abbrev pub completion_status : Completion → GeneralStatus
 completion_status Whole = general.Success
 completion_status Partial = general.AttributeListError
 
--- a refusal says neither
+-- A refusal has any other status.
 abbrev pub refusal_status : Refusal → GeneralStatus
 refusal_status refusals.PathSegmentError = general.PathSegmentError
 refusal_status refusals.PathDestinationUnknown = general.PathDestinationUnknown

@@ -1,5 +1,5 @@
--- The constant tables beside the object map: what the configuration fixes for good. Which services an instance
--- of a class has, which attributes can be set, and where the members of an assembly lie.
+-- The constant tables, which the configuration fixes: the services of each instance of a class, the attributes that
+-- can be set, and the bytes of each member of an assembly.
 use Rattle.std.specs.Prelude.{ℕ, ◌-◌, Bool, List, [], ◌∷◌, Option, Some, None, option_map, ◌==◌, ◌&&◌, ◌||◌}
 use Rattle.std.specs.Prelude.{if◌then◌else◌, nat_lt, length, slice_index, sum, take}
 use Rattle.cip_bytes.specs.declared.protocol.TheConstants.{IDENTITY, ASSEMBLY, CONNECTION_MANAGER, COUNTER}
@@ -9,18 +9,19 @@ use Rattle.cip_objects.specs.declared.service.Service.TheVariants.{GetAttributeS
 use Rattle.cip_objects.specs.declared.service.Service.TheVariants.{SetMember, Add, Clear}
 use Rattle.cip_objects.specs.declared.assembly.Span.{Span}
 
--- what stays of an assembly: its instance number, whether its data can be set, its members' sizes in bytes
+-- The constant part of an assembly: its instance number, whether its data can be set, and its member sizes in
+-- bytes.
 pub record Shape : Type 0 where
   pub instance : ℕ
   pub settable : Bool
   pub members : List ℕ
 
--- the assembly of this instance number: the first, if one stood twice
+-- The assembly with this instance number: the first, if there are two.
 abbrev pub shape_at : ℕ → List Shape → Option Shape
 shape_at instance [] = None
 shape_at instance (s ∷ shapes) = if s.instance == instance then Some s else shape_at instance shapes
 
--- the services of a class with one instance, which has these
+-- The services of a class whose one instance has these.
 abbrev pub class_or_first : ℕ → List Service → Option (List Service)
 class_or_first instance services =
     if instance == 0 then Some (GetAttributeSingle ∷ [])
@@ -29,8 +30,8 @@ class_or_first instance services =
 abbrev pub assembly_services : List Service
 assembly_services = GetAttributeList ∷ GetAttributeSingle ∷ SetAttributeSingle ∷ GetMember ∷ SetMember ∷ []
 
--- the services of an instance of a class, None where there is no such class or instance. Instance 0 is the class
--- itself. The Connection Manager has none here: its services are the manager's.
+-- The services of an instance of a class, or None if there is no such class or instance. Instance 0 is the class
+-- itself. The Connection Manager has no services here, as they belong to `cip_manager`.
 unfoldable pub services_of : List Shape → ℕ → ℕ → Option (List Service)
 services_of shapes class instance =
     if class == IDENTITY then class_or_first instance (GetAttributesAll ∷ GetAttributeList ∷ GetAttributeSingle ∷ [])
@@ -46,14 +47,14 @@ abbrev pub size_if_settable : Option Shape → Option ℕ
 size_if_settable None = None
 size_if_settable (Some s) = if s.settable then Some (sum s.members) else None
 
--- the length of an attribute that can be set, None where it can't: the data of an assembly that is settable, and
--- the counter's limit
+-- The length of an attribute that can be set: the data of a settable assembly, or the counter's limit. None for any
+-- other.
 unfoldable pub settable_size : List Shape → ℕ → ℕ → ℕ → Option ℕ
 settable_size shapes class instance attribute =
     if (class == ASSEMBLY) && (attribute == 3) then size_if_settable (shape_at instance shapes)
     else (if (class == COUNTER) && ((instance == 1) && (attribute == 2)) then Some 4 else None)
 
--- where a member lies in the data of its assembly: members are numbered from 1 and lie one after another
+-- The bytes of a member in the data of its assembly. Members are numbered from 1 and follow one another.
 abbrev pub span_of : List ℕ → ℕ → Option Span
 span_of members number =
     if (number == 0) || nat_lt (length members) number then None

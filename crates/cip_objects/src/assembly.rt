@@ -1,4 +1,4 @@
-//! An assembly: members that lie one after another in its data (Volume 1, class 0x04).
+//! An assembly: its data are its members, one after another (Volume 1, class 0x04).
 //! Text: docs/PROTOCOL.md, "Objects".
 ghost use Rattle.std.specs.Prelude.{◌≡◌, ◌≤◌, ◌+◌, ◌-◌, ◌*◌, ◌<◌, length, sum, take, drop, slice_index, option_map};
 ghost use Rattle.std.specs.Prelude.{option_copied, ◌++◌, IfOk, IfSome, replicate, MatchOption};
@@ -13,33 +13,34 @@ use std::alloc::{AllocError, Global};
 use std::boxed::BoxedSlice;
 use std::marker::Model;
 
-/// The most bytes of an assembly's data (ours).
+/// The most bytes of an assembly's data (our choice).
 pub(crate) const DATA_LIMIT: usize = 3_900;
 
-/// The most members of an assembly (ours).
+/// The most members of an assembly (our choice).
 pub(crate) const MEMBER_LIMIT: usize = 64;
 
-/// Where a member lies in the data, in bytes.
+/// The bytes of a member in the data of its assembly.
 #[derive(Clone, Copy)]
 pub(crate) struct Span {
-    /// Where it begins, from 0.
+    /// The offset of the first byte.
     pub(crate) offset: usize,
-    /// How many bytes it has.
+    /// The number of bytes.
     pub(crate) size: usize,
 }
 
-/// An instance of the Assembly object. Its members and its data are as long from `new` on: a boxed slice does not grow.
+/// An instance of the Assembly object. `new` allocates members and data at their full length. A boxed slice does
+/// not grow.
 #[derive(Debug, Drop)]
 pub(crate) struct Assembly {
     /// The instance number, 1 to 65,535.
     instance: u16,
     /// Whether the data can be set.
     settable: bool,
-    /// The sizes of the members in bytes, in the order in which they lie.
+    /// The sizes of the members in bytes, in the order of the data.
     members: BoxedSlice<u16>,
     /// The data: the members, one after another.
     content: BoxedSlice<u8>,
-    /// How often a peer wrote the data, modulo 2^32.
+    /// How often peers wrote the data, modulo 2^32.
     changes: u32,
 }
 
@@ -63,7 +64,7 @@ impl Model for Assembly {
 }
 
 impl Assembly {
-    /// An assembly of these members, whose data are zeros, and which nobody has written.
+    /// An assembly with these members. Its data are zeros, and nobody has written them.
     pub(crate) fn new(
         alloc: Global,
         instance: u16,
@@ -90,17 +91,17 @@ impl Assembly {
         })
     }
 
-    /// Where the member of this number lies. Members are numbered from 1.
+    /// The bytes of the member with this number. Members are numbered from 1.
     pub(crate) fn span(&self, number: u16) -> Option<Span>
         ensures member { result ≡ span_of self.now.members number }
         ensures inside { IfSome result (λ s. s.offset + s.size ≤ length self.now.content) }
     {
         let number = usize::from(number);
-        // members are numbered from 1 (Assembly)
+        // Members are numbered from 1.
         if number == 0 || self.members.len() < number {
             return None;
         }
-        // and lie one after another (Assembly)
+        // Members follow one another in the data.
         Some(Span {
             offset: total(&self.members[..number - 1]),
             size: usize::from(self.members[number - 1]),
@@ -127,7 +128,7 @@ impl Assembly {
         self.instance
     }
 
-    /// How many bytes the data have.
+    /// The size of the data in bytes.
     pub(crate) fn size(&self) -> usize
         ensures members { result ≡ sum self.now.members }
         ensures content { result ≡ length self.now.content }
@@ -149,21 +150,21 @@ impl Assembly {
         self.content.as_slice()
     }
 
-    /// How often a peer wrote the data, modulo 2^32.
+    /// How often peers wrote the data, modulo 2^32.
     pub(crate) fn changes(&self) -> u32
         ensures { result ≡ self.now.changes }
     {
         self.changes
     }
 
-    /// Counts that a peer wrote the data.
+    /// Counts a write of the data by a peer.
     pub(crate) fn count_change(&mut self)
         ensures { self.new ≡ record self.old { changes = one_more self.old.changes } }
     {
         self.changes = self.changes.wrapping_add(1);
     }
 
-    /// Replaces the bytes from `offset` on.
+    /// Replaces bytes of the data, from `offset` on.
     pub(crate) fn write(&mut self, offset: usize, bytes: &[u8])
         requires { offset + length bytes.now ≤ length self.old.content }
         ensures { self.new ≡ record self.old {
@@ -175,7 +176,7 @@ impl Assembly {
     }
 }
 
-/// The bytes that members of these sizes have together.
+/// The sum of these member sizes.
 fn total(members: &[u16]) -> usize
     requires { length members.now ≤ MEMBER_LIMIT }
     ensures { result ≡ sum members.now }
@@ -187,7 +188,7 @@ fn total(members: &[u16]) -> usize
     all
 }
 
-/// The place of the first assembly of this instance number.
+/// The index of the first assembly with this instance number.
 pub(crate) fn position(assemblies: &[Assembly], instance: u32) -> Option<usize>
     ensures { MatchOption result (assembly_at instance assemblies.now ≡ None)
         (IsFirst (λ a. a.instance) assemblies.now instance) }
@@ -200,7 +201,7 @@ pub(crate) fn position(assemblies: &[Assembly], instance: u32) -> Option<usize>
     None
 }
 
-/// The greatest instance number, 0 where there is no assembly.
+/// The greatest instance number, or 0 if there is no assembly.
 pub(crate) fn greatest(assemblies: &[Assembly]) -> u16
     ensures { result ≡ greatest_of assemblies.now }
 {

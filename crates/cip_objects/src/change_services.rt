@@ -1,4 +1,4 @@
-//! The services that change (Volume 1, common services; Add and Clear are the counter's own).
+//! The services that change objects (Volume 1, common services; Add and Clear are the counter's own).
 //! Text: docs/PROTOCOL.md, "Objects".
 ghost use Rattle.std.specs.Prelude.{◌≡◌, length, [], OnErr};
 ghost use Rattle.cip_bytes.specs.Numbers.{le};
@@ -14,7 +14,7 @@ use crate::status::Refusal;
 use byteorder::{ByteOrder, LittleEndian};
 
 impl Objects {
-    /// Set_Attribute_Single.
+    /// Set_Attribute_Single: sets the attribute.
     #[inline(always)]
     #[tactic(auto, unfolding(crate::specs::ChangeServices::set_attribute_single))]
     pub(crate) fn set_attribute_single(
@@ -27,11 +27,11 @@ impl Objects {
             ≡ set_attribute_single self.old (path_to self.old.shapes resolved) «data».now }
         ensures err { OnErr result (self.new ≡ self.old) }
     {
-        // no such attribute: 0x14 (objects)
+        // There is no such attribute: 0x14.
         let attribute = resolved.attribute.ok_or(Refusal::AttributeNotSupported)?;
         self.value(resolved.object, attribute)
             .ok_or(Refusal::AttributeNotSupported)?;
-        // an attribute that can't be set: 0x0e, before its data are measured (objects)
+        // The attribute cannot be set: 0x0e. This is checked before the length of the data.
         let settable = self
             .settable(resolved.object, attribute)
             .ok_or(Refusal::AttributeNotSettable)?;
@@ -39,7 +39,7 @@ impl Objects {
         self.set(settable, data)
     }
 
-    /// Sets what can be set to data of its length.
+    /// Sets a settable attribute to data of its length.
     #[inline(always)]
     fn set(&mut self, settable: Settable, data: &[u8]) -> Result<(), Refusal>
         requires there { Exists self.old.shapes (object_of settable) }
@@ -58,7 +58,7 @@ impl Objects {
         }
     }
 
-    /// Sets the counter's limit, where it isn't below the value.
+    /// Sets the counter's limit, unless it is below the value.
     fn change_limit(&mut self, data: &[u8]) -> Result<(), Refusal>
         requires { length «data».now ≡ 4 }
         ensures change_result { change_result (λ _. []) self.new result ≡ limit_change self.old «data».now }
@@ -69,7 +69,7 @@ impl Objects {
         Ok(())
     }
 
-    /// Set_Member.
+    /// Set_Member: sets the member.
     #[tactic(auto, unfolding(crate::specs::ChangeServices::set_member))]
     pub(crate) fn set_member(&mut self, resolved: ResolvedPath, data: &[u8]) -> Result<(), Refusal>
         requires there { Exists self.old.shapes resolved.object }
@@ -79,7 +79,7 @@ impl Objects {
         ensures err { OnErr result (self.new ≡ self.old) }
     {
         let member = self.named_member(resolved)?;
-        // after the member, whether its assembly can be set: 0x0e (objects)
+        // The assembly cannot be set: 0x0e. This is checked after the member.
         self.settable(resolved.object, 3)
             .ok_or(Refusal::AttributeNotSettable)?;
         check_size(member.span.size, data)?;
@@ -88,7 +88,7 @@ impl Objects {
         Ok(())
     }
 
-    /// Add: answers the new value.
+    /// Add: adds to the counter and answers the new value.
     #[inline(always)]
     #[tactic(auto, unfolding(crate::specs::ChangeServices::add))]
     pub(crate) fn add(&mut self, data: &[u8]) -> Result<u32, Refusal>
@@ -102,13 +102,13 @@ impl Objects {
         Ok(counter.value)
     }
 
-    /// Clear: answers the old value.
+    /// Clear: sets the counter to 0 and answers the old value.
     #[tactic(auto, unfolding(crate::specs::ChangeServices::clear))]
     pub(crate) fn clear(&mut self, data: &[u8]) -> Result<u32, Refusal>
         ensures change_result { change_result (le 4) self.new result ≡ clear self.old «data».now }
         ensures err { OnErr result (self.new ≡ self.old) }
     {
-        // the old value is answered (counter, ours)
+        // Clear answers the old value (our choice).
         check_size(0, data)?;
         let counter = self.counter();
         self.set_value(counter.clear().value);

@@ -4,11 +4,11 @@ ghost use Rattle.cip_objects.specs.Check.{check_size};
 
 use crate::status::Refusal;
 
-/// Whether a service's data have exactly this many bytes.
+/// Checks that a service's data have exactly this many bytes.
 pub(crate) fn check_size(size: usize, content: &[u8]) -> Result<(), Refusal>
     ensures { result ≡ check_size size content.now }
 {
-    // not enough data: 0x13; too much: 0x15 (objects)
+    // Not enough data: 0x13. Too much data: 0x15.
     if content.len() < size {
         return Err(Refusal::NotEnoughData);
     }

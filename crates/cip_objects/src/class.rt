@@ -1,11 +1,11 @@
-//! The attributes that a class has as such, at instance 0.
+//! The attributes of a class itself, at instance 0.
 ghost use Rattle.std.specs.Prelude.{◌≡◌, option_map, IfSome};
 ghost use Rattle.cip_objects.specs.Entries.{attribute_in, class_attributes};
 ghost use Rattle.cip_objects.specs.AttributeValue.{value_bytes, IsShort};
 
 use crate::value::AttributeValue;
 
-/// A class that has attributes as such, at instance 0.
+/// A class that has attributes of its own, at instance 0.
 #[derive(Clone, Copy)]
 pub(crate) enum Class {
     /// The Identity object.
@@ -16,7 +16,7 @@ pub(crate) enum Class {
     Counter,
 }
 
-/// The value of an attribute of a class (Volume 1, class attributes): revision, greatest instance, number of instances.
+/// The value of a class attribute (Volume 1, class attributes): revision, greatest instance, number of instances.
 pub(crate) fn class_attribute(
     revision: u16,
     greatest: u16,

@@ -1,4 +1,4 @@
-//! What the objects are made from, and what is refused.
+//! What the objects are made from, and which configurations are refused.
 //! Text: docs/PROGRAM.md, "The configuration".
 ghost use Rattle.std.specs.Prelude.{◌≡◌, ◌≤◌, ◌+◌, ◌<◌, ◌==◌, ◌||◌, not, nat_lt, length, sum, Some, None};
 ghost use Rattle.std.specs.List.{list_any};
@@ -11,17 +11,17 @@ use crate::identity::NAME_LIMIT;
 use std::alloc::{AllocError, AllocFailed};
 use thiserror::Error;
 
-/// The most assemblies (ours).
+/// The most assemblies (our choice).
 const ASSEMBLY_LIMIT: usize = 16;
 
-/// What a device is configured to be.
+/// The configuration of a device's objects.
 #[derive(Debug, Drop)]
 pub struct Config {
-    /// The vendor's number, 16 bits.
+    /// The vendor ID, 16 bits.
     pub vendor: u16,
-    /// The device type, 16 bits: the number of its profile.
+    /// The device type, 16 bits: the number of the device profile.
     pub device_type: u16,
-    /// The vendor's number of the product, 16 bits.
+    /// The product code, 16 bits.
     pub product_code: u16,
     /// The major revision, 1 to 127.
     pub major: u8,
@@ -29,57 +29,63 @@ pub struct Config {
     pub minor: u8,
     /// The serial number, 32 bits.
     pub serial: u32,
-    /// The product's name: at most 32 bytes, each 0x20 to 0x7e.
+    /// The product name: at most 32 bytes, each 0x20 to 0x7e.
     pub name: String,
     /// The status word of the Identity object, 16 bits.
     pub status: u16,
     /// The state of the Identity object, 8 bits.
     pub state: u8,
-    /// The counter.
+    /// The initial values of the counter.
     pub counter: CounterConfig,
     /// The assemblies, at most 16.
     pub assemblies: Vec<AssemblyConfig>,
 }
 
-/// What the counter begins with.
+/// The initial values of the counter.
 #[derive(Clone, Copy, Debug)]
 pub struct CounterConfig {
-    /// The first value, 32 bits.
+    /// The initial value, 32 bits.
     pub value: u32,
-    /// The limit, 32 bits, at least the first value.
+    /// The limit, 32 bits: at least the initial value.
     pub limit: u32,
 }
 
-/// An assembly: 1 to 3,900 bytes, in at most 64 members.
+/// An assembly of 1 to 3,900 bytes, in at most 64 members.
+///
+/// ```
+/// let mut members = Vec::new(alloc);
+/// members.push(4)?;
+/// let assembly = AssemblyConfig { instance: 100, settable: true, members };
+/// ```
 #[derive(Debug, Drop)]
 pub struct AssemblyConfig {
-    /// The instance number, 16 bits: not 0, and none but its own.
+    /// The instance number, 16 bits. Not 0, and not that of another assembly.
     pub instance: u16,
     /// Whether the data can be set.
     pub settable: bool,
-    /// The sizes of the members in bytes, none of them 0.
+    /// The sizes of the members in bytes. None of them is 0.
     pub members: Vec<u16>,
 }
 
-/// Why there are no objects of a configuration: the first of these that holds. Each has its number.
+/// Why no objects are made from a configuration: the first of these that holds.
 #[derive(Clone, Copy, Debug, PartialEq, Eq, Error)]
 pub enum ConfigFault {
-    /// The name is over 32 bytes, or has a byte outside 0x20 to 0x7e.
-    #[error("the name is too long, or has a byte that can't be printed")]
+    /// The name has over 32 bytes, or a byte outside 0x20 to 0x7e.
+    #[error("the name is too long, or has a byte that is not printable")]
     Name = 1,
     /// There are over 16 assemblies, or one has 0 or over 3,900 bytes.
-    #[error("too many assemblies, or one with no byte or too many")]
+    #[error("too many assemblies, or one with 0 bytes or too many")]
     Size = 2,
     /// An assembly has over 64 members, or one of 0 bytes.
-    #[error("an assembly with too many members, or one of no byte")]
+    #[error("an assembly with too many members, or with one of 0 bytes")]
     Members = 3,
-    /// An instance number is 0, which is the class itself, or stands twice.
-    #[error("an instance number that is 0 or stands twice")]
+    /// An instance number is 0, which is the class itself, or is used twice.
+    #[error("an instance number that is 0 or occurs twice")]
     DoubleInstance = 4,
-    /// The counter's first value is over its limit.
+    /// The counter's initial value is over its limit.
     #[error("the counter's first value is over its limit")]
     Limit = 5,
-    /// No memory.
+    /// Memory was refused.
     #[error("out of memory")]
     Memory = 6,
 }
@@ -88,7 +94,7 @@ impl ConfigFault {
     ghost use Rattle.cip_objects.specs.Limits.{LONGEST_DATA};
     ghost use Rattle.cip_objects.specs.Configuration.{config_fault_number};
 
-    /// The number of the fault, by which it is printed.
+    /// The fault's number, as printed.
     pub fn number(self) -> u8
         ensures { result ≡ config_fault_number self }
     {
@@ -120,12 +126,12 @@ impl Config {
     ghost use Rattle.cip_objects.specs.Limits.{LONGEST_DATA};
     ghost use Rattle.cip_objects.specs.Configuration.{fault_of};
 
-    /// The first check that fails, but for want of memory.
+    /// The first check that fails. Running out of memory is not one of them.
     #[tactic(auto, unfolding(crate::specs::Configuration::fault_of))]
     pub fn fault(&self) -> Option<ConfigFault>
         ensures { result ≡ fault_of self.now }
     {
-        // the first check that fails is told: 1 to 5 (configuration, ours)
+        // The first check that fails is reported, in the order of the numbers 1 to 5 (our choice).
         if is_invalid_name(self.name.as_bytes()) {
             return Some(ConfigFault::Name);
         }
@@ -145,7 +151,7 @@ impl Config {
     }
 }
 
-/// Whether a name is too long or can't be printed.
+/// Whether a name is too long, or has a byte that cannot be printed.
 fn is_invalid_name(name: &[u8]) -> bool
     ensures { result ≡ is_invalid_name name.now }
 {
@@ -153,7 +159,7 @@ fn is_invalid_name(name: &[u8]) -> bool
         return true;
     }
     for byte in name {
-        // printable ASCII
+        // Printable ASCII.
         if *byte < 0x20 || *byte > 0x7e {
             return true;
         }
@@ -161,7 +167,7 @@ fn is_invalid_name(name: &[u8]) -> bool
     false
 }
 
-/// Whether an assembly has no byte or too many.
+/// Whether any assembly has no byte or too many.
 fn has_invalid_size(assemblies: &[AssemblyConfig]) -> bool
     ensures { result ≡ list_any is_invalid_size assemblies.now }
 {
@@ -173,7 +179,7 @@ fn has_invalid_size(assemblies: &[AssemblyConfig]) -> bool
     false
 }
 
-/// Whether members of these sizes have no byte together or too many.
+/// Whether the sum of these member sizes is 0 or too large.
 fn is_invalid_size(members: &[u16]) -> bool
     ensures { result ≡ (sum members.now == 0) || nat_lt LONGEST_DATA (sum members.now) }
 {
@@ -187,7 +193,7 @@ fn is_invalid_size(members: &[u16]) -> bool
     all == 0
 }
 
-/// Whether an assembly has too many members, or one of no byte.
+/// Whether any assembly has too many members, or a member of no byte.
 fn has_invalid_members(assemblies: &[AssemblyConfig]) -> bool
     ensures { result ≡ list_any are_invalid_members assemblies.now }
 {
@@ -199,12 +205,12 @@ fn has_invalid_members(assemblies: &[AssemblyConfig]) -> bool
     false
 }
 
-/// Whether an instance number is 0 or stands twice.
+/// Whether an instance number is 0 or is used twice.
 fn has_invalid_instance(assemblies: &[AssemblyConfig]) -> bool
     ensures { result ≡ are_invalid_instances (instances assemblies.now) }
 {
     for (i, assembly) in assemblies.iter().enumerate() {
-        // instance 0 is the class itself (object model)
+        // Instance 0 is the class itself.
         if assembly.instance == 0 || has_instance(assembly.instance, &assemblies[i + 1..]) {
             return true;
         }
@@ -212,7 +218,7 @@ fn has_invalid_instance(assemblies: &[AssemblyConfig]) -> bool
     false
 }
 
-/// Whether an assembly has this instance number.
+/// Whether any assembly has this instance number.
 fn has_instance(instance: u16, assemblies: &[AssemblyConfig]) -> bool
     ensures { result ≡ list_any (λ n. n == instance) (instances assemblies.now) }
 {

@@ -1,4 +1,4 @@
-//! The counter, an object of the vendor's own (class 0x64).
+//! The counter, a vendor-specific object (class 0x64).
 //! Text: docs/PROTOCOL.md, "Objects".
 ghost use Rattle.std.specs.Prelude.{◌≡◌, ◌≤◌, ◌<◌, ◌+◌, ◌%◌, ◌^◌, option_map, IfSome, IfOk, IfErr, OnOk, OnErr};
 ghost use Rattle.cip_objects.specs.Entries.{attribute_in, counter_attributes};
@@ -8,12 +8,12 @@ ghost use Rattle.cip_objects.specs.declared.status.Refusal.TheVariants.{InvalidP
 use crate::status::Refusal;
 use crate::value::AttributeValue;
 
-/// The one instance of the counter (ours).
+/// The one instance of the counter (our choice).
 #[derive(Clone, Copy, Debug)]
 pub(crate) struct Counter {
-    /// What was added since it was last cleared, at most `limit`.
+    /// The sum of the additions since the last Clear, at most `limit`.
     pub(crate) value: u32,
-    /// The most that `value` may come to.
+    /// The greatest `value`.
     pub(crate) limit: u32,
     /// How many additions were accepted, modulo 2^32.
     pub(crate) additions: u32,
@@ -22,7 +22,7 @@ pub(crate) struct Counter {
 impl Counter {
     ghost use Rattle.cip_objects.specs.Counter.{counter_values};
 
-    /// A counter to which nothing was added.
+    /// A counter with this value and limit, and no addition yet.
     pub(crate) fn new(value: u32, limit: u32) -> Counter
         ensures new { result ≡ record { value = value; limit = limit; additions = 0 } }
         ensures value { value < 2 ^ 32 }
@@ -35,11 +35,11 @@ impl Counter {
         }
     }
 
-    /// The counter once it is added to, and that is counted.
+    /// The counter after this addition, which is counted.
     ///
     /// # Errors
     ///
-    /// `InvalidParameter` where the value would pass the limit.
+    /// `InvalidParameter` if the value would pass the limit.
     pub(crate) fn add(self, amount: u32) -> Result<Counter, Refusal>
         ensures ok { IfOk result (λ counter. counter
             ≡ record self { value = self.value + amount; additions = (self.additions + 1) % 2 ^ 32 }) }
@@ -47,7 +47,7 @@ impl Counter {
         ensures over { OnErr result (self.limit < self.value + amount) }
         ensures refused { IfErr result (λ refusal. refusal ≡ InvalidParameter) }
     {
-        // the value never passes the limit: 0x20 (counter, ours)
+        // The value never passes the limit: 0x20 (our choice).
         match self.value.checked_add(amount) {
             Some(value) if value <= self.limit => Ok(Counter {
                 value,
@@ -58,7 +58,7 @@ impl Counter {
         }
     }
 
-    /// The counter once it is cleared.
+    /// The counter after a Clear.
     pub(crate) fn clear(self) -> Counter
         ensures { result ≡ record self { value = 0 } }
     {
@@ -73,14 +73,14 @@ impl Counter {
     ///
     /// # Errors
     ///
-    /// `InvalidAttributeValue` where the limit would be below the value.
+    /// `InvalidAttributeValue` if the limit would be below the value.
     pub(crate) fn with_limit(self, limit: u32) -> Result<Counter, Refusal>
         ensures ok { IfOk result (λ counter. counter ≡ record self { limit = limit }) }
         ensures within { OnOk result (self.value ≤ limit) }
         ensures below { OnErr result (limit < self.value) }
         ensures refused { IfErr result (λ refusal. refusal ≡ InvalidAttributeValue) }
     {
-        // the limit is never below the value: 0x09 (counter, ours)
+        // The limit is never below the value: 0x09 (our choice).
         if limit < self.value {
             return Err(Refusal::InvalidAttributeValue);
         }

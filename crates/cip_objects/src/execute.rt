@@ -17,7 +17,7 @@ use cip_bytes::protocol::{GeneralStatus, REPLY_LIMIT};
 use cip_message::{RequestView, read_path, reply_service};
 
 impl Objects {
-    /// Performs a service that the instance has, and appends the data of its reply.
+    /// Performs a service that the object has, and appends the data of its reply.
     #[inline(always)]
     fn perform(
         &mut self,
@@ -71,7 +71,7 @@ impl Objects {
         }
     }
 
-    /// Reads a request and performs it: the first check that fails is answered.
+    /// Reads a request and performs it. The first check that fails is answered.
     #[tactic(auto, unfolding(crate::specs::Execution::outcome, crate::specs::ReadServices::service_at))]
     fn perform_request(
         &mut self,
@@ -86,19 +86,19 @@ impl Objects {
             ≡ outcome_within max_size reply.old.items (outcome self.old request.now) }
         ensures err { OnErr result (self.new ≡ self.old) }
     {
-        // the path goes past the end of the request: 0x26 (objects)
+        // The path goes past the end of the request: 0x26.
         let Ok(view) = RequestView::read(request) else {
             return Err(Refusal::PathSizeInvalid);
         };
-        // the path is none: 0x04 (objects)
+        // The path is malformed: 0x04.
         let Ok(path) = read_path(view.path) else {
             return Err(Refusal::PathSegmentError);
         };
-        // no such class or instance: 0x05 (objects)
+        // There is no such class or instance: 0x05.
         let object = self
             .object(path.class, path.instance)
             .ok_or(Refusal::PathDestinationUnknown)?;
-        // the destination hasn't this service: 0x08 (objects)
+        // The object does not have this service: 0x08.
         let service = object
             .service(view.service)
             .ok_or(Refusal::ServiceNotSupported)?;
@@ -111,7 +111,8 @@ impl Objects {
     }
 }
 
-/// Begins a reply to a request of this service: bit 7, a reserved byte, the status, no additional words.
+/// Begins a reply to a request with this service: the service with bit 7 set, a reserved byte, the status, and no
+/// additional status words.
 fn begin(service: u8, status: GeneralStatus, reply: &mut ReplyBuf)
     ensures { reply.new.items ≡ spelled (reply_of_fields (reply_service service) (general_status_number status) [] []) }
 {
@@ -122,7 +123,7 @@ fn begin(service: u8, status: GeneralStatus, reply: &mut ReplyBuf)
     reply.push(0);
 }
 
-/// Puts the status into a reply that was begun.
+/// Overwrites the status of a reply that was begun.
 fn set_status(status: GeneralStatus, reply: &mut ReplyBuf)
     requires { 4 ≤ length reply.old.items }
     ensures { reply.new.items ≡ slice_set reply.old.items 2 (general_status_number status) }
@@ -137,7 +138,7 @@ impl Router for Objects {
 
     ghost answer = { λ m max_size text. (exec m max_size text).answer };
 
-    /// The map and the reply of the definition `exec`. Takes no memory.
+    /// Leaves the object map and the reply of the definition `exec`. Allocates nothing.
     fn execute(&mut self, request: &[u8], max_size: usize, reply: &mut ReplyBuf) {
         begin(request[0], GeneralStatus::Success, reply);
         match self.perform_request(request, max_size, reply) {

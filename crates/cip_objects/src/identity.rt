@@ -7,7 +7,7 @@ use crate::value::AttributeValue;
 use arrayvec::ArrayVec;
 use std::marker::Model;
 
-/// The most bytes of a product name (ours).
+/// The most bytes of a product name (our choice).
 pub(crate) const NAME_LIMIT: usize = 32;
 
 /// The one instance of the Identity object.
@@ -67,7 +67,7 @@ impl Identity {
             1 => Some(AttributeValue::Uint(self.vendor)),
             2 => Some(AttributeValue::Uint(self.device_type)),
             3 => Some(AttributeValue::Uint(self.product_code)),
-            // major, then minor revision (Identity)
+            // The major revision comes before the minor one.
             4 => Some(AttributeValue::Pair(self.major, self.minor)),
             5 => Some(AttributeValue::Uint(self.status)),
             6 => Some(AttributeValue::Udint(self.serial)),

@@ -1,12 +1,20 @@
-//! The objects of the adapter: Identity, Assembly and a counter, and the trait by which a connection reaches them.
+//! The objects of the adapter (Identity, Assembly and a counter), and the trait by which a connection reaches them.
 //!
-//! `Objects` is made from a `Config` and executes router requests, as its trait `Router` says. A caller sees it as
-//! the object map, from class, instance and attribute to bytes, beside the constant tables that the configuration
-//! fixed: `exec` of `specs/Execution.antt` is the map after a request and its reply. Inside it are typed structs.
+//! [`Objects`] is made from a [`Config`] and executes router requests, as its trait [`Router`] says. Contracts see
+//! it as the object map, from class, instance and attribute to bytes, and the constant tables that the
+//! configuration fixed. `exec` in `specs/Execution.antt` defines the object map after a request, and its reply. In
+//! memory the objects are typed structs.
 //!
-//! Its calls after `Objects::new` take no memory. Left out: dynamic assemblies, Set_Attributes_All,
-//! Set_Attribute_List, Multiple_Service_Packet, and Identity Reset, all answered "service not supported"; the
-//! Connection Manager's services are the manager's.
+//! Only `Objects::new` allocates. Left out are dynamic assemblies, Set_Attributes_All, Set_Attribute_List,
+//! Multiple_Service_Packet, and Identity Reset. All of these are answered "service not supported". The services of
+//! the Connection Manager belong to `cip_manager`.
+//!
+//! ```
+//! let mut objects = Objects::new(alloc, config)?;
+//! let mut reply = ReplyBuf::new();
+//! objects.execute(&[0x0e, 0x03, 0x20, 0x01, 0x24, 0x01, 0x30, 0x01], 504, &mut reply);
+//! // `reply` is 8e 00 00 00 and the two bytes of the vendor ID
+//! ```
 #![tactic(auto)]
 
 mod assembly;

@@ -1,4 +1,4 @@
-//! What a path leads to: its class and instance, looked up once (Volume 1, object model).
+//! The object that a path leads to. Its class and instance are looked up once (Volume 1, object model).
 ghost use Rattle.std.specs.Prelude.{◌≡◌};
 ghost use Rattle.cip_objects.specs.Service.{service_in};
 
@@ -6,7 +6,7 @@ use crate::assembly::Span;
 use crate::class::Class;
 use crate::service::Service;
 
-/// The services of a class as such.
+/// The services of a class itself.
 static CLASS_SERVICES: [Service; 1] = [Service::GetAttributeSingle];
 
 /// The services of the Identity object's instance.
@@ -25,7 +25,7 @@ static ASSEMBLY_SERVICES: [Service; 5] = [
     Service::SetMember,
 ];
 
-/// The services of the counter's instance, its own first: they are found soonest.
+/// The services of the counter's instance. Its own come first, as they are found soonest.
 static COUNTER_SERVICES: [Service; 5] = [
     Service::Add,
     Service::Clear,
@@ -34,14 +34,15 @@ static COUNTER_SERVICES: [Service; 5] = [
     Service::SetAttributeSingle,
 ];
 
-/// What the class and the instance of a path lead to. Where there is none, the path's destination is unknown: 0x05.
+/// The object that the class and the instance of a path lead to. If there is none, the path destination is unknown:
+/// 0x05.
 #[derive(Clone, Copy)]
 pub(crate) enum ObjectRef {
     /// A class itself, at instance 0.
     Class(Class),
     /// The one instance of the Identity object.
     Identity,
-    /// The assembly at this place among the assemblies, from 0.
+    /// The assembly at this index, from 0.
     Assembly(usize),
     /// The one instance of the Connection Manager.
     ConnectionManager,
@@ -52,7 +53,7 @@ pub(crate) enum ObjectRef {
 impl ObjectRef {
     ghost use Rattle.cip_objects.specs.ObjectRef.{services_at};
 
-    /// Its services.
+    /// The object's services.
     #[inline(always)]
     fn services(self) -> &'static [Service]
         ensures { result.now ≡ services_at self }
@@ -61,13 +62,13 @@ impl ObjectRef {
             ObjectRef::Class(_) => &CLASS_SERVICES,
             ObjectRef::Identity => &IDENTITY_SERVICES,
             ObjectRef::Assembly(_) => &ASSEMBLY_SERVICES,
-            // its services are the manager's (objects)
+            // The services of the Connection Manager belong to `cip_manager`.
             ObjectRef::ConnectionManager => &[],
             ObjectRef::Counter => &COUNTER_SERVICES,
         }
     }
 
-    /// Its service of this code, `None` where it hasn't this service.
+    /// The service with this code, or `None` if the object does not have it.
     #[inline(always)]
     pub(crate) fn service(self, code: u8) -> Option<Service>
         ensures { result ≡ service_in code (services_at self) }
@@ -76,10 +77,10 @@ impl ObjectRef {
     }
 }
 
-/// What a request is about: the destination of its path, and the attribute and the member that the path names there.
+/// The path of a request, whose object was looked up.
 #[derive(Clone, Copy)]
 pub(crate) struct ResolvedPath {
-    /// What its class and instance lead to.
+    /// The object that class and instance lead to.
     pub(crate) object: ObjectRef,
     /// The attribute's number, if the path names one.
     pub(crate) attribute: Option<u16>,
@@ -90,20 +91,20 @@ pub(crate) struct ResolvedPath {
 /// A member of the data of an assembly.
 #[derive(Clone, Copy)]
 pub(crate) struct Member {
-    /// The assembly's place among the assemblies, from 0.
+    /// The index of the assembly, from 0.
     pub(crate) assembly_index: usize,
-    /// Where the member lies in its data.
+    /// The bytes of the member in the assembly's data.
     pub(crate) span: Span,
 }
 
-/// An attribute that can be set (objects).
+/// An attribute that can be set.
 #[derive(Clone, Copy)]
 pub(crate) enum Settable {
-    /// The data of the assembly at this place.
+    /// The data of an assembly.
     Data {
-        /// The assembly's place among the assemblies, from 0.
+        /// The index of the assembly, from 0.
         assembly_index: usize,
-        /// How many bytes the data have.
+        /// The size of the data in bytes.
         size: usize,
     },
     /// The counter's limit.
@@ -113,7 +114,7 @@ pub(crate) enum Settable {
 impl Settable {
     ghost use Rattle.cip_objects.specs.ObjectRef.{size_to_set};
 
-    /// How many bytes it has.
+    /// The size of the attribute in bytes.
     pub(crate) fn size(self) -> usize
         ensures { result ≡ size_to_set self }
     {
@@ -124,7 +125,7 @@ impl Settable {
     }
 }
 
-/// The service of this code among these.
+/// The service with this code, among these.
 fn service_in(code: u8, services: &[Service]) -> Option<Service>
     ensures { result ≡ service_in code services.now }
 {

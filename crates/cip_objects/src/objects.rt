@@ -1,4 +1,4 @@
-//! The objects: what a caller sees as one map, held as typed structs.
+//! The objects of a device: one object map to a caller, typed structs in memory.
 //! Text: docs/PROTOCOL.md, "Objects".
 ghost use Rattle.std.specs.Prelude.{◌≡◌, ◌≤◌, ◌+◌, length, option_map, is_some, sum, map, Some, IfSome};
 ghost use Rattle.std.specs.Prelude.{IfOk, IfErr, MatchOption, unwrap_or, nat_le};
@@ -36,8 +36,14 @@ use std::marker::Model;
 
 /// The objects of a device: Identity, the assemblies and the counter.
 ///
-/// A caller sees them as the object map, from class, instance and attribute to bytes, beside the constant tables.
-/// No call after `new` takes memory: no part of it is of a type that can grow.
+/// Contracts see them as the object map, from class, instance and attribute to bytes, and the constant tables. Only
+/// `new` allocates: no part has a type that can grow.
+///
+/// ```
+/// let mut objects = Objects::new(alloc, config)?;
+/// objects.write_data(100, 0, &[0xaa, 0xbb]); // the device updates the data of assembly 100
+/// let data = objects.attribute(0x04, 100, 3); // what a peer reads
+/// ```
 #[derive(Debug, Drop)]
 pub struct Objects {
     identity: Identity,
@@ -63,12 +69,12 @@ impl Model for Objects {
 }
 
 impl Objects {
-    /// The objects of a configuration.
+    /// Makes the objects of a configuration.
     ///
     /// # Errors
     ///
-    /// The first check of the configuration that fails, in the order of `ConfigFault`, and `Memory` only where all
-    /// hold and there is no memory.
+    /// The first check of the configuration that fails, in the order of `ConfigFault`. `Memory` only if all hold
+    /// and memory is refused.
     pub fn new(alloc: Global, config: &Config) -> Result<Objects, ConfigFault>
         ensures refused { IfSome (fault_of config.now) (λ fault. result ≡ Err fault) }
         ensures allowed { fault_of config.now ≡ None → IfErr result (λ fault. fault ≡ ConfigFault.Memory) }
@@ -96,7 +102,7 @@ impl Objects {
         })
     }
 
-    /// What a class and an instance lead to, if there is such a class and instance.
+    /// The object that a class and an instance lead to, if there is one.
     #[tactic(auto, unfolding(crate::specs::Tables::services_of), using(crate::proofs::ObjectRefs::reaches))]
     pub(crate) fn object(&self, class: u16, instance: u32) -> Option<ObjectRef>
         ensures services { option_map services_at result ≡ services_of self.now.shapes class instance }
@@ -105,7 +111,7 @@ impl Objects {
         ensures identity { class ≡ IDENTITY → instance ≡ 1 → result ≡ Some ObjectRef.Identity }
     {
         match (class, instance) {
-            // instance 0 is the class itself (object model)
+            // Instance 0 is the class itself.
             (IDENTITY, 0) => Some(ObjectRef::Class(Class::Identity)),
             (IDENTITY, 1) => Some(ObjectRef::Identity),
             (ASSEMBLY, 0) => Some(ObjectRef::Class(Class::Assembly)),
@@ -117,7 +123,7 @@ impl Objects {
         }
     }
 
-    /// The value of an attribute of a destination, if it has one of this number.
+    /// The value of an attribute of an object, if it has an attribute with this number.
     #[inline(always)]
     #[tactic(auto, using(crate::proofs::Lookup::reads))]
     pub(crate) fn value(&self, object: ObjectRef, attribute: u16) -> Option<AttributeValue<'_>>
@@ -140,13 +146,13 @@ impl Objects {
             ObjectRef::Assembly(assembly_index) => self.assemblies[assembly_index].attribute(
                 attribute,
             ),
-            // it has no attributes here (ours)
+            // The Connection Manager has no attributes in this profile (our choice).
             ObjectRef::ConnectionManager => None,
             ObjectRef::Counter => counter.attribute(attribute),
         }
     }
 
-    /// The five numbers that an electronic key is tested against. Takes no memory.
+    /// The five numbers that an electronic key is compared with. Allocates nothing.
     #[tactic(auto, unfolding(crate::specs::Entries::contents_of))]
     pub fn device(&self) -> Device
         ensures { result ≡ self.now.device }
@@ -160,10 +166,10 @@ impl Objects {
         }
     }
 
-    /// The bytes of an attribute that can be read, `None` where there is no such attribute. Takes no memory.
+    /// The bytes of an attribute that can be read, or `None` if there is no such attribute. Allocates nothing.
     pub fn attribute(&self, class: u16, instance: u32, attribute: u16) -> Option<ReplyBuf>
         ensures value { option_map (λ bytes. bytes.items) result ≡ value_at self.now class instance attribute }
-        // Of the Identity object's instance the name, with its length, is the longest.
+        // The longest attribute of the Identity object's instance is the name with its length.
         ensures identity { class ≡ IDENTITY → instance ≡ 1
             → IfSome result (λ bytes. length bytes.items ≤ NAME_LIMIT + 1) }
     {
@@ -175,10 +181,10 @@ impl Objects {
         }
     }
 
-    /// Leaves the bytes of an attribute that can be read in `reply`, whose old content is dropped, and answers whether
-    /// there is such an attribute. Takes no memory.
+    /// Writes the bytes of an attribute that can be read to `reply`, in place of its old content, and returns
+    /// whether there is such an attribute. Allocates nothing.
     ///
-    /// So a caller that reads one attribute after another does it in one buffer.
+    /// With this call you can read one attribute after another into one buffer.
     pub fn read_attribute(
         &self,
         class: u16,
@@ -188,7 +194,7 @@ impl Objects {
     ) -> bool
         ensures found { result ≡ is_some (value_at self.now class instance attribute) }
         ensures bytes { reply.new.items ≡ bytes_at self.now class instance attribute }
-        // Of the Identity object's instance the name, with its length, is the longest.
+        // The longest attribute of the Identity object's instance is the name with its length.
         ensures identity { class ≡ IDENTITY → instance ≡ 1 → length reply.new.items ≤ NAME_LIMIT + 1 }
     {
         reply.clear();
@@ -201,10 +207,10 @@ impl Objects {
         }
     }
 
-    /// Writes bytes into the data of an assembly from `offset` on, whether peers can set it or not, and answers whether
-    /// it did: `false` where there is no such assembly or the bytes go past the end of its data, and then nothing
-    /// changes. It is how the device itself writes what its peers read, and no change
-    /// is counted. Takes no memory.
+    /// Writes bytes into the data of an assembly, from `offset` on, even if peers cannot set it. Returns whether it
+    /// did. If there is no such assembly, or the bytes go past the end of its data, it returns `false` and changes
+    /// nothing. With this call the device itself updates what its peers read. It is not counted as a change.
+    /// Allocates nothing.
     pub fn write_data(&mut self, instance: u32, offset: usize, bytes: &[u8]) -> bool
         ensures written { self.new ≡ unwrap_or (device_write self.old instance offset bytes.now) self.old }
         ensures reported { result ≡ is_some (device_write self.old instance offset bytes.now) }
@@ -219,27 +225,27 @@ impl Objects {
         true
     }
 
-    /// The device's status is this one from now on: attribute 5 of the Identity object (Volume 1, Identity object), a
-    /// WORD. Takes no memory.
+    /// Sets the device's status: attribute 5 of the Identity object, a WORD (Volume 1, Identity object). Allocates
+    /// nothing.
     pub fn set_device_status(&mut self, status: u16)
         ensures { self.new ≡ with_device_status self.old status }
     {
         self.identity.set_status(status);
     }
 
-    /// The device's state is this one from now on: attribute 8 of the Identity object (Volume 1, Identity object), a
-    /// USINT. Takes no memory.
+    /// Sets the device's state: attribute 8 of the Identity object, a USINT (Volume 1, Identity object). Allocates
+    /// nothing.
     pub fn set_device_state(&mut self, state: u8)
         ensures { self.new ≡ with_device_state self.old state }
     {
         self.identity.set_state(state);
     }
 
-    /// How often peers have written data of this assembly, modulo 2^32: each Set_Attribute_Single of its data and each
-    /// Set_Member that was executed counts once. A request that was refused, a repeat on a class 3 connection and
-    /// `write_data` count nothing. `None` where there is no such assembly. Takes no memory.
+    /// How often peers have written data of this assembly, modulo 2^32. Each executed Set_Attribute_Single of its
+    /// data and each executed Set_Member counts once. Refused requests, repeats on a class 3 connection and
+    /// `write_data` do not count. `None` if there is no such assembly. Allocates nothing.
     ///
-    /// So a device sees that something came without comparing bytes.
+    /// So a device notices a write without comparing bytes.
     pub fn changes(&self, instance: u32) -> Option<u32>
         ensures changes { result ≡ changes_of instance self.now.changes }
         ensures there { is_some result ≡ is_some (shape_at instance self.now.shapes) }
@@ -248,7 +254,7 @@ impl Objects {
         Some(self.assemblies[assembly_index].changes())
     }
 
-    /// The place of the assembly of this instance number, if there is one.
+    /// The index of the assembly with this instance number, if there is one.
     fn assembly_index(&self, instance: u32) -> Option<usize>
         ensures { MatchOption result (shape_at instance self.now.shapes ≡ None)
             (IsAssemblyAt self.now.shapes instance) }
@@ -256,7 +262,7 @@ impl Objects {
         position(&self.assemblies, instance)
     }
 
-    /// The assembly at this place.
+    /// The assembly at this index.
     #[inline(always)]
     pub(crate) fn assembly(&self, assembly_index: usize) -> &Assembly
         requires { IsAssemblyIndex self.now.shapes assembly_index }
@@ -266,7 +272,7 @@ impl Objects {
         &self.assemblies[assembly_index]
     }
 
-    /// What can be set as this attribute of a destination, `None` where that can't be set.
+    /// The settable attribute of an object that has this number, or `None` if it cannot be set.
     #[tactic(auto, unfolding(crate::specs::Tables::settable_size), using(crate::proofs::ObjectRefs::not_settable))]
     pub(crate) fn settable(&self, object: ObjectRef, attribute: u16) -> Option<Settable>
         requires { Exists self.now.shapes object }
@@ -274,7 +280,7 @@ impl Objects {
             ≡ settable_size self.now.shapes (class_at object) (instance_at self.now.shapes object) attribute }
         ensures names { IfSome result (CanBeSet self.now object attribute) }
     {
-        // the data of an assembly that the configuration lets be set, and the counter's limit (objects)
+        // Peers can set the data of an assembly, if the configuration says so, and the counter's limit.
         match (object, attribute) {
             (ObjectRef::Assembly(assembly_index), 3) => {
                 let assembly = self.assembly(assembly_index);
@@ -291,7 +297,7 @@ impl Objects {
         }
     }
 
-    /// The numbers of the counter.
+    /// The counter.
     pub(crate) fn counter(&self) -> Counter
         ensures value { result.value ≡ udint_at self.now COUNTER 1 1 }
         ensures limit { result.limit ≡ udint_at self.now COUNTER 1 2 }
@@ -301,7 +307,7 @@ impl Objects {
         counter
     }
 
-    /// Writes bytes from `offset` on into the data of the assembly at this place.
+    /// Writes bytes into the data of the assembly at this index, from `offset` on.
     pub(crate) fn write_content(&mut self, assembly_index: usize, offset: usize, bytes: &[u8])
         requires there { IsAssemblyIndex self.old.shapes assembly_index }
         requires inside { offset + length bytes.now ≤ length (data_at self.old assembly_index) }
@@ -312,7 +318,7 @@ impl Objects {
         self.assemblies[assembly_index].write(offset, bytes);
     }
 
-    /// Counts that a peer wrote data of the assembly at this place.
+    /// Counts a write to the data of the assembly at this index by a peer.
     pub(crate) fn count_change(&mut self, assembly_index: usize)
         requires { IsAssemblyIndex self.old.shapes assembly_index }
         ensures { self.new ≡ counted self.old ASSEMBLY (number_at self.old.shapes assembly_index) }
@@ -334,7 +340,7 @@ impl Objects {
         self.counter.limit = limit;
     }
 
-    /// Sets how many additions were done.
+    /// Sets the counter's number of additions.
     pub(crate) fn set_additions(&mut self, additions: u32)
         ensures { self.new ≡ with_value self.old COUNTER 1 3 (little_bytes 4 additions) }
     {
@@ -342,14 +348,14 @@ impl Objects {
     }
 }
 
-/// Whether so many bytes from an offset on end within a size.
+/// Whether `count` bytes from `offset` on end within `size`.
 fn ends_within(offset: usize, count: usize, size: usize) -> bool
     ensures { result ≡ nat_le (offset + count) size }
 {
     offset <= size && count <= size - offset
 }
 
-/// A product name.
+/// The product name, as the Identity object stores it.
 fn name_of(text: &[u8]) -> ArrayVec<u8, NAME_LIMIT>
     requires { length text.now ≤ NAME_LIMIT }
     ensures { result.items ≡ text.now }
@@ -359,7 +365,7 @@ fn name_of(text: &[u8]) -> ArrayVec<u8, NAME_LIMIT>
     name
 }
 
-/// The assemblies of a configuration.
+/// Makes the assemblies of a configuration.
 fn assemblies_of(
     alloc: Global,
     configs: &[AssemblyConfig],

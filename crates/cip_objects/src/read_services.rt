@@ -1,4 +1,4 @@
-//! The services that read (Volume 1, common services).
+//! The services that read objects (Volume 1, common services).
 //! Text: docs/PROTOCOL.md, "Objects".
 ghost use Rattle.std.specs.Prelude.{◌≡◌, ◌≤◌, ◌+◌, [], ◌∷◌, ◌++◌, length, IfOk};
 ghost use Rattle.std.specs.List.{flat_map};
@@ -24,7 +24,7 @@ use byteorder::{ByteOrder, LittleEndian};
 use cip_bytes::protocol::{GeneralStatus, REPLY_LIMIT};
 
 impl Objects {
-    /// Get_Attribute_Single: the attribute's value.
+    /// Get_Attribute_Single: the value of the attribute.
     #[tactic(auto, unfolding(crate::specs::ReadServices::get_attribute_single))]
     pub(crate) fn get_attribute_single(
         &self,
@@ -39,12 +39,12 @@ impl Objects {
         let value = self
             .value(resolved.object, attribute)
             .ok_or(Refusal::AttributeNotSupported)?;
-        // a read takes no data (common services)
+        // A service that reads takes no data.
         check_size(0, data)?;
         Ok(value)
     }
 
-    /// Get_Attributes_All.
+    /// Get_Attributes_All: the values of attributes 1 to 7.
     #[tactic(auto, unfolding(crate::specs::ReadServices::get_attributes_all))]
     pub(crate) fn get_attributes_all(
         &self,
@@ -78,7 +78,7 @@ impl Objects {
         ensures { Writes max_size (reply.old.items ++ flat_map (bytes_to self.now object) ALL_ATTRIBUTES)
             result reply.new.items }
     {
-        // this profile ends there (ours)
+        // The reply ends after attribute 7 (our choice).
         self.append_value(object, 1, max_size, reply)?;
         self.append_value(object, 2, max_size, reply)?;
         self.append_value(object, 3, max_size, reply)?;
@@ -88,7 +88,7 @@ impl Objects {
         self.append_value(object, 7, max_size, reply)
     }
 
-    /// Appends the value of an attribute, nothing where there is no such attribute.
+    /// Appends the value of an attribute, or nothing if there is no such attribute.
     #[inline(always)]
     fn append_value(
         &self,
@@ -108,7 +108,7 @@ impl Objects {
         }
     }
 
-    /// Get_Attribute_List.
+    /// Get_Attribute_List: each attribute with its status.
     #[tactic(auto, unfolding(crate::specs::ReadServices::get_attribute_list))]
     pub(crate) fn get_attribute_list(
         &self,
@@ -123,14 +123,14 @@ impl Objects {
             ≡ outcome_within max_size reply.old.items (outcome_of_read self.now
             (get_attribute_list self.now (path_to self.now.shapes resolved) «data».now)) }
     {
-        // the count and so many attribute numbers, two bytes each (common services)
+        // The data are a count, then that many attribute numbers of two bytes each.
         if data.len() < 2 {
             return Err(Refusal::NotEnoughData);
         }
         let count = LittleEndian::read_u16(data);
         check_size(2 + 2 * usize::from(count), data)?;
         append(&count.to_le_bytes(), max_size, reply)?;
-        // an unknown attribute is told in its place, and by the general status 0x0a (common services)
+        // The entry of an unknown attribute says so, and so does the general status, 0x0a.
         if self.append_list(resolved, &data[2..], max_size, reply)? {
             Ok(Completion::Whole)
         } else {
@@ -138,7 +138,8 @@ impl Objects {
         }
     }
 
-    /// Appends each attribute of a list of numbers, two bytes each, and answers whether all are there.
+    /// Appends an entry for each attribute of a list of numbers, two bytes each. Returns whether all attributes
+    /// exist.
     #[tactic(auto, using(crate::proofs::Words::words))]
     fn append_list(
         &self,
@@ -165,7 +166,7 @@ impl Objects {
         Ok(all)
     }
 
-    /// Appends one attribute of a list, and answers whether it is there.
+    /// Appends the entry of one attribute. Returns whether it exists.
     #[tactic(auto, unfolding(crate::specs::ReadServices::list_entry))]
     fn append_listed(
         &self,
@@ -187,7 +188,7 @@ impl Objects {
                 value.append(max_size, reply)?;
                 Ok(true)
             }
-            // an unknown one has a status of its own, attribute not supported (common services)
+            // The status of an unknown attribute is "attribute not supported".
             None => {
                 append_head(
                     attribute,
@@ -208,12 +209,12 @@ impl Objects {
         ensures span { span_result result ≡ named_member self.now.shapes (path_to self.now.shapes resolved) }
         ensures inside { IfOk result (IsInside self.now resolved.object) }
     {
-        // only the data of an assembly, attribute 3, have members (Assembly)
+        // Only the data of an assembly, attribute 3, have members.
         let (ObjectRef::Assembly(assembly_index), Some(3)) = (resolved.object, resolved.attribute)
         else {
             return Err(Refusal::AttributeNotSupported);
         };
-        // no such member: 0x28 (objects)
+        // There is no such member: 0x28.
         let number = resolved.member.ok_or(Refusal::InvalidMemberId)?;
         let span = self
             .assembly(assembly_index)
@@ -225,7 +226,7 @@ impl Objects {
         })
     }
 
-    /// Get_Member: the member's bytes.
+    /// Get_Member: the bytes of the member.
     #[tactic(auto, unfolding(crate::specs::ReadServices::get_member))]
     pub(crate) fn get_member(&self, resolved: ResolvedPath, data: &[u8]) -> Result<&[u8], Refusal>
         requires there { Exists self.now.shapes resolved.object }
@@ -242,7 +243,7 @@ impl Objects {
     }
 }
 
-/// Appends what stands in front of the value of an attribute of a list: its number, and its status.
+/// Appends what comes before an attribute's value in a list: its number and its status.
 #[inline(always)]
 fn append_head(
     attribute: u16,

@@ -1,4 +1,4 @@
-//! A reply that is written in place, as far as there is room for it.
+//! A reply that is written in place, up to a maximum size.
 ghost use Rattle.std.specs.Prelude.{◌≡◌, ◌≤◌, ◌++◌, [], ◌∷◌};
 ghost use Rattle.cip_objects.specs.ReplyWriting.{Writes};
 
@@ -6,13 +6,13 @@ use crate::router::ReplyBuf;
 use crate::status::Refusal;
 use cip_bytes::protocol::REPLY_LIMIT;
 
-/// Appends bytes to a reply, where it then has at most `max_size` bytes.
+/// Appends bytes to a reply, if it then has at most `max_size` bytes.
 #[inline(always)]
 pub(crate) fn append(bytes: &[u8], max_size: usize, reply: &mut ReplyBuf) -> Result<(), Refusal>
     requires { max_size ≤ REPLY_LIMIT }
     ensures { Writes max_size (reply.old.items ++ bytes.now) result reply.new.items }
 {
-    // a reply is never over its room: 0x11 (objects)
+    // A longer reply is refused: 0x11.
     if max_size < reply.len() + bytes.len() {
         return Err(Refusal::ReplyDataTooLarge);
     }

@@ -1,18 +1,18 @@
 //! The services of the objects.
 ghost use Rattle.std.specs.Prelude.{◌≡◌};
 
-/// A service that some instance of the objects has (Volume 1, common services; Add and Clear are the counter's own).
+/// A service of some object (Volume 1, common services; Add and Clear are the counter's own).
 #[derive(Clone, Copy)]
 pub(crate) enum Service {
-    /// The attributes 1 to 7, joined.
+    /// Reads attributes 1 to 7, joined.
     GetAttributesAll,
-    /// A list of attributes, each with its status.
+    /// Reads a list of attributes, each with its status.
     GetAttributeList,
-    /// One attribute.
+    /// Reads one attribute.
     GetAttributeSingle,
     /// Sets one attribute.
     SetAttributeSingle,
-    /// One member of the data of an assembly.
+    /// Reads one member of the data of an assembly.
     GetMember,
     /// Sets one member of the data of an assembly.
     SetMember,
@@ -25,7 +25,7 @@ pub(crate) enum Service {
 impl Service {
     ghost use Rattle.cip_objects.specs.Service.{service_code};
 
-    /// The service as the byte of a request.
+    /// The service's code in a request.
     pub(crate) fn code(self) -> u8
         ensures { result ≡ service_code self }
     {

@@ -1,14 +1,14 @@
-//! General statuses of router replies: with which of them a service is done, and with which it is refused.
+//! The general statuses of replies: those of services that were performed, and those of refusals.
 ghost use Rattle.std.specs.Prelude.{◌≡◌};
 
 use cip_bytes::protocol::GeneralStatus;
 
-/// How much a service that wasn't refused has done.
+/// How completely a service was performed.
 #[derive(Clone, Copy)]
 pub(crate) enum Completion {
-    /// All of it.
+    /// Completely.
     Whole,
-    /// A list, of which some attribute couldn't be read.
+    /// A list, of which at least one attribute could not be read.
     Partial,
 }
 
@@ -26,32 +26,32 @@ impl Completion {
     }
 }
 
-/// Why a request is refused: nothing is changed, and the reply has this status and no data.
+/// Why a request is refused. Nothing is changed, and the reply has this status and no data.
 #[derive(Clone, Copy)]
 pub(crate) enum Refusal {
-    /// The path is no path.
+    /// The path is malformed.
     PathSegmentError,
-    /// No such class or instance.
+    /// There is no such class or instance.
     PathDestinationUnknown,
-    /// The instance has no such service.
+    /// The object does not have this service.
     ServiceNotSupported,
-    /// The value isn't one that the attribute can have.
+    /// The attribute cannot have this value.
     InvalidAttributeValue,
-    /// The attribute can't be set.
+    /// The attribute cannot be set.
     AttributeNotSettable,
-    /// The reply is longer than the room for it.
+    /// The reply would be longer than its limit.
     ReplyDataTooLarge,
-    /// The service has too little data.
+    /// The request has too little data for the service.
     NotEnoughData,
-    /// No such attribute.
+    /// There is no such attribute.
     AttributeNotSupported,
-    /// The service has too much data.
+    /// The request has too much data for the service.
     TooMuchData,
-    /// The parameter isn't one that the service can take.
+    /// The service cannot take this parameter.
     InvalidParameter,
     /// The path goes past the end of the request.
     PathSizeInvalid,
-    /// No such member.
+    /// There is no such member.
     InvalidMemberId,
 }
 

@@ -1,4 +1,4 @@
-//! The value of one attribute, and how it goes into a reply.
+//! The value of an attribute, and how it is appended to a reply.
 ghost use Rattle.std.specs.Prelude.{◌≡◌, ◌≤◌, ◌++◌};
 ghost use Rattle.cip_objects.specs.ReplyWriting.{Writes};
 
@@ -7,27 +7,27 @@ use crate::router::ReplyBuf;
 use crate::status::Refusal;
 use cip_bytes::protocol::REPLY_LIMIT;
 
-/// The value of one attribute, as its type has it (Volume 1, elementary data types).
+/// The value of an attribute, by its type (Volume 1, elementary data types).
 #[derive(Clone, Copy)]
 pub(crate) enum AttributeValue<'a> {
-    /// USINT.
+    /// A USINT.
     Usint(u8),
-    /// Two USINT: a revision.
+    /// Two USINTs: a revision.
     Pair(u8, u8),
-    /// UINT or WORD.
+    /// A UINT or a WORD.
     Uint(u16),
-    /// UDINT.
+    /// A UDINT.
     Udint(u32),
-    /// SHORT_STRING: a byte of length, then the text.
+    /// A SHORT_STRING: a byte with its length, then the text.
     Text(u8, &'a [u8]),
-    /// Bytes as they stand.
+    /// Bytes, as they are.
     Bytes(&'a [u8]),
 }
 
 impl AttributeValue<'_> {
     ghost use Rattle.cip_objects.specs.AttributeValue.{value_bytes};
 
-    /// Appends the value's bytes to a reply, where it then has at most `max_size` bytes.
+    /// Appends the value's bytes to a reply, if it then has at most `max_size` bytes.
     #[inline(always)]
     pub(crate) fn append(self, max_size: usize, reply: &mut ReplyBuf) -> Result<(), Refusal>
         requires { max_size ≤ REPLY_LIMIT }

@@ -1,4 +1,4 @@
--- Bytes are values of a type in one way at most.
+-- Bytes have at most one reading as values of a type.
 use Rattle.std.proofs.Common.{◌≡◌, ◌≢◌, ◌⊎◌, ℕ, zero, suc, ◌+◌, ◌-◌, ◌*◌, ◌^◌, ◌<◌, ◌≤◌, true, false, Bool, List, [], ◌∷◌, ◌++◌, length, get_or, slice_index, take, drop, refl, sym, ap, ◌∙◌, subst, arith, inl, inr, ℤ, pos, negsuc, ◌-ℤ◌, nat_lt, length-append, append_assoc, MatchBool, Result, Ok, Err, IfOk}
 use Rattle.std.proofs.lemmas.Int.{ints}
 use Rattle.std.proofs.lemmas.List.{take_at, append-nil}
@@ -36,7 +36,7 @@ twos_complement-complement n (negsuc k) low high h =
     let e : pos (2 ^ (8 * n) - suc k) -ℤ pos (2 ^ (8 * n)) ≡ negsuc k = omega (arith, ints) in
     rw (above, e) refl
 
--- the value that the first bytes are, whatever follows
+-- the value that the first bytes spell, whatever follows
 abbrev value_from : Form → List ℕ → Value
 value_from forms.Bool bytes = Truth (nat_lt 0 (get_or bytes 0 0))
 value_from (forms.Signed n) bytes = Signed (twos_complement n (little_from 0 n bytes))
@@ -116,7 +116,7 @@ found forms.Text v r sized h = elim v as (λ v. IsOf forms.Text v → Found form
   | _ ↦ λ h. absurd h
 ] h
 
--- the same bytes begin with the same value, and go on the same
+-- equal bytes begin with the same value, and have the same rest
 same_first : (form : Form) (v w : Value) (r s : List ℕ) → IsSized form → IsOf form v → IsOf form w
     → spelled (size_of form) v ++ r ≡ spelled (size_of form) w ++ s → (v ≡ w) × (r ≡ s)
 same_first form v w r s sized hv hw e =
@@ -127,7 +127,7 @@ same_first form v w r s sized hv hw e =
     sym g.needs ∙ ap (needed form) (sym e) ∙ f.needs in
     (same, (same_front (spelled (size_of form) v) (spelled (size_of form) w) r s lengths e).1)
 
--- where a value stands at the front, nothing is refused
+-- bytes that begin with a value are not refused
 pub front_is_read : (form : Form) (bytes : List ℕ) (v : Value) (rest : List ℕ) (fault : ValueFault) → IsSized form
     → BeginsWith form bytes v rest → IsValueFault form bytes fault → ⊥
 front_is_read form bytes v rest faults.Short sized front h =
@@ -146,7 +146,8 @@ front_is_read form bytes v rest (faults.Range w e) sized front h = h
 front_is_read form bytes v rest (faults.TooLong n) sized front h = h
 front_is_read form bytes v rest faults.Memory sized front h = h
 
--- Values whose bytes begin with those of others are the same, and nothing is left; or what is left begins with a value.
+-- If the bytes of values begin with those of others, either the values are the same and nothing is left, or what is
+-- left begins with a value.
 pub same_values : (form : Form) (xs ys : List Value) (rest : List ℕ) → IsSized form
     → AllByRecursion (IsOf form) xs → AllByRecursion (IsOf form) ys → joined form xs ≡ joined form ys ++ rest
     → ((xs ≡ ys) × (rest ≡ [])) ⊎ ((x : Value) × ((more : List ℕ) × BeginsWith form rest x more))
@@ -167,7 +168,7 @@ same_values form (x ∷ xs) (y ∷ ys) rest sized hx hy e =
       | inr h ↦ inr h
     ]
 
--- no value stands at the front of nothing
+-- the empty list does not begin with a value
 nothing_read : (form : Form) (v : Value) (rest : List ℕ) → IsSized form → BeginsWith form [] v rest → ⊥
 nothing_read form v rest sized front =
     let f = found form v rest sized front.of_type in
@@ -200,7 +201,7 @@ not_cut_off form bytes values fault sized h cut =
       | inr (x, (more, front)) ↦ front_is_read form cut.rest x more fault sized front cut.unread
     ]
 
--- one value, and nothing behind it, is not refused
+-- one value with nothing after it is not refused
 one_front : (form : Form) (bytes : List ℕ) (values : List Value) → BeginsWithAll form bytes values [] → length values ≡ 1
     → (v : Value) × BeginsWith form bytes v []
 one_front form bytes [] h one = absurd (omega arith)
@@ -240,7 +241,7 @@ is_read false form bytes values fault sized h one refused =
     let (v, front) = one_front form bytes values h (one refl) in
     one_is_read form bytes v fault sized front refused
 
--- a value takes a byte at least
+-- a value has at least one byte
 pub front_shorter : (form : Form) (bytes : List ℕ) (v : Value) (rest : List ℕ) → IsSized form → BeginsWith form bytes v rest
     → length rest < length bytes
 front_shorter form bytes v rest sized front =
@@ -248,7 +249,7 @@ front_shorter form bytes v rest sized front =
     let count = ap length front.bytes_of in
     omega (arith, count, length-append (spelled (size_of form) v) rest, f.some)
 
--- values one after the other are a list's, and if there is one, they are a type's of one value
+-- values one after another are those of a list type, and a single one is that of its element type
 pub list_values : {A E : Type 0} (f : A → List Value) (value_type : ValueType) (bytes : List ℕ) (r : Result A E)
     → value_type.is_list ≡ true → IfOk r (λ a. BeginsWithAll (form_of value_type.element) bytes (f a) [])
     → IfOk r (λ a. AreBytesOf value_type bytes (f a))

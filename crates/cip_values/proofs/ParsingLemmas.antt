@@ -1,4 +1,4 @@
--- What words tell.
+-- Parsing words.
 use Rattle.std.proofs.Common.{◌≡◌, ◌≢◌, ◌⊎◌, ℕ, zero, suc, ◌+◌, ◌-◌, ◌*◌, ◌^◌, ◌<◌, ◌≤◌, true, false, Bool, ◌&&◌, List, [], ◌∷◌, ◌++◌, length, get_or, take, drop, refl, sym, ap, ◌∙◌, subst, arith, inl, inr, ℤ, pos, negsuc, neg_ℤ, ◌-ℤ◌, nat_lt, ◌==◌, cond, min, of_z, to_z, Result, Ok, Err, MatchResult, FitsSigned}
 use Rattle.std.proofs.Math.Nat.{pow-le-pow_right}
 use Rattle.std.proofs.lemmas.Bool.{and_parts, cases_lt}
@@ -30,7 +30,7 @@ all-from_digits radix (c ∷ cs) h =
     let first : is_digit c radix ≡ true = grind arith in
     rw (first, all-from_digits radix cs h.1) refl
 
--- a numeral begins with no sign
+-- a numeral does not begin with a sign
 first_digit : (radix c : ℕ) (cs : List ℕ) → radix ≤ 16 → IsNumeral radix (c ∷ cs) → (c ≢ 43) × (c ≢ 45) × (c ≢ 120)
 first_digit radix c cs high h =
     let below : digit_value c < radix = h.1.0 in (
@@ -51,7 +51,7 @@ clamped radix ds (Err x) h p =
       | inr le ↦ ap pos (omega arith)
     ]
 
--- what is parsed of a numeral, or the greatest number of 127 bits
+-- what a numeral parses as, or the greatest number of 127 bits
 pub parsed : {E : Type 0} (radix : ℕ) (ds : List ℕ) (r : Result ℤ E) → radix ≤ 16 → IsNumeral radix ds → ParsesSigned w128 radix ds r
     → result_unwrap_or r (pos (2 ^ 127 - 1)) ≡ pos (min (digits_value radix ds) (2 ^ 127 - 1))
 parsed radix [] r high h p = absurd (omega (arith, h.0))
@@ -69,7 +69,7 @@ parsed {E} radix (c ∷ cs) r high h p =
 abbrev most : ℕ
 most = 2 ^ 127 - 1
 
--- what is read of a number, in place of one of more than 127 bits
+-- what is returned for a number, clamped to 127 bits
 near : (v : ℕ) (Told : ℤ → Type 0) → Told (pos v) → Clamps Told (pos (min v most))
 near v Told h = elim (cases_lt most v) [
   | inl past ↦
@@ -98,14 +98,14 @@ near_below v Told h = elim (cases_lt most v) [
 fits_most : (v : ℕ) → FitsSigned w128 (pos (min v most))
 fits_most v = record { sfits = omega arith }
 
--- a minus sign is no digit
+-- a minus sign is not a digit
 not_numeral : (c : ℕ) (cs : List ℕ) → (c ≡ 45) ⊎ ((d : ℕ) × ((ds : List ℕ) × ((cs ≡ d ∷ ds) × (d ≡ 120)))) → IsNumeral 10 (c ∷ cs) → ⊥
 not_numeral c cs (inl e) h = (first_digit 10 c cs (omega arith) h).1 e
 not_numeral c cs (inr (d, (ds, (e, x)))) h =
     let rest : AllDigits 10 (d ∷ ds) = rw e at h.1.1 in
     (first_digit 10 d ds (omega arith) (omega arith, rest)).2 x
 
--- what behind a minus sign is read of digits
+-- what the digits after a minus sign parse as
 pub negative_told : (word digits : List ℕ) (n : ℤ) → word ≡ codes "-" ++ digits → IsNumeral 10 digits
     → n ≡ pos (min (digits_value 10 digits) most)
     → Clamps (ParsesAsInteger word) (to_z w128 (of_z w128 (pos 0 -ℤ to_z w128 (of_z w128 n))))
@@ -167,7 +167,7 @@ unsigned_near : (n : ℕ) (z : ℤ) → n ≤ 8 → IsUnsignedOf n z → unsigne
 unsigned_near n (pos k) high h = let below : k < 2 ^ (8 * n) = h in let p = (power_le n high).1 in omega arith
 unsigned_near n (negsuc k) high h = absurd h
 
--- what is in range was told, and what is out of range is so as it was told
+-- a clamped number in range is the parsed one, and one out of range is so because the parsed one is
 told_in : (Told In : ℤ → Type 0) → ((z : ℤ) → In z → unsigned_abs z < 2 ^ 64) → (n : ℤ) → Clamps Told n → In n → Told n
 told_in Told In small n (z, (parses, inl e)) h = rw e parses
 told_in Told In small n (z, (parses, inr far)) h = let near = small n h in absurd (omega (arith, near, far.1))
@@ -189,9 +189,9 @@ unsigned_in Told size n high = told_in Told (IsUnsignedOf size) (λ z. unsigned_
 pub unsigned_out : (Told : ℤ → Type 0) (size : ℕ) (n : ℤ) → size ≤ 8 → Clamps Told n → (IsUnsignedOf size n → ⊥) → (z : ℤ) × (Told z × (IsUnsignedOf size z → ⊥))
 unsigned_out Told size n high = told_out Told (IsUnsignedOf size) (λ z. unsigned_near size z high) n
 
--- ---- what the readings return
+-- ---- what the parsers return
 
--- what a reading returned is near to what is told, or nothing is told
+-- a parser returns what the word parses as, clamped, or the word does not parse
 abbrev pub Reads : (ℤ → Type 0) → Result ℤ ParseFault → Type 0
 Reads Told r = MatchResult r (Clamps Told) (λ miss. (miss ≡ parse_faults.Form) × ((z : ℤ) → Told z → ⊥))
 

@@ -1,4 +1,4 @@
--- Numbers of any size and their bytes, two's complement among them.
+-- Numbers of any size and their bytes, including two's complement.
 use Rattle.std.proofs.Common.{◌≡◌, ℕ, zero, suc, ◌+◌, ◌-◌, ◌*◌, ◌/◌, ◌%◌, ◌^◌, ◌<◌, ◌≤◌, true, false, List, [], ◌∷◌, ◌++◌, length, get_or, slice_index, take, drop, refl, sym, ap, ◌∙◌, arith, inl, inr, ℤ, pos, negsuc, ◌-ℤ◌, nat_lt, w64, of_z}
 use Rattle.std.proofs.Math.Nat.{div-div-eq-div-mul, div-one, pow-succ', mod-lt, mod-eq_of_lt, mul-add-mod_self_right, one-le-pow}
 use Rattle.std.proofs.lemmas.Nat.{pow-add}
@@ -16,7 +16,7 @@ use Rattle.cip_values.specs.Values.{Value, Truth, Signed, Unsigned, Bits, Real, 
 use Rattle.cip_values.specs.declared.element.Form.{Form}
 use Rattle.cip_values.specs.declared.element.Form.TheVariants as forms
 
--- a byte further up is a byte of what is left above the lowest
+-- a higher byte of a number is a byte of the number without its lowest byte
 byte_at_above : (j x : ℕ) → byte_at (suc j) x ≡ byte_at j (x / 256)
 byte_at_above zero x = refl
 byte_at_above (suc j) x =
@@ -26,14 +26,14 @@ bytes_above : (k j x : ℕ) → bytes_low_first (suc j) k x ≡ bytes_low_first 
 bytes_above zero j x = refl
 bytes_above (suc k) j x = rw (byte_at_above j x, bytes_above k (suc j) x) refl
 
--- the bytes of a number are its lowest, and those of what is left
+-- the bytes of a number are its lowest byte and the bytes of the rest
 pub le-suc : (n a m : ℕ) → a < 256 → le (suc n) (a + 256 * m) ≡ a ∷ le n m
 le-suc n a m h =
     let low : (a + 256 * m) % 256 ≡ a = omega arith in
     let high : (a + 256 * m) / 256 ≡ m = omega arith in
     rw (low, bytes_above n 0 (a + 256 * m), high) refl
 
--- the bytes of the number that stands in bytes are those bytes
+-- the bytes of the number that bytes spell are those bytes
 pub le-little_from : (n i : ℕ) (xs : List ℕ) → AreBytes xs → le n (little_from i n xs) ≡ cells n i xs
 le-little_from zero i xs fits = refl
 le-little_from (suc n) i xs fits =
@@ -45,7 +45,7 @@ le-front n front fits e =
     let none : drop (0 + n) front ≡ [] = drop_all (0 + n) front (omega arith) in
     le-little_from n 0 front fits ∙ sym (parts ∙ ap (λ r. cells n 0 front ++ r) none ∙ append-nil (cells n 0 front))
 
--- bytes are bytes, and so many
+-- each byte of a number is a byte, and there are n of them
 byte_at-lt : (j x : ℕ) → byte_at j x < 256
 byte_at-lt zero x = mod-lt x (omega arith)
 byte_at-lt (suc j) x = mod-lt (x / 256 ^ suc j) (omega arith)
@@ -58,7 +58,7 @@ AreBytes-bytes (suc k) j x (suc i) = AreBytes-bytes k (suc j) x i
 pub AreBytes-le : (n x : ℕ) → AreBytes (le n x)
 AreBytes-le n x = AreBytes-bytes n 0 x
 
--- n bytes tell a number apart from others below 256 ^ n alone
+-- n bytes distinguish numbers below 256 ^ n only
 pub le-mod : (n x : ℕ) → le n (x % 256 ^ n) ≡ le n x
 le-mod n x =
     let back = little_from-bytes n 0 x [] in
@@ -68,7 +68,7 @@ le-mod n x =
 
 -- ---- two's complement
 
--- a multiple less so much has the same rest as one time less so much
+-- the remainder of a multiple of m, less k + 1, does not depend on the multiple
 mod_below : (q m k : ℕ) → 0 < q → k < m → (q * m - suc k) % m ≡ m - suc k
 mod_below zero m k h lt = absurd (omega arith)
 mod_below (suc q) m k h lt =
@@ -90,7 +90,7 @@ le-complement n (negsuc k) low high h =
     ap (λ (y : ℕ). (y - suc k) % 2 ^ (8 * n)) (sym times) ∙ mod_below (2 ^ (64 - 8 * n)) (2 ^ (8 * n)) k some below in
     sym (le-mod n (2 ^ 64 - suc k)) ∙ ap (λ (m : ℕ). le n ((2 ^ 64 - suc k) % m)) whole ∙ ap (le n) rest
 
--- what n bytes read as in two's complement is in range, and its complement is their number
+-- the two's complement reading of n bytes is in range, and its complement is their number
 pub complement-twos_complement : (n x : ℕ) → 1 ≤ n → n ≤ 8 → x < 256 ^ n
     → IsSignedOf n (twos_complement n x) × (complement n (twos_complement n x) ≡ x)
 complement-twos_complement n x low high h =
@@ -117,7 +117,7 @@ spelled-signed (forms.Bits n) z sized h = absurd h
 spelled-signed forms.Real z sized h = absurd h
 spelled-signed forms.Text z sized h = absurd h
 
--- what stands in the first bytes, as a value
+-- the value that the first bytes spell
 at_front : (n : ℕ) (bytes : List ℕ) → AreBytes bytes → n ≤ length bytes
     → bytes ≡ le n (little_from 0 n (take n bytes)) ++ drop n bytes
 at_front n bytes fits room =
@@ -127,7 +127,7 @@ at_front n bytes fits room =
 number-lt : (n : ℕ) (bytes : List ℕ) → AreBytes bytes → little_from 0 n (take n bytes) < 256 ^ n
 number-lt n bytes fits = little_from-lt 0 n (take n bytes) (AreBytes-take n bytes fits)
 
--- What the code reads of a form, from what it splits off, is the value at the front.
+-- What the code reads from the bytes that it splits off is the value at the front.
 pub record Splits (form : Form) (bytes front rest : List ℕ) : Type 0 where
   pub fits : AreBytes bytes
   pub room : size_of form ≤ length bytes

@@ -1,4 +1,4 @@
--- Values that are written one after the other.
+-- Values written one after another.
 use Rattle.std.proofs.Common.{◌≡◌, ◌≢◌, ℕ, ◌+◌, ◌<◌, List, [], ◌∷◌, ◌++◌, length, map, take, get_or, Bor, inr, refl, sym, ap, subst, ◌∙◌, arith, length-append, append_assoc}
 use Rattle.std.proofs.lemmas.Grind.{flat_map-append}
 use Rattle.std.proofs.lemmas.List.{append-nil, take_more, map-append}
@@ -12,7 +12,7 @@ use Rattle.cip_values.specs.declared.fault.ValueFault.{ValueFault}
 use Rattle.cip_values.specs.declared.element.Form.{Form}
 use Rattle.cip_values.specs.declared.element.Form.TheVariants as forms
 
--- the bytes of the values that these words tell
+-- the bytes of the values that these words parse as
 pub record SoFar (element : ElementaryType) (words : List (List ℕ)) (bytes : List ℕ) : Type 0 where
   pub values : List Value
   pub parses : AllParseAs (form_of element) words values
@@ -50,7 +50,7 @@ so_far_more element words word old new h more =
       };
     }
 
--- values of a type that any number of words tell, and of one that one word tells
+-- a list type takes any number of words, and another type takes one
 pub single : (form : Form) (words : List (List ℕ)) (values : List Value) → length words ≡ 1 → AllParseAs form words values → length values ≡ 1
 single form (w ∷ []) (v ∷ []) one h = refl
 single form (w ∷ []) (v ∷ x ∷ values) one h = absurd h.1
@@ -58,7 +58,7 @@ single form [] values one h = absurd (omega (arith, one))
 single form (w ∷ x ∷ words) values one h = absurd (omega (arith, one))
 single form (w ∷ []) [] one h = absurd h
 
--- a text that a word tells, whichever it is
+-- any text is a value of a text type
 pub text_appends : (element : ElementaryType) (word bytes old new : List ℕ) → form_of element ≡ forms.Text → IsAppended bytes old new
     → Appends element word old new
 text_appends element word bytes old new is h = record {
@@ -68,7 +68,7 @@ text_appends element word bytes old new is h = record {
   bytes_of = h.bytes_of;
 }
 
--- one word more of a list
+-- one more word of a list
 pub so_far_word : (element : ElementaryType) (words : List (Bor (List ℕ))) (place : ℕ) (d : Bor (List ℕ)) (old new : List ℕ)
     → place < length words → SoFar element (map (λ word. word.now) (take place words)) old
     → Appends element (get_or words place d).now old new → SoFar element (map (λ word. word.now) (take (place + 1) words)) new
@@ -80,7 +80,7 @@ so_far_word element words place d old new inside h more =
     subst (λ (parses : List (List ℕ)). SoFar element parses new) (sym texts)
     (so_far_more element (map (λ (w : Bor (List ℕ)). w.now) (take place words)) (get_or words place d).now old new h more)
 
--- where a word is refused, the words are
+-- if a word is refused, so are the words
 pub word_refused : (value_type : ValueType) (count : ℕ) (word : List ℕ) (fault : ValueFault) → IsWordFault value_type.element word fault
     → IsWriteFault value_type count fault
 word_refused value_type count word fault h = inr (word, h)

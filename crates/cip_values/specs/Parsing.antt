@@ -1,4 +1,4 @@
--- The value that a word tells.
+-- Parsing a word as a value.
 use Rattle.std.specs.Prelude.{◌≡◌, ◌≢◌, ◌⊎◌, ◌<◌, ◌≤◌, ◌^◌, [], length, ⊤, ℕ, ℤ, pos, neg_ℤ, Bool, true, false, List, ◌∷◌, ◌++◌, codes, Option, None, Some, to_bits, unsigned_abs}
 use Rattle.std.specs.Float.{binary32, float_is_infinite}
 use Rattle.std.specs.Float.Ieee.{Float}
@@ -15,28 +15,28 @@ use Rattle.cip_values.specs.declared.fault.ValueFault.TheVariants as faults
 use Rattle.cip_values.specs.declared.parsing.ParseFault.{ParseFault}
 use Rattle.cip_values.specs.declared.parsing.ParseFault.TheVariants as parse_faults
 
--- the words of a BOOL
+-- The words of a BOOL.
 abbrev pub ParsesAsBool : List ℕ → Bool → Type 0
 ParsesAsBool word false = (word ≡ codes "0") ⊎ (word ≡ codes "false")
 ParsesAsBool word true = (word ≡ codes "1") ⊎ (word ≡ codes "true")
 
--- decimal digits tell an integer, behind a minus sign one that is not above 0
+-- An integer: decimal digits, or a minus sign and decimal digits for one that is not above 0.
 abbrev pub ParsesAsInteger : List ℕ → ℤ → Type 0
 ParsesAsInteger word number =
     (IsNumeral 10 word × (number ≡ pos (digits_value 10 word)))
     ⊎ ((digits : List ℕ) × ((word ≡ codes "-" ++ digits) × IsNumeral 10 digits × (number ≡ neg_ℤ (pos (digits_value 10 digits)))))
 
--- the bits of a bit string, as a number: an integer, or hexadecimal digits behind `0x`
+-- The bits of a bit string, as a number: an integer, or `0x` and hexadecimal digits.
 abbrev pub ParsesAsBits : List ℕ → ℤ → Type 0
 ParsesAsBits word number =
     ParsesAsInteger word number
     ⊎ ((digits : List ℕ) × ((word ≡ codes "0x" ++ digits) × IsNumeral 16 digits × (number ≡ pos (digits_value 16 digits))))
 
--- the bits of the single that is nearest to a decimal number
+-- The bits of the single-precision number that is nearest to a decimal number.
 abbrev pub ParsesAsReal : List ℕ → ℕ → Type 0
 ParsesAsReal word bits = (x : Float) × ((parse_float binary32 word ≡ Some x) × (bits ≡ to_bits binary32 x))
 
--- What a word tells of a form. Of texts it is not said.
+-- The word parses as this value, of this kind. For texts this states nothing.
 abbrev pub ParsesAs : Form → List ℕ → Value → Type 0
 ParsesAs forms.Bool word (Truth truth) = ParsesAsBool word truth
 ParsesAs (forms.Signed n) word (Signed number) = ParsesAsInteger word number
@@ -46,7 +46,7 @@ ParsesAs forms.Real word (Real bits) = ParsesAsReal word bits
 ParsesAs forms.Text word (Text bytes) = ⊤
 ParsesAs form word value = ⊥
 
--- why a word tells no value of a form. Of texts it is not said.
+-- Why a word does not parse as a value of this kind. For texts this states nothing.
 abbrev pub IsParseFault : Form → List ℕ → ParseFault → Type 0
 IsParseFault forms.Bool word parse_faults.Form = (truth : Bool) → ParsesAsBool word truth → ⊥
 IsParseFault (forms.Signed n) word parse_faults.Form = (number : ℤ) → ParsesAsInteger word number → ⊥
@@ -60,7 +60,7 @@ IsParseFault (forms.Bits n) word parse_faults.Range = (number : ℤ) × (ParsesA
 IsParseFault forms.Real word parse_faults.Range = (x : Float) × ((parse_float binary32 word ≡ Some x) × (float_is_infinite x ≡ true))
 IsParseFault form word parse_faults.Range = ⊥
 
--- why a word is refused as a value of a type
+-- Why a word is refused as a value of a type.
 abbrev pub IsWordFault : ElementaryType → List ℕ → ValueFault → Type 0
 IsWordFault element word (faults.Form text type) = (text.now ≡ word) × (type ≡ element) × IsParseFault (form_of element) word parse_faults.Form
 IsWordFault element word (faults.Range text type) = (text.now ≡ word) × (type ≡ element) × IsParseFault (form_of element) word parse_faults.Range
@@ -68,42 +68,42 @@ IsWordFault element word (faults.TooLong count) = (form_of element ≡ forms.Tex
 IsWordFault element word faults.Memory = ⊤
 IsWordFault element word fault = ⊥
 
--- the bytes of the value that a word tells are appended
+-- The word parses as a value, and the value's bytes are appended.
 pub record Appends (element : ElementaryType) (word old new : List ℕ) : Type 0 where
   pub value : Value
   pub parses : ParsesAs (form_of element) word value
   pub of_type : IsOf (form_of element) value
   pub bytes_of : new ≡ old ++ spelled (size_of (form_of element)) value
 
--- the bytes of a text are appended, and it is a SHORT_STRING
+-- The bytes are appended as a SHORT_STRING, which they fit.
 pub record IsAppended (bytes old new : List ℕ) : Type 0 where
   pub of_type : IsOf forms.Text (Text bytes)
   pub bytes_of : new ≡ old ++ spelled 1 (Text bytes)
 
--- each value is what its word tells
+-- Each word parses as its value.
 abbrev pub AllParseAs : Form → List (List ℕ) → List Value → Type 0
 AllParseAs form [] [] = ⊤
 AllParseAs form (word ∷ words) (value ∷ values) = ParsesAs form word value × AllParseAs form words values
 AllParseAs form [] (value ∷ values) = ⊥
 AllParseAs form (word ∷ words) [] = ⊥
 
--- bytes are those of the values of a type that words tell, one for each word
+-- The words parse as values of the type, one each, and these are the values' bytes.
 pub record AreWritten (value_type : ValueType) (words : List (List ℕ)) (bytes : List ℕ) : Type 0 where
   pub values : List Value
   pub parses : AllParseAs (form_of value_type.element) words values
   pub bytes_of : AreBytesOf value_type bytes values
 
--- a type of one value has another count of words
+-- A type of one value is not given exactly one word.
 abbrev pub IsMiscounted : ValueType → ℕ → ValueFault → Type 0
 IsMiscounted value_type words (faults.Count element count) =
     (value_type.is_list ≡ false) × (element ≡ value_type.element) × (count ≡ words) × (count ≢ 1)
 IsMiscounted value_type words fault = ⊥
 
--- why words are refused
+-- Why words are refused.
 abbrev pub IsWriteFault : ValueType → ℕ → ValueFault → Type 0
 IsWriteFault value_type words fault =
     IsMiscounted value_type words fault ⊎ ((word : List ℕ) × IsWordFault value_type.element word fault)
 
--- a number is one that is told, or both are past 64 bits
+-- The number is one that the word parses as, or both are past 64 bits.
 abbrev pub Clamps : (ℤ → Type 0) → ℤ → Type 0
 Clamps Told number = (z : ℤ) × (Told z × ((number ≡ z) ⊎ ((2 ^ 64 ≤ unsigned_abs z) × (2 ^ 64 ≤ unsigned_abs number))))

@@ -1,4 +1,4 @@
--- The text of a value.
+-- Values as text.
 use Rattle.std.specs.Prelude.{◌==◌, ◌+◌, ◌*◌, ◌-◌, ◌^◌, ◌&&◌, nat_le, ℕ, Bool, true, false, List, [], ◌∷◌, ◌++◌, length, replicate, codes, Option, None, Some, if◌then◌else◌}
 use Rattle.std.specs.Fmt.{decimal, signed_decimal, digits, padded_integral, format_spec}
 use Rattle.std.specs.List.{flat_map}
@@ -6,11 +6,11 @@ use Rattle.cip_values.specs.Types.{size_of}
 use Rattle.cip_values.specs.Values.{Value, Truth, Signed, Unsigned, Bits, Real, Text}
 use Rattle.cip_values.specs.declared.element.Form.{Form}
 
--- so many hexadecimal digits of a number, with zeros in front
+-- A number as exactly `count` hexadecimal digits, with leading zeros.
 abbrev pub hexadecimal : ℕ → ℕ → List ℕ
 hexadecimal count number = padded_integral (format_spec 32 0 4 count (2 ^ 64 - 1)) false [] (digits 16 false number)
 
--- a byte of a text: as it is where it is printable ASCII, but for a backslash, and between quotes a quote
+-- A byte of a text: as it is if it is printable ASCII, except a backslash, and a quote if the text is in quotes.
 abbrev pub escape : Bool → ℕ → List ℕ
 escape quoted byte =
     if byte == 92 then 92 ∷ 92 ∷ []
@@ -21,7 +21,7 @@ escape quoted byte =
 abbrev pub escaped : Bool → List ℕ → List ℕ
 escaped quoted bytes = flat_map (escape quoted) bytes
 
--- The text of a value. Which decimal number a REAL's is, is not said.
+-- The text of a value. Which decimal number is printed for a REAL is left open.
 abbrev pub text_of : Form → Bool → Value → Option (List ℕ)
 text_of form quoted (Truth false) = Some (codes "0")
 text_of form quoted (Truth true) = Some (codes "1")

@@ -1,4 +1,4 @@
--- The elementary data types (Volume 1, data types): their names, and what their values are.
+-- The elementary data types (Volume 1, data types): their names, and the kind of their values.
 use Rattle.std.specs.Prelude.{◌<◌, ◌≤◌, ⊤, ℕ, Bool, true, false, List, [], ◌++◌, codes, if◌then◌else◌}
 use Rattle.cip_values.specs.declared.element.ElementaryType.{ElementaryType}
 use Rattle.cip_values.specs.declared.element.ElementaryType.TheVariants as types
@@ -23,11 +23,11 @@ name_of types.Lword = codes "LWORD"
 name_of types.Real = codes "REAL"
 name_of types.ShortString = codes "SHORT_STRING"
 
--- a list of a type has its name, and brackets
+-- A list type is named after its elements, with brackets.
 abbrev pub type_name_of : ValueType → List ℕ
 type_name_of value_type = name_of value_type.element ++ (if value_type.is_list then codes "[]" else [])
 
--- what the values of a type are, and their bytes
+-- The kind of a type's values, and their size in bytes.
 abbrev pub form_of : ElementaryType → Form
 form_of types.Bool = forms.Bool
 form_of types.Sint = forms.Signed 1
@@ -45,14 +45,14 @@ form_of types.Lword = forms.Bits 8
 form_of types.Real = forms.Real
 form_of types.ShortString = forms.Text
 
--- numbers have 1 to 8 bytes
+-- Numbers have 1 to 8 bytes.
 abbrev pub IsSized : Form → Type 0
 IsSized (forms.Signed size) = (1 ≤ size) × (size ≤ 8)
 IsSized (forms.Unsigned size) = (1 ≤ size) × (size ≤ 8)
 IsSized (forms.Bits size) = (1 ≤ size) × (size ≤ 8)
 IsSized form = ⊤
 
--- how many bytes a value has, that of a text without its characters
+-- The size of a value in bytes. Of a string it is the size of the length byte alone.
 abbrev pub size_of : Form → ℕ
 size_of forms.Bool = 1
 size_of (forms.Signed size) = size

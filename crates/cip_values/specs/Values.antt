@@ -11,22 +11,22 @@ use Rattle.cip_values.specs.declared.value.Value.TheVariants as values
 use Rattle.cip_values.specs.declared.fault.ValueFault.{ValueFault}
 use Rattle.cip_values.specs.declared.fault.ValueFault.TheVariants as faults
 
--- a value of an elementary type
+-- A value of an elementary type.
 pub data Value : Type 0 where
-  -- a BOOL
+  -- A BOOL.
   Truth : (truth : Bool) → Value
-  -- a SINT, INT, DINT or LINT
+  -- A SINT, INT, DINT or LINT.
   Signed : (number : ℤ) → Value
-  -- a USINT, UINT, UDINT or ULINT
+  -- A USINT, UINT, UDINT or ULINT.
   Unsigned : (number : ℕ) → Value
-  -- a BYTE, WORD, DWORD or LWORD, as the number of its bits
+  -- A BYTE, WORD, DWORD or LWORD, its bits as a number.
   Bits : (number : ℕ) → Value
-  -- a REAL, by its bits
+  -- A REAL, as its bits.
   Real : (bits : ℕ) → Value
-  -- the bytes of a SHORT_STRING
+  -- The bytes of a SHORT_STRING.
   Text : (bytes : List ℕ) → Value
 
--- the same of the code's
+-- A value of the code, as a value of the specification.
 abbrev pub value_in : ValueInCode → Value
 value_in (values.Bool truth) = Truth truth
 value_in (values.Signed number) = Signed number
@@ -35,17 +35,17 @@ value_in (values.Bits number) = Bits number
 value_in (values.Real bits) = Real bits
 value_in (values.Text bytes) = Text bytes.now
 
--- two's complement of n bytes has one sign bit: from -2^(8n-1) to below 2^(8n-1)
+-- The integer fits two's complement of n bytes: -2^(8n-1) to 2^(8n-1) - 1.
 abbrev pub IsSignedOf : ℕ → ℤ → Type 0
 IsSignedOf n (pos k) = k < 2 ^ (8 * n - 1)
 IsSignedOf n (negsuc k) = k < 2 ^ (8 * n - 1)
 
--- an unsigned integer of n bytes
+-- The integer fits an unsigned number of n bytes.
 abbrev pub IsUnsignedOf : ℕ → ℤ → Type 0
 IsUnsignedOf n (pos k) = k < 2 ^ (8 * n)
 IsUnsignedOf n (negsuc k) = ⊥
 
--- a value is one of a type, and in its range
+-- The value is of this kind, and in range.
 abbrev pub IsOf : Form → Value → Type 0
 IsOf forms.Bool (Truth truth) = ⊤
 IsOf (forms.Signed n) (Signed number) = IsSignedOf n number
@@ -55,12 +55,12 @@ IsOf forms.Real (Real bits) = bits < 2 ^ 32
 IsOf forms.Text (Text bytes) = (length bytes ≤ 255) × AreBytes bytes
 IsOf form value = ⊥
 
--- the number that stands for an integer in two's complement of n bytes: for a negative one, 2^(8n) more
+-- An integer in two's complement of n bytes, as an unsigned number: 2^(8n) is added to a negative one.
 abbrev pub complement : ℕ → ℤ → ℕ
 complement n (pos k) = k
 complement n (negsuc k) = 2 ^ (8 * n) - suc k
 
--- the bytes of a value, that of a number in n bytes
+-- The bytes of a value. A number has n of them.
 abbrev pub spelled : ℕ → Value → List ℕ
 spelled n (Truth false) = 0 ∷ []
 spelled n (Truth true) = 1 ∷ []
@@ -70,44 +70,44 @@ spelled n (Bits number) = le n number
 spelled n (Real bits) = le 4 bits
 spelled n (Text bytes) = length bytes ∷ bytes
 
--- a value stands at the front of bytes, and the rest behind it
+-- The bytes begin with this value, and the rest follows.
 pub record BeginsWith (form : Form) (bytes : List ℕ) (value : Value) (rest : List ℕ) : Type 0 where
   pub of_type : IsOf form value
   pub bytes_of : bytes ≡ spelled (size_of form) value ++ rest
 
--- how many bytes the value at the front has
+-- How many bytes the value at the front has.
 abbrev pub needed : Form → List ℕ → ℕ
 needed forms.Text (size ∷ rest) = 1 + size
 needed form bytes = size_of form
 
--- why no value stands at the front of bytes
+-- Why the bytes do not begin with a value.
 abbrev pub IsValueFault : Form → List ℕ → ValueFault → Type 0
 IsValueFault form bytes faults.Short = length bytes < needed form bytes
 IsValueFault form bytes (faults.NotBool byte) = (form ≡ forms.Bool) × (slice_index bytes 0 ≡ byte) × (2 ≤ byte)
 IsValueFault form bytes fault = ⊥
 
--- the bytes of values, one after the other
+-- The bytes of these values, one after another.
 abbrev pub joined : Form → List Value → List ℕ
 joined form values = flat_map (spelled (size_of form)) values
 
--- values stand at the front of bytes, one after the other, and the rest behind them
+-- The bytes begin with these values, one after another, and the rest follows.
 pub record BeginsWithAll (form : Form) (bytes : List ℕ) (values : List Value) (rest : List ℕ) : Type 0 where
   pub of_type : AllByRecursion (IsOf form) values
   pub bytes_of : bytes ≡ joined form values ++ rest
 
--- bytes are these values of a type, any number for a list, else one
+-- The bytes are these values of the type: any number of values for a list, otherwise one.
 pub record AreBytesOf (value_type : ValueType) (bytes : List ℕ) (values : List Value) : Type 0 where
   pub begins : BeginsWithAll (form_of value_type.element) bytes values []
   pub one : value_type.is_list ≡ false → length values ≡ 1
 
--- why bytes are not one value
+-- Why the bytes are not one value.
 abbrev pub IsSingleFault : Form → List ℕ → ValueFault → Type 0
 IsSingleFault form bytes (faults.Trailing count) =
     (0 < count) × ((value : Value) × ((rest : List ℕ) × (BeginsWith form bytes value rest × (length rest ≡ count))))
 IsSingleFault form bytes faults.Memory = ⊤
 IsSingleFault form bytes fault = IsValueFault form bytes fault
 
--- behind the values that stand at the front of bytes there are more, and no further value stands at theirs
+-- After some values there are more bytes, and these do not begin with a value.
 pub record IsCutOff (form : Form) (bytes : List ℕ) (fault : ValueFault) : Type 0 where
   pub values : List Value
   pub rest : List ℕ
@@ -115,12 +115,12 @@ pub record IsCutOff (form : Form) (bytes : List ℕ) (fault : ValueFault) : Type
   pub more : 0 < length rest
   pub unread : IsValueFault form rest fault
 
--- why bytes are not values one after the other
+-- Why the bytes are not a list of values.
 abbrev pub IsListFault : Form → List ℕ → ValueFault → Type 0
 IsListFault form bytes faults.Memory = ⊤
 IsListFault form bytes fault = IsCutOff form bytes fault
 
--- why bytes are not values of a type
+-- Why the bytes are not values of a type.
 abbrev pub IsReadFault : ValueType → List ℕ → ValueFault → Type 0
 IsReadFault value_type bytes fault =
     MatchBool value_type.is_list (IsListFault (form_of value_type.element) bytes fault) (IsSingleFault (form_of value_type.element) bytes fault)

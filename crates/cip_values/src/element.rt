@@ -1,4 +1,4 @@
-//! The elementary data types, by their names. (Volume 1, data types.)
+//! The elementary data types and their names. (Volume 1, data types.)
 
 ghost use Rattle.std.specs.Prelude.{◌≡◌, ◌≤◌, IfSome, None};
 ghost use Rattle.cip_values.specs.declared.element.ElementaryType.{ElementaryType};
@@ -6,10 +6,10 @@ ghost use Rattle.cip_values.specs.Types.{name_of, form_of, IsSized};
 
 use std::fmt;
 
-/// An elementary data type of the standard. Integers and bit strings stand least byte first.
+/// An elementary data type of the standard. Integers and bit strings are little-endian.
 #[derive(Clone, Copy, Debug, PartialEq, Eq)]
 pub enum ElementaryType {
-    /// Yes or no, a byte 1 or 0.
+    /// True or false: one byte, 1 or 0.
     Bool,
     /// A signed integer of 1 byte.
     Sint,
@@ -35,13 +35,13 @@ pub enum ElementaryType {
     Dword,
     /// A string of 64 bits.
     Lword,
-    /// A number of IEEE 754 in 32 bits.
+    /// An IEEE 754 single-precision number, 4 bytes.
     Real,
-    /// Up to 255 characters of a byte each, behind a byte that counts them.
+    /// A string of up to 255 bytes, after a byte with its length.
     ShortString,
 }
 
-/// What the values of an elementary type are, and of how many bytes.
+/// The kind of an elementary type's values, and their size in bytes.
 #[derive(Clone, Copy)]
 pub(crate) enum Form {
     Bool,
@@ -55,7 +55,7 @@ pub(crate) enum Form {
 impl Form {
     ghost use Rattle.cip_values.specs.Types.{size_of};
 
-    /// How many bytes a value has, that of a text without its characters.
+    /// The size of a value in bytes. Of a string it is the size of the length byte alone.
     pub(crate) fn size(self) -> usize
         requires { IsSized self }
         ensures value { result ≡ size_of self }
@@ -70,7 +70,7 @@ impl Form {
 }
 
 impl ElementaryType {
-    /// The type of a name of the standard, in capitals.
+    /// The type with this name. The standard writes names in capitals.
     pub fn from_name(name: &str) -> Option<ElementaryType>
         ensures named { IfSome result (λ element. name_of element ≡ name.now) }
         ensures other { result ≡ None → (element : ElementaryType) → name_of element ≡ name.now → ⊥ }
@@ -95,7 +95,7 @@ impl ElementaryType {
         }
     }
 
-    /// Its name in the standard.
+    /// The type's name in the standard.
     pub fn name(self) -> &'static str
         ensures { result.now ≡ name_of self }
     {
@@ -118,7 +118,7 @@ impl ElementaryType {
         }
     }
 
-    /// The range of its numbers, in words.
+    /// The range of the type's values, as text.
     pub(crate) fn range(self) -> &'static str {
         match self {
             ElementaryType::Bool => "0 to 1",
@@ -139,7 +139,7 @@ impl ElementaryType {
         }
     }
 
-    /// What its values are.
+    /// The kind of the type's values.
     pub(crate) fn form(self) -> Form
         ensures form { result ≡ form_of self }
         ensures sized { IsSized result }
@@ -175,12 +175,17 @@ impl fmt::Display for ElementaryType {
     }
 }
 
-/// What is read or written at once: one value of a type, or a list of them.
+/// The type of what is read or written at once: one value of an elementary type, or a list of them.
+///
+/// ```
+/// let list = ValueType { element: ElementaryType::Dint, is_list: true };
+/// assert_eq!(rt; ValueType::from_name("DINT[]"), Some(list));
+/// ```
 #[derive(Clone, Copy, Debug, PartialEq, Eq)]
 pub struct ValueType {
-    /// The type of each value.
+    /// The elementary type of each value.
     pub element: ElementaryType,
-    /// Whether there may be any number of them.
+    /// Whether this is a list, which may have any number of values.
     pub is_list: bool,
 }
 
@@ -188,7 +193,7 @@ impl ValueType {
     ghost use Rattle.cip_values.specs.declared.element.ValueType.{ValueType};
     ghost use Rattle.cip_values.specs.Types.{type_name_of};
 
-    /// The type of a name, as `UINT` or, for a list, `UINT[]`.
+    /// The type with this name: `UINT`, or `UINT[]` for a list.
     pub fn from_name(name: &str) -> Option<ValueType>
         ensures named { IfSome result (λ value_type. type_name_of value_type ≡ name.now) }
         ensures other { result ≡ None → (value_type : ValueType) → type_name_of value_type ≡ name.now → ⊥ }

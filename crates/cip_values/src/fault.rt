@@ -1,4 +1,4 @@
-//! Why bytes or words are no values of a type.
+//! Why bytes or words are not values of a type.
 
 ghost use Rattle.std.specs.Prelude.{◌≡◌};
 
@@ -9,33 +9,33 @@ use thiserror::Error;
 /// Why bytes or words are refused.
 #[derive(Clone, Copy, Debug, PartialEq, Eq, Error)]
 pub enum ValueFault<'a> {
-    /// The bytes end before a value does.
+    /// The bytes end within a value.
     #[error("the data end within a value")]
     Short,
-    /// So many bytes stand behind the one value.
+    /// This many bytes follow the one value.
     #[error("{0} {are} left over", are = bytes_are(.0))]
     Trailing(usize),
-    /// A byte that should be a BOOL is neither 0 nor 1.
-    #[error("{0} is no BOOL, which is 0 or 1")]
+    /// A BOOL is this byte, which is neither 0 nor 1.
+    #[error("{0} is not a BOOL (0 or 1)")]
     NotBool(u8),
-    /// So many words are there for a type of one value.
-    #[error("{0} takes one value, and not {1}")]
+    /// There are this many words, but the type takes one value.
+    #[error("{0} takes one value, not {1}")]
     Count(ElementaryType, usize),
-    /// A word is no value of this type, whatever the range.
-    #[error("{0} is no {1}")]
+    /// This word is not a value of the type, in any range.
+    #[error("{0} is not of type {1}")]
     Form(&'a str, ElementaryType),
-    /// The number that a word tells is out of the range of this type.
-    #[error("{0} is out of the range of {1}, {range}", range = .1.range())]
+    /// The number in this word is out of the type's range.
+    #[error("{0} is out of range for {1} ({range})", range = .1.range())]
     Range(&'a str, ElementaryType),
-    /// A word tells so many bytes, which is more than a SHORT_STRING has.
-    #[error("a SHORT_STRING has at most 255 bytes, and not {0}")]
+    /// The text has this many bytes, more than a SHORT_STRING can have.
+    #[error("a SHORT_STRING has at most 255 bytes, not {0}")]
     TooLong(usize),
-    /// There was no memory.
+    /// Memory was refused.
     #[error("memory")]
     Memory,
 }
 
-/// The words behind a number of bytes.
+/// The words after a number of bytes.
 fn bytes_are(count: &usize) -> &'static str {
     match *count {
         1 => "byte is",

@@ -1,15 +1,15 @@
 //! What follows from the definitions of values and their bytes.
 //!
-//! The functions do nothing: each one's clauses are the law.
+//! The function does nothing: its clauses are the law.
 
 ghost use Rattle.std.specs.Prelude.{◌≡◌, ℕ, List};
 ghost use Rattle.cip_values.specs.Values.{Value, AreBytesOf, IsReadFault};
 ghost use Rattle.cip_values.specs.declared.element.ValueType.{ValueType};
 ghost use Rattle.cip_values.specs.declared.fault.ValueFault.{ValueFault};
 
-/// Bytes are values of a type in one way at most, and where they are, they are not refused.
+/// Bytes have at most one reading as values of a type, and bytes that have one are not refused.
 ///
-/// So what was written is read as the values that were written, unless memory is refused.
+/// So bytes that were written are read as the values that were written, unless memory is refused.
 pub fn one_reading()
     ensures same { (value_type : ValueType) (bytes : List ℕ) (values others : List Value) →
         AreBytesOf value_type bytes values → AreBytesOf value_type bytes others → values ≡ others }

@@ -1,8 +1,14 @@
 //! Values of the standard's elementary data types (Volume 1, data types), as bytes and as text.
 //!
-//! A [`ValueType`] is an [`ElementaryType`], as `UINT`, or a list of its values, as `UINT[]`. [`read_values`] reads bytes
-//! as values, which a [`ValuesText`] prints; [`write_values`] reads words as values and gives their bytes. Both are one
-//! definition, `spelled` in `specs/Values.antt`.
+//! A [`ValueType`] is an [`ElementaryType`] such as `UINT`, or a list of its values such as `UINT[]`.
+//! [`read_values`] reads bytes as values, and a [`ValuesText`] prints them. [`write_values`] parses words as values
+//! and returns their bytes. Both directions use one definition of a value's bytes, `spelled` in
+//! `specs/Values.antt`.
+//!
+//! ```
+//! let udint = ValueType { element: ElementaryType::Udint, is_list: false };
+//! let bytes = write_values(alloc, udint, &["100"])?; // 64 00 00 00
+//! ```
 #![tactic(auto)]
 
 mod element;

@@ -1,4 +1,4 @@
-//! The value that a word tells.
+//! Parses a word as a value.
 
 ghost use Rattle.std.specs.Prelude.{◌≡◌, ◌≤◌, ◌<◌, ◌↔◌, ◌^◌, IfOk, IfErr, MatchResult, MatchOption, IsTrue, ℕ, ℤ, pos, min, ◌-◌, ◌≢◌, ◌++◌, List};
 ghost use Rattle.std.specs.Char.{is_digit};
@@ -13,24 +13,24 @@ use crate::fault::ValueFault;
 use crate::value::Value;
 use std::num::f32_to_bits_with_nan;
 
-/// Why a word tells no value of a form.
+/// Why a word is not a value of a kind.
 #[derive(Clone, Copy)]
 pub(crate) enum ParseFault {
-    /// It is none, whatever the range.
+    /// It is not a value of this kind, in any range.
     Form,
     /// Its number is out of range.
     Range,
 }
 
-/// The value of a word, of a type other than SHORT_STRING.
+/// Parses a word as a value of any type but SHORT_STRING.
 ///
-/// A BOOL is `0`, `1`, `false` or `true`. An integer is decimal digits, behind a minus sign where it is negative. A bit
-/// string is `0x` and hexadecimal digits, or an integer. A REAL is a decimal number, with or without an exponent, `inf`
-/// or `nan`.
+/// A BOOL is `0`, `1`, `false` or `true`. An integer is decimal digits, with a minus sign if it is negative. A bit
+/// string is `0x` and hexadecimal digits, or an integer. A REAL is a decimal number, with or without an exponent,
+/// `inf` or `nan`.
 ///
 /// # Errors
 ///
-/// `Form` where the word is no such thing, `Range` where its number is out of the type's range.
+/// `Form` if the word has none of these forms, `Range` if its number is out of the type's range.
 pub(crate) fn parse_value<'a>(
     element: ElementaryType,
     word: &'a str,
@@ -46,7 +46,7 @@ pub(crate) fn parse_value<'a>(
     }
 }
 
-/// The value of a word, of a form other than a text.
+/// Parses a word as a value of any kind but text.
 fn parse_word(form: Form, word: &str) -> Result<Value<'static>, ParseFault>
     requires { IsSized form }
     ensures parses { IfOk result (λ value. ParsesAs form word.now (value_in value)) }
@@ -85,7 +85,7 @@ fn parse_word(form: Form, word: &str) -> Result<Value<'static>, ParseFault>
     }
 }
 
-/// Whether an integer has two's complement of so many bytes.
+/// Whether the integer fits two's complement of `size` bytes.
 fn fits_signed(number: i128, size: usize) -> bool
     requires low { 1 ≤ size }
     requires high { size ≤ 8 }
@@ -95,7 +95,7 @@ fn fits_signed(number: i128, size: usize) -> bool
     -half <= number && number < half
 }
 
-/// Whether an integer is an unsigned one of so many bytes.
+/// Whether the integer fits an unsigned number of `size` bytes.
 fn fits_unsigned(number: i128, size: usize) -> bool
     requires low { 1 ≤ size }
     requires high { size ≤ 8 }
@@ -104,7 +104,7 @@ fn fits_unsigned(number: i128, size: usize) -> bool
     0 <= number && number < (1u128 << (8 * size)) as i128
 }
 
-/// The integer that a word tells. One of more than 127 bits is told as the greatest or least of them.
+/// Parses an integer. One of more than 127 bits becomes the greatest or the least of 127 bits.
 fn integer(word: &str) -> Result<i128, ParseFault>
     ensures { MatchResult result (Clamps (ParsesAsInteger word.now))
         (λ miss. (miss ≡ ParseFault.Form) × ((number : ℤ) → ParsesAsInteger word.now number → ⊥)) }
@@ -115,7 +115,7 @@ fn integer(word: &str) -> Result<i128, ParseFault>
     }
 }
 
-/// The bits that a word tells, as a number.
+/// Parses a bit string, as a number.
 fn bit_string(word: &str) -> Result<i128, ParseFault>
     ensures { MatchResult result (Clamps (ParsesAsBits word.now))
         (λ miss. (miss ≡ ParseFault.Form) × ((number : ℤ) → ParsesAsBits word.now number → ⊥)) }
@@ -126,7 +126,7 @@ fn bit_string(word: &str) -> Result<i128, ParseFault>
     }
 }
 
-/// What stands behind a mark at the front of a word.
+/// The rest of a word after this prefix, or `None` if the word does not start with it.
 fn after_prefix<'a>(mark: &str, word: &'a str) -> Option<&'a str>
     ensures { MatchOption result ((rest : List ℕ) → word.now ≢ mark.now ++ rest)
         (λ rest. word.now ≡ mark.now ++ rest.now) }
@@ -134,7 +134,7 @@ fn after_prefix<'a>(mark: &str, word: &'a str) -> Option<&'a str>
     word.strip_prefix(mark)
 }
 
-/// The number that digits spell. One of more than 127 bits is told as the greatest of them.
+/// Parses digits. A number of more than 127 bits becomes the greatest of 127 bits.
 fn number_of(digits: &str, radix: u32) -> Result<i128, ParseFault>
     requires low { 2 ≤ radix }
     requires high { radix ≤ 16 }
@@ -148,7 +148,7 @@ fn number_of(digits: &str, radix: u32) -> Result<i128, ParseFault>
     Ok(i128::from_str_radix(digits, radix).unwrap_or(i128::MAX))
 }
 
-/// Whether a text is digits, one at least.
+/// Whether the text is one digit or more, and nothing else.
 fn is_numeral(text: &str, radix: u32) -> bool
     requires low { 2 ≤ radix }
     requires high { radix ≤ 16 }
@@ -157,7 +157,7 @@ fn is_numeral(text: &str, radix: u32) -> bool
     !text.is_empty() && are_digits(text.as_bytes(), radix)
 }
 
-/// Whether each byte is a digit.
+/// Whether every byte is a digit.
 fn are_digits(bytes: &[u8], radix: u32) -> bool
     requires low { 2 ≤ radix }
     requires high { radix ≤ 16 }
@@ -175,7 +175,7 @@ fn is_digit(byte: u8, radix: u32) -> bool
     char::from(byte).is_digit(radix)
 }
 
-/// The bits of the REAL that a word tells.
+/// Parses a REAL, as its bits.
 fn real(word: &str) -> Result<u32, ParseFault>
     ensures parses { IfOk result (λ bits. ParsesAs Form.Real word.now (Real bits)) }
     ensures missed { IfErr result (IsParseFault Form.Real word.now) }

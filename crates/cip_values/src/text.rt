@@ -1,4 +1,4 @@
-//! The text of a value.
+//! Values as text.
 
 ghost use Rattle.std.specs.Prelude.{◌<◌, length, IfSome};
 
@@ -9,11 +9,18 @@ use std::alloc::{AllocError, Global};
 use std::fmt;
 use std::num::f32_from_bits_with_nan;
 
-/// Values that are printed as text, with a space between two of them.
+/// Values that print as text, separated by spaces.
 ///
-/// A BOOL is `0` or `1`, an integer decimal, a bit string `0x` and all of its hexadecimal digits, a REAL a short
-/// decimal number that is read as the same bits (every NaN as one). Of a SHORT_STRING what is printable ASCII stands as
-/// it is, but for `\\`; any other byte is `\xNN`. In a list each stands between quotes, and a quote in it is `\"`.
+/// A BOOL prints as `0` or `1`, an integer in decimal, and a bit string as `0x` with all of its hexadecimal digits.
+/// A REAL prints as a short decimal number that parses to the same bits (all NaNs alike). A SHORT_STRING prints its
+/// printable ASCII as it is, except that a backslash is `\\`; any other byte is `\xNN`. In a list each string is in
+/// quotes, and a quote within it is `\"`.
+///
+/// ```
+/// let values = read_values(alloc, value_type, bytes)?;
+/// let values = values.as_slice();
+/// let text = format!(in alloc; "{}", ValuesText { value_type, values })?;
+/// ```
 #[derive(Clone, Copy, Debug, PartialEq, Eq)]
 pub struct ValuesText<'a, 'b> {
     /// The type of the values.
@@ -41,7 +48,7 @@ impl fmt::Display for ValuesText<'_, '_> {
     }
 }
 
-/// One value that is printed as text.
+/// One value that prints as text.
 #[derive(Clone, Copy)]
 struct ValueText<'a> {
     element: ElementaryType,
@@ -86,7 +93,7 @@ impl fmt::Display for ValueText<'_> {
     }
 }
 
-/// A REAL by its bits.
+/// A REAL, given by its bits.
 #[derive(Clone, Copy)]
 struct RealText(u32);
 
@@ -97,7 +104,7 @@ impl fmt::Display for RealText {
     }
 }
 
-/// The bytes of a text, each as it is or escaped.
+/// The bytes of a string, each as it is or escaped.
 #[derive(Clone, Copy)]
 struct Escaped<'a> {
     text: &'a [u8],
@@ -123,7 +130,7 @@ impl fmt::Display for Escaped<'_> {
     }
 }
 
-/// What stands between the quotes of a word, or the word itself where it has none.
+/// The word without its quotes, or the whole word if it is not in quotes.
 pub(crate) fn unquoted(word: &str) -> &str {
     match word.strip_prefix("\"") {
         Some(behind) => match behind.strip_suffix("\"") {
@@ -134,8 +141,8 @@ pub(crate) fn unquoted(word: &str) -> &str {
     }
 }
 
-/// The bytes of an escaped text, or `None` where a backslash stands before something else than a backslash, a quote or
-/// `x` and two hexadecimal digits.
+/// The bytes of an escaped text, or `None` if a backslash is followed by anything but a backslash, a quote, or `x`
+/// and two hexadecimal digits.
 pub(crate) fn unescaped(alloc: Global, text: &str) -> Result<Option<Vec<u8>>, AllocError> {
     let mut bytes = Vec::new(alloc);
     let mut rest = text.as_bytes();
@@ -149,7 +156,7 @@ pub(crate) fn unescaped(alloc: Global, text: &str) -> Result<Option<Vec<u8>>, Al
     Ok(Some(bytes))
 }
 
-/// The byte that the front of an escaped text tells, and what stands behind it.
+/// The first byte of an escaped text, unescaped, and the rest.
 fn first_byte(text: &[u8]) -> Option<(u8, &[u8])>
     ensures { IfSome result (λ read. length read.1.now < length text.now) }
 {
@@ -160,7 +167,7 @@ fn first_byte(text: &[u8]) -> Option<(u8, &[u8])>
     }
 }
 
-/// The byte that is told behind a backslash, and what stands behind it.
+/// The byte that is escaped after a backslash, and the rest.
 fn escaped_byte(text: &[u8]) -> Option<(u8, &[u8])>
     ensures { IfSome result (λ read. length read.1.now < length text.now) }
 {
@@ -172,7 +179,7 @@ fn escaped_byte(text: &[u8]) -> Option<(u8, &[u8])>
     }
 }
 
-/// The byte of two hexadecimal digits.
+/// The byte with these two hexadecimal digits.
 fn hexadecimal(high: u8, low: u8) -> Option<u8> {
     let high = char::from(high).to_digit(16)?;
     let low = char::from(low).to_digit(16)?;

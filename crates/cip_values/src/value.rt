@@ -1,4 +1,4 @@
-//! One value of an elementary type, and its bytes. (Volume 1, data types.)
+//! A value of an elementary type, and its bytes. (Volume 1, data types.)
 
 ghost use Rattle.std.specs.Prelude.{◌≡◌, ◌++◌, ◌≤◌, length, IfOk, IfErr, OnOk};
 ghost use Rattle.cip_bytes.specs.Numbers.{le};
@@ -21,18 +21,18 @@ pub enum Value<'a> {
     Unsigned(u64),
     /// A BYTE, WORD, DWORD or LWORD.
     Bits(u64),
-    /// A REAL, by its 32 bits.
+    /// A REAL, as its 32 bits.
     Real(u32),
-    /// A SHORT_STRING, by its bytes, 255 at most.
+    /// A SHORT_STRING, as its bytes: 255 at most.
     Text(&'a [u8]),
 }
 
 impl<'a> Value<'a> {
-    /// The value at the front of bytes, and the bytes behind it.
+    /// Reads the value at the front of the bytes, and returns it with the rest.
     ///
     /// # Errors
     ///
-    /// `Short` where the bytes end before the value does, `NotBool` where a BOOL is neither 0 nor 1.
+    /// `Short` if the bytes end within the value, `NotBool` if a BOOL is neither 0 nor 1.
     pub(crate) fn read(
         form: Form,
         bytes: &'a [u8],
@@ -69,7 +69,7 @@ impl<'a> Value<'a> {
         }
     }
 
-    /// Appends its bytes.
+    /// Appends the value's bytes.
     pub(crate) fn append(self, form: Form, out: &mut Vec<u8>) -> Result<(), AllocError>
         requires sized { IsSized form }
         requires value { IsOf form (value_in self) }
@@ -91,7 +91,7 @@ impl<'a> Value<'a> {
     }
 }
 
-/// Appends the low bytes of a number, so many.
+/// Appends the `size` low bytes of a number.
 fn append_number(number: u64, size: usize, out: &mut Vec<u8>) -> Result<(), AllocError>
     requires { size ≤ 8 }
     ensures { OnOk result (out.new.items ≡ out.old.items ++ le size number) }

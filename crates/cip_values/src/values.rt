@@ -1,4 +1,4 @@
-//! Values of a type: read from bytes, and written as bytes.
+//! Values of a type: reads them from bytes, and writes words as bytes.
 
 ghost use Rattle.std.specs.Prelude.{◌≡◌, ◌≢◌, ◌≤◌, [], ◌++◌, List, map, length, IfOk, IfErr, OnOk, ⊤};
 ghost use Rattle.cip_values.specs.Types.{IsSized, form_of};
@@ -12,15 +12,15 @@ use crate::text::{unescaped, unquoted};
 use crate::value::Value;
 use std::alloc::{AllocError, Global};
 
-/// How many bytes a SHORT_STRING has at most.
+/// The most bytes of a SHORT_STRING.
 const LONGEST_STRING: usize = 255;
 
-/// Reads bytes as values of a type: all of them, any number for a list, else one.
+/// Reads all of the bytes as values of a type: any number of values for a list, otherwise one.
 ///
 /// # Errors
 ///
-/// `Short` where the bytes end within a value, `Trailing` where bytes stand behind the one value, `NotBool` where a
-/// BOOL is neither 0 nor 1, `Memory` where memory is refused.
+/// `Short` if the bytes end within a value, `Trailing` if bytes follow the one value, `NotBool` if a BOOL is
+/// neither 0 nor 1, `Memory` if memory is refused.
 pub fn read_values<'a>(
     alloc: Global,
     value_type: ValueType,
@@ -37,7 +37,7 @@ pub fn read_values<'a>(
     }
 }
 
-/// Reads bytes as one value.
+/// Reads all of the bytes as one value.
 fn read_one<'a>(
     alloc: Global,
     form: Form,
@@ -57,7 +57,7 @@ fn read_one<'a>(
     Ok(values)
 }
 
-/// Reads bytes as any number of values.
+/// Reads all of the bytes as any number of values.
 fn read_list<'a>(
     alloc: Global,
     form: Form,
@@ -77,13 +77,13 @@ fn read_list<'a>(
     Ok(values)
 }
 
-/// Writes words as the bytes of values of a type: any number of words for a list, else one.
+/// Parses words as values of a type and returns their bytes: any number of words for a list, otherwise one.
 ///
 /// # Errors
 ///
-/// `Count` where there is not one word for a type of one value, `Form` where a word is no value of the type, `Range`
-/// where its number is out of the type's range, `TooLong` where it is over 255 bytes of a SHORT_STRING, `Memory` where
-/// memory is refused.
+/// `Count` if a type of one value is not given exactly one word, `Form` if a word is not a value of the type,
+/// `Range` if its number is out of the type's range, `TooLong` if it has more than the 255 bytes of a SHORT_STRING,
+/// `Memory` if memory is refused.
 pub fn write_values<'a>(
     alloc: Global,
     value_type: ValueType,
@@ -105,7 +105,7 @@ pub fn write_values<'a>(
     Ok(bytes)
 }
 
-/// Appends the bytes of the value that a word tells.
+/// Parses a word as a value, and appends the value's bytes.
 fn append_word<'a>(
     alloc: Global,
     value_type: ValueType,
@@ -125,7 +125,7 @@ fn append_word<'a>(
     }
 }
 
-/// Appends the bytes of the SHORT_STRING that a word tells.
+/// Unescapes a word as a SHORT_STRING, and appends its bytes.
 fn append_text<'a>(
     alloc: Global,
     value_type: ValueType,

@@ -18,7 +18,7 @@ after_calls-append : (a : AdapterState) (calls more : List Call) → after_calls
 after_calls-append a [] more = refl
 after_calls-append a (call ∷ calls) more = after_calls-append (after_call a call) calls more
 
--- The calls that so many feeds of a piece are.
+-- The calls that this many feeds of a piece are.
 abbrev calls_of : ℕ → ℕ → AdapterState → List ℕ → ℕ → List Call
 calls_of now peer a piece zero = []
 calls_of now peer a piece (suc k) = calls_of now peer a piece k ++ (Feeds now peer (feeds now peer a piece k).rest ∷ [])
@@ -48,12 +48,12 @@ fed_so_often now peer a new piece k is = record {
 pub no_feeds : (now peer : ℕ) (a : AdapterState) → AreFeeds now peer a a
 no_feeds now peer a = record { calls = []; each = tt; after = refl }
 
--- so many bytes of a piece were fed
+-- this many bytes of a piece were fed
 pub fed_feeds : (now peer : ℕ) (a new : AdapterState) (piece : List ℕ) (fed : ℕ) (before after : Option (List ℕ))
     → HasFed now peer a piece fed new before after → AreFeeds now peer a new
 fed_feeds now peer a new piece fed before after h = fed_so_often now peer a new piece h.times h.adapter
 
--- one feed more
+-- one more feed
 pub one_more : (now peer : ℕ) (a between new : AdapterState) (piece : List ℕ) → AreFeeds now peer a between
     → new ≡ after_call between (Feeds now peer piece) → AreFeeds now peer a new
 one_more now peer a between new piece f is = record {
@@ -63,7 +63,7 @@ one_more now peer a between new piece f is = record {
       ∙ sym (after_calls-append a f.calls (Feeds now peer piece ∷ []));
 }
 
--- deeds lead where the calls do that they stand for
+-- actions lead to the state to which their calls lead
 pub deeds_stand : (a last : AdapterState) (actions : List AdapterAction) → LeadTo a actions last
     → (calls : List Call) × (AmountTo actions calls × (last ≡ after_calls a calls))
 deeds_stand a last [] is = ([], (refl, is))
@@ -90,7 +90,7 @@ feeds_for_other now to peer [] each differs = tt
 feeds_for_other now to peer (call ∷ calls) each differs =
     (feed_for_other now to peer call each.0 differs, feeds_for_other now to peer calls each.1 differs)
 
--- where all is done for other peers, so is each call that it stands for
+-- if all actions are for other peers, so are their calls
 pub deeds_for_other : (peer : ℕ) (actions : List AdapterAction) (calls : List Call) → AmountTo actions calls
     → AllByRecursion (IsActionForOther peer) actions → AllByRecursion (IsForOther peer) calls
 deeds_for_other peer [] calls stand others = subst (AllByRecursion (IsForOther peer)) (sym stand) tt

@@ -17,7 +17,7 @@ use Rattle.enip_adapter.proofs.FeedLemmas.{finds, session_found}
 use Rattle.enip_adapter.proofs.ListLemmas.{without_first-none}
 use Rattle.enip_adapter.proofs.MapLemmas.{map-without_first, map-append_one}
 
--- A peer that gives its place back.
+-- A peer that frees its slot.
 ended_found : (limit next_handle : ℕ) (shared : Shared) (places : List PeerSlot) (handle : ℕ) (p : PeerSlot) → first_with handle_of handle places ≡ Some p
     → adapter_in limit next_handle (without_connections shared handle) (without_first handle_of handle places)
     ≡ after_call (adapter_in limit next_handle shared places) (Ends_peer handle)
@@ -32,7 +32,7 @@ ended_found limit next_handle shared places handle p e =
     ∙ ap (λ h. let r : AdapterState = record { state = end_found (state_in limit next_handle shared places) handle (Some p.session); held = h } in r) held
     ∙ ap (λ x. let r : AdapterState = record { state = end_found (state_in limit next_handle shared places) handle x; held = without_first (λ (h : Held). h.peer) handle (map held_in places) } in r) (sym o)
 
--- One that holds none.
+-- A peer that holds no slot.
 ended_none : (limit next_handle : ℕ) (shared : Shared) (places : List PeerSlot) (handle : ℕ) → first_with handle_of handle places ≡ None
     → adapter_in limit next_handle shared (without_first handle_of handle places)
     ≡ after_call (adapter_in limit next_handle shared places) (Ends_peer handle)
@@ -52,7 +52,7 @@ ended_either : (limit next_handle : ℕ) (shared : Shared) (places : List PeerSl
 ended_either limit next_handle shared places handle (Some p) e = ended_found limit next_handle shared places handle p e
 ended_either limit next_handle shared places handle None e = ended_none limit next_handle shared places handle e
 
--- the adapter after a place was given back, or none was held
+-- the adapter after a slot was freed, or none was held
 pub ended : (old new : PeerSlotsState) (next_handle handle peer : ℕ) (shared left : Shared) (held : Bool) (a : AdapterState)
     → adapter_in old.limit next_handle shared old.taken ≡ a → handle ≡ peer → held ≡ is_some (first_with handle_of handle old.taken)
     → new.limit ≡ old.limit → new.taken ≡ without_first handle_of handle old.taken
@@ -65,7 +65,7 @@ ended old new next_handle handle peer shared left held a is who found limit take
     ∙ ended_either old.limit next_handle shared old.taken handle (first_with handle_of handle old.taken) refl
     ∙ ap (λ x. after_call x (Ends_peer handle)) is ∙ ap (λ n. after_call a (Ends_peer n)) who
 
--- What begins, by the two tests.
+-- The result of begin, by its two checks.
 abbrev begun_by : State → Bool → Bool → TurnResult
 begun_by s full used =
     cond full (turned s (Refuses Places) false)
@@ -93,7 +93,7 @@ begun_one limit next_handle shared places new room unused is =
 pub finds_same : (h k : ℕ) (xs ys : List PeerSlot) → h ≡ k → xs ≡ ys → finds h xs ≡ finds k ys
 finds_same h k xs ys e f = ap (λ n. finds n xs) e ∙ ap (finds k) f
 
--- The last of a list, of which something holds throughout.
+-- The last item of a list, all of whose items have a property.
 pub last_of : {X : Type 0} (P : X → Type 0) (xs : List X) (x : X) → All P (xs ++ x ∷ []) → P x
 last_of P [] x all = All-head P x [] all
 last_of P (y ∷ ys) x all = last_of P ys x (All-tail P y (ys ++ x ∷ []) all)

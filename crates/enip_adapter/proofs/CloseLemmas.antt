@@ -37,7 +37,7 @@ use Rattle.enip_adapter.proofs.SoundLemmas.{IsSound, sound-call, sound-calls, so
 use Rattle.enip_adapter.proofs.StreamLemmas.{IsAt, Advances, advances-call, at-beginning}
 use Rattle.enip_adapter.proofs.StreamLemmas.{cut-of-run}
 
--- Of what is taken of a piece, no shorter front completes anything.
+-- No shorter front of what is taken of a piece completes anything.
 running-front : (held piece front : List ℕ) (b : ℕ) (bs : List ℕ) → IsRunning held
     → take (bytes_taken held piece) piece ≡ front ++ b ∷ bs → IsRunning (held ++ front)
 running-front held piece front b bs running e =
@@ -63,7 +63,7 @@ running-front held piece front b bs running e =
           omega (arith, taken, count, size, ends);
     }
 
--- By its cut the stream leaves the session open.
+-- The stream, by its cut, leaves the session open.
 record IsLive (base : Shared) (session : Session) (stream : List ℕ) : Type 0 where
   frames : List Frame
   rest : List ℕ
@@ -131,7 +131,7 @@ live-call base peer session a (Feeds now other piece) sound says front b bs e = 
 live-call base peer session a (Ends_peer other) sound says front b bs e = absurd (no-byte front b bs e)
 live-call base peer session a (Ticks now) sound says front b bs e = absurd (no-byte front b bs e)
 
--- A byte of two lists joined is one of the first or of the second.
+-- A byte of two joined lists belongs to the first or to the second.
 data Split (xs more front : List ℕ) (b : ℕ) (bs : List ℕ) : Type 0 where
   Within : (x : ℕ) (rest : List ℕ) → xs ≡ front ++ x ∷ rest → Split xs more front b bs
   Past : (rest : List ℕ) → front ≡ xs ++ rest → more ≡ rest ++ b ∷ bs → Split xs more front b bs
@@ -205,7 +205,7 @@ live-run base peer run front b bs e =
         (next-none a.state.next_handle _ sound.drawn))) output)
         run.goes_on (says-beginning base a peer sound output) front b bs taken
 
--- Where a run has closed the peer, no run takes a byte more.
+-- If a run has closed the peer, no run takes a byte more.
 pub closed-last : (peer : ℕ) (r s : Run peer) (more : List ℕ) → is_peer_served (at_end peer r) peer ≡ false
     → taken_in peer s ≡ taken_in peer r ++ more
     → (more ≡ []) × (is_peer_served (at_end peer s) peer ≡ false)
@@ -259,7 +259,7 @@ closed-same peer r s rest later e shut closed = go (fronts (taken_in peer r) (ta
     go (Second more f) =
         f ∙ (ap (λ m. taken_in peer s ++ m) (closed-last peer s r more closed f).0 ∙ append-nil (taken_in peer s))
 
--- An answer closes where the peer is closed after it.
+-- An answer closes exactly if the peer is closed after it.
 twice-not : (b : Bool) → b ≡ not (not b)
 twice-not true = refl
 twice-not false = refl

@@ -1,4 +1,4 @@
--- What a frame leaves of what all peers share, one of a few kinds of change.
+-- What a frame changes of what all peers share: one of a few kinds of change.
 use Rattle.std.proofs.Common.{not, ltb, eqb, length, ℕ, List, Option, Some, Result, Ok, Err}
 use Rattle.cip_bytes.specs.Protocol.{command_of}
 use Rattle.cip_bytes.specs.declared.protocol.Command.{Command}
@@ -19,7 +19,7 @@ use Rattle.enip_adapter.specs.SendRRData.Route.{Opens, Closes, Executes}
 use Rattle.enip_adapter.specs.SendUnitData.{turn_of_item, item_of_body}
 use Rattle.enip_adapter.proofs.ListLemmas.{both}
 
--- What holds of what is shared, and after each change of it by a session.
+-- A property of what is shared that each change of it by a session keeps.
 pub record Changes (P : Shared → Type 0) (shared : Shared) (session : Session) : Type 0 where
   pub same : P shared
   pub opens : (layout : Layout) (bytes : List ℕ) →

@@ -1,4 +1,4 @@
--- Where a peer's stream is cut changes nothing.
+-- How a peer's stream is cut into pieces does not matter.
 use Rattle.std.proofs.Common.{◌≡◌, ℕ, zero, suc, ◌+◌, ◌-◌, ◌<◌, ◌≤◌, inl, inr, max, min, List, [], ◌∷◌, ◌++◌, Bool}
 use Rattle.std.proofs.Common.{true, false, cond, not, ◌||◌, length, take, drop, Option, Some, None, refl, sym, ap}
 use Rattle.std.proofs.Common.{subst, ◌∙◌, arith, append_assoc, append-nil, length-append, length-take, length-drop}
@@ -50,7 +50,7 @@ data Flows (now peer : ℕ) : AdapterState → List ℕ → List Answer → Adap
       → Flows now peer a (b ∷ bs) (call_answer a (Feeds now peer (b ∷ bs)) ∷ [])
       (after_call a (Feeds now peer (b ∷ bs)))
 
--- There is one way.
+-- There is only one way to do this.
 record AreSame (xs ys : List Answer) (a b : AdapterState) : Type 0 where
   answers : xs ≡ ys
   adapter : a ≡ b
@@ -65,7 +65,7 @@ one-flow (Flowed e f) (Shut d) = absurd (false≢true (sym e ∙ d))
 one-flow (Shut d) (Flowed e f) = absurd (false≢true (sym e ∙ d))
 one-flow (Shut e) (Shut d) = record { answers = refl; adapter = refl }
 
--- What a piece takes where it completes something, and where it completes nothing.
+-- What is taken of a piece if it completes something, and if it completes nothing.
 taken-past : (held piece more : List ℕ) → IsRunning held → (parsed (held_and_taken held piece) ≡ Incomplete → ⊥)
     → bytes_taken held (piece ++ more) ≡ bytes_taken held piece
 taken-past held piece more running some =
@@ -187,7 +187,7 @@ drop-whole : (xs : List ℕ) → drop (length xs) xs ≡ []
 drop-whole [] = refl
 drop-whole (x ∷ xs) = drop-whole xs
 
--- A moment that comes twice is one.
+-- A time that is given twice counts once.
 max-twice : (a b : ℕ) → max (max a b) b ≡ max a b
 max-twice a b = omega arith
 
@@ -208,7 +208,7 @@ at-twice s now =
     } in t) (filter-implied (is_open_at (max s.shared.moment now))
     (is_open_at (max s.shared.moment now)) s.shared.manager.connections (λ c h. h))
 
--- What a piece means to an going peer, by all that has come of the frame.
+-- The meaning of a piece for a peer that goes on, by all that has arrived of the frame.
 abbrev pub shown : List Held → ℕ → ℕ → List ℕ → ℕ → Meaning
 shown held peer now bytes n = at_a_moment now (record {
   events = events_of_parsed peer (parsed bytes);
@@ -230,7 +230,7 @@ feed-open a now peer piece live =
     ∙ ap (λ b. at_a_moment now
     (cond b (dropped_piece a.held) (piece_meaning a.held peer (bytes_held a.held peer) piece))) live.alive
 
--- What is there of a piece that more follows.
+-- What a piece is if more follows it.
 data Front (a : AdapterState) (now peer : ℕ) (piece more : List ℕ) : Type 0 where
   Same : call_meaning a (Feeds now peer (piece ++ more)) ≡ call_meaning a (Feeds now peer piece)
       → (call_meaning a (Feeds now peer piece)).taken ≤ length piece → Front a now peer piece more
@@ -346,7 +346,7 @@ has-waited a now peer piece sound live none =
       taken = ap (λ (t : Meaning). t.taken) m;
     }
 
--- Two pieces in one call do what they do in two, where the first completes nothing.
+-- Two pieces do the same in one call as in two, if the first completes nothing.
 record IsJoined (a : AdapterState) (now peer : ℕ) (piece more : List ℕ) (b : AdapterState) : Type 0 where
   adapter : after_call b (Feeds now peer more) ≡ after_call a (Feeds now peer (piece ++ more))
   answer : call_answer b (Feeds now peer more) ≡ call_answer a (Feeds now peer (piece ++ more))
@@ -418,7 +418,7 @@ is-joined a now peer piece more sound live none =
           ∙ sym (ap (λ (m : Meaning). drop m.taken (piece ++ more)) one)));
     }
 
--- A flow, by what its first call means.
+-- A flow, by the meaning of its first call.
 flow-on : (now peer : ℕ) (a last : AdapterState) (b : ℕ) (bs : List ℕ) (xs : List Answer) (y : Answer)
     (next : AdapterState) (rest : List ℕ)
     → call_answer a (Feeds now peer (b ∷ bs)) ≡ y → after_call a (Feeds now peer (b ∷ bs)) ≡ next
@@ -438,7 +438,7 @@ flow-shut now peer a b bs y last e f shut =
     (subst (λ z. Flows now peer a (b ∷ bs) (z ∷ []) (after_call a (Feeds now peer (b ∷ bs)))) e
     (Shut (ap (λ (z : Answer). z.close) e ∙ shut)))
 
--- These bytes flow, and the same is heard.
+-- These bytes flow, with the same visible answers.
 record IsFlow (now peer : ℕ) (a : AdapterState) (bytes : List ℕ) (xs : List Answer) (last : AdapterState) : Type 0 where
   ys : List Answer
   flow : Flows now peer a bytes ys last

@@ -1,4 +1,4 @@
--- What answers a datagram, and what answers the same bytes over TCP.
+-- The answer to a datagram, and to the same bytes over TCP.
 use Rattle.std.proofs.Common.{◌≡◌, ℕ, ◌+◌, ◌-◌, List, [], ◌∷◌, length, take, drop, min, not, ◌&&◌, eqb, ltb, cond, Bool, true, false, Option, Some, None, refl, ap, sym, ◌∙◌, arith}
 use Rattle.std.proofs.lemmas.Bool.{eqb-true}
 use Rattle.std.proofs.lemmas.List.{take_all}
@@ -33,9 +33,9 @@ no_answer : (b : Bool) (bytes : List ℕ) → ◌≡◌ {A = Option (List ℕ)} 
 no_answer true bytes e = cc
 no_answer false bytes e = cc
 
--- What a frame that a datagram brings leaves at a moment, over TCP.
+-- What the frame in a datagram would do over TCP at a time.
 module _ (shared : Shared) (now : ℕ) (session : Session) (f : Frame) (bytes : List ℕ) where
-  -- what a frame leaves, by whether it has options, whether it has a status, and its command
+  -- what a frame does, by whether it has options, whether it has a status, and its command
   abbrev held_after_next : Shared → Session → Bool → Bool → Option Command → Served
   held_after_next before asking options status command =
       cond options (leaving before (no_reply asking no_reply_reason.Options))
@@ -81,7 +81,7 @@ brings shared bytes Incomplete e = absurd (no_answer false bytes e)
 brings shared bytes (TooLongHeader h) e = absurd (no_answer false bytes e)
 brings shared bytes (WholeFrame f) e = record { brought = f; is = refl; told = e }
 
--- A frame that is whole is taken whole.
+-- A whole frame is taken whole.
 no_frame : (f : Frame) → Incomplete ≡ WholeFrame f → ⊥
 no_frame f e = cc
 
@@ -106,7 +106,7 @@ taken_whole bytes f e =
 joined_whole : (bytes : List ℕ) (f : Frame) → parsed bytes ≡ WholeFrame f → held_and_taken [] bytes ≡ bytes
 joined_whole bytes f e = ap (λ n. take n bytes) (taken_whole bytes f e) ∙ take_all (length bytes) bytes (omega arith)
 
--- A peer's bytes that are held already are held when none are left of a frame.
+-- If nothing is left of a frame, the held bytes stay the same.
 abbrev none_left : ℕ → Held
 none_left peer = record { peer = peer; bytes = [] }
 
@@ -122,9 +122,9 @@ held_same held peer empty = go (first_with (λ (h : Held). h.peer) peer held) re
         ap (λ x. with_first (λ (y : Held). y.peer) peer x held) same
         ∙ with_first-same (λ (x : Held). x.peer) peer h held found
 
--- What a peer that is served gets at a moment for the bytes of a datagram that is answered, and what it leaves.
+-- What a peer that is served gets at a time for the bytes of a datagram that is answered, and what that changes.
 module _ (a : AdapterState) (now peer : ℕ) (datagram bytes : List ℕ) where
-  -- the state once the moment has come
+  -- the state at that time
   abbrev at_now : State
   at_now = record a.state { shared = at_moment a.state.shared now }
 

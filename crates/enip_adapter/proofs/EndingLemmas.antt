@@ -17,7 +17,7 @@ endings-append a (x ∷ xs) ys =
       | false ↦ endings-append a xs ys
     ]
 
--- one connection more
+-- one more connection
 pub ended_more : (a : AdapterState) (remembered : List ConnectionInfo) (i : ℕ) (d : ConnectionInfo) (old new : List EndedConnection) → i < length remembered
     → new ≡ old ++ endings_of a (get_or remembered i d ∷ []) → old ≡ endings_of a (take i remembered) → new ≡ endings_of a (take (i + 1) remembered)
 ended_more a remembered i d old new inside is before =
@@ -25,7 +25,7 @@ ended_more a remembered i d old new inside is before =
     ∙ ap (λ l. l ++ endings_of a (get_or remembered i d ∷ [])) before
     ∙ sym (ap (endings_of a) (take_more remembered i d inside) ∙ endings-append a (take i remembered) (get_or remembered i d ∷ []))
 
--- a look at one place more
+-- one more index
 listed_more : (connections : List Connection) (i : ℕ) (w : ConnectionInfo) → i < length connections → ((d : Connection) → w ≡ connection_info (get_or connections i d))
     → map connection_info (take (suc i) connections) ≡ map connection_info (take i connections) ++ w ∷ []
 listed_more [] i w inside is = absurd (omega arith)

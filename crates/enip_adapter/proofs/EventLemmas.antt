@@ -1,4 +1,4 @@
--- Each call is the turns of the events that it stands for.
+-- Each call is the turns of its events.
 use Rattle.std.proofs.Common.{◌≡◌, ℕ, List, [], ◌∷◌, ◌++◌, Bool, true, false, cond, ◌||◌, Option, Some, None, refl}
 use Rattle.std.proofs.Common.{sym, ap, ◌∙◌}
 use Rattle.std.specs.List.{flat_map, list_any}
@@ -36,7 +36,7 @@ answers-events a (c ∷ cs) =
     answers-append a.state (call_meaning a c).events (events_of_calls (after_call a c) cs)
     ∙ ap (λ r. answers a.state (call_meaning a c).events ++ r) (answers-events (after_call a c) cs)
 
--- What holds of a call whose meaning has these forms holds of every call.
+-- A property of all calls whose meaning has these forms is one of every call.
 pub of_piece : (P : Meaning → Type 0) (now peer : ℕ) (piece : List ℕ) (held : List Held) (o : Option Session)
     → P (at_a_moment now (dropped_piece held))
     → ((x : Parsed) (n : ℕ) (left : List Held)
@@ -50,7 +50,7 @@ of_piece P now peer piece held (Some session) drops feeds = go session.closed
     go true = drops
     go false = feeds _ _ _
 
--- What a call says is what its events say, and it closes where one of them does, or its piece is dropped.
+-- The outputs of a call are those of its events, and it closes if one of them does or its piece is dropped.
 record IsTold (s : State) (m : Meaning) : Type 0 where
   output : outputs_in (answer_of s m ∷ []) ≡ outputs_in (answers s m.events)
   close : (answer_of s m).close ≡ (m.dropped || list_any (λ x. x.close) (answers s m.events))

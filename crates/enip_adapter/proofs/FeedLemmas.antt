@@ -1,4 +1,4 @@
--- A piece for a peer, by where its place is.
+-- A piece for a peer, by where its slot is.
 use Rattle.std.proofs.Common.{◌≡◌, ℕ, ◌<◌, List, Bool, true, false, cond, eqb, Option, Some, None, length, map, get_or, refl, sym, ap, subst, ◌∙◌}
 use Rattle.std.specs.Prelude.{slice_set}
 use Rattle.std.specs.List.{position}
@@ -33,7 +33,7 @@ finds handle places = position (λ p. eqb p.session.handle handle) places
 abbrev pub dropped : ℕ × Reaction
 dropped = (0, record { reply = replies.NoReply NotServed; close = true })
 
--- what is found among the places is found among the sessions and the bytes
+-- what is found among the slots is found among the sessions and the held bytes
 pub session_found : (limit next_handle : ℕ) (shared : Shared) (places : List PeerSlot) (handle : ℕ) (o : Option PeerSlot) → first_with handle_of handle places ≡ o
     → session_of (state_in limit next_handle shared places) handle ≡ option_map session_in o
 session_found limit next_handle shared places handle o e =
@@ -59,7 +59,7 @@ none_found limit next_handle shared places handle piece bytes e =
     subst (λ o. IsDropped limit next_handle shared places bytes (piece_to (map held_in places) handle piece o)) (sym none)
     (drops limit next_handle shared places bytes)
 
--- the place that is found
+-- the slot that is found
 pub found_item : (places : List PeerSlot) (handle i : ℕ) (d : PeerSlot) → finds handle places ≡ Some i
     → first_with handle_of handle places ≡ Some (get_or places i d)
 found_item places handle i d e =
@@ -98,7 +98,7 @@ served_turn s peer serve session found alive =
     }) (sent (serve session).reaction.answer) (serve session).reaction.close)
     ) alive
 
--- what a sight of a peer's bytes leaves and answers
+-- what a peer's bytes change and answer
 abbrev left_by : ℕ → ℕ → Shared → List PeerSlot → ℕ → PeerSlot → Served → State
 left_by limit next_handle shared places handle p served = record {
   places = limit;
@@ -145,7 +145,7 @@ abbrev IsFedOpen : ℕ → ℕ → Shared → List PeerSlot → ℕ → List ℕ
 IsFedOpen limit next_handle shared places handle piece left new outcome bytes m =
     IsFed limit next_handle shared places m left (with_first handle_of handle new places) outcome bytes
 
--- at an open place, for the bytes that are held there
+-- at an open slot, for the bytes that are held there
 fed_here : (limit next_handle : ℕ) (shared left : Shared) (places : List PeerSlot) (handle : ℕ) (piece bytes : List ℕ) (outcome : ℕ × Reaction) (p new : PeerSlot)
     → first_with handle_of handle places ≡ Some p → p.session.closed ≡ false
     → new.session ≡ session_after p.session (parsed_served shared p.session (parsed (held_and_taken p.reader piece)))
@@ -211,7 +211,7 @@ open_found limit next_handle shared left places handle i piece bytes outcome p n
     (subst (λ o. IsFedOpen limit next_handle shared places handle piece left new outcome bytes (piece_to (map held_in places) handle piece o)) (sym found)
     (open_meaning limit next_handle shared left places handle piece bytes p.reader outcome new p.session.closed alive here (bytes_at_place places handle p e)))
 
--- the default of an element that is there does not matter
+-- the default of an element that exists does not matter
 pub alive_there : (places : List PeerSlot) (handle i : ℕ) (d e : PeerSlot) → finds handle places ≡ Some i
     → (get_or places i d).session.closed ≡ false → (get_or places i e).session.closed ≡ false
 alive_there places handle i d e at alive =
@@ -220,7 +220,7 @@ alive_there places handle i d e at alive =
     let one : get_or places i d ≡ get_or places i e = cc in
     ap (λ q. q.session.closed) (sym one) ∙ alive
 
--- What a call of feed does, once the moment has come.
+-- What a call of feed does after the time was given.
 pub record IsFeed (old : AdapterState) (now peer : ℕ) (piece : List ℕ) (last : AdapterState) (outcome : ℕ × Reaction) (bytes : List ℕ) : Type 0 where
   pub state : last ≡ after_call old (Feeds now peer piece)
   pub taken : outcome.0 ≡ (call_meaning old (Feeds now peer piece)).taken
@@ -233,7 +233,7 @@ feeds_now : (limit next_handle : ℕ) (shared left : Shared) (places kept : List
 feeds_now limit next_handle shared left places kept now peer piece bytes outcome fed =
     record { state = fed.adapter; taken = fed.taken; answer = fed.answer }
 
--- a piece at the list of places is one at the places that they are
+-- a piece at the list of slots is one at the slots as a value
 pub fed_at : (old : PeerSlotsState) (limit next_handle : ℕ) (shared left : Shared) (items seen kept stored : List PeerSlot) (handle : ℕ) (piece bytes : List ℕ) (outcome : ℕ × Reaction)
     → peer_slots_in limit items ≡ old → seen ≡ items → stored ≡ kept
     → IsFed limit next_handle shared seen (piece_at limit next_handle shared seen handle piece) left kept outcome bytes

@@ -5,7 +5,7 @@ use Rattle.std.proofs.lemmas.Bool.{eqb-true, ne_eqb, eq-eqb}
 use Rattle.std.specs.List.{AllByRecursion}
 use Rattle.enip_adapter.specs.Lookup.{first_with, with_first, without_first}
 
--- What holds of both holds of the choice.
+-- What holds of both alternatives holds of the choice.
 pub both : {X : Type 0} → (P : X → Type 0) (b : Bool) (x y : X) → P x → P y → P (cond b x y)
 both P true x y p q = p
 both P false x y p q = q
@@ -75,7 +75,7 @@ first_with-append {X} number n x (z ∷ zs) ys e = go (eqb (number z) n) (λ f. 
     go true rest f = f
     go false rest f = rest f
 
--- Where no item of the front has the number, it is looked for behind.
+-- If no item of the front has the number, it is searched in the rest.
 pub first_with-behind : {X : Type 0} → (number : X → ℕ) (n : ℕ) (xs ys : List X) → first_with number n xs ≡ None
     → first_with number n (xs ++ ys) ≡ first_with number n ys
 first_with-behind number n [] ys e = refl
@@ -87,7 +87,7 @@ first_with-behind {X} number n (z ∷ zs) ys e = go (eqb (number z) n) (λ f. fi
     go true rest f = cc
     go false rest f = rest f
 
--- Where no item has the number, none is changed.
+-- If no item has the number, none is changed.
 pub with_first-none : {X : Type 0} → (number : X → ℕ) (n : ℕ) (new : X) (xs : List X) → first_with number n xs ≡ None
     → with_first number n new xs ≡ xs
 with_first-none number n new [] e = refl
@@ -98,7 +98,7 @@ with_first-none {X} number n new (y ∷ ys) e = go (eqb (number y) n) (λ f. wit
     go true rest f = cc
     go false rest f = ap (λ r. y ∷ r) (rest f)
 
--- An item in the place of itself.
+-- An item replaced by itself.
 pub with_first-same : {X : Type 0} → (number : X → ℕ) (n : ℕ) (x : X) (xs : List X) → first_with number n xs ≡ Some x
     → with_first number n x xs ≡ xs
 with_first-same number n x [] e = refl
@@ -168,7 +168,7 @@ numbers-none {X} number n (x ∷ xs) e = go (eqb (number x) n) (λ f. numbers-no
     go true rest f = cc
     go false rest f = rest f
 
--- No number comes twice.
+-- No number occurs twice.
 abbrev pub AreOnce : List ℕ → Type 0
 AreOnce [] = Unit {0}
 AreOnce (n ∷ ns) = (first_with (λ m. m) n ns ≡ None) × AreOnce ns
@@ -234,7 +234,7 @@ pub drawn-without : (next n : ℕ) (ns : List ℕ) → AreDrawn next ns → AreD
 drawn-without next n ns drawn =
     record { once = once-without n ns drawn.once; below = below-without next n ns drawn.below }
 
--- What is removed is there no more.
+-- What was removed is no longer there.
 pub gone : (n : ℕ) (ns : List ℕ) → AreOnce ns → first_with (λ m. m) n (without_first (λ m. m) n ns) ≡ None
 gone n [] once = refl
 gone n (m ∷ ms) once = go (eqb m n) refl (gone n ms once.1)

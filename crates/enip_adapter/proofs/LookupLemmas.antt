@@ -1,4 +1,4 @@
--- Where the first item with a number is.
+-- The index of the first item with a number.
 use Rattle.std.proofs.Common.{◌≡◌, ℕ, suc, ◌+◌, ◌<◌, ◌≤◌, List, [], ◌∷◌, Bool, true, false, cond, not, eqb, ltb, ltb-true, ltb-false, zero, get_or, Some, None, length, refl, ap, subst, arith}
 use Rattle.std.specs.Prelude.{slice_get, remove, MatchOption}
 use Rattle.std.specs.List.{position_or_len, position}
@@ -35,7 +35,7 @@ position_or_len-le p (x ∷ xs) =
       | false ↦ omega arith
     ]
 
--- what the first place that a test passes is
+-- what the first index is at which a test passes
 pub IsFirstWith-position : {X : Type 0} → (number : X → ℕ) (n : ℕ) (xs : List X)
     → MatchOption (position (λ x. eqb (number x) n) xs) (IsFirstWith number n xs (length xs))
     (λ i. (i < length xs) × IsFirstWith number n xs i)

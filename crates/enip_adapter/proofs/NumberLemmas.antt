@@ -39,7 +39,7 @@ use Rattle.enip_adapter.proofs.EventLemmas.{of_piece}
 use Rattle.enip_adapter.proofs.ListLemmas.{both}
 use Rattle.enip_adapter.proofs.PeerLemmas.{at_state}
 
--- What is served leaves the next handle.
+-- Serving a frame leaves the next handle unchanged.
 next-served : (s : State) (peer : ℕ) (serve : Session → Served) (o : Option Session)
     → (serve_found s peer serve o).state.next_handle ≡ s.next_handle
 next-served s peer serve None = refl
@@ -54,7 +54,7 @@ next-parsed_frame s peer (WholeFrame f) =
 next-parsed_frame s peer (TooLongHeader h) =
     next-served s peer (λ session. leaving s.shared (long_refused session h)) (session_of s peer)
 
--- A frame gives no handle out.
+-- A frame assigns no handle.
 abbrev IsQuiet : Output → Type 0
 IsQuiet output = (more : List ℕ) → handle_before output more ≡ more
 
@@ -69,7 +69,7 @@ quiet-served s peer serve (Some session) =
     both (λ (t : TurnResult). IsQuiet t.answer.output) session.closed _ _ (λ more. refl)
     (quiet-sent (serve session).reaction.answer)
 
--- A call that gives no handle out and leaves the next.
+-- A call that assigns no handle and leaves the next one unchanged.
 record IsPlain (s : State) (m : Meaning) : Type 0 where
   output : IsQuiet (answer_of s m).output
   next_handle : (after s m.events).next_handle ≡ s.next_handle
@@ -135,7 +135,8 @@ AreDrawn manager = All (λ c. c.o_to_t_id < manager.next_id) manager.connections
 abbrev has_id : List Connection → Connection → Bool
 has_id cs c = list_any (λ old. eqb old.o_to_t_id c.o_to_t_id) cs
 
--- Which connections are new, and what the next ID is: none and the next or a later one, or one that has drawn it.
+-- Which connections are new, and the next ID: none is new and the next ID does not decrease; or one is new with the
+-- next ID, which then rises by one.
 data Draws (old new : ManagerState) : Type 0 where
   None_new : new_connections old.connections new.connections ≡ [] → old.next_id ≤ new.next_id → Draws old new
   One_new : (c : Connection) → new_connections old.connections new.connections ≡ c ∷ [] → c.o_to_t_id ≡ old.next_id
@@ -157,7 +158,7 @@ or-none : (b c : Bool) → b ≡ false → c ≡ false → (b || c) ≡ false
 or-none true c e f = cc
 or-none false c e f = f
 
--- Each connection has an ID that it has.
+-- Each connection's own ID is found.
 has_own : (cs : List Connection) → All (λ c. has_id cs c ≡ true) cs
 has_own [] = All-nil (λ c. has_id [] c ≡ true)
 has_own (x ∷ xs) =
@@ -192,7 +193,7 @@ rises-filter q m drawn = record {
       (All-filter q (λ c. has_id m.connections c ≡ true) m.connections (has_own m.connections))) (omega arith);
 }
 
--- Connections that end with the change that came before.
+-- Connections that end after the change before.
 rises-then : (q : Connection → Bool) (old mid : ManagerState) → Rises old mid
     → Rises old (record mid { connections = filter q mid.connections })
 rises-then q old mid r = record {

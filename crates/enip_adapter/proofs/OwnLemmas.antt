@@ -1,4 +1,4 @@
--- What a peer's session is, its own frames alone say.
+-- A peer's session depends on its own frames only.
 use Rattle.std.proofs.Common.{◌≡◌, ℕ, List, [], ◌∷◌, ◌++◌, Bool, true, false, cond, not, eqb, ltb, length}
 use Rattle.std.proofs.Common.{Option, Some, None, Result, Ok, Err, refl, sym, ap, subst, ◌∙◌}
 use Rattle.std.specs.List.{AllByRecursion}
@@ -38,7 +38,7 @@ use Rattle.enip_wire.proofs.RunningLemmas.{parsed-running}
 use Rattle.enip_adapter.proofs.SoundLemmas.{IsSound, sound-call, sound-calls, sound-new, entry-of, no-entry}
 use Rattle.enip_adapter.proofs.StreamLemmas.{frames-append, no-frames, same-runs}
 
--- What a frame is to its peer hangs on nothing that the peers share, but for its answer.
+-- What a frame does to its peer, apart from the answer, does not depend on what the peers share.
 record IsAlike (x y : Served) : Type 0 where
   registered : x.reaction.registered ≡ y.reaction.registered
   close : x.reaction.close ≡ y.reaction.close
@@ -101,7 +101,7 @@ steps-same s t session [] = refl
 steps-same s t session (f ∷ fs) = ap (λ x. steps s x fs) (step-same s t session f)
     ∙ steps-same s t (step t session f) fs
 
--- And with a long header held it is closed.
+-- With a header over the limit held, it is closed.
 abbrev pub closing : Session → Parsed → Session
 closing session Incomplete = session
 closing session (WholeFrame f) = session
@@ -163,7 +163,7 @@ own-open base a now peer n bytes session old x e alive entry seen =
         (λ p. leaving (at_state a.state now).shared (long_refused p h)) session e alive
         ∙ ap (λ z. Some (closing session z)) (sym k)
 
--- What calls leave of a session that its frames and what is held say.
+-- After calls, a session is as its frames and the held bytes determine.
 abbrev pub Says : Shared → ℕ → Session → List Frame → AdapterState → Type 0
 Says base peer session frames a = session_of a.state peer
     ≡ Some (closing (steps base session frames) (parsed (bytes_held a.held peer)))

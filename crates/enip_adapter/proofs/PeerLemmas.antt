@@ -1,11 +1,11 @@
--- Calls leave the peers and the connections that they are not for.
+-- Calls do not change the peers and connections that they are not for.
 use Rattle.std.proofs.Common.{◌≡◌, ◌≢◌, ℕ, List, [], ◌∷◌, ◌++◌, Bool, true, false, cond, not, eqb, ltb, length}
 use Rattle.std.proofs.Common.{Option, Some, None, refl, sym, ap, ◌∙◌}
 use Rattle.std.specs.Prelude.{filter, max}
 use Rattle.std.specs.List.{AllByRecursion}
 use Rattle.cip_manager.specs.declared.connection.Connection.{Connection}
 use Rattle.cip_manager.specs.Connection.{is_of_session, is_open_at}
-use Rattle.cip_manager.specs.Runs.{ManagerCall, Opens, Closes, Receives, ServeState, IsOfOther, of_session}
+use Rattle.cip_manager.specs.Runs.{ManagerCall, Opens, Closes, Receives, Ends, IsOfOther, of_session}
 use Rattle.cip_manager.specs.Runs.{state_after, is_open_after_all}
 use Rattle.cip_manager.proofs.SessionLemmas.{calls-of_other}
 use Rattle.cip_manager.proofs.ListLemmas.{filter-true, filter-filter, filter-swap}
@@ -32,7 +32,7 @@ use Rattle.enip_adapter.proofs.ListLemmas.{first_with-append, first_with-behind}
 abbrev connections_of : ℕ → Shared → List Connection
 connections_of peer shared = of_session peer shared.manager.connections
 
--- What a change for another session leaves: this session's connections, and the moment.
+-- What a change for another session keeps: this session's connections, and the current time.
 pub record Leaves (peer : ℕ) (old new : Shared) : Type 0 where
   pub connections : connections_of peer new ≡ connections_of peer old
   pub moment : new.moment ≡ old.moment
@@ -82,7 +82,7 @@ leaves-command peer shared session f differ =
 leaves-ended : (peer : ℕ) (shared : Shared) (session : ℕ) → session ≢ peer
     → Leaves peer shared (without_connections shared session)
 leaves-ended peer shared session differ = record {
-  connections = leaves-manager peer shared (ServeState session) differ ∙ filter-true (connections_of peer shared);
+  connections = leaves-manager peer shared (Ends session) differ ∙ filter-true (connections_of peer shared);
   moment = refl;
 }
 
@@ -95,7 +95,7 @@ leaves-after peer shared session served differ serves =
     both (Leaves peer shared) served.reaction.close _ _
     (leaves-then peer shared served.shared _ serves (leaves-ended peer served.shared session.handle differ)) serves
 
--- What an event for another peer leaves of a peer.
+-- What an event for another peer keeps of a peer.
 pub record Spares (peer : ℕ) (old new : State) : Type 0 where
   pub connections : connections_of peer new.shared ≡ connections_of peer old.shared
   pub moment : new.shared.moment ≡ old.shared.moment
@@ -153,7 +153,7 @@ spares-piece s peer other piece held (Some session) differ =
     both (λ (m : Meaning). Spares peer s (after s m.events)) session.closed _ _ (spares-same peer s)
     (spares-parsed_frame s peer other (parsed (held_and_taken (bytes_held held other) piece)) differ)
 
--- The bytes that are held of a peer, after a piece for another and after a beginning.
+-- The bytes held of a peer, after a piece for another peer and after a begin.
 held-piece : (peer other : ℕ) (piece : List ℕ) (held : List Held) (o : Option Session) → other ≢ peer
     → bytes_held (piece_to held other piece o).held peer ≡ bytes_held held peer
 held-piece peer other piece held None differ = refl
@@ -185,7 +185,7 @@ held-begun s peer held =
     (ltb 0xffffffff s.next_handle) _ _ refl
     (held-behind peer s.next_handle held))
 
--- The state after a moment.
+-- The state after a time was given.
 abbrev pub at_state : State → ℕ → State
 at_state s now = record s { shared = at_moment s.shared now }
 
@@ -225,7 +225,7 @@ pub held-calls : (peer : ℕ) (a : AdapterState) (calls : List Call) → AllByRe
 held-calls peer a [] others = refl
 held-calls peer a (c ∷ cs) others = held-calls peer (after_call a c) cs others.1 ∙ held-call peer a c others.0
 
--- The connections after a call that leaves them, and after one that has a moment.
+-- The connections after a call that keeps them, and after one that gives a time.
 still : (peer : ℕ) (s t : State) (calls : List Call) (last : List Connection) → Spares peer s t
     → last ≡ filter (is_open_at_all (moments_of_calls t.shared.moment calls)) (connections_of peer t.shared)
     → last ≡ filter (is_open_at_all (moments_of_calls s.shared.moment calls)) (connections_of peer s.shared)

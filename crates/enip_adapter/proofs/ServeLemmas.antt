@@ -7,7 +7,7 @@ use Rattle.enip_adapter.specs.Calls.{AdapterState, call_meaning, call_answer, af
 use Rattle.enip_adapter.specs.Calls.Call.{Feeds}
 use Rattle.enip_adapter.specs.Serving.{FeedState, feeds, fed_more, output_bytes, GoesOn, AllGoOn, FedWhole}
 
--- So many bytes of a piece were fed, each feed went on, and what they answered was written.
+-- This many bytes of a piece were fed, each feed went on, and its answers were written.
 pub record HasFed (now peer : ℕ) (a : AdapterState) (piece : List ℕ) (fed : ℕ) (new : AdapterState) (before after : Option (List ℕ)) : Type 0 where
   pub times : ℕ
   pub each : AllGoOn now peer a piece times
@@ -31,7 +31,7 @@ all_fed now peer a new piece fed before after past h = record {
   written = h.written;
 }
 
--- what feeding came to, by its rest and its adapter
+-- the state of feeding, by its rest and its adapter
 at_feeding : (now peer : ℕ) (a : AdapterState) (piece rest : List ℕ) (k : ℕ) (seen : AdapterState)
     → (feeds now peer a piece k).rest ≡ rest → seen ≡ (feeds now peer a piece k).adapter
     → feeds now peer a piece k ≡ record { adapter = seen; rest = rest; sent = (feeds now peer a piece k).sent }
@@ -39,11 +39,11 @@ at_feeding now peer a piece rest k seen is at =
     ap (λ r. let f : FeedState = record { adapter = (feeds now peer a piece k).adapter; rest = r; sent = (feeds now peer a piece k).sent } in f) is
     ∙ ap (λ s. let f : FeedState = record { adapter = s; rest = rest; sent = (feeds now peer a piece k).sent } in f) (sym at)
 
--- The bytes that one more feed answers, told by the rest and the adapter that it is made with.
+-- The bytes that one more feed answers, by the rest and the adapter that it starts from.
 abbrev pub more_answer : ℕ → ℕ → AdapterState → List ℕ → List ℕ
 more_answer now peer seen rest = output_bytes (call_answer seen (Feeds now peer rest)).output
 
--- it goes on where that call does not close
+-- it goes on if that call does not close
 goes_on : (now peer : ℕ) (a seen : AdapterState) (piece rest : List ℕ) (k : ℕ)
     → feeds now peer a piece k ≡ record { adapter = seen; rest = rest; sent = (feeds now peer a piece k).sent }
     → 0 < length rest → (call_answer seen (Feeds now peer rest)).close ≡ false → GoesOn now peer (feeds now peer a piece k)

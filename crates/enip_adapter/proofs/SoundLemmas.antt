@@ -1,4 +1,4 @@
--- What holds of every adapter that calls lead to from a new one.
+-- What holds of every adapter to which calls lead from a new one.
 use Rattle.std.proofs.Common.{◌≡◌, ℕ, ◌+◌, ◌≤◌, List, [], ◌∷◌, ◌++◌, Bool, true, false, cond, not, eqb, ltb, length}
 use Rattle.std.proofs.Common.{Option, Some, None, refl, sym, ap, subst, ◌∙◌}
 use Rattle.std.proofs.lemmas.Bool.{eqb-true, eqb-false}
@@ -28,14 +28,14 @@ use Rattle.enip_adapter.proofs.NumberLemmas.{next-parsed_frame, next-ended}
 use Rattle.enip_adapter.proofs.PeerLemmas.{at_state, held-call, session-call}
 use Rattle.enip_wire.proofs.RunningLemmas.{IsRunning, running-empty, running-taken, bytes_taken-some}
 
--- The handles of the peers, and the numbers of what is held.
+-- The handles of the peers, and the numbers of the held bytes.
 abbrev pub handles : State → List ℕ
 handles s = numbers (λ (p : Session). p.handle) s.peers
 
 abbrev pub entries : List Held → List ℕ
 entries held = numbers (λ (h : Held). h.peer) held
 
--- Each peer has one entry, handles differ and were drawn, and an open peer waits for more bytes.
+-- Each peer has one entry, handles differ and were assigned, and an open peer waits for more bytes.
 pub record IsSound (a : AdapterState) : Type 0 where
   pub same : entries a.held ≡ handles a.state
   pub drawn : AreDrawn a.state.next_handle (handles a.state)
@@ -57,7 +57,7 @@ handles-parsed_frame s peer (WholeFrame f) = handles-served s peer (λ session. 
 handles-parsed_frame s peer (TooLongHeader h) = handles-served s peer (λ session. leaving s.shared (long_refused session h))
     (session_of s peer) refl
 
--- What a piece leaves of the numbers.
+-- What a piece does to the numbers.
 record IsFed (s : State) (held : List Held) (m : Meaning) : Type 0 where
   handles_same : handles (after s m.events) ≡ handles s
   next_same : (after s m.events).next_handle ≡ s.next_handle

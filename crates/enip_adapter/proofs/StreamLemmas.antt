@@ -1,4 +1,4 @@
--- What is taken of a peer's stream are its frames, and the bytes that are held.
+-- What is taken of a peer's stream are its frames, followed by the bytes held.
 use Rattle.std.proofs.Common.{◌≡◌, ℕ, List, [], ◌∷◌, ◌++◌, Bool, true, false, cond, not, eqb}
 use Rattle.std.proofs.Common.{ltb, length, take, Option, Some, None, refl, sym, ap, subst, ◌∙◌}
 use Rattle.std.proofs.Common.{append-nil, lit<}
@@ -40,7 +40,7 @@ pub record IsAt (peer : ℕ) (bytes : List ℕ) (held : List Held) : Type 0 wher
   pub fits : AreBytes bytes
   pub none : HasNone bytes
 
--- What a call takes of the stream are frames, and what is held then.
+-- What a call takes of the stream are frames, followed by what is held after it.
 pub record Advances (peer : ℕ) (bytes taken : List ℕ) (m : Meaning) : Type 0 where
   pub left : List ℕ
   pub at : IsAt peer left m.held

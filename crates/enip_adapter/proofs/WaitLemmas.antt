@@ -1,11 +1,11 @@
--- Between calls a reader of an open peer holds neither a whole frame nor a header that is too long.
+-- Between calls, the reader of an open peer holds neither a whole frame nor a header whose length is over the limit.
 use Rattle.std.proofs.Common.{ℕ, zero, suc, ◌<◌, List, [], ◌∷◌, ◌++◌, length, take, drop, All, inl, inr, append-nil, subst, arith}
 use Rattle.std.specs.Prelude.{remove}
 use Rattle.std.proofs.lemmas.List.Elements.{All-nil, All-cons, All-append, All-take, All-drop}
 use Rattle.enip_wire.specs.Frames.{IsComplete}
 use Rattle.enip_wire.specs.Stream.{Takes}
 
--- of a byte or more some are taken
+-- a piece that is not empty is taken in part at least
 pub some_taken : (held piece : List ℕ) (n : ℕ) → (IsComplete held → ⊥) → Takes held piece n → 0 < length piece → 0 < n
 some_taken held piece (suc n) running takes some = omega arith
 some_taken held piece zero running takes some =

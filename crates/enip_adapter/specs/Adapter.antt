@@ -1,4 +1,4 @@
--- The adapter as it is made and stored.
+-- The adapter's value: how it is made, and how the code's fields form it.
 use Rattle.std.specs.Prelude.{ℕ, List, [], ◌≡◌, map, false, Option, Some, None, Result, Ok}
 use Rattle.std.specs.Prelude.{Err, unwrap_or}
 use Rattle.std.specs.Borrow.{Bor}
@@ -18,7 +18,7 @@ use Rattle.enip_adapter.specs.Calls.{AdapterState, Held}
 use Rattle.enip_adapter.specs.Turn.{State, Output}
 use Rattle.enip_adapter.specs.Turn.Output.{NoReply, Sends, Begins, Refuses}
 
--- The number of why no peer can begin.
+-- The number of a refusal to begin a peer.
 abbrev pub full_number : Full → ℕ
 full_number Places = 1
 full_number Handles = 2
@@ -30,7 +30,7 @@ session_in place = place.session
 abbrev pub held_in : PeerSlot → Held
 held_in place = record { peer = place.session.handle; bytes = place.reader }
 
--- What the adapter is, by its fields.
+-- The adapter's value, by the fields of the code.
 abbrev pub state_in : ℕ → ℕ → Shared → List PeerSlot → State
 state_in places next_handle shared peers =
     record { places = places; next_handle = next_handle; shared = shared; peers = map session_in peers }
@@ -51,11 +51,11 @@ new_shared objects listen limits = record {
 abbrev pub new_adapter : Contents → Listen → Limits → AdapterState
 new_adapter objects listen limits = adapter_in limits.peers limits.first_handle (new_shared objects listen limits) []
 
--- Of a peer that is not closed, neither a whole frame nor a header that is too long is held between calls.
+-- Between calls, a peer that is not closed holds neither a whole frame nor a header whose length is over the limit.
 abbrev pub IsWaiting : PeerSlot → Type 0
 IsWaiting place = place.session.closed ≡ false → IsComplete place.reader → ⊥
 
--- What a call of begin says, and one of feed, which has a frame to send or a reason for none.
+-- The output of `begin`, and of `feed`, which has a frame to send or a reason why there is none.
 abbrev pub begin_output : Result ℕ Full → Output
 begin_output (Ok handle) = Begins handle
 begin_output (Err full) = Refuses full

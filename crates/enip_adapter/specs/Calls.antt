@@ -1,4 +1,4 @@
--- The adapter's calls: which events each stands for, and which bytes it takes and leaves.
+-- The adapter's calls: the events that each amounts to, the bytes that it takes, and the bytes that are held after it.
 use Rattle.std.specs.Prelude.{ℕ, List, [], ◌∷◌, ◌++◌, if◌then◌else◌, Bool, true, false, Option, Some, None}
 use Rattle.enip_wire.specs.Stream.{Parsed, bytes_taken, held_and_taken, parsed, cleared}
 use Rattle.enip_wire.specs.Stream.Parsed.{Incomplete, WholeFrame, TooLongHeader}
@@ -9,12 +9,12 @@ use Rattle.enip_adapter.specs.Turn.{State, Event, Output, Answer, turn, answers,
 use Rattle.enip_adapter.specs.Turn.Event.{Begin, End, At, Framed, Long}
 use Rattle.enip_adapter.specs.Turn.Output.{NoReply, Begins}
 
--- The bytes that have come of a peer's next frame.
+-- The bytes that have arrived of a peer's next frame.
 pub record Held : Type 0 where
   pub peer : ℕ
   pub bytes : List ℕ
 
--- The adapter: the turn's state, and what has come of each peer's next frame.
+-- The adapter: the state of `turn`, and what has arrived of each peer's next frame.
 pub record AdapterState : Type 0 where
   pub state : State
   pub held : List Held
@@ -25,7 +25,7 @@ pub data Call : Type 0 where
   Ends_peer : (peer : ℕ) → Call
   Ticks : (now : ℕ) → Call
 
--- The bytes that are held of a peer.
+-- The bytes held of a peer.
 abbrev pub bytes_found : Option Held → List ℕ
 bytes_found None = []
 bytes_found (Some held) = held.bytes
@@ -33,14 +33,14 @@ bytes_found (Some held) = held.bytes
 abbrev pub bytes_held : List Held → ℕ → List ℕ
 bytes_held held peer = bytes_found (first_with (λ h. h.peer) peer held)
 
--- What a sight of a peer's bytes is to the turn.
+-- The event, if any, that a peer's bytes are.
 abbrev pub events_of_parsed : ℕ → Parsed → List Event
 events_of_parsed peer Incomplete = []
 events_of_parsed peer (WholeFrame f) = Framed peer f ∷ []
 events_of_parsed peer (TooLongHeader h) = Long peer h ∷ []
 
--- What a call is: the events that it stands for, how many bytes it takes, and the bytes that are held afterwards. A
--- piece for a peer that is closed or not held is dropped.
+-- The meaning of a call: the events that it amounts to, how many bytes it takes, and the bytes held after it. A piece
+-- for a peer that is closed or not held is dropped.
 pub record Meaning : Type 0 where
   pub events : List Event
   pub taken : ℕ
@@ -50,12 +50,12 @@ pub record Meaning : Type 0 where
 abbrev pub meaning : List Event → List Held → Meaning
 meaning events held = record { events = events; taken = 0; held = held; dropped = false }
 
--- A peer that begins holds no byte.
+-- No byte is held of a peer that begins.
 abbrev pub held_at_beginning : List Held → Output → List Held
 held_at_beginning held (Begins handle) = held ++ record { peer = handle; bytes = [] } ∷ []
 held_at_beginning held other = held
 
--- A peer takes bytes of a piece up to the end of one frame.
+-- Bytes of a piece are taken up to the end of one frame.
 abbrev pub piece_meaning : List Held → ℕ → List ℕ → List ℕ → Meaning
 piece_meaning held peer bytes piece = record {
   events = events_of_parsed peer (parsed (held_and_taken bytes piece));
@@ -73,7 +73,7 @@ piece_to held peer piece None = dropped_piece held
 piece_to held peer piece (Some session) =
     if session.closed then dropped_piece held else piece_meaning held peer (bytes_held held peer) piece
 
--- A moment, and then what comes at it.
+-- A time, and then what happens at it.
 abbrev pub at_a_moment : ℕ → Meaning → Meaning
 at_a_moment now m = record m { events = At now ∷ m.events }
 
@@ -83,14 +83,14 @@ call_meaning a (Feeds now peer piece) = at_a_moment now (piece_to a.held peer pi
 call_meaning a (Ends_peer peer) = meaning (End peer ∷ []) (without_first (λ h. h.peer) peer a.held)
 call_meaning a (Ticks now) = at_a_moment now (meaning [] a.held)
 
--- The adapter after what a call means.
+-- The adapter after a call with this meaning.
 abbrev pub after_meaning : State → Meaning → AdapterState
 after_meaning s m = record { state = after s m.events; held = m.held }
 
 abbrev pub after_call : AdapterState → Call → AdapterState
 after_call a call = after_meaning a.state (call_meaning a call)
 
--- What a call answers: what its last event does; a piece that is dropped says that the peer is closed.
+-- The answer of a call is that of its last event. A piece that is dropped is answered with a closed peer.
 abbrev pub last_from : Answer → List Answer → Answer
 last_from a [] = a
 last_from a (b ∷ more) = last_from b more

@@ -22,7 +22,7 @@ use Rattle.enip_adapter.specs.UnRegisterSession.{unregister_session}
 use Rattle.enip_adapter.specs.SendRRData.{send_rr_data}
 use Rattle.enip_adapter.specs.SendUnitData.{send_unit_data}
 
--- By its command: NOP has no answer; what is no command is unsupported (ours).
+-- By its command. NOP has no answer. An unknown command is unsupported (ours).
 abbrev pub by_command : Shared → Session → Frame → Option Command → Served
 by_command shared session f (Some Nop) = leaving shared (no_reply session no_reply_reason.Nop)
 by_command shared session f (Some ListServices) = leaving shared (list_services session f)
@@ -34,18 +34,18 @@ by_command shared session f (Some SendRRData) = send_rr_data shared session f
 by_command shared session f (Some SendUnitData) = send_unit_data shared session f
 by_command shared session f None = leaving shared (refused session f.header UnsupportedCommand)
 
--- What a frame leaves: one with options or with a status (ours) is discarded.
+-- What a frame does. A frame with options, or with a status (ours), is discarded.
 unfoldable pub command_served : Shared → Session → Frame → Served
 command_served shared session f =
     if not (f.header.options == 0) then leaving shared (no_reply session no_reply_reason.Options)
     else if not (f.header.status == 0) then leaving shared (no_reply session no_reply_reason.Status)
     else by_command shared session f (command_of f.header.command)
 
--- A header whose length is too long: invalid length, and the connection is closed.
+-- A header whose length is over the limit: invalid length, and the TCP connection is closed.
 abbrev pub long_refused : Session → Header → Reaction
 long_refused session asked = record (refused session asked InvalidLength) { close = true }
 
--- What a sight of a peer's bytes leaves.
+-- What a peer's bytes do.
 abbrev pub parsed_served : Shared → Session → Parsed → Served
 parsed_served shared session Incomplete = leaving shared (no_reply session no_reply_reason.NoFrame)
 parsed_served shared session (WholeFrame f) = command_served shared session f

@@ -1,4 +1,4 @@
--- Discovery over UDP: what answers a datagram (Volume 2, encapsulation over UDP).
+-- Discovery over UDP: the answer to a datagram (Volume 2, encapsulation over UDP).
 use Rattle.std.specs.Prelude.{ℕ, List, ◌==◌, ◌&&◌, if◌then◌else◌, Bool, true, false, Option, Some, None}
 use Rattle.cip_bytes.specs.Protocol.{command_of}
 use Rattle.cip_bytes.specs.declared.protocol.Command.{Command}
@@ -12,7 +12,7 @@ use Rattle.enip_adapter.specs.Replies.{Reply}
 use Rattle.enip_adapter.specs.Replies.Reply.{NoReply, Sends}
 use Rattle.enip_adapter.specs.Turn.{new_session}
 
--- The commands that a datagram may bring (ours): those that ask what the adapter is.
+-- The commands that are answered in a datagram (ours): those that ask who the device is.
 abbrev pub is_discovery : Option Command → Bool
 is_discovery (Some ListServices) = true
 is_discovery (Some ListIdentity) = true
@@ -24,19 +24,19 @@ abbrev pub bytes_of : Reply → Option (List ℕ)
 bytes_of (NoReply why) = None
 bytes_of (Sends bytes) = Some bytes
 
--- A frame with such a command is answered as it is over TCP to a peer that just began, whatever its handle. One that has
--- data is none that asks: an answer has data, so two devices never answer each other (ours).
+-- A frame with such a command is answered as over TCP to a peer that has just begun, whatever its handle. A frame with
+-- data is not a request: an answer has data, so two devices never answer each other (ours).
 abbrev pub frame_discovered : Shared → Frame → Option (List ℕ)
 frame_discovered shared f =
     if is_discovery (command_of f.header.command) && (f.header.length == 0)
     then bytes_of (command_served shared (new_session 0) f).reaction.answer
     else None
 
--- What is not one whole frame has no answer.
+-- Bytes that are not exactly one whole frame have no answer.
 abbrev pub parsed_discovered : Shared → Parsed → Option (List ℕ)
 parsed_discovered shared (WholeFrame f) = frame_discovered shared f
 parsed_discovered shared other = None
 
--- What answers a datagram: it is one frame from its first byte to its last.
+-- The answer to a datagram, which is one frame from its first byte to its last.
 abbrev pub discovered : Shared → List ℕ → Option (List ℕ)
 discovered shared datagram = parsed_discovered shared (parsed datagram)

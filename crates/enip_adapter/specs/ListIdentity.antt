@@ -11,12 +11,12 @@ use Rattle.enip_adapter.specs.declared.shared.Listen.{Listen}
 use Rattle.enip_adapter.specs.declared.shared.Shared.{Shared}
 use Rattle.enip_adapter.specs.Replies.{Reaction, replied}
 
--- A socket address, most significant byte first: family 2, port, address, eight zeros.
+-- A socket address, big-endian: family 2, port, address, eight zeros.
 abbrev pub socket_address : Listen → List ℕ
 socket_address listen = big_bytes 2 2 ++ big_bytes 2 listen.port ++ listen.address ++ 0 ∷ 0 ∷ 0 ∷ 0 ∷ 0 ∷ 0 ∷ 0 ∷ 0 ∷ []
 
--- The attributes of the Identity object, 1 to 8: vendor, device type, product code, revision, status, serial number,
--- product name, state.
+-- Attributes 1 to 8 of the Identity object: vendor, device type, product code, revision, status, serial number, product
+-- name, state.
 abbrev pub identity_attributes : List ℕ
 identity_attributes = 1 ∷ 2 ∷ 3 ∷ 4 ∷ 5 ∷ 6 ∷ 7 ∷ 8 ∷ []
 
@@ -34,6 +34,6 @@ text_of_item item = le 2 1 ++ (le 2 0x000c ++ (le 2 (length item) ++ item))
 abbrev pub identity_text : Listen → Contents → List ℕ
 identity_text listen objects = text_of_item (identity_item listen objects)
 
--- It is answered with or without a session, whatever its data are.
+-- Answered with or without a session, and whatever its data.
 abbrev pub list_identity : Shared → Session → Frame → Reaction
 list_identity shared session f = replied session f.header (identity_text shared.listen shared.objects)

@@ -5,10 +5,10 @@ use Rattle.enip_wire.specs.Frames.{Frame}
 use Rattle.enip_adapter.specs.declared.peer.Session.{Session}
 use Rattle.enip_adapter.specs.Replies.{Reaction, replied}
 
--- No item.
+-- No items.
 abbrev pub interfaces_text : List ℕ
 interfaces_text = le 2 0
 
--- It is answered with or without a session, whatever its data are.
+-- Answered with or without a session, and whatever its data.
 abbrev pub list_interfaces : Session → Frame → Reaction
 list_interfaces session f = replied session f.header interfaces_text

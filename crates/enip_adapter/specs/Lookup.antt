@@ -1,4 +1,4 @@
--- Lists whose items are known by a number.
+-- Lists whose items are identified by a number.
 use Rattle.std.specs.Prelude.{ℕ, List, [], ◌∷◌, ◌==◌, if◌then◌else◌, Option, Some, None, ◌≡◌, slice_get, slice_set}
 use Rattle.std.specs.Prelude.{remove}
 
@@ -7,7 +7,7 @@ abbrev pub first_with : {X : Type 0} → (X → ℕ) → ℕ → List X → Opti
 first_with number n [] = None
 first_with number n (x ∷ xs) = if number x == n then Some x else first_with number n xs
 
--- The list with this item in the place of the first with this number.
+-- The list with this item instead of the first one with this number.
 abbrev pub with_first : {X : Type 0} → (X → ℕ) → ℕ → X → List X → List X
 with_first number n new [] = []
 with_first number n new (x ∷ xs) = if number x == n then new ∷ xs else x ∷ with_first number n new xs
@@ -17,8 +17,8 @@ abbrev pub without_first : {X : Type 0} → (X → ℕ) → ℕ → List X → L
 without_first number n [] = []
 without_first number n (x ∷ xs) = if number x == n then xs else x ∷ without_first number n xs
 
--- Where the first item with a number is, or past the end, if there is none: it is what is found there, and
--- a change or a removal is made there.
+-- An index that is that of the first item with a number, or past the end if there is none. The item there is the one
+-- that is found, and a change or a removal is made there.
 pub record IsFoundAt {X : Type 0} (item : Option X) (changed : X → List X) (removed : List X) (xs : List X) (i : ℕ)
     : Type 0 where
   pub found : item ≡ slice_get xs i

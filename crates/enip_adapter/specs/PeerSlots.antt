@@ -1,4 +1,4 @@
--- The places for peers, and a piece at them, which is the piece at the adapter.
+-- The peer slots, and a piece for one of them, which is the piece for the adapter.
 use Rattle.std.specs.Prelude.{ℕ, List, [], ◌∷◌, ◌++◌, ◌≡◌, ◌≤◌, ◌+◌, map, vec_len, All}
 use Rattle.std.specs.Global.{Vec}
 use Rattle.std.specs.Vec.{vec_capacity}
@@ -10,7 +10,7 @@ use Rattle.enip_adapter.specs.Calls.{Meaning, piece_to, after_meaning, answer_of
 use Rattle.enip_adapter.specs.Replies.{written}
 use Rattle.enip_adapter.specs.Turn.{Answer, session_of, sent, new_session}
 
--- So many places for peers, and those that are taken, in the order in which their peers began.
+-- The number of peer slots, and those that are taken, in the order in which their peers began.
 pub record PeerSlotsState : Type 0 where
   pub limit : ℕ
   pub taken : List PeerSlot
@@ -21,15 +21,15 @@ peer_slots_in limit taken = record { limit = limit; taken = taken }
 abbrev pub no_slot_taken : ℕ → PeerSlotsState
 no_slot_taken limit = peer_slots_in limit []
 
--- The session handle of the peer that holds a place.
+-- The session handle of the peer that holds a slot.
 abbrev pub handle_of : PeerSlot → ℕ
 handle_of place = place.session.handle
 
--- A peer that begins takes a place, and no byte of it has come.
+-- A peer that begins takes a slot. No byte of it has arrived.
 abbrev pub with_slot : PeerSlotsState → ℕ → PeerSlotsState
 with_slot p handle = peer_slots_in p.limit (p.taken ++ record { session = new_session handle; reader = [] } ∷ [])
 
--- Each place is taken or free, a free reader holds no byte, and there is room for all on either side.
+-- Each slot is taken or free, a free reader holds no byte, and both lists have capacity for all slots.
 pub record HasFreeReaders (places : ℕ) (peers : Vec PeerSlot) (free : Vec (List ℕ)) : Type 0 where
   pub few : places ≤ 16
   pub for_peers : places ≤ vec_capacity peers
@@ -38,7 +38,7 @@ pub record HasFreeReaders (places : ℕ) (peers : Vec PeerSlot) (free : Vec (Lis
   pub blank : All (λ held. held ≡ []) free.items
   pub waiting : All IsWaiting peers.items
 
--- What is shared, the places, how many bytes were taken, what came of them, and the buffer after a piece for a peer.
+-- After a piece for a peer: what is shared, the slots, the number of bytes taken, the reaction, and the answer buffer.
 pub record IsFed (limit next_handle : ℕ) (shared : Shared) (places : List PeerSlot) (m : Meaning) (left : Shared)
     (kept : List PeerSlot) (outcome : ℕ × Reaction) (bytes : List ℕ) : Type 0 where
   pub adapter : adapter_in limit next_handle left kept ≡ after_meaning (state_in limit next_handle shared places) m
@@ -46,7 +46,7 @@ pub record IsFed (limit next_handle : ℕ) (shared : Shared) (places : List Peer
   pub answer : ◌≡◌ {A = Answer} (record { output = sent (written outcome.1.reply bytes); close = outcome.1.close })
       (answer_of (state_in limit next_handle shared places) m)
 
--- What a piece for a peer means.
+-- The meaning of a piece for a peer.
 abbrev pub piece_at : ℕ → ℕ → Shared → List PeerSlot → ℕ → List ℕ → Meaning
 piece_at limit next_handle shared places peer piece =
     piece_to (map held_in places) peer piece (session_of (state_in limit next_handle shared places) peer)

@@ -11,8 +11,8 @@ use Rattle.enip_adapter.specs.Replies.{Reaction, reply, answered, refused}
 abbrev pub version_one : List ℕ
 version_one = le 2 1 ++ le 2 0
 
--- By the first check that fails: the data have 4 bytes, a version and flags; no session stands yet (ours); the
--- version is 1, else the reply has the one that is served; the flags are 0 (ours). The reply has the handle.
+-- The first check that fails decides: the data have 4 bytes, a version and flags; the peer has no session yet (ours);
+-- the version is 1, otherwise the reply has the supported one; the flags are 0 (ours). The reply has the handle.
 abbrev pub register_session : Session → Frame → Reaction
 register_session session f =
     if not (length f.body == 4) then refused session f.header InvalidLength

@@ -1,4 +1,4 @@
--- What a frame leaves and what answers it (Volume 2, encapsulation header).
+-- What a frame does and how it is answered (Volume 2, encapsulation header).
 use Rattle.std.specs.Prelude.{ℕ, List, [], Bool, false, ◌==◌, ◌&&◌, length}
 use Rattle.cip_bytes.specs.Protocol.{encapsulation_status_number}
 use Rattle.cip_bytes.specs.declared.protocol.EncapsulationStatus.{EncapsulationStatus}
@@ -11,7 +11,7 @@ use Rattle.enip_adapter.specs.declared.reply.Reply.TheVariants as code
 use Rattle.enip_adapter.specs.declared.shared.Shared.{Shared}
 use Rattle.enip_adapter.specs.declared.no_reply_reason.NoReplyReason.{NoReplyReason}
 
--- The header of a reply with so many bytes of data: command and context of what asked, no options.
+-- The header of a reply with `size` bytes of data: command and context of the request, options 0.
 abbrev pub reply_header : Header → ℕ → EncapsulationStatus → ℕ → Header
 reply_header asked session status size = record {
   command = asked.command;
@@ -32,13 +32,14 @@ pub data Reply : Type 0 where
   NoReply : (why : NoReplyReason) → Reply
   Sends : (bytes : List ℕ) → Reply
 
--- What a frame is to its peer: whether it is registered then, what is sent back, and whether the connection is closed.
+-- What a frame does to its peer: whether it is registered after it, what is sent back, and whether the TCP connection
+-- is closed.
 pub record Reaction : Type 0 where
   pub registered : Bool
   pub answer : Reply
   pub close : Bool
 
--- This is sent back.
+-- This is sent back, and nothing else happens to the peer.
 abbrev pub replying : Session → Reply → Reaction
 replying session reply = record { registered = session.registered; answer = reply; close = false }
 
@@ -48,15 +49,15 @@ no_reply session why = replying session (NoReply why)
 abbrev pub answered : Session → List ℕ → Reaction
 answered session bytes = replying session (Sends bytes)
 
--- A reply with these data; its session field is that of the frame that asked.
+-- A reply with these data. Its session field is that of the request.
 abbrev pub replied : Session → Header → List ℕ → Reaction
 replied session asked bytes = answered session (reply asked asked.session Success bytes)
 
--- A refusal has no data, and the session field of the frame that asked.
+-- A refusal has no data. Its session field is that of the request.
 abbrev pub refused : Session → Header → EncapsulationStatus → Reaction
 refused session asked status = answered session (reply asked asked.session status [])
 
--- The same, and what all peers share is then.
+-- What all peers share after a frame, and the reaction to it.
 pub record Served : Type 0 where
   pub shared : Shared
   pub reaction : Reaction
@@ -64,11 +65,11 @@ pub record Served : Type 0 where
 abbrev pub leaving : Shared → Reaction → Served
 leaving shared reaction = record { shared = shared; reaction = reaction }
 
--- The number is that of the peer's own session, which is registered.
+-- The session is registered, and this is its handle.
 abbrev pub is_registered_as : Session → ℕ → Bool
 is_registered_as session handle = session.registered && (handle == session.handle)
 
--- What the code's word of a reply says, with the buffer that is written to.
+-- The code's reply, with the content of its answer buffer.
 abbrev pub written : WrittenReply → List ℕ → Reply
 written (code.NoReply why) bytes = NoReply why
 written code.Written bytes = Sends bytes

@@ -21,17 +21,17 @@ abbrev pub after_calls : AdapterState → List Call → AdapterState
 after_calls a [] = a
 after_calls a (call ∷ calls) = after_calls (after_call a call) calls
 
--- What each call means.
+-- The meaning of each call.
 abbrev pub meanings : AdapterState → List Call → List Meaning
 meanings a [] = []
 meanings a (call ∷ calls) = call_meaning a call ∷ meanings (after_call a call) calls
 
--- What each call answers.
+-- The answer of each call.
 abbrev pub call_answers : AdapterState → List Call → List Answer
 call_answers a [] = []
 call_answers a (call ∷ calls) = call_answer a call ∷ call_answers (after_call a call) calls
 
--- All events that calls stand for, in their order.
+-- All events that calls amount to, in order.
 abbrev pub events_of_calls : AdapterState → List Call → List Event
 events_of_calls a calls = flat_map (λ m. m.events) (meanings a calls)
 
@@ -41,26 +41,26 @@ answers_by_call a [] = []
 answers_by_call a (call ∷ calls) =
     answers a.state (call_meaning a call).events ∷ answers_by_call (after_call a call) calls
 
--- What is said before more: a silence is left out.
+-- An output before others. No reply is left out.
 abbrev pub outputs_before : Output → List Output → List Output
 outputs_before (NoReply why) more = more
 outputs_before (Sends bytes) more = Sends bytes ∷ more
 outputs_before (Begins handle) more = Begins handle ∷ more
 outputs_before (Refuses full) more = Refuses full ∷ more
 
--- What answers say.
+-- The outputs in answers.
 abbrev pub outputs_in : List Answer → List Output
 outputs_in [] = []
 outputs_in (answer ∷ answers) = outputs_before answer.output (outputs_in answers)
 
--- The call is for another peer than this, or for none.
+-- The call is for another peer than this one, or for none.
 abbrev pub IsForOther : ℕ → Call → Type 0
 IsForOther peer Begins_peer = ⊤
 IsForOther peer (Feeds now other piece) = other ≢ peer
 IsForOther peer (Ends_peer other) = other ≢ peer
 IsForOther peer (Ticks now) = ⊤
 
--- The moments that count at the feeds and ticks of calls: each is the greatest so far.
+-- The current times at the feeds and ticks of calls. Each is the greatest time so far.
 abbrev pub moments_of_calls : ℕ → List Call → List ℕ
 moments_of_calls moment [] = []
 moments_of_calls moment (Begins_peer ∷ calls) = moments_of_calls moment calls
@@ -68,28 +68,28 @@ moments_of_calls moment (Feeds now peer piece ∷ calls) = max moment now ∷ mo
 moments_of_calls moment (Ends_peer peer ∷ calls) = moments_of_calls moment calls
 moments_of_calls moment (Ticks now ∷ calls) = max moment now ∷ moments_of_calls (max moment now) calls
 
--- The deadline of the connection is still to come at each of these moments.
+-- The deadline of the connection is after each of these times.
 abbrev pub is_open_at_all : List ℕ → Connection → Bool
 is_open_at_all moments connection = list_all (λ moment. is_open_at moment connection) moments
 
--- The handle that an answer gives out, if it does, before more.
+-- The handle that an answer assigns, if any, before others.
 abbrev pub handle_before : Output → List ℕ → List ℕ
 handle_before (NoReply why) more = more
 handle_before (Sends bytes) more = more
 handle_before (Begins handle) more = handle ∷ more
 handle_before (Refuses full) more = more
 
--- The handles that answers give out.
+-- The handles that answers assign.
 abbrev pub handles_in : List Answer → List ℕ
 handles_in [] = []
 handles_in (answer ∷ answers) = handle_before answer.output (handles_in answers)
 
--- Each is greater than those before it, and the first is n or more.
+-- Each number is greater than those before it, and the first is n or more.
 abbrev pub RisesFrom : ℕ → List ℕ → Type 0
 RisesFrom n [] = ⊤
 RisesFrom n (m ∷ ms) = (n ≤ m) × RisesFrom (m + 1) ms
 
--- No connection before has this one's O->T ID.
+-- No connection had this one's O->T ID before.
 abbrev pub is_new : List Connection → Connection → Bool
 is_new before connection = not (list_any (λ old. old.o_to_t_id == connection.o_to_t_id) before)
 
@@ -97,7 +97,7 @@ is_new before connection = not (list_any (λ old. old.o_to_t_id == connection.o_
 abbrev pub new_connections : List Connection → List Connection → List Connection
 new_connections before connections = filter (is_new before) connections
 
--- The O->T IDs that events give out: after each, those of the connections that are new.
+-- The O->T IDs that events assign: after each event, those of the new connections.
 abbrev pub ids_of_events : State → List Event → List ℕ
 ids_of_events s [] = []
 ids_of_events s (e ∷ es) =
@@ -105,7 +105,7 @@ ids_of_events s (e ∷ es) =
     (new_connections s.shared.manager.connections (turn s e).state.shared.manager.connections)
     ++ ids_of_events (turn s e).state es
 
--- The bytes that a call took of a peer's stream.
+-- The bytes that a call takes of a peer's stream.
 abbrev pub taken_by_call : ℕ → AdapterState → Call → List ℕ
 taken_by_call peer a Begins_peer = []
 taken_by_call peer a (Feeds now other piece) =
@@ -113,12 +113,12 @@ taken_by_call peer a (Feeds now other piece) =
 taken_by_call peer a (Ends_peer other) = []
 taken_by_call peer a (Ticks now) = []
 
--- The bytes that calls took of it, joined.
+-- The bytes that calls take of it, joined.
 abbrev pub taken_by_calls : ℕ → AdapterState → List Call → List ℕ
 taken_by_calls peer a [] = []
 taken_by_calls peer a (call ∷ calls) = taken_by_call peer a call ++ taken_by_calls peer (after_call a call) calls
 
--- The whole frames of a peer that are among events.
+-- The whole frames of a peer among events.
 abbrev pub frames_of_peer : ℕ → List Event → List Frame
 frames_of_peer peer [] = []
 frames_of_peer peer (Begin ∷ events) = frames_of_peer peer events
@@ -128,15 +128,15 @@ frames_of_peer peer (Framed other f ∷ events) =
     if other == peer then f ∷ frames_of_peer peer events else frames_of_peer peer events
 frames_of_peer peer (Long other header ∷ events) = frames_of_peer peer events
 
--- A piece is of bytes, and the call does not end this peer.
+-- A piece consists of bytes, and the call does not end this peer.
 abbrev pub GoesOn : ℕ → Call → Type 0
 GoesOn peer Begins_peer = ⊤
 GoesOn peer (Feeds now other piece) = AreBytes piece
 GoesOn peer (Ends_peer other) = other ≢ peer
 GoesOn peer (Ticks now) = ⊤
 
--- The pieces of one peer's stream are fed at a moment, each again and again until all of it is taken; where the peer is
--- closed, what is left is dropped. These are the answers, and the adapter at the end.
+-- The pieces of one peer's stream are fed at one time, each until all of it is taken. Once the peer is closed, the rest
+-- is dropped. The indices are the answers and the last adapter.
 pub data FeedsPieces (now peer : ℕ) : AdapterState → List (List ℕ) → List Answer → AdapterState → Type 0 where
   Ended : {a : AdapterState} → FeedsPieces now peer a [] [] a
   Taken : {a last : AdapterState} {pieces : List (List ℕ)} {answers : List Answer}
@@ -151,18 +151,19 @@ pub data FeedsPieces (now peer : ℕ) : AdapterState → List (List ℕ) → Lis
       → FeedsPieces now peer a ((b ∷ bs) ∷ pieces) (call_answer a (Feeds now peer (b ∷ bs)) ∷ [])
       (after_call a (Feeds now peer (b ∷ bs)))
 
--- Nothing is said.
+-- Nothing is output.
 abbrev pub is_no_reply : Output → Bool
 is_no_reply (NoReply why) = true
 is_no_reply (Sends bytes) = false
 is_no_reply (Begins handle) = false
 is_no_reply (Refuses full) = false
 
--- The answers that say something, or close.
+-- The answers that have an output, or close.
 abbrev pub visible_answers : List Answer → List Answer
 visible_answers answers = filter (λ answer. not (is_no_reply answer.output) || answer.close) answers
 
--- A peer's run: it begins at an adapter that earlier calls led to from a new one, and then calls come that go on.
+-- A run of a peer: earlier calls lead from a new adapter to one at which the peer begins, and then come calls that do
+-- not end it.
 pub record Run (peer : ℕ) : Type 0 where
   pub objects : Contents
   pub listen : Listen
@@ -172,7 +173,7 @@ pub record Run (peer : ℕ) : Type 0 where
   pub begins : (call_answer (after_calls (new_adapter objects listen limits) earlier) Begins_peer).output ≡ Begins peer
   pub goes_on : AllByRecursion (GoesOn peer) calls
 
--- The adapter at the beginning of the peer, and after the run.
+-- The adapter when the peer begins, and after the run.
 abbrev pub at_beginning : (peer : ℕ) → Run peer → AdapterState
 at_beginning peer run =
     after_call (after_calls (new_adapter run.objects run.listen run.limits) run.earlier) Begins_peer
@@ -180,7 +181,7 @@ at_beginning peer run =
 abbrev pub at_end : (peer : ℕ) → Run peer → AdapterState
 at_end peer run = after_calls (at_beginning peer run) run.calls
 
--- What is taken of the peer's stream in a run, and which frames are served to it.
+-- The bytes taken of the peer's stream in a run, and the frames that are served to it.
 abbrev pub taken_in : (peer : ℕ) → Run peer → List ℕ
 taken_in peer run = taken_by_calls peer (at_beginning peer run) run.calls
 

@@ -23,8 +23,8 @@ use Rattle.enip_adapter.specs.declared.peer.Session.{Session}
 use Rattle.enip_adapter.specs.declared.shared.Shared.{Shared}
 use Rattle.enip_adapter.specs.Replies.{Served, leaving, replied, refused, is_registered_as}
 
--- Where a request goes: to the Connection Manager as a Forward_Open or a Large_Forward_Open, by its layout, or as a
--- Forward_Close, with its data, or to the objects.
+-- The route of a request: to the Connection Manager, with its data, as a Forward_Open or Large_Forward_Open (each with
+-- its layout) or as a Forward_Close; or to the objects.
 pub data Route : Type 0 where
   Opens : (layout : Layout) (bytes : List ℕ) → Route
   Closes : (bytes : List ℕ) → Route
@@ -60,7 +60,7 @@ pub record Routed : Type 0 where
   pub shared : Shared
   pub reply : List ℕ
 
--- The Connection Manager changes its connections alone.
+-- The Connection Manager changes nothing but its connections.
 abbrev pub managed : Shared → Turn → Routed
 managed shared turn = record { shared = record shared { manager = turn.manager }; reply = turn.reply }
 
@@ -77,7 +77,7 @@ routed_to shared session request Executes = record {
 abbrev pub routed : Shared → Session → List ℕ → Routed
 routed shared session request = routed_to shared session request (route_of request)
 
--- The router's reply, or poorly formed data, also where they are too short for a request.
+-- The router's reply. Poorly formed data if the body is faulty, or too short for a request.
 abbrev pub reply_to_body : Shared → Session → Frame → Result (List ℕ) CpfFault → Served
 reply_to_body shared session f (Err fault) = leaving shared (refused session f.header PoorlyFormedData)
 reply_to_body shared session f (Ok request) =
@@ -85,7 +85,7 @@ reply_to_body shared session f (Ok request) =
     else leaving (routed shared session request).shared
     (replied session f.header (rr_body_bytes (routed shared session request).reply))
 
--- Another session than this peer's registered one is invalid.
+-- Invalid session unless the session is this peer's registered one.
 abbrev pub send_rr_data : Shared → Session → Frame → Served
 send_rr_data shared session f =
     if not (is_registered_as session f.header.session) then leaving shared (refused session f.header InvalidSession)

@@ -13,23 +13,23 @@ use Rattle.enip_adapter.specs.declared.shared.Shared.{Shared}
 use Rattle.enip_adapter.specs.declared.no_reply_reason.NoReplyReason.TheVariants.{AnotherSession, NotAPacket, NotTaken}
 use Rattle.enip_adapter.specs.Replies.{Reply, NoReply, Sends, Served, leaving, replying, no_reply, reply, is_registered_as}
 
--- What an item leaves, the objects being the router behind the connections.
+-- What an item does. The objects are the router behind the connections.
 abbrev pub turn_of_item : Shared → Session → ℕ → List ℕ → ItemTurn Contents
 turn_of_item shared session id item =
     item_turn (λ objects room request. (exec objects room request).after)
     (λ objects room request. (exec objects room request).answer)
     shared.manager.connections shared.moment session.handle id item shared.objects
 
--- A SendUnitData with the T->O ID, and the count and reply that are held.
+-- A SendUnitData with the T->O ID, and the count and reply that the target holds.
 abbrev pub unit_reply : Header → HeldReply → List ℕ
 unit_reply asked answer = reply asked asked.session Success (unit_body_bytes answer.id answer.bytes)
 
--- No answer where no connection of the session has the ID, or the item is dropped (ours).
+-- No answer if no connection of the session has the ID, or if the item is dropped (ours).
 abbrev pub item_reply : Header → Option HeldReply → Reply
 item_reply asked None = NoReply NotTaken
 item_reply asked (Some answer) = Sends (unit_reply asked answer)
 
--- What a connection's item leaves of what all peers share.
+-- What all peers share after an item.
 abbrev pub left_by_item : Shared → ItemTurn Contents → Shared
 left_by_item shared turn =
     record shared { manager = record shared.manager { connections = turn.connections }; objects = turn.router }
@@ -42,7 +42,7 @@ abbrev pub item_of_body : Shared → Session → Frame → Result (ℕ × List �
 item_of_body shared session f (Err fault) = leaving shared (no_reply session (NotAPacket fault))
 item_of_body shared session f (Ok (id, item)) = served_item shared session f (turn_of_item shared session id item)
 
--- Another session than this peer's registered one, and a packet that is none, are not answered (ours).
+-- No answer if the session is not this peer's registered one, or if the data are not a packet (ours).
 abbrev pub send_unit_data : Shared → Session → Frame → Served
 send_unit_data shared session f =
     if not (is_registered_as session f.header.session) then leaving shared (no_reply session AnotherSession)

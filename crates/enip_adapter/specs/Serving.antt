@@ -1,4 +1,4 @@
--- An adapter over a reader and a writer: what was read is fed until nothing is left or it closes.
+-- An adapter over a reader and a writer: what was read is fed until nothing is left or the peer is closed.
 use Rattle.std.specs.Prelude.{ℕ, zero, suc, ◌≡◌, ◌<◌, ◌≤◌, List, [], ◌++◌, length, take, drop, not, Bool, true, false}
 use Rattle.std.specs.Prelude.{⊤, Option, Some, None, Result, Ok, Err}
 use Rattle.std.specs.Io.KnownBytes.{Appends, Consumes, Keeps, IsAtEnd}
@@ -12,12 +12,12 @@ use Rattle.enip_adapter.specs.Calls.Call.{Feeds}
 use Rattle.enip_adapter.specs.Turn.{Output, Answer, session_of}
 use Rattle.enip_adapter.specs.Turn.Output.{Sends}
 
--- The number of why serving failed.
+-- The number of a fault of `serve`.
 abbrev pub serve_fault_number : ServeFault → ℕ
 serve_fault_number Read = 1
 serve_fault_number Write = 2
 
--- A peer is served that is held and not closed.
+-- A peer is served if it is held and not closed.
 abbrev pub is_open : Option Session → Bool
 is_open None = false
 is_open (Some session) = not session.closed
@@ -25,7 +25,7 @@ is_open (Some session) = not session.closed
 abbrev pub is_peer_served : AdapterState → ℕ → Bool
 is_peer_served a peer = is_open (session_of a.state peer)
 
--- The bytes that an answer sends.
+-- The bytes that an output sends.
 abbrev pub output_bytes : Output → List ℕ
 output_bytes (Sends bytes) = bytes
 output_bytes other = []
@@ -34,13 +34,13 @@ output_bytes other = []
 abbrev pub AppendsFront : Option (List ℕ) → Option (List ℕ) → List ℕ → Type 0
 AppendsFront before after bytes = (front : ℕ) × (front < length bytes) × Appends before after (take front bytes)
 
--- What feeding a piece came to: the adapter, the bytes of the piece that are left, and the answers, joined.
+-- The state of feeding a piece: the adapter, the bytes of the piece that are left, and the answers, joined.
 pub record FeedState : Type 0 where
   pub adapter : AdapterState
   pub rest : List ℕ
   pub sent : List ℕ
 
--- What the next feed of what is left answers.
+-- The answer to the next feed of what is left.
 abbrev pub next_answer : ℕ → ℕ → FeedState → Answer
 next_answer now peer f = call_answer f.adapter (Feeds now peer f.rest)
 
@@ -52,17 +52,17 @@ fed_more now peer f = record {
   sent = f.sent ++ output_bytes (next_answer now peer f).output;
 }
 
--- A piece is fed to a peer at a moment, again and again, so many times.
+-- A piece is fed to a peer at one time, this many times.
 abbrev pub feeds : ℕ → ℕ → AdapterState → List ℕ → ℕ → FeedState
 feeds now peer a piece zero = record { adapter = a; rest = piece; sent = [] }
 feeds now peer a piece (suc k) = fed_more now peer (feeds now peer a piece k)
 
--- A byte or more is left, and feeding it does not close.
+-- At least one byte is left, and feeding it does not close.
 pub record GoesOn (now peer : ℕ) (f : FeedState) : Type 0 where
   pub some : 0 < length f.rest
   pub open_then : (next_answer now peer f).close ≡ false
 
--- So it is at each of the first so many feeds.
+-- This holds at each of the first `times` feeds.
 abbrev pub AllGoOn : ℕ → ℕ → AdapterState → List ℕ → ℕ → Type 0
 AllGoOn now peer a piece zero = ⊤
 AllGoOn now peer a piece (suc k) = AllGoOn now peer a piece k × GoesOn now peer (feeds now peer a piece k)
@@ -76,7 +76,7 @@ pub record FedWhole (now peer : ℕ) (a : AdapterState) (piece : List ℕ) (new 
   pub adapter : new ≡ (feeds now peer a piece times).adapter
   pub written : Appends before after (feeds now peer a piece times).sent
 
--- A piece was fed until a feed closed, and each answer was written, also that of the feed that closed.
+-- A piece was fed until a feed closed, and each answer was written, including that of the feed that closed.
 pub record FedToClose (now peer : ℕ) (a : AdapterState) (piece : List ℕ) (new : AdapterState)
     (before after : Option (List ℕ)) : Type 0 where
   pub times : ℕ
@@ -86,7 +86,8 @@ pub record FedToClose (now peer : ℕ) (a : AdapterState) (piece : List ℕ) (ne
   pub adapter : new ≡ (feeds now peer a piece (suc times)).adapter
   pub written : Appends before after (feeds now peer a piece (suc times)).sent
 
--- A piece was fed until an answer could not be written: those before it were, and a front of it that is not all of it.
+-- A piece was fed until an answer could not be written. The answers before it were written, and a front of it that is
+-- not all of it.
 pub record FedToFault (now peer : ℕ) (a : AdapterState) (piece : List ℕ) (new : AdapterState)
     (before after : Option (List ℕ)) : Type 0 where
   pub times : ℕ
@@ -117,7 +118,7 @@ pub record ServeState : Type 0 where
   pub left : Option (List ℕ)
   pub written : Option (List ℕ)
 
--- What serving does to a peer that is served, by what it answers; the moment is the reader's after the read.
+-- What `serve` does to a peer that is served, by its result. The time is the reader's moment after the read.
 abbrev pub IsServed : ℕ → ℕ → ServeState → ServeState → Result Served ServeFault → Type 0
 IsServed now peer old new (Ok More) =
     (bytes : List ℕ) × IsRead old.left new.left bytes
@@ -131,13 +132,13 @@ IsServed now peer old new (Err Write) =
 IsServed now peer old new (Ok Input) = Keeps old.left new.left × IsAtEnd new.left
 IsServed now peer old new (Err Read) = Keeps old.left new.left
 
--- At the end of the input, and where the read failed, nothing is fed.
+-- Nothing is fed at the end of the input, and nothing if the read failed.
 abbrev pub IfNothingFed : Result Served ServeFault → Type 0 → Type 0
 IfNothingFed (Ok Input) P = P
 IfNothingFed (Err Read) P = P
 IfNothingFed other P = ⊤
 
--- How many calls of the reader failed, and how many of the writer, by what serving answers.
+-- How many calls of the reader failed, and how many of the writer, by the result of `serve`.
 abbrev pub read_faults : Result Served ServeFault → ℕ
 read_faults (Err Read) = 1
 read_faults other = 0

@@ -1,4 +1,4 @@
--- How the adapter's value is stored: each record as its fields in pairs, and made again of them.
+-- How the adapter's value is stored: each record as pairs of its fields, and rebuilt from them.
 use Rattle.std.specs.Prelude.{ℕ, List, Bool, Option, refl}
 use Rattle.std.specs.Coded.{Coded, code_by, coded×, coded_ℕ, coded_bool, coded_list, coded_option}
 use Rattle.cip_message.specs.declared.key.Device.{Device}

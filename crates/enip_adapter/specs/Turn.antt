@@ -1,4 +1,4 @@
--- The adapter's turn: what each event leaves and answers.
+-- The adapter's turn: what each event changes and answers.
 use Rattle.std.specs.Prelude.{ℕ, ◌+◌, max, List, [], ◌∷◌, ◌++◌, length, nat_lt, not, if◌then◌else◌, Bool, true, false}
 use Rattle.std.specs.Prelude.{Option, Some, None}
 use Rattle.cip_manager.specs.Closing.{without_overdue, without_session}
@@ -14,16 +14,16 @@ use Rattle.enip_adapter.specs.Commands.{command_served, long_refused}
 use Rattle.enip_adapter.specs.Lookup.{first_with, with_first, without_first}
 use Rattle.enip_adapter.specs.Replies.{Reply, Reply as replies, Served, leaving}
 
--- How many peers there are places for, the next session handle, what all peers share, and the peers in the order in
--- which they began.
+-- The number of peer slots, the next session handle, what all peers share, and the peers in the order in which they
+-- began.
 pub record State : Type 0 where
   pub places : ℕ
   pub next_handle : ℕ
   pub shared : Shared
   pub peers : List Session
 
--- A TCP connection begins or ends; a moment comes; a peer's stream has come to the end of a frame, or of a header whose
--- length is too long.
+-- A TCP connection begins or ends; a time is given; a peer's stream is at the end of a frame, or of a header whose
+-- length is over the limit.
 pub data Event : Type 0 where
   Begin : Event
   End : (peer : ℕ) → Event
@@ -31,14 +31,15 @@ pub data Event : Type 0 where
   Framed : (peer : ℕ) → (frame : Frame) → Event
   Long : (peer : ℕ) → (header : Header) → Event
 
--- What an event says: nothing, for a reason, a frame to the peer, or the handle or the refusal of one that begins.
+-- The output of an event: no reply, for a reason; a frame to the peer; or the handle or the refusal of a peer that
+-- begins.
 pub data Output : Type 0 where
   NoReply : (why : NoReplyReason) → Output
   Sends : (bytes : List ℕ) → Output
   Begins : (handle : ℕ) → Output
   Refuses : (full : Full) → Output
 
--- What an event answers: what is said, and whether the peer's connection is closed.
+-- The answer to an event: its output, and whether the peer's TCP connection is closed.
 pub record Answer : Type 0 where
   pub output : Output
   pub close : Bool
@@ -54,18 +55,18 @@ abbrev pub sent : Reply → Output
 sent (replies.NoReply why) = NoReply why
 sent (replies.Sends bytes) = Sends bytes
 
--- A peer that just began.
+-- A peer that has just begun.
 abbrev pub new_session : ℕ → Session
 new_session handle = record { handle = handle; registered = false; closed = false }
 
--- The next session handle is drawn.
+-- The next session handle is assigned.
 abbrev pub with_peer : State → State
 with_peer s = record s {
   next_handle = s.next_handle + 1;
   peers = s.peers ++ new_session s.next_handle ∷ [];
 }
 
--- A connection of TCP begins. Places are looked at before handles (ours). A handle is not used again.
+-- A TCP connection begins. Slots are checked before handles (ours). A handle is never used again.
 abbrev pub begun : State → TurnResult
 begun s =
     if not (nat_lt (length s.peers) s.places) then turned s (Refuses Places) false
@@ -76,7 +77,7 @@ begun s =
 abbrev pub without_connections : Shared → ℕ → Shared
 without_connections shared session = record shared { manager = without_session shared.manager session }
 
--- What a peer's session is after a frame, and what is shared: a peer that is closed has no connection.
+-- A peer's session after a frame, and what is shared: a peer that is closed has no connection.
 abbrev pub session_after : Session → Served → Session
 session_after session served =
     record session { registered = served.reaction.registered; closed = served.reaction.close }
@@ -85,7 +86,7 @@ abbrev pub shared_after : Session → Served → Shared
 shared_after session served =
     if served.reaction.close then without_connections served.shared session.handle else served.shared
 
--- To a peer that is held and not closed, what it sent is served; to any other nothing is done.
+-- A frame of a peer that is held and not closed is served. For any other peer nothing is done.
 abbrev pub serve_found : State → ℕ → (Session → Served) → Option Session → TurnResult
 serve_found s peer serve None = turned s (NoReply NotServed) true
 serve_found s peer serve (Some session) =
@@ -98,7 +99,7 @@ serve_found s peer serve (Some session) =
 abbrev pub session_of : State → ℕ → Option Session
 session_of s peer = first_with (λ p. p.handle) peer s.peers
 
--- A peer ends, and its connections; one that is not held changes nothing.
+-- A peer ends, with its connections. Nothing changes if it is not held.
 abbrev pub end_found : State → ℕ → Option Session → State
 end_found s peer None = s
 end_found s peer (Some session) = record s {
@@ -106,7 +107,7 @@ end_found s peer (Some session) = record s {
   peers = without_first (λ p. p.handle) peer s.peers;
 }
 
--- The greatest moment so far counts, and ends the connections whose deadline is at or before it.
+-- The current time is the greatest one so far. Connections whose deadline is at or before it end.
 abbrev pub at_moment : Shared → ℕ → Shared
 at_moment shared now = record shared {
   moment = max shared.moment now;

@@ -29,12 +29,16 @@ use std::alloc::{AllocError, Global};
 use std::marker::Model;
 use thiserror::Error;
 
-/// How much an adapter has room for, and the numbers with which it begins.
+/// The capacity of an adapter, and the first numbers that it assigns.
+///
+/// ```
+/// Limits { peers: 4, connections: 16, first_handle: 1, first_id: 1 }
+/// ```
 #[derive(Clone, Copy, Debug)]
 pub struct Limits {
-    /// How many peers there are places for, 1 to 16.
+    /// The number of peer slots, 1 to 16.
     pub peers: u16,
-    /// How many connections there are places for, 1 to 64.
+    /// The number of connection slots, 1 to 64.
     pub connections: u16,
     /// The first session handle, 32 bits: at least 1.
     pub first_handle: u32,
@@ -45,16 +49,16 @@ pub struct Limits {
 /// Why no peer can begin.
 #[derive(Clone, Copy, Debug, PartialEq, Eq, Error)]
 pub enum Full {
-    /// All places are taken.
-    #[error("all places are taken")]
+    /// All peer slots are taken.
+    #[error("all peer slots are taken")]
     Places = 1,
-    /// The last session handle was given out.
-    #[error("all session handles were given out")]
+    /// The last session handle, 0xffffffff, was assigned.
+    #[error("no session handle is left")]
     Handles = 2,
 }
 
 impl Full {
-    /// The number that is printed.
+    /// The number of this refusal in printed output.
     pub fn number(self) -> u8
         ensures { result ≡ full_number self }
     {
@@ -65,24 +69,40 @@ impl Full {
 /// What `feed` did with a piece.
 #[derive(Clone, Copy, Debug)]
 pub struct Fed<'a> {
-    /// How many bytes of the piece were taken.
+    /// The number of bytes of the piece that were taken.
     pub taken: usize,
     /// The frame to send, if any.
     pub answer: Option<&'a [u8]>,
-    /// Why there is no frame to send, where there is none.
+    /// Why there is no frame to send. `None` if there is one.
     pub no_reply_reason: Option<NoReplyReason>,
-    /// Whether the peer is closed, or not held.
+    /// Whether the peer is closed now, or is not held: close its TCP connection once the answer is sent.
     pub close: bool,
 }
 
 /// An adapter that serves its objects to its peers.
+///
+/// It does no input and no output. Each TCP connection is a peer: `begin` it, `feed` it what arrives, send what `feed`
+/// answers, and `end` it. Times are in microseconds of any clock that starts anywhere; the adapter never goes back to
+/// an earlier time.
+///
+/// ```
+/// let mut adapter = Adapter::new(alloc, objects, listen, limits)?;
+/// let Ok(peer) = adapter.begin() else {
+///     return Ok(());
+/// };
+/// let fed = adapter.feed(now, &peer, piece);
+/// if let Some(answer) = fed.answer {
+///     written.extend_from_slice(answer)?;
+/// }
+/// adapter.end(peer);
+/// ```
 #[derive(Drop)]
 pub struct Adapter {
-    // Past the greatest handle once that was drawn.
+    // The next session handle: 2^32 once the last one was assigned.
     next_handle: u64,
     shared: Shared,
     places: PeerSlots,
-    // Where a router writes; what it held before counts for nothing.
+    // The router writes its reply here. The content from an earlier call is never used.
     reply: ReplyBuf,
     answer: AnswerFrame,
 }
@@ -109,11 +129,11 @@ impl Adapter {
     ghost use Rattle.enip_adapter.specs.Serving.{is_peer_served};
     ghost use Rattle.enip_adapter.specs.contracts.adapter.Adapter.{the_row};
 
-    /// An adapter with no peer and no connection. All its memory is taken here.
+    /// Makes an adapter with no peer and no connection. It allocates all of its memory here.
     ///
     /// # Errors
     ///
-    /// `AllocError` where memory is refused.
+    /// `AllocError` if memory is refused.
     pub fn new(
         alloc: Global,
         objects: Objects,
@@ -144,20 +164,20 @@ impl Adapter {
         })
     }
 
-    /// A peer begins: it draws the next session handle.
+    /// Begins a peer and assigns it the next session handle.
     ///
     /// # Errors
     ///
-    /// `Full::Places` where all places are taken, else `Full::Handles` where the last handle was given out.
+    /// `Full::Places` if all peer slots are taken, otherwise `Full::Handles` if the last handle was assigned.
     pub fn begin(&mut self) -> Result<Peer, Full>
         ensures state { self.new ≡ after_call self.old Call.Begins_peer }
         ensures output { begin_output result ≡ (call_answer self.old Call.Begins_peer).output }
     {
-        // places before handles (ours)
+        // A free slot is checked before a free handle (ours).
         if self.places.free() == 0 {
             return Err(Full::Places);
         }
-        // a handle is not used again (RegisterSession)
+        // Session handles are never used again.
         let Ok(handle) = u32::try_from(self.next_handle) else {
             return Err(Full::Handles);
         };
@@ -166,11 +186,14 @@ impl Adapter {
         Ok(Peer { handle })
     }
 
-    /// Takes bytes of the piece that came from a peer at a moment, in microseconds, up to the end of one frame, and
-    /// serves the frame. For a peer that is closed or not held it takes none and answers `close`. Of a piece of a byte
-    /// or more it takes some, or answers `close`.
+    /// Takes bytes of a piece that arrived from a peer at the time `now`, in microseconds, up to the end of one frame,
+    /// and serves that frame. Call it again with the rest of the piece.
     ///
-    /// The greatest moment so far counts; connections whose deadline is at or before it end first.
+    /// A piece that is not empty is taken in part at least, unless `close` is set. A peer that is closed or not held
+    /// has nothing taken, and `close` is set.
+    ///
+    /// The current time is the greatest one that the adapter has been given so far. Connections whose deadline is at or
+    /// before it end first.
     pub fn feed(&mut self, now: u64, peer: &Peer, piece: &[u8]) -> Fed<'_>
         ensures* state { sem 𝓛 (Rests the_row self.entry (λ last. last
             ≡ after_call self.old (Call.Feeds now peer.now piece.now))) }
@@ -207,7 +230,7 @@ impl Adapter {
         }
     }
 
-    /// Ends a peer and its connections, and frees its place. One that is not held changes nothing.
+    /// Ends a peer and its connections, and frees its slot. Nothing changes if the peer is not held.
     pub fn end(&mut self, peer: Peer)
         ensures { self.new ≡ after_call self.old (Call.Ends_peer peer) }
     {
@@ -216,26 +239,32 @@ impl Adapter {
         }
     }
 
-    /// A moment comes, in microseconds: the greatest so far counts, and connections whose deadline is at or before it
-    /// end.
+    /// Gives the adapter a time, in microseconds. The greatest one so far is the current time; connections whose
+    /// deadline is at or before it end.
     pub fn tick(&mut self, now: u64)
         ensures { self.new ≡ after_call self.old (Call.Ticks now) }
     {
         self.shared.advance(now);
     }
 
-    /// The earliest moment, in microseconds, at which a connection ends if no item comes on it: the earliest deadline of
-    /// an open one. `None` where no connection is open.
+    /// The earliest time, in microseconds, at which a connection ends unless an item arrives on it: the earliest
+    /// deadline of an open connection. `None` if no connection is open.
     pub fn deadline(&self) -> Option<u64>
         ensures { result ≡ earliest_deadline self.now.state.shared.manager.connections }
     {
         self.shared.manager.deadline()
     }
 
-    /// What answers a datagram of UDP, written in `room`: to one whole frame with ListIdentity, ListServices or
-    /// ListInterfaces, and no byte behind it, the same bytes as over TCP. `None` for any other datagram.
+    /// The answer to a UDP datagram, written into `room`. A datagram is answered if it is exactly one frame with
+    /// ListIdentity, ListServices or ListInterfaces, without data and with options and status 0; the answer has the
+    /// same bytes as over TCP. `None` for any other datagram.
     ///
-    /// It begins no peer and no session, and changes nothing of the adapter.
+    /// No peer and no session begins, and the adapter does not change.
+    ///
+    /// ```
+    /// let mut room = DiscoveryBuffer::new();
+    /// let answer = adapter.discover(datagram, &mut room);
+    /// ```
     pub fn discover<'a>(&self, datagram: &[u8], room: &'a mut DiscoveryBuffer) -> Option<&'a [u8]>
         ensures answer { option_map (λ bytes. bytes.now) result ≡ discovered self.now.state.shared datagram.now }
         ensures fits { IfSome result (λ bytes. length bytes.now ≤ LONGEST_ANSWER) }
@@ -243,16 +272,18 @@ impl Adapter {
         room.discover(&self.shared, datagram)
     }
 
-    /// The objects, as they are now.
+    /// The current objects.
     pub fn objects(&self) -> &Objects
         ensures { result.now ≡ self.now.state.shared.objects }
     {
         &self.shared.objects
     }
 
-    /// The device writes bytes into the data of an assembly from `offset` on, whether peers can set it or not, and
-    /// learns whether that was done: `false` where there is no such assembly or the bytes go past the end of its data,
-    /// and then nothing changes. No change is counted, and nothing else of the adapter changes.
+    /// Writes bytes into the data of an assembly, from `offset` on, on behalf of the device itself. Whether peers may
+    /// set the assembly does not matter.
+    ///
+    /// Returns `false`, and changes nothing, if there is no such assembly or the bytes go past the end of its data. The
+    /// write is not counted in `changes`, and nothing else of the adapter changes.
     pub fn write_data(&mut self, instance: u32, offset: usize, bytes: &[u8]) -> bool
         ensures written { self.new ≡ with_objects self.old (unwrap_or
             (device_write self.old.state.shared.objects instance offset bytes.now) self.old.state.shared.objects) }
@@ -261,31 +292,31 @@ impl Adapter {
         self.shared.objects.write_data(instance, offset, bytes)
     }
 
-    /// The device's status is this one from now on, a WORD: attribute 5 of the Identity object, which ListIdentity shows
-    /// too. Nothing else changes.
+    /// Sets the device's status, a WORD: attribute 5 of the Identity object, which ListIdentity shows too. Nothing else
+    /// changes.
     pub fn set_device_status(&mut self, status: u16)
         ensures { self.new ≡ with_objects self.old (with_device_status self.old.state.shared.objects status) }
     {
         self.shared.objects.set_device_status(status);
     }
 
-    /// The device's state is this one from now on, a USINT: attribute 8 of the Identity object, which ListIdentity shows
-    /// too. Nothing else changes.
+    /// Sets the device's state, a USINT: attribute 8 of the Identity object, which ListIdentity shows too. Nothing else
+    /// changes.
     pub fn set_device_state(&mut self, state: u8)
         ensures { self.new ≡ with_objects self.old (with_device_state self.old.state.shared.objects state) }
     {
         self.shared.objects.set_device_state(state);
     }
 
-    /// How often peers have written data of this assembly, modulo 2^32: `None` where there is no such assembly. What
-    /// counts is said at `Objects::changes`.
+    /// How often peers have written data of this assembly, modulo 2^32. `None` if there is no such assembly. See
+    /// `Objects::changes` for what counts.
     pub fn changes(&self, instance: u32) -> Option<u32>
         ensures { result ≡ changes_of instance self.now.state.shared.objects.changes }
     {
         self.shared.objects.changes(instance)
     }
 
-    /// How many connections are open.
+    /// The number of open connections.
     pub fn connections(&self) -> usize
         ensures count { result ≡ length self.now.state.shared.manager.connections }
         ensures most { result ≤ 64 }
@@ -293,7 +324,7 @@ impl Adapter {
         self.shared.manager.len()
     }
 
-    /// What a look at the connection at a place tells. Places count from 0, in the order of opening.
+    /// ID, session and deadline of the open connection at an index. Indices count from 0, in the order of opening.
     pub fn connection_info(&self, index: usize) -> ConnectionInfo
         requires { index < length self.now.state.shared.manager.connections }
         ensures { (d : Connection) →
@@ -302,21 +333,21 @@ impl Adapter {
         self.shared.manager.connection_info(index)
     }
 
-    /// Whether a connection with an O->T ID is open.
+    /// Whether the connection with this O->T ID is open.
     pub fn has_connection(&self, id: u32) -> bool
         ensures { result ≡ list_any (has_id id) self.now.state.shared.manager.connections }
     {
         self.shared.manager.find(id, &mut Steps::default())
     }
 
-    /// The greatest moment so far, in microseconds.
+    /// The current time: the greatest one that the adapter has been given, in microseconds.
     pub fn moment(&self) -> u64
         ensures { result ≡ self.now.state.shared.moment }
     {
         self.shared.moment
     }
 
-    /// What a peer is to the encapsulation, by its session handle.
+    /// The session of the peer with this handle. `None` if it is not held.
     pub(crate) fn session(&self, handle: u32) -> Option<Session>
         ensures { result ≡ session_of self.now.state handle }
     {
@@ -330,7 +361,7 @@ impl Adapter {
         self.places.is_open(peer.handle)
     }
 
-    /// How many places are free, of peers and of connections.
+    /// The number of free peer slots, and of free connection slots.
     pub fn free(&self) -> (u16, u16)
         ensures peers { result.0 ≡ self.now.state.places - length self.now.state.peers }
         ensures connections { result.1

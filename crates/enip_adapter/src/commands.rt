@@ -26,7 +26,7 @@ use lists::{list_identity, list_interfaces, list_services};
 use requests::send_rr_data;
 use sessions::{register_session, unregister_session};
 
-/// Serves a whole frame. A router writes into `reply`, whose old content is dropped.
+/// Serves a whole frame. `reply` is scratch space for a router's reply; its old content is dropped.
 #[tactic(auto, unfolding(crate::specs::Commands::command_served))]
 pub(crate) fn serve(
     shared: &mut Shared,
@@ -44,11 +44,11 @@ pub(crate) fn serve(
     ensures close { result.close ≡ (command_served shared.old session.old (frame_of frame.entry)).reaction.close }
 {
     let asked = frame.header;
-    // options that are not 0: discarded (a frame)
+    // Options other than 0: the frame is discarded.
     if asked.options != 0 {
         return Reaction::no_reply(NoReplyReason::Options);
     }
-    // a status that is not 0: discarded (ours)
+    // A status other than 0: the frame is discarded (ours).
     if asked.status != 0 {
         return Reaction::no_reply(NoReplyReason::Status);
     }
@@ -61,13 +61,13 @@ pub(crate) fn serve(
         Some(Command::UnRegisterSession) => return unregister_session(*session, asked),
         Some(Command::SendRRData) => send_rr_data(shared, *session, frame, reply, answer),
         Some(Command::SendUnitData) => return send_unit_data(shared, *session, frame, answer),
-        // every other command is unsupported (ours)
+        // Any other command: unsupported, 0x0001 (ours).
         None => refuse(asked, EncapsulationStatus::UnsupportedCommand, answer),
     }
     Reaction::ANSWERED
 }
 
-/// Refuses a header whose length is too long, and closes the connection.
+/// Refuses a header whose length is over the limit, and closes the TCP connection.
 #[inline(always)]
 pub(crate) fn refuse_long(header: Header, answer: &mut AnswerFrame) -> Reaction
     ensures reaction { result ≡ record { reply = Reply.Written; close = true } }

@@ -1,4 +1,4 @@
-//! Which connections ended since the last look, and why.
+//! Which connections ended since the last update, and why.
 
 ghost use Rattle.std.specs.Prelude.{◌≡◌, ◌≤◌, ◌<◌, ◌+◌, ◌++◌, [], ◌∷◌, length};
 ghost use Rattle.arrayvec.specs.ArrayVec.{array_vec_len};
@@ -9,27 +9,27 @@ use arrayvec::ArrayVec;
 use cip_manager::ConnectionInfo;
 use std::marker::Model;
 
-/// The most connections that an adapter has open.
+/// The greatest number of open connections of an adapter.
 const MOST_CONNECTIONS: usize = 64;
 
 /// Why a connection ended.
 #[derive(Clone, Copy, Debug, Default, PartialEq, Eq)]
 pub enum EndReason {
-    /// No item came in time: its deadline was reached.
+    /// It timed out: its deadline was reached.
     #[default]
     TimedOut,
     /// Its peer was ended.
     PeerEnded,
-    /// Its peer was closed: it asked for UnRegisterSession, or its stream was none.
+    /// Its peer was closed, by an UnRegisterSession or by a length over the limit.
     SessionEnded,
-    /// Its originator asked for Forward_Close.
+    /// Its originator closed it with a Forward_Close.
     Closed,
 }
 
 /// A connection that ended.
 #[derive(Clone, Copy, Debug, Default)]
 pub struct EndedConnection {
-    /// The O->T connection ID, 32 bits. It never comes again.
+    /// The O->T connection ID, 32 bits. It is never used again.
     pub id: u32,
     /// The handle of the session that opened it, 32 bits.
     pub session: u32,
@@ -37,14 +37,24 @@ pub struct EndedConnection {
     pub reason: EndReason,
 }
 
-/// Which connections of an adapter ended since the last look.
+/// Reports which connections of an adapter ended, and why.
 ///
-/// It looks at the adapter by `update`, which is to be called after each call of the adapter: then `ended` has what that
-/// call ended, each connection once, in the order in which they were opened, and why. It remembers of each open
-/// connection its O->T ID, its session and its deadline. Looked at more seldom it tells the same connections, but a
-/// reason may be that of a later moment, and a connection that was opened and ended between two looks is never told.
+/// Call `update` after each call of the adapter. Then `ended` lists the connections that this call ended, each once, in
+/// the order in which they were opened. For each open connection, this type remembers the O->T ID, the session and the
+/// deadline. If `update` is called less often, the same connections are listed, with two exceptions: a reason may be
+/// that of a later time, and a connection that was opened and ended between two updates is never listed.
 ///
-/// It has room for all connections that an adapter can have, from `new` on, and takes no memory.
+/// It has capacity for all connections of an adapter from `new` on, and allocates no memory.
+///
+/// ```
+/// let mut endings = Endings::new();
+/// endings.update(&adapter);
+/// adapter.tick(now);
+/// endings.update(&adapter);
+/// for connection in endings.ended() {
+///     // connection.id, connection.session and connection.reason
+/// }
+/// ```
 #[derive(Drop)]
 pub struct Endings {
     remembered: ArrayVec<ConnectionInfo, MOST_CONNECTIONS>,
@@ -60,7 +70,7 @@ impl Model for Endings {
 }
 
 impl Endings {
-    /// Nothing was looked at: no connection is remembered.
+    /// No update yet: no connection is remembered.
     pub fn new() -> Endings
         ensures { result ≡ no_endings }
     {
@@ -70,8 +80,8 @@ impl Endings {
         }
     }
 
-    /// Looks at an adapter, the same at each look: those that were open at the look before and are open no more have
-    /// ended, and those that are open now are remembered.
+    /// Compares an adapter with the last update; it must be the same adapter each time. The connections that were open
+    /// then and are not open now have ended. Those that are open now are remembered.
     pub fn update(&mut self, adapter: &Adapter)
         ensures { self.new ≡ updated self.old adapter.now }
     {
@@ -79,7 +89,7 @@ impl Endings {
         remember(adapter, &mut self.remembered);
     }
 
-    /// The connections that had ended at the last look since the look before, in the order in which they were opened.
+    /// The connections that ended between the last two updates, in the order in which they were opened.
     pub fn ended(&self) -> &[EndedConnection]
         ensures { result.now ≡ self.now.ended }
     {
@@ -87,7 +97,7 @@ impl Endings {
     }
 }
 
-/// Leaves those of the connections that were open which are open no more.
+/// Lists those of the remembered connections that are no longer open.
 fn collect_ended(
     adapter: &Adapter,
     remembered: &[ConnectionInfo],
@@ -102,7 +112,7 @@ fn collect_ended(
     }
 }
 
-/// Appends a connection that was open, if it is open no more.
+/// Appends a remembered connection if it is no longer open.
 fn collect(
     adapter: &Adapter,
     connection: ConnectionInfo,
@@ -121,7 +131,7 @@ fn collect(
     }
 }
 
-/// Why a connection ended that is open no more.
+/// Why a connection that is no longer open ended.
 fn end_reason(adapter: &Adapter, connection: ConnectionInfo) -> EndReason
     ensures { result ≡ end_reason adapter.now connection }
 {
@@ -135,7 +145,7 @@ fn end_reason(adapter: &Adapter, connection: ConnectionInfo) -> EndReason
     }
 }
 
-/// Leaves what is to be remembered of the connections that are open.
+/// Remembers the open connections.
 fn remember(adapter: &Adapter, remembered: &mut ArrayVec<ConnectionInfo, MOST_CONNECTIONS>)
     ensures { remembered.new.items ≡ open_in adapter.now }
 {

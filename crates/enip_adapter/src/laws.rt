@@ -1,5 +1,5 @@
-//! What holds for every list of calls of the adapter. Each law is the contract of a function that does nothing, over
-//! the same definitions as the contracts of the calls.
+//! Laws that hold for every list of calls of the adapter. Each law is the contract of a function that does nothing. It
+//! is stated over the same definitions as the contracts of the calls.
 
 ghost use Rattle.std.specs.Prelude.{ℕ, List, [], ◌∷◌, ◌++◌, ◌≡◌, ◌≤◌, ◌||◌, not, true, false, Some, filter};
 ghost use Rattle.std.specs.List.{flat_map, concat, list_any, AllByRecursion};
@@ -22,9 +22,9 @@ ghost use Rattle.enip_adapter.specs.Runs.{Run, at_end, taken_in, frames_in, Feed
 ghost use Rattle.enip_adapter.specs.Serving.{is_peer_served};
 ghost use Rattle.enip_adapter.specs.AdapterActions.{AdapterAction, LeadTo, AmountTo, IsActionForOther};
 
-/// Whatever calls come, for any number of peers, the adapter is where the events lead that they stand for, and the
-/// answers of these events are each call's own, call by call. What calls say is what the events say; a call closes
-/// where one of its events does, or where its piece is dropped.
+/// For every list of calls, for any number of peers: the adapter is in the state to which the events of these calls
+/// lead, and the answers to these events, call by call, are the answers of the calls. What the calls output is what the
+/// events output. A call closes if one of its events does, or if its piece is dropped.
 pub fn answers_of_events()
     ensures state { (a : AdapterState) (calls : List Call) →
         (after_calls a calls).state ≡ after a.state (events_of_calls a calls) }
@@ -36,10 +36,10 @@ pub fn answers_of_events()
         ≡ ((call_meaning a call).dropped || list_any (λ x. x.close) (answers a.state (call_meaning a call).events)) }
 {}
 
-/// Servings among calls are feeds: whatever is done to an adapter, calls and servings, it is where the calls lead that
-/// this stands for, each serving for feeds of its peer at its moment (the clause `feeds` of `serve`). Where all is done
-/// for other peers than one, so are these calls. So `peers_apart`, `handles_rise` and all that holds of every list of
-/// calls holds with servings among them.
+/// A serving amounts to feeds. Whatever list of calls and servings is done to an adapter, it ends in the state to which
+/// a list of calls leads, in which each serving is replaced by feeds of its peer at its time (the clause `feeds` of
+/// `serve`). If all actions are for other peers than one, so are these calls. So `peers_apart`, `handles_rise` and all
+/// other laws about lists of calls also hold with servings among them.
 pub fn servings_are_calls()
     ensures calls { (a last : AdapterState) (actions : List AdapterAction) → LeadTo a actions last →
         (calls : List Call) × (AmountTo actions calls × (last ≡ after_calls a calls)) }
@@ -47,8 +47,8 @@ pub fn servings_are_calls()
         AllByRecursion (IsActionForOther peer) actions → AllByRecursion (IsForOther peer) calls }
 {}
 
-/// Calls for other peers, of those that begin, and ticks leave what a peer's session is and which bytes of its next
-/// frame came. They leave a session exactly those of its connections whose deadline no moment reached, each with its
+/// Calls for other peers, begins of other peers, and ticks change neither a peer's session nor the bytes held of its
+/// next frame. They keep exactly those of a session's connections whose deadline has not been reached, each with its
 /// count, kept reply and deadline.
 pub fn peers_apart()
     ensures session { (peer : ℕ) (session : Session) (a : AdapterState) (calls : List Call) →
@@ -62,29 +62,29 @@ pub fn peers_apart()
         (of_session peer a.state.shared.manager.connections) }
 {}
 
-/// A session handle that was given out never comes again: those that are given out rise from the next one.
+/// Session handles are never used again: they rise from the next one.
 pub fn handles_rise()
     ensures { (a : AdapterState) (calls : List Call) →
         RisesFrom a.state.next_handle (handles_in (call_answers a calls)) }
 {}
 
-/// An O->T ID that was given out never comes again: whatever happens to a new adapter, the IDs of the connections that
-/// open rise from its first one.
+/// O->T IDs are never used again: whatever happens to a new adapter, the IDs of the connections that open rise from its
+/// first ID.
 pub fn ids_rise()
     ensures { (objects : Contents) (listen : Listen) (limits : Limits) (events : List Event) →
         RisesFrom limits.first_id (ids_of_events (new_adapter objects listen limits).state events) }
 {}
 
-/// From its beginning on, whatever other calls come between, what is taken of a peer's stream are the frames that are
-/// served to it, and then the bytes that are held: the frames and the rest of the stream's cut.
+/// From a peer's begin on, whatever other calls come between: the bytes taken of its stream are the frames that are
+/// served to it, followed by the bytes held. These are the frames and the rest of the stream's cut.
 pub fn frames_of_the_stream()
     ensures { (peer : ℕ) (run : Run peer) →
         Cut (taken_in peer run) (frames_in peer run) (bytes_held (at_end peer run).held peer) }
 {}
 
-/// So the bytes alone say which frames they are: in any two runs, with pieces, moments and calls for other peers of
-/// their own, where the same bytes are taken the same frames are served, and the same bytes are held. Where the peer
-/// has the same handle in both, its session is the same: whether it is registered, and whether it is closed.
+/// So the bytes alone decide which frames they are. In any two runs, each with its own pieces, times and calls for
+/// other peers: if the same bytes are taken, the same frames are served and the same bytes are held. If the peer also
+/// has the same handle in both runs, its session is the same: whether it is registered, and whether it is closed.
 pub fn frames_by_bytes_alone()
     ensures frames { (peer other : ℕ) (run : Run peer) (second : Run other) →
         taken_in peer run ≡ taken_in other second →
@@ -94,9 +94,10 @@ pub fn frames_by_bytes_alone()
         session_of (at_end peer run).state peer ≡ session_of (at_end peer second).state peer }
 {}
 
-/// A stream closes its peer at one byte, whatever its pieces, the moments and the calls for other peers. Where one run
-/// has closed the peer, no run takes a byte more of the stream, and each that took as many has closed it; so two runs
-/// over one stream that have both closed it took the same. An answer closes just where the peer is closed after it.
+/// A stream closes its peer at one byte, whatever its pieces, the times and the calls for other peers. If one run has
+/// closed the peer, no run takes a byte more of this stream, and each run that took as many bytes has closed it. So two
+/// runs over one stream that have both closed it took the same bytes. A feed answers `close` exactly if the peer is not
+/// served after it.
 pub fn closes_at_one_byte()
     ensures last { (peer : ℕ) (run second : Run peer) (more : List ℕ) →
         is_peer_served (at_end peer run) peer ≡ false → taken_in peer second ≡ taken_in peer run ++ more →
@@ -109,7 +110,7 @@ pub fn closes_at_one_byte()
         ≡ not (is_peer_served (after_call a (Feeds now peer piece)) peer) }
 {}
 
-/// A piece of a byte or more is taken in part at least, or the answer is that the peer's connection is closed.
+/// A piece that is not empty is taken in part at least, or the answer is that the peer's connection is closed.
 pub fn progress()
     ensures { (objects : Contents) (listen : Listen) (limits : Limits) (calls : List Call) (now peer b : ℕ)
         (bs : List ℕ) → let a = after_calls (new_adapter objects listen limits) calls in
@@ -117,9 +118,9 @@ pub fn progress()
         1 ≤ (call_meaning a (Feeds now peer (b ∷ bs))).taken }
 {}
 
-/// Where a peer's stream is cut changes nothing: after any calls, two lists of pieces that join to the same bytes, fed
-/// at the same moment, each again and again until all of it is taken or the peer is closed, draw the same answers and
-/// leave the same adapter. Every list of pieces can be fed so.
+/// How a peer's stream is cut into pieces does not matter. After any calls, take two lists of pieces that join to the
+/// same bytes and feed both at the same time, each piece until all of it is taken or the peer is closed: both have the
+/// same answers and leave the same adapter. Every list of pieces can be fed this way.
 pub fn cuts_change_nothing()
     ensures answers { (objects : Contents) (listen : Listen) (limits : Limits) (calls : List Call) (now peer : ℕ)
         (pieces others : List (List ℕ)) (answers replies : List Answer) (last end : AdapterState) →
@@ -138,9 +139,9 @@ pub fn cuts_change_nothing()
         FeedsPieces now peer (after_calls (new_adapter objects listen limits) calls) pieces answers last) }
 {}
 
-/// Discovery is as over TCP. What answers a datagram is what any peer gets that sends the same bytes, registered or not,
-/// at any moment, where it is served and none of its bytes are held. That peer is not closed by it, and the adapter is
-/// then where the moment alone would have brought it.
+/// Discovery answers as TCP does. The answer to a datagram is what any peer gets that sends the same bytes, registered
+/// or not, at any time, if it is served and none of its bytes are held. The peer is not closed by it, and the adapter
+/// is then in the state to which the time alone would have brought it.
 pub fn discovery_is_as_over_tcp()
     ensures answer { (a : AdapterState) (now peer : ℕ) (datagram bytes : List ℕ) → is_peer_served a peer ≡ true →
         bytes_held a.held peer ≡ [] → discovered a.state.shared datagram ≡ Some bytes →

@@ -1,14 +1,19 @@
-//! An EtherNet/IP adapter (ODVA CIP Networks Library, Volume 2): it serves its objects to peers over their streams.
+//! An EtherNet/IP adapter (ODVA CIP Networks Library, Volume 2): it serves CIP objects to peers over TCP streams.
 //!
-//! An `Adapter` has no socket and no clock. `begin` and `end` tell it of TCP connections; `feed` hands it bytes of a
-//! peer's stream at a moment, in microseconds, and lends the answer, or says why there is none; `tick` tells it of a
-//! moment alone, and `deadline` is the next one at which a connection ends. `serve` does so over a reader and a writer.
-//! `discover` answers a datagram, of which nothing stays.
+//! An `Adapter` has no socket and no clock. Its caller owns both:
 //!
-//! What it answers is a function of the peers' whole frames and of the moments: the turn of `specs/Turn.antt`, over one
-//! definition for each command. Its calls after `Adapter::new` take no memory.
+//! - `begin` and `end` report that a TCP connection begins or ends.
+//! - `feed` takes bytes of a peer's stream and the time at which they arrived, in microseconds. It lends the answer to
+//!   send, or gives the reason why there is none.
+//! - `tick` reports the time alone. `deadline` is the next time at which a connection ends.
+//! - `serve` does one read and the feeds and writes that follow, over a reader and a writer.
+//! - `discover` answers a datagram. It keeps nothing of it.
 //!
-//! One peer of a device, whose bytes come in pieces of any size, each at its moment; `written` is what goes back to it:
+//! The answers are a function of the peers' whole frames and of the times: `turn` of `specs/Turn.antt`, which has one
+//! definition for each command. No call after `Adapter::new` allocates memory.
+//!
+//! One peer of a device, whose bytes arrive in pieces of any size, each with its time. `written` collects what is sent
+//! back:
 //!
 //! ```
 //! fn serve_pieces(

@@ -1,4 +1,4 @@
-//! A peer: its session, and what has come of its next frame.
+//! A peer: its session, and the bytes held of its next frame.
 //! Text: docs/PROTOCOL.md, "A peer".
 
 ghost use Rattle.std.specs.Prelude.{◌≡◌, ◌<◌, ◌≤◌, length};
@@ -17,7 +17,7 @@ use cip_objects::ReplyBuf;
 use enip_wire::{FrameReader, Held};
 use std::marker::Model;
 
-/// A peer that has begun, known by its session handle.
+/// A peer that has begun, identified by its session handle.
 #[derive(Clone, Copy, Debug)]
 pub struct Peer {
     pub(crate) handle: u32,
@@ -34,15 +34,14 @@ impl Model for Peer {
 }
 
 impl Peer {
-    /// The peer that was given this session handle when it began, 32 bits. A handle that was never given out is one of
-    /// a peer that is not held.
+    /// The peer with this session handle, 32 bits. If the handle was never assigned, the peer is not held.
     pub fn of(handle: u32) -> Peer
         ensures { result ≡ handle }
     {
         Peer { handle }
     }
 
-    /// The session handle that it was given when it began.
+    /// The session handle that the peer was assigned when it began.
     pub fn handle(&self) -> u32
         ensures { result ≡ self.now }
     {
@@ -50,18 +49,18 @@ impl Peer {
     }
 }
 
-/// What a peer is to the encapsulation.
+/// The encapsulation state of a peer.
 #[derive(Clone, Copy)]
 pub(crate) struct Session {
-    /// The session handle that it was given when it began.
+    /// The session handle that the peer was assigned when it began.
     pub(crate) handle: u32,
     /// Whether it has registered.
     pub(crate) registered: bool,
-    /// Whether its connection is closed.
+    /// Whether its TCP connection is closed.
     pub(crate) closed: bool,
 }
 
-/// A place that a peer holds.
+/// A slot that a peer holds.
 #[derive(Drop)]
 pub(crate) struct PeerSlot {
     pub(crate) session: Session,
@@ -69,8 +68,8 @@ pub(crate) struct PeerSlot {
 }
 
 impl PeerSlot {
-    /// Takes bytes of a piece up to the end of one frame, and serves the frame. A router writes into `reply`. Answers how
-    /// many bytes were taken, and what came of them.
+    /// Takes bytes of a piece up to the end of one frame, and serves the frame. `reply` is scratch space for a router's
+    /// reply. Returns the number of bytes taken and the reaction to them.
     pub(crate) fn feed(
         &mut self,
         shared: &mut Shared,

@@ -1,4 +1,4 @@
-//! The places for peers: those that are taken, and the readers of those that are free. No call adds one.
+//! The peer slots: those that are taken, and the readers of those that are free. No call adds a slot.
 
 ghost use Rattle.std.specs.Prelude.{ℕ, ◌≡◌, ◌==◌, ◌<◌, ◌≤◌, ◌-◌, length, false, is_some, All, IfOk};
 ghost use Rattle.std.specs.Option.{option_map};
@@ -16,7 +16,7 @@ use enip_wire::FrameReader;
 use std::alloc::{AllocError, Global};
 use std::marker::Model;
 
-/// So many places for peers, in the order in which the peers began that hold one.
+/// A fixed number of peer slots. The slots that are taken are in the order in which their peers began.
 #[derive(Drop)]
 pub(crate) struct PeerSlots {
     limit: u16,
@@ -35,11 +35,11 @@ impl Model for PeerSlots {
 }
 
 impl PeerSlots {
-    /// So many places, all free. All their memory is taken here.
+    /// Makes `limit` slots, all free. It allocates all of their memory here.
     ///
     /// # Errors
     ///
-    /// `AllocError` where memory is refused.
+    /// `AllocError` if memory is refused.
     pub(crate) fn new(alloc: Global, limit: u16) -> Result<PeerSlots, AllocError>
         requires { limit ≤ 16 }
         ensures { IfOk result (λ p. p ≡ no_slot_taken limit) }
@@ -52,7 +52,7 @@ impl PeerSlots {
         Ok(PeerSlots { limit, taken, free })
     }
 
-    /// How many places are free.
+    /// The number of free slots.
     pub(crate) fn free(&self) -> u16
         ensures count { result ≡ self.now.limit - length self.now.taken }
         ensures within { length self.now.taken ≤ self.now.limit }
@@ -60,7 +60,7 @@ impl PeerSlots {
         self.free.len() as u16
     }
 
-    /// Takes a free place for a peer that begins with this session handle.
+    /// Takes a free slot for a peer that begins with this session handle.
     pub(crate) fn take(&mut self, handle: u32)
         requires { length self.old.taken < self.old.limit }
         ensures { self.new ≡ with_slot self.old handle }
@@ -75,7 +75,7 @@ impl PeerSlots {
         }
     }
 
-    /// Frees the place of the peer with this handle. False where it holds none.
+    /// Frees the slot of the peer with this handle. Returns `false` if it holds none.
     pub(crate) fn release(&mut self, handle: u32) -> bool
         ensures held { result ≡ is_some (first_with handle_of handle self.old.taken) }
         ensures limit { self.new.limit ≡ self.old.limit }
@@ -91,7 +91,7 @@ impl PeerSlots {
         true
     }
 
-    /// The session of the peer with this handle, `None` where it holds no place.
+    /// The session of the peer with this handle. `None` if it holds no slot.
     pub(crate) fn session(&self, handle: u32) -> Option<Session>
         ensures { result ≡ option_map session_in (first_with handle_of handle self.now.taken) }
     {
@@ -99,7 +99,7 @@ impl PeerSlots {
         Some(self.taken[index].session)
     }
 
-    /// Whether the peer with this handle holds a place and is not closed.
+    /// Whether the peer with this handle holds a slot and is not closed.
     pub(crate) fn is_open(&self, handle: u32) -> bool
         ensures { result ≡ is_open (option_map session_in (first_with handle_of handle self.now.taken)) }
     {
@@ -109,7 +109,7 @@ impl PeerSlots {
         }
     }
 
-    /// Feeds a piece to the peer with this handle. Answers how many bytes were taken, and what came of them.
+    /// Feeds a piece to the peer with this handle. Returns the number of bytes taken and the reaction to them.
     pub(crate) fn feed(
         &mut self,
         shared: &mut Shared,
@@ -129,7 +129,7 @@ impl PeerSlots {
     }
 }
 
-/// Where the first peer with this handle is.
+/// The index of the first peer with this handle.
 fn index_of(places: &[PeerSlot], handle: u32) -> Option<usize>
     ensures { result ≡ position (λ p. p.session.handle == handle) places.now }
 {
@@ -138,7 +138,7 @@ fn index_of(places: &[PeerSlot], handle: u32) -> Option<usize>
         .position(|place| place.session.handle == handle)
 }
 
-/// Feeds a piece to the peer with this handle. Answers how many bytes were taken, and what came of them.
+/// Feeds a piece to the peer with this handle. Returns the number of bytes taken and the reaction to them.
 fn feed_taken(
     shared: &mut Shared,
     places: &mut [PeerSlot],

@@ -10,20 +10,20 @@ use cip_bytes::protocol::{EncapsulationStatus, LARGEST_CONNECTION_SIZE};
 use enip_wire::Header;
 use std::marker::Model;
 
-/// The most bytes of a packet in front of its data: interface 4, timeout 2, count 2, address item 4 or 8, type and
-/// length of the data item 4. (Volume 2, common packet format.)
+/// The greatest number of bytes of a packet before its data: interface 4, timeout 2, item count 2, address item 4 or 8,
+/// type and length of the data item 4. (Volume 2, common packet format.)
 pub(crate) const PACKET_HEAD: usize = 20;
 
-/// The most data of an answer, in bytes.
+/// The greatest size of an answer's data, in bytes.
 pub(crate) const LONGEST_DATA: usize = PACKET_HEAD + LARGEST_CONNECTION_SIZE;
 
-/// The longest answer, in bytes.
+/// The greatest size of an answer, in bytes.
 pub const LONGEST_ANSWER: usize = Header::SIZE + LONGEST_DATA;
 
-/// One answer, a whole frame, written over the one before it.
+/// A buffer for one answer, a whole frame. Each answer overwrites the one before.
 #[derive(Drop)]
 pub(crate) struct AnswerFrame {
-    /// How many bytes of the block it has.
+    /// The number of bytes of the answer in the block.
     size: usize,
     block: [u8; LONGEST_ANSWER],
 }
@@ -41,7 +41,7 @@ impl Model for AnswerFrame {
 }
 
 impl AnswerFrame {
-    /// A blank one.
+    /// A blank buffer.
     pub(crate) fn new() -> AnswerFrame
         ensures { result.items ≡ [] }
     {
@@ -51,7 +51,7 @@ impl AnswerFrame {
         }
     }
 
-    /// The bytes that were written last.
+    /// The bytes of the answer that was written last.
     pub(crate) fn as_slice(&self) -> &[u8]
         ensures value { result.now ≡ self.now.items }
         ensures fits { length result.now ≤ LONGEST_ANSWER }
@@ -71,7 +71,7 @@ impl AnswerFrame {
     }
 }
 
-/// Copies a text into a block behind its first bytes, and answers where it ends.
+/// Copies bytes into a block after its first `size` bytes, and returns where they end.
 #[inline(always)]
 fn append_text(block: &mut [u8], size: usize, text: &[u8]) -> usize
     requires { size + length text.now ≤ length block.old }
@@ -84,21 +84,21 @@ fn append_text(block: &mut [u8], size: usize, text: &[u8]) -> usize
     end
 }
 
-/// What answers a frame.
+/// The answer to a frame.
 #[derive(Clone, Copy)]
 pub(crate) enum Reply {
-    /// Nothing, for this reason.
+    /// None, for this reason.
     NoReply(NoReplyReason),
     /// The frame that was written last.
     Written,
 }
 
-/// What a frame is to its peer, beside its registration.
+/// What a frame does to its peer, apart from registering it.
 #[derive(Clone, Copy)]
 pub(crate) struct Reaction {
-    /// What answers it.
+    /// The answer.
     pub(crate) reply: Reply,
-    /// Whether the connection is closed.
+    /// Whether the TCP connection is closed.
     pub(crate) close: bool,
 }
 
@@ -109,7 +109,7 @@ impl Reaction {
         close: false,
     };
 
-    /// Of a peer that is closed or not held.
+    /// The reaction of a peer that is closed or not held.
     pub(crate) const NOT_SERVED: Reaction = Reaction {
         reply: Reply::NoReply(NoReplyReason::NotServed),
         close: true,
@@ -127,7 +127,7 @@ impl Reaction {
     }
 }
 
-/// The header of a reply with so many bytes of data: command and context of what asked, no options.
+/// The header of a reply with `size` bytes of data: command and context of the request, options 0.
 #[inline(always)]
 fn header_of(asked: &Header, session: u32, status: EncapsulationStatus, size: usize) -> Header
     requires { size ≤ LONGEST_DATA }
@@ -143,7 +143,7 @@ fn header_of(asked: &Header, session: u32, status: EncapsulationStatus, size: us
     }
 }
 
-/// Writes a whole reply, whose data are given in two parts.
+/// Writes a whole reply, with its data in two parts.
 #[inline(always)]
 pub(crate) fn write_reply(
     asked: &Header,
@@ -160,7 +160,7 @@ pub(crate) fn write_reply(
     answer.write(&header, front, rest);
 }
 
-/// Refuses a frame: no data, and the session field of what asked.
+/// Refuses a frame: a status, no data, and the session field of the request.
 pub(crate) fn refuse(asked: Header, status: EncapsulationStatus, answer: &mut AnswerFrame)
     ensures { answer.new.items ≡ reply asked asked.session status [] }
 {

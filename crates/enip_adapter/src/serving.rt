@@ -14,13 +14,13 @@ use crate::peer::Peer;
 use enip_wire::{Failed, Sink, Source, write_all};
 use thiserror::Error;
 
-/// The most bytes of a read (ours).
+/// The greatest number of bytes of one read (ours).
 pub const LONGEST_READ: usize = 4_096;
 
-/// What a call of `serve` came to.
+/// The outcome of one `serve`.
 #[derive(Clone, Copy, Debug, PartialEq, Eq)]
 pub enum Served {
-    /// A byte or more was read, all were fed, and each answer was written.
+    /// At least one byte was read, all of it was fed, and each answer was written.
     More,
     /// The reader is at its end.
     Input,
@@ -40,7 +40,7 @@ pub enum ServeFault {
 }
 
 impl ServeFault {
-    /// The number that is printed.
+    /// The number of this fault in printed output.
     pub fn number(self) -> u8
         ensures { result ≡ serve_fault_number self }
     {
@@ -48,16 +48,22 @@ impl ServeFault {
     }
 }
 
-/// Serves a peer once: one read of at most 4,096 bytes, fed at the reader's moment after it, and each answer written
-/// before more is fed. A peer that is closed or not held is answered `Closed`, and no device is called.
+/// Serves a peer once: one read of at most 4,096 bytes, which are fed at the reader's moment after that read. Each
+/// answer is written before more is fed. A peer that is closed or not held is answered `Closed`, and neither device is
+/// called.
 ///
-/// After `Write` and `Closed` the rest of what was read is not fed. The peer is not ended.
+/// After `Write` and `Closed`, the rest of the read is not fed. The peer is not ended.
 ///
-/// What is read goes into `buffer`; what it holds before counts for nothing, so that none is cleared for a read.
+/// `buffer` is scratch space for the read. Its old content is never used, so it need not be cleared.
+///
+/// ```
+/// let mut buffer = [0; LONGEST_READ];
+/// let served = serve(&mut adapter, &peer, &mut reader, &mut writer, &mut buffer);
+/// ```
 ///
 /// # Errors
 ///
-/// `ServeFault::Read` where the read failed, `ServeFault::Write` where a write failed.
+/// `ServeFault::Read` if the read failed, `ServeFault::Write` if a write failed.
 #[tactic(auto, using(crate::proofs::ActionLemmas::no_feeds))]
 pub fn serve<R: Source, W: Sink>(
     adapter: &mut Adapter,
@@ -81,14 +87,14 @@ pub fn serve<R: Source, W: Sink>(
     ensures read_failures { R.failures reader.new ≡ R.failures reader.old + read_faults result }
     ensures write_failures { W.failures writer.new ≡ W.failures writer.old + write_faults result }
 {
-    // Nothing is read of a connection that is over (ours).
+    // A connection that is over is not read (ours).
     if !adapter.is_served(peer) {
         return Ok(Served::Closed);
     }
     let Ok(size) = reader.read(buffer) else {
         return Err(ServeFault::Read);
     };
-    // A read of no byte is the end of the stream (a peer that closed its side).
+    // A read of 0 bytes is the end of the stream: the peer closed its side.
     if size == 0 {
         return Ok(Served::Input);
     }
@@ -99,11 +105,12 @@ pub fn serve<R: Source, W: Sink>(
     }
 }
 
-/// Feeds a piece until nothing is left or it closes, and writes each answer. Answers whether it closed.
+/// Feeds a piece until nothing is left or the peer is closed, and writes each answer. Returns whether the peer is
+/// closed.
 ///
 /// # Errors
 ///
-/// `Failed` where a write failed. The rest is not fed then.
+/// `Failed` if a write failed. Then the rest is not fed.
 fn feed_all<W: Sink>(
     adapter: &mut Adapter,
     now: u64,
@@ -128,11 +135,11 @@ fn feed_all<W: Sink>(
     Ok(false)
 }
 
-/// Feeds a piece once, and writes the answer. Answers how many bytes were taken, and whether the peer is closed.
+/// Feeds a piece once, and writes the answer. Returns the number of bytes taken, and whether the peer is closed.
 ///
 /// # Errors
 ///
-/// `Failed` where a write failed.
+/// `Failed` if a write failed.
 fn feed_once<W: Sink>(
     adapter: &mut Adapter,
     now: u64,

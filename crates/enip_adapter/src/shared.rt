@@ -7,27 +7,31 @@ ghost use Rattle.enip_adapter.specs.Turn.{at_moment, without_connections};
 use cip_manager::Manager;
 use cip_objects::Objects;
 
-/// The address and the port that ListIdentity shows.
+/// The address and port in a ListIdentity reply.
+///
+/// ```
+/// Listen { address: [127, 0, 0, 1], port: 44818 }
+/// ```
 #[derive(Clone, Copy, Debug)]
 pub struct Listen {
-    /// The four bytes of the IPv4 address, as it is written.
+    /// The four bytes of the IPv4 address, most significant first.
     pub address: [u8; 4],
     /// The TCP port, 16 bits.
     pub port: u16,
 }
 
-/// What a peer's frame may change beside its session.
+/// What a peer's frame may change, apart from its session.
 #[derive(Drop)]
 pub(crate) struct Shared {
     pub(crate) listen: Listen,
-    /// The greatest moment so far, in microseconds.
+    /// The greatest time so far, in microseconds.
     pub(crate) moment: u64,
     pub(crate) manager: Manager,
     pub(crate) objects: Objects,
 }
 
 impl Shared {
-    /// A moment comes: connections whose deadline is at or before the greatest so far end.
+    /// Takes a time into account: connections whose deadline is at or before the greatest time so far end.
     pub(crate) fn advance(&mut self, now: u64)
         ensures { self.new ≡ at_moment self.old now }
     {
@@ -35,7 +39,7 @@ impl Shared {
         self.manager.expire(self.moment);
     }
 
-    /// The connections that a session opened end.
+    /// Ends the connections that a session opened.
     pub(crate) fn end_session(&mut self, session: u32)
         ensures { self.new ≡ without_connections self.old session }
     {

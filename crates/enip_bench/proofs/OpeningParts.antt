@@ -20,7 +20,7 @@ use Rattle.enip_adapter.specs.Calls.Call.{Begins_peer, Feeds}
 use Rattle.enip_adapter.specs.Commands.{command_served}
 use Rattle.enip_adapter.specs.Replies.{Served, leaving}
 use Rattle.enip_adapter.specs.RegisterSession.{register_session}
-use Rattle.enip_adapter.specs.SendRRData.{Opens, destination_of}
+use Rattle.enip_adapter.specs.SendRRData.{Opens, route_of}
 use Rattle.enip_adapter.specs.Turn.{State, TurnResult, turned, with_peer, session_after, without_connections, sent, at_moment}
 use Rattle.enip_adapter.specs.Turn.Output.{Sends, Begins, Refuses}
 use Rattle.enip_client.specs.Client.{ClientState, fed}
@@ -145,7 +145,7 @@ register-served shared session number = refl
 
 -- the open request is routed to the Connection Manager, and read as it was written
 pub goes-to-manager : (layout : Layout) (wants : Wants) →
-    destination_of (open_request_in layout wants) ≡ Opens layout (open_data_in layout wants)
+    route_of (open_request_in layout wants) ≡ Opens layout (open_data_in layout wants)
 unfolding request_of path_of class_of instance_of attribute_of member_of whole_of segment_of
 goes-to-manager small wants = refl
 goes-to-manager large wants = refl

@@ -14,7 +14,7 @@ use Rattle.cip_objects.specs.Tables.{Shape, services_of}
 use Rattle.cip_objects.proofs.Refuses.{exec_left}
 use Rattle.enip_adapter.specs.declared.peer.Session.{Session}
 use Rattle.enip_adapter.specs.declared.shared.Shared.{Shared}
-use Rattle.enip_adapter.specs.SendRRData.{Destination, Opens, Closes, Executes, Routed, routed, routed_to, destination_by_request, destination_by_path, manager_service, is_manager}
+use Rattle.enip_adapter.specs.SendRRData.{Route, Opens, Closes, Executes, Routed, routed, routed_to, route_by_request, route_by_path, manager_service, is_manager}
 use Rattle.cip_bytes.specs.declared.protocol.TheConstants.{UNCONNECTED_LIMIT}
 use Rattle.enip_bench.specs.ObjectsRun.{after_exec}
 
@@ -72,7 +72,7 @@ pub routed-objects : (shared : Shared) (session : Session) (request : List ℕ) 
     IsRouted shared request (routed shared session request)
 routed-objects shared session request = by_request (request_of request) refl
   where
-    unchanged : (d : Destination) → (exec shared.objects UNCONNECTED_LIMIT request).after ≡ shared.objects →
+    unchanged : (d : Route) → (exec shared.objects UNCONNECTED_LIMIT request).after ≡ shared.objects →
         IsRouted shared request (routed_to shared session request d)
     unchanged (Opens layout bytes) same = record { objects = sym same; moment = refl }
     unchanged (Closes bytes) same = record { objects = sym same; moment = refl }
@@ -88,11 +88,11 @@ routed-objects shared session request = by_request (request_of request) refl
     by_manager q path false read found manages = record { objects = refl; moment = refl }
 
     by_path : (q : Request) (p : Result Path PathFault) → request_of request ≡ Ok q → path_of q.path ≡ p →
-        IsRouted shared request (routed_to shared session request (destination_by_path q p))
+        IsRouted shared request (routed_to shared session request (route_by_path q p))
     by_path q (Ok path) read found = by_manager q path (is_manager path) read found refl
     by_path q (Err fault) read found = record { objects = refl; moment = refl }
 
     by_request : (r : Result Request RequestFault) → request_of request ≡ r →
-        IsRouted shared request (routed_to shared session request (destination_by_request r))
+        IsRouted shared request (routed_to shared session request (route_by_request r))
     by_request (Ok q) read = by_path q (path_of q.path) read refl
     by_request (Err fault) read = record { objects = refl; moment = refl }

@@ -18,7 +18,7 @@ use Rattle.enip_config.specs.Documents.{IsRefused}
 use Rattle.enip_c.specs.declared.adapter.Fed.{Fed}
 use Rattle.enip_c.specs.declared.status.Status.{Status}
 use Rattle.enip_c.specs.declared.status.Status.TheVariants as status
-use Rattle.enip_c.specs.Room.{status_number, in_room}
+use Rattle.enip_c.specs.Buffer.{status_number, in_buffer}
 
 -- The number of a reason in enip.h; 0 if there is an answer.
 abbrev pub no_reply_reason_number : NoReplyReason → ℕ
@@ -32,9 +32,9 @@ no_reply_reason_number no_reply_reason.NotTaken = 7
 no_reply_reason_number no_reply_reason.Unregistered = 8
 no_reply_reason_number no_reply_reason.NotServed = 9
 
-abbrev pub silence_told : Output → ℕ
-silence_told (NoReply why) = no_reply_reason_number why
-silence_told other = 0
+abbrev pub returned_no_reply_reason : Output → ℕ
+returned_no_reply_reason (NoReply why) = no_reply_reason_number why
+returned_no_reply_reason other = 0
 
 -- The bytes of the answer; empty if there is no answer.
 abbrev pub answer_bytes : Output → List ℕ
@@ -47,24 +47,24 @@ bool_number false = 0
 
 -- The result of a feed: the number of bytes taken, the length of the answer, why there is none, and whether the peer is
 -- closed.
-abbrev pub fed_told : AdapterState → Call → Fed
-fed_told a call = record {
+abbrev pub returned_fed : AdapterState → Call → Fed
+returned_fed a call = record {
   taken = (call_meaning a call).taken;
   answer = length (answer_bytes (call_answer a call).output);
-  no_reply_reason = silence_told (call_answer a call).output;
+  no_reply_reason = returned_no_reply_reason (call_answer a call).output;
   close = bool_number (call_answer a call).close;
 }
 
 -- A piece was fed to an adapter: its answer is at the front of the buffer, and `fed` is the result.
-pub record IsFed (old new : AdapterState) (call : Call) (room_old room_new : List ℕ) (fed : Fed) : Type 0 where
+pub record IsFed (old new : AdapterState) (call : Call) (buffer_old buffer_new : List ℕ) (fed : Fed) : Type 0 where
   pub state : new ≡ after_call old call
-  pub answer : room_new ≡ in_room (answer_bytes (call_answer old call).output) room_old
-  pub told : fed ≡ fed_told old call
+  pub answer : buffer_new ≡ in_buffer (answer_bytes (call_answer old call).output) buffer_old
+  pub returned : fed ≡ returned_fed old call
 
 -- The same for what C keeps.
 abbrev pub IsFedKept : Option AdapterState → Option AdapterState → Call → List ℕ → List ℕ → Fed → Type 0
-IsFedKept (Some old) (Some new) call room_old room_new fed = IsFed old new call room_old room_new fed
-IsFedKept old new call room_old room_new fed = ⊥
+IsFedKept (Some old) (Some new) call buffer_old buffer_new fed = IsFed old new call buffer_old buffer_new fed
+IsFedKept old new call buffer_old buffer_new fed = ⊥
 
 -- The status of adding a peer, and the peer's number.
 abbrev pub full_status : Full → Status

@@ -7,7 +7,7 @@ use Rattle.enip_client.specs.Calls.{Lent, registers, opens, asks, submits, close
 use Rattle.enip_client.specs.Calls.{bytes_lent, after_lending, after_giving_up}
 use Rattle.enip_client.specs.Client.{ClientState, Fed, fed, new_client, with_state}
 use Rattle.enip_client.specs.Hears.{HeardEvent}
-use Rattle.enip_client.specs.Hears.HeardEvent.{Nothing, Registered, Opened, Replied, Accepted, Closed, Refused as RefusedNews}
+use Rattle.enip_client.specs.Hears.HeardEvent.{Nothing, Registered, Opened, Replied, Accepted, Closed, Refused as RefusedEvent}
 use Rattle.enip_client.specs.declared.fault.ClientFault.{ClientFault}
 use Rattle.enip_client.specs.declared.fault.ClientFault.TheVariants as faults
 use Rattle.enip_client.specs.declared.fault.SubmitFault.{SubmitFault}
@@ -18,7 +18,7 @@ use Rattle.enip_c.specs.declared.client.Heard.{Heard}
 use Rattle.enip_c.specs.declared.client.ConnectionWants.{ConnectionWants}
 use Rattle.enip_c.specs.declared.status.Status.{Status}
 use Rattle.enip_c.specs.declared.status.Status.TheVariants as status
-use Rattle.enip_c.specs.Room.{Told, told, status_number, in_room}
+use Rattle.enip_c.specs.Buffer.{Returned, returned, status_number, in_buffer}
 
 -- The status if the client refuses the call.
 abbrev pub fault_status : ClientFault → Status
@@ -43,23 +43,23 @@ submit_status (submit_faults.Client fault) = fault_status fault
 submit_status (submit_faults.Refused why) = refused_status why
 
 -- The frame that a call lends, in the buffer, or the status that says why there is none.
-abbrev pub lent_told : {E : Type 0} → (E → Status) → Result (List ℕ) E → ℕ → List ℕ → Told
-lent_told of_fault (Ok bytes) count room = told status.Done (length bytes) (in_room bytes room)
-lent_told of_fault (Err fault) count room = told (of_fault fault) count room
+abbrev pub returned_frame : {E : Type 0} → (E → Status) → Result (List ℕ) E → ℕ → List ℕ → Returned
+returned_frame of_fault (Ok bytes) count buffer = returned status.Done (length bytes) (in_buffer bytes buffer)
+returned_frame of_fault (Err fault) count buffer = returned (of_fault fault) count buffer
 
-abbrev pub resent_told : Option (List ℕ) → ℕ → List ℕ → Told
-resent_told (Some bytes) count room = told status.Done (length bytes) (in_room bytes room)
-resent_told None count room = told status.Absent count room
+abbrev pub returned_resend : Option (List ℕ) → ℕ → List ℕ → Returned
+returned_resend (Some bytes) count buffer = returned status.Done (length bytes) (in_buffer bytes buffer)
+returned_resend None count buffer = returned status.Absent count buffer
 
 -- A client after a call, and what the call returned.
 pub record Outcome : Type 0 where
   pub client : ClientState
-  pub output : Told
+  pub output : Returned
 
 abbrev pub lends : {E : Type 0} → (E → Status) → ClientState → Result Lent E → ℕ → List ℕ → Outcome
-lends of_fault c lent count room = record {
+lends of_fault c lent count buffer = record {
   client = with_state c (after_lending c.state lent);
-  output = lent_told of_fault (bytes_lent lent) count room;
+  output = returned_frame of_fault (bytes_lent lent) count buffer;
 }
 
 -- The calls that lend a frame.
@@ -85,27 +85,27 @@ abbrev pub bytes_resent : ClientState → Option (List ℕ)
 bytes_resent c = elim (resends c.state) [ Some f ↦ Some (frame f) | None ↦ None ]
 
 abbrev pub resend_outcome : ClientState → ℕ → List ℕ → Outcome
-resend_outcome c count room = record { client = c; output = resent_told (bytes_resent c) count room }
+resend_outcome c count buffer = record { client = c; output = returned_resend (bytes_resent c) count buffer }
 
 -- A call did to the client what its outcome states, and returned what it states.
-pub record IsDone (outcome : Outcome) (new : ClientState) (result count : ℕ) (room : List ℕ) : Type 0 where
+pub record IsDone (outcome : Outcome) (new : ClientState) (result count : ℕ) (buffer : List ℕ) : Type 0 where
   pub client : new ≡ outcome.client
-  pub output : ◌≡◌ {A = Told} (record { status = result; count = count; room = room }) outcome.output
+  pub output : ◌≡◌ {A = Returned} (record { status = result; count = count; buffer = buffer }) outcome.output
 
 -- The same for what C keeps.
 abbrev pub IsDoneKept : (ClientState → ℕ → List ℕ → Outcome) → Option ClientState → Option ClientState → ℕ → ℕ → ℕ
     → List ℕ → List ℕ → Type 0
-IsDoneKept outcome (Some old) (Some new) result count_old count_new room_old room_new =
-    IsDone (outcome old count_old room_old) new result count_new room_new
-IsDoneKept outcome old new result count_old count_new room_old room_new = ⊥
+IsDoneKept outcome (Some old) (Some new) result count_old count_new buffer_old buffer_new =
+    IsDone (outcome old count_old buffer_old) new result count_new buffer_new
+IsDoneKept outcome old new result count_old count_new buffer_old buffer_new = ⊥
 
 -- The buffer is too small, and nothing changed.
-pub record IsTooSmall (old new : Option ClientState) (result count_old count_new : ℕ) (room_old room_new : List ℕ)
+pub record IsTooSmall (old new : Option ClientState) (result count_old count_new : ℕ) (buffer_old buffer_new : List ℕ)
     : Type 0 where
   pub status : result ≡ status_number status.Room
   pub client : new ≡ old
   pub count : count_new ≡ count_old
-  pub room : room_new ≡ room_old
+  pub buffer : buffer_new ≡ buffer_old
 
 -- The general status of a reply, which is its third byte, and its first word of additional status; 0 if it has none.
 abbrev pub general_in : List ℕ → ℕ
@@ -117,18 +117,18 @@ extended_in reply =
     else if slice_index reply 3 == 0 then 0 else slice_index reply 4 + slice_index reply 5 * 256
 
 -- What a feed returns, and the buffer. A reply that does not fit is reported by its length alone.
-pub record HeardTold : Type 0 where
+pub record ReturnedHeard : Type 0 where
   pub heard : Heard
-  pub room : List ℕ
+  pub buffer : List ℕ
 
-abbrev pub plainly : ℕ → ℕ → ℕ → ℕ → List ℕ → HeardTold
-plainly taken kind general extended room = record {
+abbrev pub without_bytes : ℕ → ℕ → ℕ → ℕ → List ℕ → ReturnedHeard
+without_bytes taken kind general extended buffer = record {
   heard = record { taken = taken; kind = kind; reply = 0; general = general; extended = extended };
-  room = room;
+  buffer = buffer;
 }
 
-abbrev pub reply_told : ℕ → ℕ → List ℕ → List ℕ → HeardTold
-reply_told taken kind reply room = record {
+abbrev pub returned_reply : ℕ → ℕ → List ℕ → List ℕ → ReturnedHeard
+returned_reply taken kind reply buffer = record {
   heard = record {
     taken = taken;
     kind = kind;
@@ -136,27 +136,27 @@ reply_told taken kind reply room = record {
     general = general_in reply;
     extended = extended_in reply;
   };
-  room = if nat_le (length reply) (length room) then in_room reply room else room;
+  buffer = if nat_le (length reply) (length buffer) then in_buffer reply buffer else buffer;
 }
 
-abbrev pub news_told : ℕ → HeardEvent → List ℕ → HeardTold
-news_told taken Nothing room = plainly taken 0 0 0 room
-news_told taken Registered room = plainly taken 1 0 0 room
-news_told taken Opened room = plainly taken 2 0 0 room
-news_told taken (Replied bytes) room = reply_told taken 3 bytes room
-news_told taken (Accepted bytes) room = reply_told taken 4 bytes room
-news_told taken (RefusedNews general extended) room = plainly taken 5 general extended room
-news_told taken Closed room = plainly taken 6 0 0 room
+abbrev pub returned_event : ℕ → HeardEvent → List ℕ → ReturnedHeard
+returned_event taken Nothing buffer = without_bytes taken 0 0 0 buffer
+returned_event taken Registered buffer = without_bytes taken 1 0 0 buffer
+returned_event taken Opened buffer = without_bytes taken 2 0 0 buffer
+returned_event taken (Replied bytes) buffer = returned_reply taken 3 bytes buffer
+returned_event taken (Accepted bytes) buffer = returned_reply taken 4 bytes buffer
+returned_event taken (RefusedEvent general extended) buffer = without_bytes taken 5 general extended buffer
+returned_event taken Closed buffer = without_bytes taken 6 0 0 buffer
 
 -- A piece was fed to a client, and `heard` is the result.
-pub record IsHeardBy (old new : ClientState) (piece : List ℕ) (heard : Heard) (room_old room_new : List ℕ) : Type 0 where
+pub record IsHeardBy (old new : ClientState) (piece : List ℕ) (heard : Heard) (buffer_old buffer_new : List ℕ) : Type 0 where
   pub client : new ≡ (fed old piece).client
-  pub told : ◌≡◌ {A = HeardTold} (record { heard = heard; room = room_new })
-      (news_told (fed old piece).taken (fed old piece).heard_event room_old)
+  pub returned : ◌≡◌ {A = ReturnedHeard} (record { heard = heard; buffer = buffer_new })
+      (returned_event (fed old piece).taken (fed old piece).heard_event buffer_old)
 
 abbrev pub IsHeardKept : Option ClientState → Option ClientState → List ℕ → Heard → List ℕ → List ℕ → Type 0
-IsHeardKept (Some old) (Some new) piece heard room_old room_new = IsHeardBy old new piece heard room_old room_new
-IsHeardKept old new piece heard room_old room_new = ⊥
+IsHeardKept (Some old) (Some new) piece heard buffer_old buffer_new = IsHeardBy old new piece heard buffer_old buffer_new
+IsHeardKept old new piece heard buffer_old buffer_new = ⊥
 
 -- The pending request was given up, or none was pending.
 pub record IsGivenUp (old new : ClientState) (result : ℕ) : Type 0 where

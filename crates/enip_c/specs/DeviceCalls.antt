@@ -12,7 +12,7 @@ use Rattle.enip_adapter.specs.declared.endings.EndReason.TheVariants.{TimedOut, 
 use Rattle.enip_c.specs.declared.device.CEndedConnection.{CEndedConnection}
 use Rattle.enip_c.specs.declared.status.Status.{Status}
 use Rattle.enip_c.specs.declared.status.Status.TheVariants as status
-use Rattle.enip_c.specs.Room.{status_number}
+use Rattle.enip_c.specs.Buffer.{status_number}
 
 -- The objects after the device has written to the data of an assembly; none if they have no such data.
 abbrev pub device_written : AdapterState → ℕ → ℕ → List ℕ → Option Contents
@@ -24,7 +24,7 @@ write_status written = if written then status.Done else status.Absent
 -- The device wrote, or there is no such data and nothing changed.
 pub record IsWritten (old new : AdapterState) (instance offset : ℕ) (bytes : List ℕ) (result : ℕ) : Type 0 where
   pub state : new ≡ with_objects old (unwrap_or (device_written old instance offset bytes) old.state.shared.objects)
-  pub told : result ≡ status_number (write_status (is_some (device_written old instance offset bytes)))
+  pub returned : result ≡ status_number (write_status (is_some (device_written old instance offset bytes)))
 
 abbrev pub IsWrittenKept : Option AdapterState → Option AdapterState → ℕ → ℕ → List ℕ → ℕ → Type 0
 IsWrittenKept (Some old) (Some new) instance offset bytes result = IsWritten old new instance offset bytes result
@@ -56,6 +56,6 @@ ended_kept None place = None
 ended_kept (Some e) place = slice_get e.ended place
 
 -- The status, and the connection if there is one.
-abbrev pub IsToldEnding : Option EndedConnection → CEndedConnection → CEndedConnection → ℕ → Type 0
-IsToldEnding None old new result = (result ≡ status_number status.Absent) × (new ≡ old)
-IsToldEnding (Some e) old new result = (result ≡ status_number status.Done) × (new ≡ c_ended_connection e)
+abbrev pub ReturnsEnding : Option EndedConnection → CEndedConnection → CEndedConnection → ℕ → Type 0
+ReturnsEnding None old new result = (result ≡ status_number status.Absent) × (new ≡ old)
+ReturnsEnding (Some e) old new result = (result ≡ status_number status.Done) × (new ≡ c_ended_connection e)

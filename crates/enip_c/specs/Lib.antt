@@ -1,5 +1,5 @@
 pub mod Kept
-pub mod Room
+pub mod Buffer
 pub mod AdapterCalls
 pub mod ClientCalls
 pub mod DeviceCalls

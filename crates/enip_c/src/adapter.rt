@@ -5,14 +5,14 @@ ghost use Rattle.std.specs.Option.{option_map, IsSomeAnd};
 ghost use Rattle.enip_adapter.specs.Calls.{Call, after_call, call_answer};
 ghost use Rattle.enip_config.specs.Configured.{IsAdapterOf};
 ghost use Rattle.enip_config.specs.Documents.{IsFaultOf};
-ghost use Rattle.enip_c.specs.AdapterCalls.{IsFed, IsFedKept, IsBegun, IsBegunKept, IsRefusedBy, no_reply_reason_number, fed_told};
+ghost use Rattle.enip_c.specs.AdapterCalls.{IsFed, IsFedKept, IsBegun, IsBegunKept, IsRefusedBy, no_reply_reason_number, returned_fed};
 ghost use Rattle.enip_c.specs.AdapterCalls.{bool_number, full_status, AreFreeKept, deadline_kept, attribute_kept};
 ghost use Rattle.enip_c.specs.Kept.{IsLive};
 ghost use Rattle.cip_objects.specs.Contents.{value_at};
-ghost use Rattle.enip_c.specs.Room.{status_number, told_bytes, IsToldNumber};
+ghost use Rattle.enip_c.specs.Buffer.{status_number, returned_bytes, ReturnsNumber};
 
+use crate::buffer::{copy_front, return_bytes};
 use crate::kept_adapter::KeptAdapter;
-use crate::room::{copy_front, tell_bytes};
 use crate::status::Status;
 use enip_adapter::{Adapter, Full, LONGEST_ANSWER, NoReplyReason, Peer};
 use enip_config::{LoadFault, adapter_from, explain};
@@ -123,34 +123,34 @@ pub extern "C" fn enip_core_adapter_feed(
     now: u64,
     peer: u32,
     piece: &[u8],
-    room: &mut [u8],
+    buffer: &mut [u8],
     fed: &mut Fed,
 ) -> u32
     requires { IsLive kept.old.value }
-    ensures small { length room.old < LONGEST_ANSWER → result ≡ status_number Status.Room }
-    ensures kept { length room.old < LONGEST_ANSWER → kept.new.value ≡ kept.old.value }
-    ensures room { length room.old < LONGEST_ANSWER → room.new ≡ room.old }
-    ensures untold { length room.old < LONGEST_ANSWER → fed.new ≡ fed.old }
-    ensures done { LONGEST_ANSWER ≤ length room.old → result ≡ status_number Status.Done }
-    ensures fed { LONGEST_ANSWER ≤ length room.old
-        → IsFedKept kept.old.value kept.new.value (Call.Feeds now peer piece.now) room.old room.new fed.new }
+    ensures small { length buffer.old < LONGEST_ANSWER → result ≡ status_number Status.Room }
+    ensures kept { length buffer.old < LONGEST_ANSWER → kept.new.value ≡ kept.old.value }
+    ensures buffer { length buffer.old < LONGEST_ANSWER → buffer.new ≡ buffer.old }
+    ensures untold { length buffer.old < LONGEST_ANSWER → fed.new ≡ fed.old }
+    ensures done { LONGEST_ANSWER ≤ length buffer.old → result ≡ status_number Status.Done }
+    ensures fed { LONGEST_ANSWER ≤ length buffer.old
+        → IsFedKept kept.old.value kept.new.value (Call.Feeds now peer piece.now) buffer.old buffer.new fed.new }
 {
-    if room.len() < LONGEST_ANSWER {
+    if buffer.len() < LONGEST_ANSWER {
         return Status::Room.number();
     }
     let mut adapter = kept.take(alloc);
-    *fed = feed(&mut adapter, now, peer, piece, room);
+    *fed = feed(&mut adapter, now, peer, piece, buffer);
     *kept = KeptAdapter::of(adapter);
     Status::Done.number()
 }
 
-fn feed(adapter: &mut Adapter, now: u64, peer: u32, piece: &[u8], room: &mut [u8]) -> Fed
-    requires { LONGEST_ANSWER ≤ length room.old }
-    ensures { IsFed adapter.old adapter.new (Call.Feeds now peer piece.now) room.old room.new result }
+fn feed(adapter: &mut Adapter, now: u64, peer: u32, piece: &[u8], buffer: &mut [u8]) -> Fed
+    requires { LONGEST_ANSWER ≤ length buffer.old }
+    ensures { IsFed adapter.old adapter.new (Call.Feeds now peer piece.now) buffer.old buffer.new result }
 {
     let fed = adapter.feed(now, &Peer::of(peer), piece);
     let answer = match fed.answer {
-        Some(bytes) => copy_front(bytes, room),
+        Some(bytes) => copy_front(bytes, buffer),
         None => 0,
     };
     let no_reply_reason = match fed.no_reply_reason {
@@ -212,7 +212,7 @@ pub extern "C" fn enip_core_adapter_deadline(
 ) -> u32
     requires { IsLive kept.old.value }
     ensures kept { kept.new.value ≡ kept.old.value }
-    ensures told { IsToldNumber (deadline_kept kept.old.value) deadline.old deadline.new result }
+    ensures returned { ReturnsNumber (deadline_kept kept.old.value) deadline.old deadline.new result }
 {
     let adapter = kept.take(alloc);
     let status = match adapter.deadline() {
@@ -234,16 +234,16 @@ pub extern "C" fn enip_core_adapter_read(
     class: u16,
     instance: u32,
     attribute: u16,
-    room: &mut [u8],
+    buffer: &mut [u8],
     count: &mut usize,
 ) -> u32
     requires { IsLive kept.old.value }
     ensures kept { kept.new.value ≡ kept.old.value }
-    ensures told { record { status = result; count = count.new; room = room.new }
-        ≡ told_bytes (attribute_kept kept.old.value class instance attribute) count.old room.old }
+    ensures returned { record { status = result; count = count.new; buffer = buffer.new }
+        ≡ returned_bytes (attribute_kept kept.old.value class instance attribute) count.old buffer.old }
 {
     let adapter = kept.take(alloc);
-    let status = read(&adapter, class, instance, attribute, room, count);
+    let status = read(&adapter, class, instance, attribute, buffer, count);
     *kept = KeptAdapter::of(adapter);
     status
 }
@@ -253,14 +253,14 @@ fn read(
     class: u16,
     instance: u32,
     attribute: u16,
-    room: &mut [u8],
+    buffer: &mut [u8],
     count: &mut usize,
 ) -> u32
-    ensures { record { status = result; count = count.new; room = room.new }
-        ≡ told_bytes (value_at adapter.now.state.shared.objects class instance attribute) count.old room.old }
+    ensures { record { status = result; count = count.new; buffer = buffer.new }
+        ≡ returned_bytes (value_at adapter.now.state.shared.objects class instance attribute) count.old buffer.old }
 {
     match adapter.objects().attribute(class, instance, attribute) {
-        Some(bytes) => tell_bytes(bytes.as_slice(), room, count),
+        Some(bytes) => return_bytes(bytes.as_slice(), buffer, count),
         None => Status::Absent.number(),
     }
 }
@@ -285,8 +285,8 @@ pub extern "C" fn enip_core_adapter_places(
 /// Writes what is wrong with the text of a configuration, and in which line. Returns the length of this text, 0 if
 /// nothing is wrong, memory runs out or the text does not fit.
 #[unsafe(no_mangle)]
-pub extern "C" fn enip_core_explain(alloc: Global, text: &[u8], room: &mut [u8]) -> usize
-    ensures { result ≤ length room.new }
+pub extern "C" fn enip_core_explain(alloc: Global, text: &[u8], buffer: &mut [u8]) -> usize
+    ensures { result ≤ length buffer.new }
 {
     let Ok(Some(explanation)) = explain(alloc, text) else {
         return 0;
@@ -294,8 +294,8 @@ pub extern "C" fn enip_core_explain(alloc: Global, text: &[u8], room: &mut [u8])
     let Ok(words) = format!(in alloc; "{explanation}") else {
         return 0;
     };
-    if words.len() > room.len() {
+    if words.len() > buffer.len() {
         return 0;
     }
-    copy_front(words.as_bytes(), room)
+    copy_front(words.as_bytes(), buffer)
 }

@@ -4,16 +4,16 @@ ghost use Rattle.std.specs.Prelude.{◌≡◌, ◌≤◌, ◌<◌, length, Some,
 ghost use Rattle.std.specs.Option.{option_map};
 ghost use Rattle.enip_client.specs.Calls.{bytes_in};
 ghost use Rattle.enip_client.specs.Client.{new_client, fed, heard_event_in};
-ghost use Rattle.enip_c.specs.ClientCalls.{fault_status, refused_status, submit_status, lent_told, resent_told, wants_of};
+ghost use Rattle.enip_c.specs.ClientCalls.{fault_status, refused_status, submit_status, returned_frame, returned_resend, wants_of};
 ghost use Rattle.enip_c.specs.ClientCalls.{register_outcome, open_outcome, ask_outcome, submit_outcome, close_outcome};
 ghost use Rattle.enip_c.specs.ClientCalls.{unregister_outcome, resend_outcome, IsDone, IsDoneKept, IsTooSmall};
-ghost use Rattle.enip_c.specs.ClientCalls.{general_in, extended_in, news_told, reply_told, IsHeardBy, IsHeardKept};
+ghost use Rattle.enip_c.specs.ClientCalls.{general_in, extended_in, returned_event, returned_reply, IsHeardBy, IsHeardKept};
 ghost use Rattle.enip_c.specs.ClientCalls.{IsGivenUp, IsGivenUpKept};
 ghost use Rattle.enip_c.specs.Kept.{IsLive};
-ghost use Rattle.enip_c.specs.Room.{status_number};
+ghost use Rattle.enip_c.specs.Buffer.{status_number};
 
+use crate::buffer::copy_front;
 use crate::kept_client::KeptClient;
-use crate::room::copy_front;
 use crate::status::Status;
 use cip_bytes::protocol::LARGEST_CONNECTION_SIZE;
 use cip_class3::Refused;
@@ -162,14 +162,14 @@ fn status_not_submitted(fault: SubmitFault) -> Status
 }
 
 /// Copies a frame to the buffer, or returns why there is none.
-fn tell_lent(lent: Result<&[u8], ClientFault>, room: &mut [u8], count: &mut usize) -> u32
-    requires { IfOk lent (λ frame. length frame.now ≤ length room.old) }
-    ensures { record { status = result; count = count.new; room = room.new }
-        ≡ lent_told fault_status (bytes_in lent.entry) count.old room.old }
+fn return_frame(lent: Result<&[u8], ClientFault>, buffer: &mut [u8], count: &mut usize) -> u32
+    requires { IfOk lent (λ frame. length frame.now ≤ length buffer.old) }
+    ensures { record { status = result; count = count.new; buffer = buffer.new }
+        ≡ returned_frame fault_status (bytes_in lent.entry) count.old buffer.old }
 {
     match lent {
         Ok(frame) => {
-            *count = copy_front(frame, room);
+            *count = copy_front(frame, buffer);
             Status::Done.number()
         }
         Err(fault) => status_of(fault).number(),
@@ -177,14 +177,14 @@ fn tell_lent(lent: Result<&[u8], ClientFault>, room: &mut [u8], count: &mut usiz
 }
 
 /// Copies the frame of a submitted request to the buffer, or returns why there is none.
-fn tell_submitted(lent: Result<&[u8], SubmitFault>, room: &mut [u8], count: &mut usize) -> u32
-    requires { IfOk lent (λ frame. length frame.now ≤ length room.old) }
-    ensures { record { status = result; count = count.new; room = room.new }
-        ≡ lent_told submit_status (bytes_in lent.entry) count.old room.old }
+fn return_submitted(lent: Result<&[u8], SubmitFault>, buffer: &mut [u8], count: &mut usize) -> u32
+    requires { IfOk lent (λ frame. length frame.now ≤ length buffer.old) }
+    ensures { record { status = result; count = count.new; buffer = buffer.new }
+        ≡ returned_frame submit_status (bytes_in lent.entry) count.old buffer.old }
 {
     match lent {
         Ok(frame) => {
-            *count = copy_front(frame, room);
+            *count = copy_front(frame, buffer);
             Status::Done.number()
         }
         Err(fault) => status_not_submitted(fault).number(),
@@ -192,14 +192,14 @@ fn tell_submitted(lent: Result<&[u8], SubmitFault>, room: &mut [u8], count: &mut
 }
 
 /// Copies the frame of the pending request to the buffer, or returns that none is pending.
-fn tell_resent(lent: Option<&[u8]>, room: &mut [u8], count: &mut usize) -> u32
-    requires { IfSome lent (λ frame. length frame.now ≤ length room.old) }
-    ensures { record { status = result; count = count.new; room = room.new }
-        ≡ resent_told (option_map (λ frame. frame.now) lent.entry) count.old room.old }
+fn return_resend(lent: Option<&[u8]>, buffer: &mut [u8], count: &mut usize) -> u32
+    requires { IfSome lent (λ frame. length frame.now ≤ length buffer.old) }
+    ensures { record { status = result; count = count.new; buffer = buffer.new }
+        ≡ returned_resend (option_map (λ frame. frame.now) lent.entry) count.old buffer.old }
 {
     match lent {
         Some(frame) => {
-            *count = copy_front(frame, room);
+            *count = copy_front(frame, buffer);
             Status::Done.number()
         }
         None => Status::Absent.number(),
@@ -211,29 +211,29 @@ fn tell_resent(lent: Option<&[u8]>, room: &mut [u8], count: &mut usize) -> u32
 pub extern "C" fn enip_core_client_register(
     alloc: Global,
     kept: &mut KeptClient,
-    room: &mut [u8],
+    buffer: &mut [u8],
     count: &mut usize,
 ) -> u32
     requires { IsLive kept.old.value }
-    ensures small { length room.old < LONGEST_SENT
-        → IsTooSmall kept.old.value kept.new.value result count.old count.new room.old room.new }
-    ensures done { LONGEST_SENT ≤ length room.old
-        → IsDoneKept register_outcome kept.old.value kept.new.value result count.old count.new room.old room.new }
+    ensures small { length buffer.old < LONGEST_SENT
+        → IsTooSmall kept.old.value kept.new.value result count.old count.new buffer.old buffer.new }
+    ensures done { LONGEST_SENT ≤ length buffer.old
+        → IsDoneKept register_outcome kept.old.value kept.new.value result count.old count.new buffer.old buffer.new }
 {
-    if room.len() < LONGEST_SENT {
+    if buffer.len() < LONGEST_SENT {
         return Status::Room.number();
     }
     let mut client = kept.take(alloc);
-    let status = register(&mut client, room, count);
+    let status = register(&mut client, buffer, count);
     *kept = KeptClient::of(client);
     status
 }
 
-fn register(client: &mut Client, room: &mut [u8], count: &mut usize) -> u32
-    requires { LONGEST_SENT ≤ length room.old }
-    ensures { IsDone (register_outcome client.old count.old room.old) client.new result count.new room.new }
+fn register(client: &mut Client, buffer: &mut [u8], count: &mut usize) -> u32
+    requires { LONGEST_SENT ≤ length buffer.old }
+    ensures { IsDone (register_outcome client.old count.old buffer.old) client.new result count.new buffer.new }
 {
-    tell_lent(client.register(), room, count)
+    return_frame(client.register(), buffer, count)
 }
 
 /// Writes the Forward_Open to send.
@@ -241,29 +241,29 @@ fn register(client: &mut Client, room: &mut [u8], count: &mut usize) -> u32
 pub extern "C" fn enip_core_client_open(
     alloc: Global,
     kept: &mut KeptClient,
-    room: &mut [u8],
+    buffer: &mut [u8],
     count: &mut usize,
 ) -> u32
     requires { IsLive kept.old.value }
-    ensures small { length room.old < LONGEST_SENT
-        → IsTooSmall kept.old.value kept.new.value result count.old count.new room.old room.new }
-    ensures done { LONGEST_SENT ≤ length room.old
-        → IsDoneKept open_outcome kept.old.value kept.new.value result count.old count.new room.old room.new }
+    ensures small { length buffer.old < LONGEST_SENT
+        → IsTooSmall kept.old.value kept.new.value result count.old count.new buffer.old buffer.new }
+    ensures done { LONGEST_SENT ≤ length buffer.old
+        → IsDoneKept open_outcome kept.old.value kept.new.value result count.old count.new buffer.old buffer.new }
 {
-    if room.len() < LONGEST_SENT {
+    if buffer.len() < LONGEST_SENT {
         return Status::Room.number();
     }
     let mut client = kept.take(alloc);
-    let status = open_connection(&mut client, room, count);
+    let status = open_connection(&mut client, buffer, count);
     *kept = KeptClient::of(client);
     status
 }
 
-fn open_connection(client: &mut Client, room: &mut [u8], count: &mut usize) -> u32
-    requires { LONGEST_SENT ≤ length room.old }
-    ensures { IsDone (open_outcome client.old count.old room.old) client.new result count.new room.new }
+fn open_connection(client: &mut Client, buffer: &mut [u8], count: &mut usize) -> u32
+    requires { LONGEST_SENT ≤ length buffer.old }
+    ensures { IsDone (open_outcome client.old count.old buffer.old) client.new result count.new buffer.new }
 {
-    tell_lent(client.open(), room, count)
+    return_frame(client.open(), buffer, count)
 }
 
 /// Writes the frame of an unconnected request.
@@ -272,29 +272,29 @@ pub extern "C" fn enip_core_client_ask(
     alloc: Global,
     kept: &mut KeptClient,
     request: &[u8],
-    room: &mut [u8],
+    buffer: &mut [u8],
     count: &mut usize,
 ) -> u32
     requires { IsLive kept.old.value }
-    ensures small { length room.old < LONGEST_SENT
-        → IsTooSmall kept.old.value kept.new.value result count.old count.new room.old room.new }
-    ensures done { LONGEST_SENT ≤ length room.old
-        → IsDoneKept (ask_outcome request.now) kept.old.value kept.new.value result count.old count.new room.old room.new }
+    ensures small { length buffer.old < LONGEST_SENT
+        → IsTooSmall kept.old.value kept.new.value result count.old count.new buffer.old buffer.new }
+    ensures done { LONGEST_SENT ≤ length buffer.old
+        → IsDoneKept (ask_outcome request.now) kept.old.value kept.new.value result count.old count.new buffer.old buffer.new }
 {
-    if room.len() < LONGEST_SENT {
+    if buffer.len() < LONGEST_SENT {
         return Status::Room.number();
     }
     let mut client = kept.take(alloc);
-    let status = ask(&mut client, request, room, count);
+    let status = ask(&mut client, request, buffer, count);
     *kept = KeptClient::of(client);
     status
 }
 
-fn ask(client: &mut Client, request: &[u8], room: &mut [u8], count: &mut usize) -> u32
-    requires { LONGEST_SENT ≤ length room.old }
-    ensures { IsDone (ask_outcome request.now client.old count.old room.old) client.new result count.new room.new }
+fn ask(client: &mut Client, request: &[u8], buffer: &mut [u8], count: &mut usize) -> u32
+    requires { LONGEST_SENT ≤ length buffer.old }
+    ensures { IsDone (ask_outcome request.now client.old count.old buffer.old) client.new result count.new buffer.new }
 {
-    tell_lent(client.unconnected(request), room, count)
+    return_frame(client.unconnected(request), buffer, count)
 }
 
 /// Writes the frame of a request on the connection.
@@ -303,29 +303,29 @@ pub extern "C" fn enip_core_client_submit(
     alloc: Global,
     kept: &mut KeptClient,
     request: &[u8],
-    room: &mut [u8],
+    buffer: &mut [u8],
     count: &mut usize,
 ) -> u32
     requires { IsLive kept.old.value }
-    ensures small { length room.old < LONGEST_SENT
-        → IsTooSmall kept.old.value kept.new.value result count.old count.new room.old room.new }
-    ensures done { LONGEST_SENT ≤ length room.old
-        → IsDoneKept (submit_outcome request.now) kept.old.value kept.new.value result count.old count.new room.old room.new }
+    ensures small { length buffer.old < LONGEST_SENT
+        → IsTooSmall kept.old.value kept.new.value result count.old count.new buffer.old buffer.new }
+    ensures done { LONGEST_SENT ≤ length buffer.old
+        → IsDoneKept (submit_outcome request.now) kept.old.value kept.new.value result count.old count.new buffer.old buffer.new }
 {
-    if room.len() < LONGEST_SENT {
+    if buffer.len() < LONGEST_SENT {
         return Status::Room.number();
     }
     let mut client = kept.take(alloc);
-    let status = submit(&mut client, request, room, count);
+    let status = submit(&mut client, request, buffer, count);
     *kept = KeptClient::of(client);
     status
 }
 
-fn submit(client: &mut Client, request: &[u8], room: &mut [u8], count: &mut usize) -> u32
-    requires { LONGEST_SENT ≤ length room.old }
-    ensures { IsDone (submit_outcome request.now client.old count.old room.old) client.new result count.new room.new }
+fn submit(client: &mut Client, request: &[u8], buffer: &mut [u8], count: &mut usize) -> u32
+    requires { LONGEST_SENT ≤ length buffer.old }
+    ensures { IsDone (submit_outcome request.now client.old count.old buffer.old) client.new result count.new buffer.new }
 {
-    tell_submitted(client.submit(request), room, count)
+    return_submitted(client.submit(request), buffer, count)
 }
 
 /// Writes the frame of the pending request again.
@@ -333,29 +333,29 @@ fn submit(client: &mut Client, request: &[u8], room: &mut [u8], count: &mut usiz
 pub extern "C" fn enip_core_client_resend(
     alloc: Global,
     kept: &mut KeptClient,
-    room: &mut [u8],
+    buffer: &mut [u8],
     count: &mut usize,
 ) -> u32
     requires { IsLive kept.old.value }
-    ensures small { length room.old < LONGEST_SENT
-        → IsTooSmall kept.old.value kept.new.value result count.old count.new room.old room.new }
-    ensures done { LONGEST_SENT ≤ length room.old
-        → IsDoneKept resend_outcome kept.old.value kept.new.value result count.old count.new room.old room.new }
+    ensures small { length buffer.old < LONGEST_SENT
+        → IsTooSmall kept.old.value kept.new.value result count.old count.new buffer.old buffer.new }
+    ensures done { LONGEST_SENT ≤ length buffer.old
+        → IsDoneKept resend_outcome kept.old.value kept.new.value result count.old count.new buffer.old buffer.new }
 {
-    if room.len() < LONGEST_SENT {
+    if buffer.len() < LONGEST_SENT {
         return Status::Room.number();
     }
     let mut client = kept.take(alloc);
-    let status = resend(&mut client, room, count);
+    let status = resend(&mut client, buffer, count);
     *kept = KeptClient::of(client);
     status
 }
 
-fn resend(client: &mut Client, room: &mut [u8], count: &mut usize) -> u32
-    requires { LONGEST_SENT ≤ length room.old }
-    ensures { IsDone (resend_outcome client.old count.old room.old) client.new result count.new room.new }
+fn resend(client: &mut Client, buffer: &mut [u8], count: &mut usize) -> u32
+    requires { LONGEST_SENT ≤ length buffer.old }
+    ensures { IsDone (resend_outcome client.old count.old buffer.old) client.new result count.new buffer.new }
 {
-    tell_resent(client.resend(), room, count)
+    return_resend(client.resend(), buffer, count)
 }
 
 /// Writes the Forward_Close to send.
@@ -363,29 +363,29 @@ fn resend(client: &mut Client, room: &mut [u8], count: &mut usize) -> u32
 pub extern "C" fn enip_core_client_close(
     alloc: Global,
     kept: &mut KeptClient,
-    room: &mut [u8],
+    buffer: &mut [u8],
     count: &mut usize,
 ) -> u32
     requires { IsLive kept.old.value }
-    ensures small { length room.old < LONGEST_SENT
-        → IsTooSmall kept.old.value kept.new.value result count.old count.new room.old room.new }
-    ensures done { LONGEST_SENT ≤ length room.old
-        → IsDoneKept close_outcome kept.old.value kept.new.value result count.old count.new room.old room.new }
+    ensures small { length buffer.old < LONGEST_SENT
+        → IsTooSmall kept.old.value kept.new.value result count.old count.new buffer.old buffer.new }
+    ensures done { LONGEST_SENT ≤ length buffer.old
+        → IsDoneKept close_outcome kept.old.value kept.new.value result count.old count.new buffer.old buffer.new }
 {
-    if room.len() < LONGEST_SENT {
+    if buffer.len() < LONGEST_SENT {
         return Status::Room.number();
     }
     let mut client = kept.take(alloc);
-    let status = close(&mut client, room, count);
+    let status = close(&mut client, buffer, count);
     *kept = KeptClient::of(client);
     status
 }
 
-fn close(client: &mut Client, room: &mut [u8], count: &mut usize) -> u32
-    requires { LONGEST_SENT ≤ length room.old }
-    ensures { IsDone (close_outcome client.old count.old room.old) client.new result count.new room.new }
+fn close(client: &mut Client, buffer: &mut [u8], count: &mut usize) -> u32
+    requires { LONGEST_SENT ≤ length buffer.old }
+    ensures { IsDone (close_outcome client.old count.old buffer.old) client.new result count.new buffer.new }
 {
-    tell_lent(client.close(), room, count)
+    return_frame(client.close(), buffer, count)
 }
 
 /// Writes the UnRegisterSession to send.
@@ -393,29 +393,29 @@ fn close(client: &mut Client, room: &mut [u8], count: &mut usize) -> u32
 pub extern "C" fn enip_core_client_unregister(
     alloc: Global,
     kept: &mut KeptClient,
-    room: &mut [u8],
+    buffer: &mut [u8],
     count: &mut usize,
 ) -> u32
     requires { IsLive kept.old.value }
-    ensures small { length room.old < LONGEST_SENT
-        → IsTooSmall kept.old.value kept.new.value result count.old count.new room.old room.new }
-    ensures done { LONGEST_SENT ≤ length room.old
-        → IsDoneKept unregister_outcome kept.old.value kept.new.value result count.old count.new room.old room.new }
+    ensures small { length buffer.old < LONGEST_SENT
+        → IsTooSmall kept.old.value kept.new.value result count.old count.new buffer.old buffer.new }
+    ensures done { LONGEST_SENT ≤ length buffer.old
+        → IsDoneKept unregister_outcome kept.old.value kept.new.value result count.old count.new buffer.old buffer.new }
 {
-    if room.len() < LONGEST_SENT {
+    if buffer.len() < LONGEST_SENT {
         return Status::Room.number();
     }
     let mut client = kept.take(alloc);
-    let status = unregister(&mut client, room, count);
+    let status = unregister(&mut client, buffer, count);
     *kept = KeptClient::of(client);
     status
 }
 
-fn unregister(client: &mut Client, room: &mut [u8], count: &mut usize) -> u32
-    requires { LONGEST_SENT ≤ length room.old }
-    ensures { IsDone (unregister_outcome client.old count.old room.old) client.new result count.new room.new }
+fn unregister(client: &mut Client, buffer: &mut [u8], count: &mut usize) -> u32
+    requires { LONGEST_SENT ≤ length buffer.old }
+    ensures { IsDone (unregister_outcome client.old count.old buffer.old) client.new result count.new buffer.new }
 {
-    tell_lent(client.unregister(), room, count)
+    return_frame(client.unregister(), buffer, count)
 }
 
 /// Gives up the pending request on the connection.
@@ -446,49 +446,51 @@ pub extern "C" fn enip_core_client_feed(
     alloc: Global,
     kept: &mut KeptClient,
     piece: &[u8],
-    room: &mut [u8],
+    buffer: &mut [u8],
     heard: &mut Heard,
 ) -> u32
     requires { IsLive kept.old.value }
-    ensures small { length room.old < LONGEST_FRAME → result ≡ status_number Status.Room }
-    ensures kept { length room.old < LONGEST_FRAME → kept.new.value ≡ kept.old.value }
-    ensures room { length room.old < LONGEST_FRAME → room.new ≡ room.old }
-    ensures untold { length room.old < LONGEST_FRAME → heard.new ≡ heard.old }
-    ensures done { LONGEST_FRAME ≤ length room.old → result ≡ status_number Status.Done }
-    ensures heard { LONGEST_FRAME ≤ length room.old
-        → IsHeardKept kept.old.value kept.new.value piece.now heard.new room.old room.new }
+    ensures small { length buffer.old < LONGEST_FRAME → result ≡ status_number Status.Room }
+    ensures kept { length buffer.old < LONGEST_FRAME → kept.new.value ≡ kept.old.value }
+    ensures buffer { length buffer.old < LONGEST_FRAME → buffer.new ≡ buffer.old }
+    ensures untold { length buffer.old < LONGEST_FRAME → heard.new ≡ heard.old }
+    ensures done { LONGEST_FRAME ≤ length buffer.old → result ≡ status_number Status.Done }
+    ensures heard { LONGEST_FRAME ≤ length buffer.old
+        → IsHeardKept kept.old.value kept.new.value piece.now heard.new buffer.old buffer.new }
 {
-    if room.len() < LONGEST_FRAME {
+    if buffer.len() < LONGEST_FRAME {
         return Status::Room.number();
     }
     let mut client = kept.take(alloc);
-    *heard = feed(&mut client, piece, room);
+    *heard = feed(&mut client, piece, buffer);
     *kept = KeptClient::of(client);
     Status::Done.number()
 }
 
-fn feed(client: &mut Client, piece: &[u8], room: &mut [u8]) -> Heard
-    ensures { IsHeardBy client.old client.new piece.now result room.old room.new }
+fn feed(client: &mut Client, piece: &[u8], buffer: &mut [u8]) -> Heard
+    ensures { IsHeardBy client.old client.new piece.now result buffer.old buffer.new }
 {
     let hearing = client.feed(piece);
-    tell_heard(hearing.taken, hearing.heard, room)
+    return_heard(hearing.taken, hearing.heard, buffer)
 }
 
-fn tell_heard(taken: usize, heard: enip_client::Heard<'_>, room: &mut [u8]) -> Heard
-    ensures { record { heard = result; room = room.new } ≡ news_told taken (heard_event_in heard.entry) room.old }
+fn return_heard(taken: usize, heard: enip_client::Heard<'_>, buffer: &mut [u8]) -> Heard
+    ensures { record { heard = result; buffer = buffer.new } ≡ returned_event taken (heard_event_in heard.entry) buffer.old }
 {
     match heard {
-        enip_client::Heard::Nothing => plainly(taken, 0, 0, 0),
-        enip_client::Heard::Registered => plainly(taken, 1, 0, 0),
-        enip_client::Heard::Opened => plainly(taken, 2, 0, 0),
-        enip_client::Heard::Reply(bytes) => tell_reply(taken, 3, bytes, room),
-        enip_client::Heard::Accepted(bytes) => tell_reply(taken, 4, bytes, room),
-        enip_client::Heard::Refused(general, extended) => plainly(taken, 5, general, extended),
-        enip_client::Heard::Closed => plainly(taken, 6, 0, 0),
+        enip_client::Heard::Nothing => without_bytes(taken, 0, 0, 0),
+        enip_client::Heard::Registered => without_bytes(taken, 1, 0, 0),
+        enip_client::Heard::Opened => without_bytes(taken, 2, 0, 0),
+        enip_client::Heard::Reply(bytes) => return_reply(taken, 3, bytes, buffer),
+        enip_client::Heard::Accepted(bytes) => return_reply(taken, 4, bytes, buffer),
+        enip_client::Heard::Refused(general, extended) => without_bytes(
+            taken, 5, general, extended,
+        ),
+        enip_client::Heard::Closed => without_bytes(taken, 6, 0, 0),
     }
 }
 
-fn plainly(taken: usize, kind: u32, general: u8, extended: u16) -> Heard
+fn without_bytes(taken: usize, kind: u32, general: u8, extended: u16) -> Heard
     ensures { result ≡ record { taken = taken; reply = 0; kind = kind; general = general; extended = extended } }
 {
     Heard {
@@ -500,11 +502,11 @@ fn plainly(taken: usize, kind: u32, general: u8, extended: u16) -> Heard
     }
 }
 
-fn tell_reply(taken: usize, kind: u32, reply: &[u8], room: &mut [u8]) -> Heard
-    ensures { record { heard = result; room = room.new } ≡ reply_told taken kind reply.now room.old }
+fn return_reply(taken: usize, kind: u32, reply: &[u8], buffer: &mut [u8]) -> Heard
+    ensures { record { heard = result; buffer = buffer.new } ≡ returned_reply taken kind reply.now buffer.old }
 {
-    if reply.len() <= room.len() {
-        copy_front(reply, room);
+    if reply.len() <= buffer.len() {
+        copy_front(reply, buffer);
     }
     Heard {
         taken,

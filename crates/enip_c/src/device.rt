@@ -6,9 +6,9 @@ ghost use Rattle.cip_objects.specs.DeviceWrites.{with_device_status, with_device
 ghost use Rattle.enip_adapter.specs.Device.{with_objects};
 ghost use Rattle.enip_adapter.specs.Endings.{no_endings, updated};
 ghost use Rattle.enip_c.specs.DeviceCalls.{IsWrittenKept, changes_kept, end_reason_number, c_ended_connection, looked_kept, ended_kept};
-ghost use Rattle.enip_c.specs.DeviceCalls.{IsToldEnding, write_status};
+ghost use Rattle.enip_c.specs.DeviceCalls.{ReturnsEnding, write_status};
 ghost use Rattle.enip_c.specs.Kept.{IsLive};
-ghost use Rattle.enip_c.specs.Room.{status_number, IsToldNumber};
+ghost use Rattle.enip_c.specs.Buffer.{status_number, ReturnsNumber};
 
 use crate::kept_adapter::KeptAdapter;
 use crate::kept_endings::KeptEndings;
@@ -90,7 +90,7 @@ pub extern "C" fn enip_core_adapter_changes(
 ) -> u32
     requires { IsLive kept.old.value }
     ensures kept { kept.new.value ≡ kept.old.value }
-    ensures told { IsToldNumber (changes_kept kept.old.value instance) changes.old changes.new result }
+    ensures returned { ReturnsNumber (changes_kept kept.old.value instance) changes.old changes.new result }
 {
     let adapter = kept.take(alloc);
     let status = match adapter.changes(instance) {
@@ -155,7 +155,7 @@ pub extern "C" fn enip_core_endings_at(
 ) -> u32
     requires { IsLive kept.old.value }
     ensures kept { kept.new.value ≡ kept.old.value }
-    ensures told { IsToldEnding (ended_kept kept.old.value place) ended.old ended.new result }
+    ensures returned { ReturnsEnding (ended_kept kept.old.value place) ended.old ended.new result }
 {
     let endings = kept.take(alloc);
     let status = tell(&endings, place, ended);
@@ -163,13 +163,13 @@ pub extern "C" fn enip_core_endings_at(
     status
 }
 
-fn tell(endings: &Endings, place: usize, told: &mut CEndedConnection) -> u32
-    ensures { IsToldEnding (slice_get endings.now.ended place) told.old told.new result }
+fn tell(endings: &Endings, place: usize, returned: &mut CEndedConnection) -> u32
+    ensures { ReturnsEnding (slice_get endings.now.ended place) returned.old returned.new result }
 {
     let Some(ended) = endings.ended().get(place) else {
         return Status::Absent.number();
     };
-    *told = CEndedConnection {
+    *returned = CEndedConnection {
         id: ended.id,
         peer: ended.session,
         why: number_of(ended.reason),

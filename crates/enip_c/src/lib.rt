@@ -7,12 +7,12 @@
 #![tactic(auto)]
 
 mod adapter;
+mod buffer;
 mod client;
 mod device;
 mod kept_adapter;
 mod kept_client;
 mod kept_endings;
 mod loose;
-mod room;
 mod status;
 mod texts;

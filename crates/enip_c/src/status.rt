@@ -1,7 +1,7 @@
 //! The status that each function returns to C.
 
 ghost use Rattle.std.specs.Prelude.{◌≡◌};
-ghost use Rattle.enip_c.specs.Room.{status_number};
+ghost use Rattle.enip_c.specs.Buffer.{status_number};
 
 use thiserror::Error;
 

@@ -2,7 +2,7 @@
 
 ghost use Rattle.std.specs.Prelude.{◌≤◌, length};
 
-use crate::room::copy_front;
+use crate::buffer::copy_front;
 use crate::status::Status;
 use arrayvec::ArrayString;
 use cip_bytes::StatusText;
@@ -65,17 +65,17 @@ static STATUSES: [Status; 19] = [
 
 /// Writes the text of a number of this kind. Returns its length, 0 if there is none or it does not fit.
 #[unsafe(no_mangle)]
-pub extern "C" fn enip_core_status_text(kind: u32, number: u32, room: &mut [u8]) -> usize
-    ensures { result ≤ length room.new }
+pub extern "C" fn enip_core_status_text(kind: u32, number: u32, buffer: &mut [u8]) -> usize
+    ensures { result ≤ length buffer.new }
 {
     let Some(kind) = Kind::of(kind) else {
         return 0;
     };
     let mut words = Words::new();
-    if write_text(kind, number, &mut words).is_err() || words.as_str().len() > room.len() {
+    if write_text(kind, number, &mut words).is_err() || words.as_str().len() > buffer.len() {
         return 0;
     }
-    copy_front(words.as_str().as_bytes(), room)
+    copy_front(words.as_str().as_bytes(), buffer)
 }
 
 /// Writes the text of a number, if it has one.

@@ -1,66 +1,79 @@
-//! What a command asks for: its words and flags.
+//! The arguments and options of the commands, with their help.
+//!
+//! `help` is the one line that `-h` prints, `long_help` what `--help` prints in its place. Neither makes a line longer
+//! than 80 columns.
 
+use crate::texts::{
+    COUNT_DETAILS, EVERY_DETAILS, PRINTED_TYPE_DETAILS, WAIT_DETAILS, WRITTEN_TYPE_DETAILS,
+};
 use clap::{Arg, ArgAction, value_parser};
 use std::alloc::{AllocError, Global};
 
-/// What a command asks for.
+/// An argument or an option of a command.
 #[derive(Clone, Copy)]
 pub(crate) enum Argument {
     Config,
     Script,
     Ladder,
-    Listen,
-    Count,
-    Idle,
+    ListenAddress,
+    ConnectionCount,
+    IdleTimeout,
     Discovery,
     Log,
-    Device,
-    Network,
+    DeviceAddress,
+    NetworkAddress,
     Service,
     Class,
     Instance,
     Attribute,
     OptionalAttribute,
-    Words,
-    OptionalDigits,
-    As,
+    Data,
+    OptionalData,
+    PrintedType,
+    WrittenType,
     Json,
-    Every,
-    Readings,
-    All,
+    Interval,
+    ReplyCount,
+    AllReplies,
     Connected,
     Timeout,
-    Answers,
+    DiscoveryTime,
 }
 
 impl Argument {
+    /// The argument as `clap` takes it.
     pub(crate) fn arg<'a>(self, alloc: Global) -> Result<Arg<'a>, AllocError> {
         Ok(match self {
             Argument::Config => config(alloc),
             Argument::Script => script(alloc),
             Argument::Ladder => ladder(alloc),
-            Argument::Listen => listen(alloc),
-            Argument::Count => count(alloc),
-            Argument::Idle => idle(alloc),
+            Argument::ListenAddress => listen_address(alloc),
+            Argument::ConnectionCount => connection_count(alloc),
+            Argument::IdleTimeout => idle_timeout(alloc),
             Argument::Discovery => discovery(alloc),
             Argument::Log => log(alloc),
-            Argument::Device => device(alloc),
-            Argument::Network => network(alloc),
+            Argument::DeviceAddress => device_address(alloc),
+            Argument::NetworkAddress => network_address(alloc),
             Argument::Service => service(alloc),
             Argument::Class => class(alloc),
             Argument::Instance => instance(alloc),
-            Argument::Attribute => attribute(alloc).required(true),
-            Argument::OptionalAttribute => attribute(alloc),
-            Argument::Words => words(alloc),
-            Argument::OptionalDigits => digits(alloc),
-            Argument::As => type_name(alloc),
+            Argument::Attribute => attribute(alloc)
+                .required(true)
+                .help("Attribute to write, 0 to 65535"),
+            Argument::OptionalAttribute => attribute(alloc).help(
+                "Attribute to read, 0 to 65535; all attributes if left out",
+            ),
+            Argument::Data => data(alloc),
+            Argument::OptionalData => optional_data(alloc),
+            Argument::PrintedType => printed_type(alloc),
+            Argument::WrittenType => written_type(alloc),
             Argument::Json => json(alloc),
-            Argument::Every => every(alloc),
-            Argument::Readings => readings(alloc)?,
-            Argument::All => all(alloc)?,
+            Argument::Interval => interval(alloc),
+            Argument::ReplyCount => reply_count(alloc)?,
+            Argument::AllReplies => all_replies(alloc)?,
             Argument::Connected => connected(alloc),
-            Argument::Timeout => timeout(alloc).default_value("5"),
-            Argument::Answers => timeout(alloc).default_value("1"),
+            Argument::Timeout => timeout(alloc),
+            Argument::DiscoveryTime => discovery_time(alloc),
         })
     }
 }
@@ -68,156 +81,180 @@ impl Argument {
 fn config<'a>(alloc: Global) -> Arg<'a> {
     Arg::new(alloc, "CONFIG")
         .required(true)
-        .help("The configuration of the device, a TOML file")
+        .help("Configuration of the device, a TOML file")
 }
 
 fn script<'a>(alloc: Global) -> Arg<'a> {
     Arg::new(alloc, "SCRIPT")
         .required(true)
-        .help("The lines of what happens, a file")
+        .help("Script to run, a text file")
 }
 
 fn ladder<'a>(alloc: Global) -> Arg<'a> {
     Arg::new(alloc, "ladder")
         .long("ladder")
         .action(ArgAction::SetTrue)
-        .help("Draws the run as a picture: the client, the wire and the adapter as columns")
+        .help("Draw the run with client, wire and adapter as columns")
 }
 
-fn listen<'a>(alloc: Global) -> Arg<'a> {
-    Arg::new(alloc, "ADDRESS").required(true).help(
-        "Where to listen, as 127.0.0.1:44818, or 127.0.0.1 for port 44818; port 0 takes a free one",
-    )
+fn listen_address<'a>(alloc: Global) -> Arg<'a> {
+    Arg::new(alloc, "ADDRESS")
+        .required(true)
+        .help("Address to listen at, such as 127.0.0.1 or 127.0.0.1:44818")
+        .long_help(
+            "Address to listen at, such as 127.0.0.1 or 127.0.0.1:44818. Without a\nport it is 44818; port 0 takes a free one",
+        )
 }
 
-fn count<'a>(alloc: Global) -> Arg<'a> {
-    // 1 to 65,535 (ours)
+fn connection_count<'a>(alloc: Global) -> Arg<'a> {
+    // Our own limits: 1 to 65,535.
     Arg::new(alloc, "count")
         .long("count")
         .value_name("N")
         .value_parser(value_parser!(u16).range(1..))
-        .help(
-            "How many connections to take, those closed at once too, until it ends; all that come, where it is left out",
+        .help("Exit after N connections [default: never]")
+        .long_help(
+            "Exit after N connections, 1 to 65535. Connections that are closed at\nonce count too\n\n[default: never]",
         )
 }
 
-fn idle<'a>(alloc: Global) -> Arg<'a> {
-    // 0 to 3,600 seconds, 120 where it is not said (TCP/IP Interface, Encapsulation Inactivity Timeout)
+fn idle_timeout<'a>(alloc: Global) -> Arg<'a> {
+    // TCP/IP Interface, Encapsulation Inactivity Timeout: 0 to 3,600 seconds, by default 120.
     Arg::new(alloc, "idle")
         .long("idle")
         .value_name("SECONDS")
         .value_parser(value_parser!(u16).range(..=3_600))
         .default_value("120")
-        .help("How long a client may send nothing, 0 to 3600; 0 is without a limit")
+        .help("Longest silence of a client, 0 to 3600")
+        .long_help(
+            "A client that sends nothing for so many seconds, 0 to 3600, is\ndisconnected. 0 is no limit",
+        )
 }
 
 fn discovery<'a>(alloc: Global) -> Arg<'a> {
     Arg::new(alloc, "discovery")
         .long("discovery")
         .action(ArgAction::SetTrue)
-        .help("Answers over UDP to clients that look for devices")
+        .help("Answer clients that look for devices over UDP")
 }
 
 fn log<'a>(alloc: Global) -> Arg<'a> {
     Arg::new(alloc, "log")
         .long("log")
         .action(ArgAction::SetTrue)
-        .help("Tells on standard error of each connection and of each frame that is served")
+        .help("Log connections and frames to standard error")
 }
 
-fn device<'a>(alloc: Global) -> Arg<'a> {
-    Arg::new(alloc, "ADDRESS").required(true).help(
-        "Where the device listens, as 10.0.0.9, plc.local or 127.0.0.1:44818",
-    )
+fn device_address<'a>(alloc: Global) -> Arg<'a> {
+    Arg::new(alloc, "ADDRESS")
+        .required(true)
+        .help("Device to ask, such as 10.0.0.9, plc.local or 10.0.0.9:44818")
+        .long_help(
+            "Device to ask: a host or address, such as 10.0.0.9, plc.local or\n10.0.0.9:44818. Without a port it is 44818",
+        )
 }
 
-fn network<'a>(alloc: Global) -> Arg<'a> {
+fn network_address<'a>(alloc: Global) -> Arg<'a> {
     Arg::new(alloc, "ADDRESS")
         .default_value("255.255.255.255")
-        .help(
-            "Where devices are looked for: the address of one machine, or that of all machines of a network",
+        .help("Broadcast address, or one machine")
+        .long_help(
+            "Where to look for devices: the broadcast address of a network, or the\naddress of one machine",
         )
 }
 
 fn service<'a>(alloc: Global) -> Arg<'a> {
-    // bit 7 marks a reply (message router)
+    // Message router: bit 7 of a service marks a reply.
     Arg::new(alloc, "SERVICE")
         .required(true)
         .value_parser(value_parser!(u8).range(..0x80))
-        .help("The service, 0 to 127")
+        .help("Service code, 0 to 127")
 }
 
 fn class<'a>(alloc: Global) -> Arg<'a> {
     Arg::new(alloc, "CLASS")
         .required(true)
         .value_parser(value_parser!(u16))
-        .help("The class of the object, 0 to 65535")
+        .help("Class of the object, 0 to 65535")
 }
 
 fn instance<'a>(alloc: Global) -> Arg<'a> {
     Arg::new(alloc, "INSTANCE")
         .required(true)
         .value_parser(value_parser!(u32))
-        .help("Its instance, 0 to 4294967295; 0 is the class itself")
+        .help("Instance of the object, 0 to 4294967295; 0 is the class itself")
 }
 
 fn attribute<'a>(alloc: Global) -> Arg<'a> {
-    Arg::new(alloc, "ATTRIBUTE")
-        .value_parser(value_parser!(u16))
-        .help("The attribute, 0 to 65535")
+    Arg::new(alloc, "ATTRIBUTE").value_parser(value_parser!(u16))
 }
 
-fn digits<'a>(alloc: Global) -> Arg<'a> {
-    Arg::new(alloc, "HEX").help(
-        "The data of the request in hexadecimal digits, perhaps with spaces",
-    )
+fn optional_data<'a>(alloc: Global) -> Arg<'a> {
+    Arg::new(alloc, "HEX")
+        .help("Data of the request in hexadecimal, as one argument")
+        .long_help(
+            "Data of the request in hexadecimal, as one argument; spaces are\nignored. Numbers have their least significant byte first",
+        )
 }
 
-fn words<'a>(alloc: Global) -> Arg<'a> {
+fn data<'a>(alloc: Global) -> Arg<'a> {
     Arg::new(alloc, "HEX")
         .required(true)
         .num_args(1..)
         .allow_negative_numbers(true)
-        .help(
-            "The data in hexadecimal digits, perhaps with spaces, as one word; with --as the words of their values",
+        .help("Data in hexadecimal, as one argument; with --as, values")
+        .long_help(
+            "Data in hexadecimal, as one argument; spaces are ignored. Numbers have\ntheir least significant byte first. With --as, one argument for each\nvalue. A value that begins with a minus sign and is not a number needs\n`--` before it",
         )
 }
 
-fn type_name<'a>(alloc: Global) -> Arg<'a> {
-    Arg::new(alloc, "as").long("as").value_name("TYPE").help(
-        "The type of the data, as UINT, or UINT[] for any number of values",
-    )
+fn printed_type<'a>(alloc: Global) -> Arg<'a> {
+    type_option(alloc)
+        .help("Print values of this type, such as UINT or UINT[]")
+        .long_help(PRINTED_TYPE_DETAILS)
+}
+
+fn written_type<'a>(alloc: Global) -> Arg<'a> {
+    type_option(alloc)
+        .help("Take values of this type, such as UINT or UINT[]")
+        .long_help(WRITTEN_TYPE_DETAILS)
+}
+
+fn type_option<'a>(alloc: Global) -> Arg<'a> {
+    Arg::new(alloc, "as").long("as").value_name("TYPE")
 }
 
 fn json<'a>(alloc: Global) -> Arg<'a> {
     Arg::new(alloc, "json")
         .long("json")
         .action(ArgAction::SetTrue)
-        .help("Prints an object of JSON on one line")
+        .help("Print a JSON object on one line")
 }
 
-fn every<'a>(alloc: Global) -> Arg<'a> {
-    // 0 to 3,600 seconds (ours)
+fn interval<'a>(alloc: Global) -> Arg<'a> {
+    // Our own limits: 0 to 3,600 seconds.
     Arg::new(alloc, "every")
         .long("every")
         .value_name("SECONDS")
-        .help("Reads again and again, so long after each reply, a decimal fraction to 3600")
+        .help("Read again this long after each reply [default: once]")
+        .long_help(EVERY_DETAILS)
 }
 
-fn readings<'a>(alloc: Global) -> Result<Arg<'a>, AllocError> {
+fn reply_count<'a>(alloc: Global) -> Result<Arg<'a>, AllocError> {
     Arg::new(alloc, "count")
         .long("count")
         .value_name("N")
         .value_parser(value_parser!(u32).range(1..))
-        .help("How many replies to take until it ends; without an end, where it is left out")
+        .help("With --every, exit after N replies [default: never]")
+        .long_help(COUNT_DETAILS)
         .requires_arg("every")
 }
 
-fn all<'a>(alloc: Global) -> Result<Arg<'a>, AllocError> {
+fn all_replies<'a>(alloc: Global) -> Result<Arg<'a>, AllocError> {
     Arg::new(alloc, "all")
         .long("all")
         .action(ArgAction::SetTrue)
-        .help("Prints each value, and not those alone that differ")
+        .help("With --every, print every value, not only changes")
         .requires_arg("every")
 }
 
@@ -225,15 +262,26 @@ fn connected<'a>(alloc: Global) -> Arg<'a> {
     Arg::new(alloc, "connected")
         .long("connected")
         .action(ArgAction::SetTrue)
-        .help("Asks on a class 3 connection")
+        .help("Send the request on a class 3 connection")
 }
 
 fn timeout<'a>(alloc: Global) -> Arg<'a> {
-    // 0 to 3,600 seconds (ours)
+    // Our own limits: 0 to 3,600 seconds.
     Arg::new(alloc, "timeout")
         .long("timeout")
         .value_name("SECONDS")
-        .help(
-            "How long a device is waited for, a decimal fraction to 3600; 0 is as long as TCP does",
+        .default_value("5")
+        .help("Longest wait for the device, 0 to 3600")
+        .long_help(WAIT_DETAILS)
+}
+
+fn discovery_time<'a>(alloc: Global) -> Arg<'a> {
+    Arg::new(alloc, "timeout")
+        .long("timeout")
+        .value_name("SECONDS")
+        .default_value("1")
+        .help("Collect answers for so long, 0 to 3600")
+        .long_help(
+            "Collect answers for so long: seconds, 0 to 3600, with up to six\ndecimals. 0 is no limit",
         )
 }

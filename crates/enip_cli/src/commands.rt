@@ -1,9 +1,11 @@
-//! The words that the program takes, and what it says of them.
+//! The commands of the program, with their arguments and their help.
 
 use crate::arguments::Argument;
 use crate::texts::{
-    ABOUT_ANSWER, ABOUT_CALL, ABOUT_CHECK, ABOUT_DISCOVER, ABOUT_GET, ABOUT_IDENTITY, ABOUT_REPLAY,
-    ABOUT_SERVE, ABOUT_SERVICES, ABOUT_SET, ABOUT_SHOW, AFTER_ASKING, AFTER_LISTING,
+    DETAILS_ANSWER, DETAILS_CALL, DETAILS_CHECK, DETAILS_DISCOVER, DETAILS_GET, DETAILS_IDENTITY,
+    DETAILS_REPLAY, DETAILS_SERVE, DETAILS_SERVICES, DETAILS_SET, DETAILS_SHOW, EXAMPLES_ANSWER,
+    EXAMPLES_CALL, EXAMPLES_CHECK, EXAMPLES_DISCOVER, EXAMPLES_GET, EXAMPLES_IDENTITY,
+    EXAMPLES_REPLAY, EXAMPLES_SERVE, EXAMPLES_SERVICES, EXAMPLES_SET, EXAMPLES_SHOW, EXIT_STATUSES,
 };
 use clap::Command;
 use std::alloc::{AllocError, Global};
@@ -12,139 +14,147 @@ use std::alloc::{AllocError, Global};
 pub const PROGRAM: &str = "enip";
 
 const VERSION: &str = "0.1.0";
+
 /// A command of the program.
 struct Row {
     name: &'static str,
-    /// What is said of it in a line, and in its own help.
+    /// What it does, in a line.
     about: &'static str,
-    long_about: &'static str,
-    /// What its own help ends with.
-    after: Option<&'static str>,
+    /// The end of its help under `-h`.
+    examples: &'static str,
+    /// The end of its help under `--help`.
+    details: &'static str,
     arguments: &'static [Argument],
 }
 
+/// The commands in the order in which the help lists them.
 static COMMANDS: [Row; 11] = [
     Row {
-        name: "answer",
-        about: "Answers frames that are given as lines of hexadecimal digits",
-        long_about: ABOUT_ANSWER,
-        after: None,
-        arguments: &[Argument::Config],
-    },
-    Row {
-        name: "check",
-        about: "Says which device a configuration tells, or what is wrong with it",
-        long_about: ABOUT_CHECK,
-        after: None,
-        arguments: &[Argument::Config],
-    },
-    Row {
-        name: "replay",
-        about: "Moves a client and an adapter side by side by the lines of a script",
-        long_about: ABOUT_REPLAY,
-        after: None,
-        arguments: &[Argument::Config, Argument::Script, Argument::Ladder],
-    },
-    Row {
         name: "serve",
-        about: "Serves the device on a socket, to several clients at once",
-        long_about: ABOUT_SERVE,
-        after: None,
+        about: "Serve a device over TCP to several clients at once",
+        examples: EXAMPLES_SERVE,
+        details: DETAILS_SERVE,
         arguments: &[
             Argument::Config,
-            Argument::Listen,
-            Argument::Count,
-            Argument::Idle,
+            Argument::ListenAddress,
+            Argument::ConnectionCount,
+            Argument::IdleTimeout,
             Argument::Discovery,
             Argument::Log,
         ],
     },
     Row {
-        name: "show",
-        about: "Prints the fields of frames that are given as lines of hexadecimal digits",
-        long_about: ABOUT_SHOW,
-        after: None,
-        arguments: &[],
-    },
-    Row {
-        name: "identity",
-        about: "Asks a device what it is",
-        long_about: ABOUT_IDENTITY,
-        after: Some(AFTER_LISTING),
-        arguments: &[Argument::Device, Argument::Json, Argument::Timeout],
-    },
-    Row {
-        name: "services",
-        about: "Asks a device which encapsulation services it offers",
-        long_about: ABOUT_SERVICES,
-        after: Some(AFTER_LISTING),
-        arguments: &[Argument::Device, Argument::Timeout],
-    },
-    Row {
-        name: "discover",
-        about: "Looks for the devices of a network",
-        long_about: ABOUT_DISCOVER,
-        after: None,
-        arguments: &[Argument::Network, Argument::Json, Argument::Answers],
+        name: "check",
+        about: "Check a configuration, and print the device that it describes",
+        examples: EXAMPLES_CHECK,
+        details: DETAILS_CHECK,
+        arguments: &[Argument::Config],
     },
     Row {
         name: "get",
-        about: "Reads an attribute of an object of a device, or all",
-        long_about: ABOUT_GET,
-        after: Some(AFTER_ASKING),
+        about: "Read an attribute of an object, once or again and again",
+        examples: EXAMPLES_GET,
+        details: DETAILS_GET,
         arguments: &[
-            Argument::Device,
+            Argument::DeviceAddress,
             Argument::Class,
             Argument::Instance,
             Argument::OptionalAttribute,
-            Argument::As,
+            Argument::PrintedType,
             Argument::Json,
-            Argument::Every,
-            Argument::Readings,
-            Argument::All,
+            Argument::Interval,
+            Argument::ReplyCount,
+            Argument::AllReplies,
             Argument::Connected,
             Argument::Timeout,
         ],
     },
     Row {
         name: "set",
-        about: "Sets an attribute of an object of a device",
-        long_about: ABOUT_SET,
-        after: Some(AFTER_ASKING),
+        about: "Write an attribute of an object",
+        examples: EXAMPLES_SET,
+        details: DETAILS_SET,
         arguments: &[
-            Argument::Device,
+            Argument::DeviceAddress,
             Argument::Class,
             Argument::Instance,
             Argument::Attribute,
-            Argument::Words,
-            Argument::As,
+            Argument::Data,
+            Argument::WrittenType,
             Argument::Connected,
             Argument::Timeout,
         ],
     },
     Row {
         name: "call",
-        about: "Calls a service of an object of a device",
-        long_about: ABOUT_CALL,
-        after: Some(AFTER_ASKING),
+        about: "Call a service of an object",
+        examples: EXAMPLES_CALL,
+        details: DETAILS_CALL,
         arguments: &[
-            Argument::Device,
+            Argument::DeviceAddress,
             Argument::Service,
             Argument::Class,
             Argument::Instance,
-            Argument::OptionalDigits,
+            Argument::OptionalData,
             Argument::Json,
             Argument::Connected,
             Argument::Timeout,
         ],
     },
+    Row {
+        name: "identity",
+        about: "Print what a device is",
+        examples: EXAMPLES_IDENTITY,
+        details: DETAILS_IDENTITY,
+        arguments: &[Argument::DeviceAddress, Argument::Json, Argument::Timeout],
+    },
+    Row {
+        name: "discover",
+        about: "Find the devices of a network",
+        examples: EXAMPLES_DISCOVER,
+        details: DETAILS_DISCOVER,
+        arguments: &[
+            Argument::NetworkAddress,
+            Argument::Json,
+            Argument::DiscoveryTime,
+        ],
+    },
+    Row {
+        name: "services",
+        about: "Print the encapsulation services that a device offers",
+        examples: EXAMPLES_SERVICES,
+        details: DETAILS_SERVICES,
+        arguments: &[Argument::DeviceAddress, Argument::Timeout],
+    },
+    Row {
+        name: "answer",
+        about: "Answer frames that are given as lines of hexadecimal digits",
+        examples: EXAMPLES_ANSWER,
+        details: DETAILS_ANSWER,
+        arguments: &[Argument::Config],
+    },
+    Row {
+        name: "show",
+        about: "Print the fields of frames given as lines of hexadecimal digits",
+        examples: EXAMPLES_SHOW,
+        details: DETAILS_SHOW,
+        arguments: &[],
+    },
+    Row {
+        name: "replay",
+        about: "Run a client and an adapter by a script of losses and repeats",
+        examples: EXAMPLES_REPLAY,
+        details: DETAILS_REPLAY,
+        arguments: &[Argument::Config, Argument::Script, Argument::Ladder],
+    },
 ];
 
-/// The whole program.
+/// The whole program as `clap` parses it.
 pub fn program<'a>(alloc: Global) -> Result<Command<'a>, AllocError> {
     let mut program = Command::new(alloc, PROGRAM)
         .version(VERSION)
-        .about("An EtherNet/IP adapter that is proved to answer as the standard says, and a client")
+        .about("An EtherNet/IP adapter and explicit messaging client")
+        .after_long_help(EXIT_STATUSES)
         .subcommand_required(true)
         .arg_required_else_help(true);
     for row in &COMMANDS {
@@ -153,13 +163,12 @@ pub fn program<'a>(alloc: Global) -> Result<Command<'a>, AllocError> {
     Ok(program)
 }
 
+/// One command with its arguments.
 fn command<'a>(alloc: Global, row: &Row) -> Result<Command<'a>, AllocError> {
     let mut command = Command::new(alloc, row.name)
         .about(row.about)
-        .long_about(row.long_about);
-    if let Some(text) = row.after {
-        command = command.after_long_help(text);
-    }
+        .after_help(row.examples)
+        .after_long_help(row.details);
     for argument in row.arguments {
         command = command.arg(argument.arg(alloc)?)?;
     }

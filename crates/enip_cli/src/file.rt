@@ -1,14 +1,15 @@
-//! The file that a word names. Its name may be any bytes that the system takes, text or not.
+//! Files that arguments name. A name may be any bytes that the system accepts, UTF-8 or not.
 
-use crate::command_line::Word;
+use crate::command_line::OsArg;
 use std::alloc::Global;
 use std::convert::AsStr;
 use std::io::{self, Read};
 
-/// The bytes of the file that a word names. The file's name need not be text.
-pub fn read_file(alloc: Global, words: &[Word], text: &str) -> io::Result<Vec<u8>> {
-    let word = words.iter().find(|word| word.as_str() == text);
-    let name = word.map_or(text.as_bytes(), |word| word.bytes.as_slice());
+/// The bytes of the file that an argument names. `text` is the argument as text. The file is opened by the bytes of that
+/// argument, which need not be UTF-8.
+pub fn read_file(alloc: Global, args: &[OsArg], text: &str) -> io::Result<Vec<u8>> {
+    let argument = args.iter().find(|argument| argument.as_str() == text);
+    let name = argument.map_or(text.as_bytes(), |argument| argument.bytes.as_slice());
     let mut bytes = Vec::new(alloc);
     File::open(name)?.read_to_end(&mut bytes)?;
     Ok(bytes)
@@ -20,7 +21,6 @@ struct File {
 }
 
 impl File {
-    /// Opens the file of a name for reading.
     fn open(name: &[u8]) -> io::Result<File> {
         let descriptor = os::open_read(name);
         if descriptor < 0 {

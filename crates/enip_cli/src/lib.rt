@@ -1,4 +1,4 @@
-//! The words of the program `enip`: which it takes, what its help says of them, and the files that they name.
+//! The command line of the program `enip`: its commands and options, their help, and the files that arguments name.
 #![tactic(auto)]
 
 mod arguments;
@@ -8,7 +8,7 @@ mod file;
 mod seconds;
 mod texts;
 
-pub use command_line::{Word, words};
+pub use command_line::{OsArg, os_args};
 pub use commands::{PROGRAM, program};
 pub use file::read_file;
 pub use seconds::microseconds_of;

@@ -1,45 +1,92 @@
-//! What the help says of each command.
+//! The longer texts of the help.
+//!
+//! `EXAMPLES_..` end the help of `-h`. `DETAILS_..` end that of `--help` and have the same examples. `.._DETAILS` are
+//! the help of one option under `--help`, which `clap` indents by ten columns. No line is longer than 80 columns.
 
-pub(crate) const ABOUT_ANSWER: &str = "Answers frames that are given as lines of hexadecimal digits
+/// The end of `enip --help`: the one place that has the exit statuses.
+pub(crate) const EXIT_STATUSES: &str = "\
+Examples:
+  enip serve demo.toml 127.0.0.1
+  enip get 127.0.0.1 1 1 7 --as SHORT_STRING
 
-Reads lines from standard input, and prints the answers of an adapter:
+Exit status, and the last line of standard error if the command fails. The line
+before it starts with `enip: ` and gives the reason.
 
-  P HEX    a piece of the stream of peer P, a digit from 1 to 9, who begins at its first line
-  end P    the end of peer P
-  now N    the moment of the pieces that follow, in microseconds
-
-HEX may have spaces. Empty lines and lines that begin with # are skipped.
-
-Prints
-
-  P hex       an answer to peer P; `cut -c3- | enip show` shows what was answered, and what was asked
-  P closed    the adapter closed the connection of peer P, whose later pieces print nothing
-  P full N    P cannot begin: all places are taken (1), or all session handles were given out (2)
-
-Exit status, and the last line on standard error; in front of it stands why, in words
-
-  0                     all lines were run
-  2  an explanation     the words are refused
+  0                     success
+  2                     the arguments are refused; the text gives the reason
+  2  hex                HEX is not hexadecimal
+  2  value              an argument is not a value of TYPE, or is out of range
   3  configuration N    the configuration is refused
-  4  line N             line N of the input, from 1, is refused; those before it were run
-  5  device             a file or a stream could not be read or written
-  5  memory             there was no memory
+  4  line N             line N of the input or the script is refused; the lines
+                        before it were run
+  5  device             a file, a stream or the network failed, or the device
+                        did not answer in time
+  5  memory             out of memory
+  6                     the device refused the request
+  6  setup              replay: no capacity for two sessions and a connection
+  7  fault N            no valid reply
 
-What `configuration N` means, by the first that holds of
+configuration N, the first that applies:
 
-  7    it is no TOML
-  9    a key is unknown
-  8    a key is missing, or its value is of another type or out of its range
-  1    `name` is over 32 bytes, or has a byte that can't be printed
-  2    there are over 16 tables `assembly`, or the `members` of one have 0 or over 3,900 bytes
-  3    the `members` of an assembly are over 64, or one has 0 bytes
-  4    the `instance` of an assembly is 0, or stands twice
-  5    `value` of the counter is over its `limit`";
+  7    the file is not TOML
+  9    an unknown key
+  8    a key is missing, or its value has the wrong type or is out of range
+  1    `name` is longer than 32 bytes, or has a byte that is not printable
+  2    more than 16 assemblies, or `members` of one with 0 or over 3900 bytes
+  3    more than 64 members in an assembly, or one of 0 bytes
+  4    `instance` of an assembly is 0 or occurs twice
+  5    `value` of the counter is over its `limit`
 
-pub(crate) const ABOUT_CHECK: &str =
-    "Says which device a configuration tells, or what is wrong with it
+fault N:
 
-Prints its identity, its counter, its assemblies with their sizes, and how many places there are, as
+  1    the request is not possible
+  2    the device answered with an encapsulation error status
+  4    a frame was too long
+  6    the reply is malformed, or its data are not values of TYPE
+  7    the request is too long: over 504 bytes, or 498 with --connected";
+
+pub(crate) const EXAMPLES_SERVE: &str = "\
+Examples:
+  enip serve demo.toml 127.0.0.1
+  enip serve demo.toml 0.0.0.0:2222 --discovery --log";
+
+pub(crate) const DETAILS_SERVE: &str = "\
+Once the device listens, `listening on ADDRESS` is printed on standard error.
+
+The configuration's `peers` is how many clients may be connected at once. One
+client more, or one for which no session handle is left, is disconnected at
+once. A client that resets its connection, sends garbage or leaves in the middle
+of a frame ends only its own connection. A client that does not send or does not
+read delays no other client; --idle ends it.
+
+With --discovery, the device also receives datagrams at the same UDP address and
+port. It answers ListIdentity, ListServices and ListInterfaces without data as
+over TCP, and drops all others. At 0.0.0.0 it receives broadcasts too.
+
+With --log, standard error has a line for each connection that begins or ends,
+and for each frame: the seconds since the start, the client, the request and the
+status of the answer.
+
+  0.002117 127.0.0.1:40312 connected
+  0.002305 127.0.0.1:40312 RegisterSession: success
+  0.002377 127.0.0.1:40312 SendRRData Forward_Open class 6 instance 1: success
+  0.002462 127.0.0.1:40312 UnRegisterSession: no answer
+  0.002481 127.0.0.1:40312 disconnected
+
+Examples:
+  enip serve demo.toml 127.0.0.1
+  enip serve demo.toml 0.0.0.0:2222 --discovery --log
+
+For exit statuses, see `enip --help`.";
+
+pub(crate) const EXAMPLES_CHECK: &str = "\
+Examples:
+  enip check demo.toml
+  enip check demo.toml && enip serve demo.toml 127.0.0.1";
+
+pub(crate) const DETAILS_CHECK: &str = "\
+Prints the identity, the counter, each assembly with the sizes of its members,
+and the limits:
 
   vendor 4660
   device type 43
@@ -51,130 +98,119 @@ Prints its identity, its counter, its assemblies with their sizes, and how many 
   state 3
   address 127.0.0.1:44818
   counter 0, limit 100
-  assembly 100, settable, 4 bytes, members of 1 2 1
-  places for 4 peers and 16 connections
+  assembly 100, settable, 4 bytes, member sizes 1 2 1
+  up to 4 peers and 16 connections
   first session handle 1, first connection ID 1
 
-Exit status, and the last line on standard error; in front of it stands what is wrong, and in which line
+If the configuration is refused, standard error has the reason, in which line it
+is, and `configuration N`. `enip --help` lists the meanings of N.
 
-  0                     it is a configuration
-  2  an explanation     the words are refused
-  3  configuration N    it is refused: N is as of `enip answer`
-  5  device             a file or a stream could not be read or written
-  5  memory             there was no memory";
+Examples:
+  enip check demo.toml
+  enip check demo.toml && enip serve demo.toml 127.0.0.1
 
-pub(crate) const ABOUT_REPLAY: &str =
-    "Moves a client and an adapter side by side by the lines of a script
+For exit statuses, see `enip --help`.";
 
-The client has registered and opened its connection, and a second session is registered. Each frame that is sent, in
-either direction, has a position in it, from 0. Reads the lines of the file SCRIPT, and prints for each what became of
-it:
+pub(crate) const EXAMPLES_GET: &str = "\
+Examples:
+  enip get 127.0.0.1 1 1 1
+  enip get 127.0.0.1 1 1 7 --as SHORT_STRING";
 
-  line          printed
-  submit HEX    submit N sent K      the client's request N, from 0, was sent at position K
-                submit refused R     one waits (1), it is too long (2), it is no request (3), 65,535 were submitted since
-                                     the last accepted reply (5)
-  resend        resend K             the request that waits was sent once more, at position K
-                resend none          no request waits
-  reach K       reach K back J       what was sent at K reached the adapter, whose answer was sent back at position J
-                reach K none         it reached the adapter, which did not answer
-                reach K impossible   nothing was sent at K, or what was sent behind it was delivered
-  back J        back J accepted HEX  what was sent back at J reached the client, which accepted this reply
-                back J ignored       the client did not wait for it
-                back J impossible    as of `reach`
-  other HEX     other done           the second session had this request executed, without a connection
-                other impossible     it has under 2 or over 504 bytes
-  shut          shut                 the time of the connection is over
-  giveup        giveup               the client gave up the request that waits, and can submit another
+pub(crate) const DETAILS_GET: &str = "\
+The request has a session of its own, or with --connected a connection of its
+own. It is Get_Attribute_Single, or Get_Attributes_All without ATTRIBUTE.
 
-K and J are decimal. HEX may have spaces. Empty lines and lines that begin with # are skipped. At the end it prints
+Output:
 
-  counter VALUE LIMIT ADDITIONS
-  assembly N HEX                     for each assembly, by rising N
-  client idle                        or `client waiting`, or `client given up`
+  hex                    the data of the reply, least significant byte first
+  ok                     the reply has no data
+  refused 0xGG           the device refused: the general status
+  refused 0xGG 0xEEEE    the same, with the first additional status word
 
-An example: with the lines
+With --json it is an object instead: `status` 0 and `data`, and with --as `type`
+and `values`; or for a refusal, `status` and `extended`, the first additional
+status word or 0.
 
-  submit 32022064240105000000
-  reach 0
-  reach 0
-  back 0
-  back 1
-
-the request to add 5 to the counter reaches the adapter twice, and so does its reply the client. The counter moved
-once, and one reply was accepted:
-
-  submit 0 sent 0
-  reach 0 back 0
-  reach 0 back 1
-  back 0 accepted b200000005000000
-  back 1 ignored
-  counter 5 100 1
-  assembly 100 00000000
-  client idle
-
-Exit status, and the last line on standard error; in front of it stands why, in words
-
-  0                     all lines were run
-  2  an explanation     the words are refused
-  3  configuration N    the configuration is refused, as of `enip answer`
-  4  line N             line N of the script, from 1, is refused; those before it were run, and nothing is printed behind
-  5  device             a file or a stream could not be read or written
-  5  memory             there was no memory
-  6  setup              the configuration has no place for both sessions, or for the connection";
-
-pub(crate) const ABOUT_SERVE: &str = "Serves the device on a socket, to several clients at once
-
-Prints where it listens on standard error, once it does. There are as many places as the configuration has `peers`. A
-client for whom there is no place, or no session handle any more, is closed at once.
-
-A client that resets, sends garbage or leaves in mid-frame ends its own connection alone. One that does not send or does
-not read keeps no other waiting; it is ended once it was silent for as long as --idle says.
-
-With --discovery datagrams of UDP at the same address and port are heard as well: a ListIdentity, a ListServices or a
-ListInterfaces without data is answered as over TCP, any other is dropped. At 0.0.0.0 that hears broadcasts too.
-
-With --log there is a line on standard error for each connection that begins or ends, and for each frame that is served:
-the seconds since the beginning, the client, what it asked, and the status of the answer, as
-
-  0.002117 127.0.0.1:40312 begins
-  0.002305 127.0.0.1:40312 RegisterSession: success
-  0.002377 127.0.0.1:40312 SendRRData Get_Attribute_Single class 1 instance 1 attribute 1: success
-  0.002462 127.0.0.1:40312 UnRegisterSession: no answer
-  0.002481 127.0.0.1:40312 ends
-
-Exit status, and the last line on standard error, as of `enip answer`; 5 `device` also where the address cannot be bound.";
-
-pub(crate) const ABOUT_SHOW: &str =
-    "Prints the fields of frames that are given as lines of hexadecimal digits
-
-Reads a frame a line from standard input, and prints its header, its items and its request or reply, up to the
-first fault.";
-
-pub(crate) const ABOUT_GET: &str = "Reads an attribute of an object of a device
-
-  enip get 127.0.0.1:44818 1 1 1
-
-reads the vendor: class 1 (Identity), instance 1, attribute 1. Without an attribute all of them are read at once. With
---as the data are printed as values of a type:
-
-  enip get 127.0.0.1:44818 1 1 7 --as SHORT_STRING
-
-prints the name, Demo.
-
-With --every the device is asked again and again in one session, with --connected on one connection. There is a line for
-the first value, and for each that differs from the one before, or with --all for each: the seconds since the beginning,
-and the value, as
+With --every, a line starts with the seconds since the start:
 
   0.002117 01020304
   4.002391 05020304
 
-A device that goes away is told on standard error, and tried again after the seconds of --timeout. In a list the values of
-a type have a space between them, and each SHORT_STRING stands between quotes.";
+A device that goes away is reported on standard error and tried again after the
+seconds of --timeout, or after 5 if that is 0.
 
-pub(crate) const ABOUT_IDENTITY: &str = "Asks a device what it is, without a session (ListIdentity)
+Examples:
+  enip get 127.0.0.1 1 1 1
+      reads the vendor: class 1 (Identity), instance 1, attribute 1
+  enip get 127.0.0.1 1 1 7 --as SHORT_STRING
+      prints the product name, such as Demo
+  enip get 127.0.0.1 4 100 3 --every 0.5 --connected
+      follows the data of an assembly: class 4, instance 100, attribute 3
 
-Prints a line for each field; several identities are divided by an empty line:
+For exit statuses, see `enip --help`.";
+
+pub(crate) const EXAMPLES_SET: &str = "\
+Examples:
+  enip set 127.0.0.1 4 100 3 01020304
+  enip set 127.0.0.1 4 100 3 --as UINT[] 513 1027";
+
+pub(crate) const DETAILS_SET: &str = "\
+The request has a session of its own, or with --connected a connection of its
+own. It is Set_Attribute_Single.
+
+Output:
+
+  ok                     the attribute is written
+  hex                    the same, and the reply has these data
+  refused 0xGG           the device refused: the general status
+  refused 0xGG 0xEEEE    the same, with the first additional status word
+
+Examples:
+  enip set 127.0.0.1 4 100 3 01020304
+      sets the data of an assembly (class 4, instance 100, attribute 3) to the
+      bytes 01 02 03 04
+  enip set 127.0.0.1 4 100 3 --as UINT[] 513 1027
+      sets them to the same bytes
+
+For exit statuses, see `enip --help`.";
+
+pub(crate) const EXAMPLES_CALL: &str = "\
+Examples:
+  enip call 127.0.0.1 50 100 1 05000000
+  enip call 127.0.0.1 51 100 1 --connected";
+
+pub(crate) const DETAILS_CALL: &str = "\
+The request has a session of its own, or with --connected a connection of its
+own.
+
+Output:
+
+  hex                    the data of the reply, least significant byte first
+  ok                     the reply has no data
+  refused 0xGG           the device refused: the general status
+  refused 0xGG 0xEEEE    the same, with the first additional status word
+
+With --json it is an object instead: `status` 0 and `data`; or for a refusal,
+`status` and `extended`, the first additional status word or 0.
+
+Examples:
+  enip call 127.0.0.1 50 100 1 05000000
+      calls service 50 (0x32) of class 100, instance 1, with the data
+      05 00 00 00; the demo device adds 5 to its counter
+  enip call 127.0.0.1 51 100 1 --connected
+      calls service 51 (0x33) on a class 3 connection; the demo device sets its
+      counter to 0
+
+For exit statuses, see `enip --help`.";
+
+pub(crate) const EXAMPLES_IDENTITY: &str = "\
+Examples:
+  enip identity 127.0.0.1
+  enip identity plc.local:2222 --json";
+
+pub(crate) const DETAILS_IDENTITY: &str = "\
+Sends ListIdentity, which needs no session, and prints a line for each field.
+Several identities have an empty line between them.
 
   vendor 4660
   device type 43
@@ -186,108 +222,213 @@ Prints a line for each field; several identities are divided by an empty line:
   state 3
   address 127.0.0.1:44818
 
-Bytes of the name that can't be printed are told as \\xNN. With --json each identity is one object on one line.";
+A byte of the name that is not printable is written as \\xNN. With --json, each
+identity is one object on one line.
 
-pub(crate) const ABOUT_SERVICES: &str =
-    "Asks a device which encapsulation services it offers, without a session (ListServices)
+Examples:
+  enip identity 127.0.0.1
+  enip identity plc.local:2222 --json
 
-Prints a line for each field; several services are divided by an empty line:
+For exit statuses, see `enip --help`.";
+
+pub(crate) const EXAMPLES_SERVICES: &str = "\
+Examples:
+  enip services 127.0.0.1
+  enip services plc.local:2222 --timeout 1";
+
+pub(crate) const DETAILS_SERVICES: &str = "\
+Sends ListServices, which needs no session, and prints a line for each field.
+Several services have an empty line between them.
 
   version 1
   capability flags 0x0020
-  name Communications";
+  name Communications
 
-pub(crate) const ABOUT_DISCOVER: &str =
-    "Looks for the devices of a network, by one datagram to all of its machines (ListIdentity)
+Examples:
+  enip services 127.0.0.1
+  enip services plc.local:2222 --timeout 1
 
-Prints a line for each device that answers within the seconds of --timeout:
+For exit statuses, see `enip --help`.";
+
+pub(crate) const EXAMPLES_DISCOVER: &str = "\
+Examples:
+  enip discover
+  enip discover 192.168.1.255 --timeout 3";
+
+pub(crate) const DETAILS_DISCOVER: &str = "\
+Sends ListIdentity in one UDP datagram, and prints a line for each device that
+answers in time:
 
   127.0.0.1:44818 Demo vendor 4660 product 7 serial 0x01020304
 
-A datagram that is no whole answer is left out. With --json each device is one object on one line.
+A datagram that is not a whole answer is ignored. With --json, each device is
+one object on one line. The exit status is 0 even if no device answers.
 
-Exit status, and the last line on standard error
+Examples:
+  enip discover
+  enip discover 192.168.1.255 --timeout 3
 
-  0                     the time is over, whoever answered
-  2  an explanation     the words are refused
-  5  device             the datagram could not be sent, or what came not be printed
-  5  memory             there was no memory";
+For exit statuses, see `enip --help`.";
 
-pub(crate) const AFTER_LISTING: &str =
-    "ADDRESS is a host or a name, with a port as in plc.local:2222 or without: 44818 then.
+pub(crate) const EXAMPLES_ANSWER: &str = "\
+Examples:
+  enip answer demo.toml < lines
+  enip answer demo.toml < lines | cut -c3- | enip show";
 
-Exit status, and the last line on standard error; in front of it stands why, in words
+pub(crate) const DETAILS_ANSWER: &str = "\
+Reads lines from standard input. Empty lines and lines that start with # are
+skipped.
 
-  0                     the device answered
-  2  an explanation     the words are refused
-  5  device             the device could not be reached, read or written, did not answer in time, or left before its
-                        answer
-  5  memory             there was no memory
-  7  fault N            there was no answer
+  P HEX    bytes from peer P, 1 to 9, which connects with its first line
+  end P    peer P disconnects
+  now N    the time of the following lines, in microseconds
 
-What `fault N` means
+HEX may have spaces. Output:
 
-  2    the device answered with an encapsulation status
-  4    a frame was too long
-  6    the answer has another shape";
+  P hex       an answer to peer P
+  P closed    the adapter closed the connection of peer P; its later bytes are
+              ignored
+  P full N    peer P cannot connect: all peer slots are taken (1), or no session
+              handle is left (2)
 
-pub(crate) const ABOUT_SET: &str = "Sets an attribute of an object of a device
+Examples:
+  enip answer demo.toml < lines
+  enip answer demo.toml < lines | cut -c3- | enip show
+      prints the fields of the answers
 
-  enip set 127.0.0.1:44818 4 100 3 01020304
+For exit statuses, see `enip --help`.";
 
-sets the data of an assembly: class 4 (Assembly), instance 100, attribute 3, to the bytes 01 02 03 04. With --as the data
-are told as values of a type, a word for each of a list:
+pub(crate) const EXAMPLES_SHOW: &str = "\
+Examples:
+  enip show < frames
+  enip answer demo.toml < lines | cut -c3- | enip show";
 
-  enip set 127.0.0.1:44818 4 100 3 --as UINT[] 513 1027
+pub(crate) const DETAILS_SHOW: &str = "\
+Reads lines from standard input, each a frame in hexadecimal, which may have
+spaces. Prints the header of each frame, its items, and the request or the reply
+in it, up to the first fault:
 
-A word that begins with a minus sign and is no number stands behind `--`.";
+  frame 0xCCCC length N session N status 0xSSSSSSSS context HEX options N
+  item 0xTTTT length N
+  count N
+  request 0xSS class N instance N attribute N member N data HEX
+  reply 0xSS status 0xGG extended HEX data HEX
 
-pub(crate) const ABOUT_CALL: &str = "Calls a service of an object of a device
+Examples:
+  enip show < frames
+  enip answer demo.toml < lines | cut -c3- | enip show
+      prints the fields of the answers of `enip answer`
 
-  enip call 127.0.0.1:44818 50 100 1 05000000
+For exit statuses, see `enip --help`.";
 
-calls service 50 (0x32) of class 100, instance 1, with the data 05 00 00 00: of the demo it adds 5 to the counter.";
+pub(crate) const EXAMPLES_REPLAY: &str = "\
+Examples:
+  enip replay demo.toml script
+  enip replay demo.toml script --ladder";
 
-pub(crate) const AFTER_ASKING: &str =
-    "One request is sent in a session of its own, with --connected on a class 3 connection of its own. ADDRESS is a host
-or a name, with a port as in plc.local:2222 or without: 44818 then. A device that is not connected, or from which nothing
-comes, within the seconds of --timeout is waited for no longer. Numbers are decimal, and lie in HEX least byte first.
+pub(crate) const DETAILS_REPLAY: &str = "\
+The client has registered and opened a connection; a second session is
+registered too. The frames that are sent in each direction are numbered from 0.
+The lines of SCRIPT say what happens to them. Empty lines and lines that start
+with # are skipped.
 
-Prints
+  line          output
+  submit HEX    submit N sent K      request N, from 0, is sent as frame K
+                submit refused R     a request is pending (1), it is too long
+                                     (2), it is not a request (3), 65,535 were
+                                     submitted since the last accepted reply (5)
+  resend        resend K             the pending request is sent again, as frame
+                                     K
+                resend none          no request is pending
+  reach K       reach K back J       the adapter receives frame K and answers
+                                     with frame J
+                reach K none         the adapter receives it and does not answer
+                reach K impossible   frame K was not sent, or a later one was
+                                     delivered
+  back J        back J accepted HEX  the client receives frame J and accepts
+                                     this reply
+                back J ignored       the client is not waiting for it
+                back J impossible    as for `reach`
+  other HEX     other done           the second session has this request
+                                     executed, unconnected
+                other impossible     it has less than 2 or more than 504 bytes
+  shut          shut                 the connection times out
+  giveup        giveup               the client gives up the pending request and
+                                     can submit another
 
-  hex                    the data of the reply
-  ok                     it has none
-  refused 0xGG           the device refused: the general status
-  refused 0xGG 0xEEEE    the same, with the first additional word
+K and J are decimal. HEX may have spaces. At the end, the state is printed:
 
-or with --json an object on one line: `status` 0 and `data`, with --as also `type` and `values`; of a refusal `status` and
-`extended`, the first additional word or 0.
+  counter VALUE LIMIT ADDITIONS
+  assembly N HEX                     for each assembly, in ascending order
+  client idle                        or `client waiting`, `client given up`
 
-TYPE is a type of the standard, or a list of its values where [] stands behind it, as UINT[]:
+Examples:
+  enip replay demo.toml script
+      with these lines in the file `script`, the request to add 5 to the counter
+      reaches the adapter twice, and its reply reaches the client twice
 
-  BOOL                      0 or 1; false and true are taken too
-  SINT INT DINT LINT        decimal numbers of 1, 2, 4 and 8 bytes, perhaps negative
-  USINT UINT UDINT ULINT    decimal numbers of 1, 2, 4 and 8 bytes
-  BYTE WORD DWORD LWORD     bits, as 0x and hexadecimal digits; decimal numbers are taken too
-  REAL                      a decimal number, perhaps with an exponent, or inf or NaN
-  SHORT_STRING              up to 255 characters; what is no printable character of ASCII is \\xNN, a backslash \\\\
+        submit 32022064240105000000
+        reach 0
+        reach 0
+        back 0
+        back 1
 
-Exit status, and the last line on standard error; in front of it stands why, in words
+      The counter moves once, and one reply is accepted:
 
-  0                     the request was done
-  2  an explanation     the words are refused
-  2  hex                HEX is no hexadecimal digits
-  2  value              a word is no value of TYPE, or out of its range
-  5  device             the device could not be reached, read or written, did not answer in time, or left before its
-                        reply
-  5  memory             there was no memory
-  6                     the device refused
-  7  fault N            there was no reply
+        submit 0 sent 0
+        reach 0 back 0
+        reach 0 back 1
+        back 0 accepted b200000005000000
+        back 1 ignored
+        counter 5 100 1
+        assembly 100 00000000
+        client idle
+  enip replay demo.toml script --ladder
+      draws the same run
 
-What `fault N` means
+For exit statuses, see `enip --help`.";
 
-  1    the request was not possible
-  2    the device answered with an encapsulation status
-  4    a frame was too long
-  6    the reply has another shape, or its data are no values of TYPE
-  7    the request is too long: over 504 bytes, or 498 with --connected";
+pub(crate) const WAIT_DETAILS: &str = "\
+Longest wait for the device: seconds, 0 to 3600, with up to six
+decimals. It applies to connecting and to each read, not to the
+resolution of a name. 0 waits for as long as TCP does";
+
+pub(crate) const EVERY_DETAILS: &str = "\
+Read again this long after each reply: seconds, 0 to 3600, with up to
+six decimals. All requests have one session, or with --connected one
+connection. The first value is printed, and then each that differs
+from the one before
+
+[default: once]";
+
+pub(crate) const COUNT_DETAILS: &str = "\
+With --every, exit after N replies, 1 to 4294967295
+
+[default: never]";
+
+pub(crate) const PRINTED_TYPE_DETAILS: &str = "\
+Print the data as a value of this type, or with [] after it, as any
+number of values, with a space between them:
+
+BOOL                     0 or 1
+SINT INT DINT LINT       signed numbers of 1, 2, 4 and 8 bytes
+USINT UINT UDINT ULINT   unsigned numbers of 1, 2, 4 and 8 bytes
+BYTE WORD DWORD LWORD    bit strings, as 0x and hexadecimal digits
+REAL                     a decimal number, inf, -inf or NaN
+SHORT_STRING             up to 255 characters; \\xNN is a byte that is
+                         not printable, \\\\ a backslash. In a list,
+                         each is quoted";
+
+pub(crate) const WRITTEN_TYPE_DETAILS: &str = "\
+Take a value of this type, or with [] after it, any number of values,
+each as one argument:
+
+BOOL                     0, 1, false or true
+SINT INT DINT LINT       signed numbers of 1, 2, 4 and 8 bytes
+USINT UINT UDINT ULINT   unsigned numbers of 1, 2, 4 and 8 bytes
+BYTE WORD DWORD LWORD    bit strings, as 0x and hexadecimal digits, or
+                         as decimal numbers
+REAL                     a decimal number, with or without exponent,
+                         inf, -inf or NaN
+SHORT_STRING             up to 255 characters; \\xNN is a byte, \\\\ a
+                         backslash";

@@ -1,4 +1,4 @@
--- What a call without bytes can be.
+-- The cases of a call that passes no piece.
 use Rattle.std.proofs.Common.{◌≡◌, Bool, true, false, cond, ◌&&◌, Option, Some, None, Ok, Err, slice_index, refl}
 use Rattle.std.proofs.Common.{is_none}
 use Rattle.std.proofs.lemmas.Bool.{and_parts}
@@ -25,8 +25,8 @@ use Rattle.enip_client.specs.State.{is_free}
 use Rattle.enip_client.specs.Runs.{Action, frame_lent, after_action, awaited_by, lent_in}
 use Rattle.enip_client.specs.Runs.Action.{Register, Open, Unconnected, Submit, Resend, GiveUp, Close, Unregister}
 
--- It changes nothing and lends nothing; its frame is lent and its reply is awaited from then on; or nothing is awaited
--- from it.
+-- It changes nothing and lends nothing; its frame is lent and its reply is awaited; or it may lend a frame, and awaits
+-- no reply.
 pub data IsAction (s : State) (what : Option Awaited) : Option Frame → State → Type 0 where
   Stays : IsAction s what None s
   Asks : (w : Awaited) (f : Frame) (connection_state : ConnectionState) → what ≡ Some w → s.awaiting ≡ None

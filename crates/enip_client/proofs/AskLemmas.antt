@@ -1,4 +1,4 @@
--- What follows what was heard, and what was said.
+-- What follows what was heard, and what was performed.
 use Rattle.std.proofs.Common.{◌≡◌, ℕ, ◌⊎◌, inl, inr, nat_lt, if◌then◌else◌, Bool, true, false, List, [], ◌∷◌, ◌++◌, length, take, append-nil, refl, sym, ap, subst, ◌∙◌, Option, Some, None, Result, Ok, Err}
 use Rattle.std.specs.Prelude.{⊤, nat_le, ◌==◌}
 use Rattle.std.proofs.KnownBytes.{Appends-nil}
@@ -39,7 +39,7 @@ use Rattle.enip_client.specs.Asking.{AskPhase, Exchange, LONGEST_REPLY, is_await
 use Rattle.enip_client.specs.Asking.AskPhase.{Failed}
 use Rattle.enip_client.specs.AskSteps.{ask_phase_of, step_after, called, next_of, reply_after, IsPerformed, exchange_as, exchange_now, Held, IsAtPhase, ExchangeResult, IsAdvanced}
 
--- A turn after which no fault lasts, or that tells nothing.
+-- A turn after which no fault lasts, or in which nothing is heard.
 record Mild (t : TurnResult) : Type 0 where
   either : (t.state.fault ≡ None) ⊎ (t.heard_event ≡ Nothing)
 
@@ -146,7 +146,7 @@ follows asked s steps.Opening Opened reply sent = refl
 follows asked s steps.Closing Closed reply sent = refl
 follows asked s step heard_event reply sent = refl
 
--- An exchange that awaits hears.
+-- An exchange that awaits a reply hears.
 reach : (asked : Asked) (s : State) (step : Step) (reply : List ℕ) (sent : List Frame) (parsed_frame : Parsed) → is_awaiting (ask_phase_of step) ≡ true
     → after_parsed (exchange_as asked s (ask_phase_of step) reply sent) parsed_frame
     ≡ hears_unless (exchange_as asked (hears_parsed s parsed_frame).state (ask_phase_of step) reply sent) (hears_parsed s parsed_frame).heard_event (hears_parsed s parsed_frame).state.fault
@@ -215,7 +215,7 @@ failed_came asked sent old new e ask_faults.Write own p = absurd own
 failed_came asked sent old new e ask_faults.Ended own p = absurd own
 failed_came asked sent old new e ask_faults.Spent own p = absurd own
 
--- The step after a call, where its frame was written.
+-- The step after a call whose frame was written.
 abbrev pub said_step : Step → Result (Unit {0}) AskFault → Result Step AskFault
 said_step step (Ok done) = Ok step
 said_step step (Err fault) = Err fault
@@ -252,7 +252,7 @@ said_came asked sent s held ask_phase reply before after old step (Err why) (Err
       written = subst (λ w. Appends w after []) (sym is) said.1;
     }))
 
--- What was fed once, and what was told and kept.
+-- What was fed once, and what was returned and kept.
 pub record Once (asked : Asked) (step : Step) (piece : List ℕ) (c : ClientState) (reply : List ℕ) (heard_event : HeardEvent) (new : ClientState)
     (after : List ℕ) : Type 0 where
   pub healthy : c.state.fault ≡ None

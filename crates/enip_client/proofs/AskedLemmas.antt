@@ -68,14 +68,14 @@ hears_join begins e last before fed held more after h k = record {
   partial = k.partial;
 }
 
--- The part of the ends that the hearing of a piece changes.
+-- The part of the state that feeding a piece changes.
 abbrev pub held_in : Ends → Held
 held_in e = record { client = e.client; written = e.written; reply = e.reply }
 
 abbrev pub begins_at : Asked → Ends → Exchange
 begins_at asked old = begun old.client.state asked.request.now asked.connected old.reply
 
--- What was read came to this.
+-- The result of what was read.
 pub record Come (asked : Asked) (old new : Ends) (r : Result Step AskFault) : Type 0 where
   pub exchange : Exchange
   pub fed : List ℕ
@@ -86,7 +86,7 @@ pub record Come (asked : Asked) (old new : Ends) (r : Result Step AskFault) : Ty
   pub came : ExchangeResult asked [] (held_in old) (held_in new) exchange r
   pub more : IsAwaited r → (rest ≡ []) × Hears (begins_at asked old) old.client.held fed new.client.held exchange
 
--- a read gave so many bytes
+-- a read gave this many bytes
 pub size_read : (size : ℕ) (into : List ℕ) → size ≤ 4096 → length into ≡ 4096 → length (take size into) ≡ size
 size_read size into within room = length-take-le size into (omega arith)
 
@@ -190,7 +190,7 @@ asked_done asked old new step c ended = (
   stands_writes asked (held_in old) (held_in new) (ask_phase_of step) c.exchange c.came,
 )
 
--- The ends after a read that gave no byte.
+-- The state after a read that gave no byte.
 abbrev pub read_on : Ends → Option (List ℕ) → ℕ → Ends
 read_on e left reads = record e { left = left; reads = reads }
 
@@ -314,13 +314,13 @@ healthy_refusal s (Some fault) possible x l is = absurd (let no : Err fault ≡ 
 healthy_refusal s None true x l is = (refl, cc)
 healthy_refusal s None false x l is = absurd (let no : Err faults.State ≡ Ok l = is in cc)
 
--- no fault lasts where the exchange began
+-- no fault lasts when the exchange begins
 pub start_healthy : (s : State) (l : Lent) → registers s ≡ Ok l → l.state.fault ≡ None
 start_healthy s l is =
     let p = healthy_refusal s s.fault (can_register s) (lending (register_frame (next_number s)) (awaiting Session s)) l is in
     ap (λ x. x.state.fault) (sym p.1) ∙ p.0
 
--- what the client held where the exchange began is a front of a frame, or no byte
+-- what the client held when the exchange began is a front of a frame, or no byte
 start_partial : (c : ClientState) (l : Lent) → registers c.state ≡ Ok l → IsBetween c → IsPartial c.held
 start_partial c l is between =
     let p = healthy_refusal c.state c.state.fault (can_register c.state)

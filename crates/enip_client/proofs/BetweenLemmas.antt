@@ -23,7 +23,7 @@ bytes_after held bytes (TooLongHeader h) fits = fits
 bytes_after [] bytes (WholeFrame f) fits = no_bytes
 bytes_after (x ∷ xs) bytes (WholeFrame f) fits = fits
 
--- what a reader holds after a piece is of bytes
+-- what a reader holds after a piece consists of bytes
 pub bytes_left : (bytes piece : List ℕ) → AreBytes bytes → AreBytes piece
     → AreBytes (held_after_next (cleared (parsed bytes) bytes) piece)
 bytes_left bytes piece fits more =
@@ -50,7 +50,7 @@ between s bytes listening fits = record {
   partly = λ none. partly bytes (parsed bytes) refl (listening none);
 }
 
--- what a client is made of says what it holds
+-- what a client consists of determines what it holds
 pub between_of : (c : ClientState) (s : State) (bytes : List ℕ) → client_in s bytes ≡ c → IsListening s bytes × AreBytes bytes
     → IsBetween c
 between_of c s bytes is p = subst IsBetween is (between s bytes p.0 p.1)

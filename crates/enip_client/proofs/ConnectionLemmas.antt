@@ -37,7 +37,7 @@ use Rattle.enip_client.specs.Runs.Action.{Register, Open, Unconnected, Submit, R
 use Rattle.enip_client.proofs.TurnLemmas.{IsTurn, Ignores, Fails, Answers, Receives, is-turn}
 use Rattle.enip_client.proofs.RunLemmas.{state-calls, by-turns}
 
--- A call that asks leaves the originator.
+-- A call that requests does not change the originator.
 kept : (s : State) (o : Option ClientFault) (r : Result Lent ClientFault)
     → (after_lending s r).originator ≡ s.originator
     → (after_lending s (unless o r)).originator ≡ s.originator
@@ -54,7 +54,7 @@ asked-kept s false lent e = refl
 abbrev stepped : OriginatorState → Option originators.OriginatorCall → OriginatorState
 stepped originator o = elim o [ None ↦ originator | Some call ↦ originators.after_call originator call ]
 
--- Where the client is connected, a submit is the originator's.
+-- If the client is connected, a submit is the originator's.
 submits-by : (s : State) (request : List ℕ) (o : Option ClientFault) (b : Bool) → refusal s (can_submit s) ≡ o
     → is_connected s ≡ b
     → (after_lending s (submits_unless s request o)).originator
@@ -233,7 +233,7 @@ pub counts-follow : (wants : Wants) (calls : List Call) → wants.first_count < 
     → ItemsFrom wants.first_count (frames_submitted (new_client wants) calls)
 counts-follow wants calls fits = items-from calls (new_client wants) wants.first_count (omega arith)
 
--- What is to hold of what is seen from a phase on.
+-- A property of what is seen from a phase on.
 abbrev Once : Phase → List Exchange → Type 0
 Once Idle more = RepliedOnce more
 Once (Waiting count request) more = RepliedOnce (Requested request ∷ more)
@@ -277,7 +277,7 @@ gives-once s true later once =
     give-once s.originator.o_to_t_size s.originator.t_to_o_size s.originator.next s.originator.unaccepted s.originator.phase later once
 gives-once s false later once = once
 
--- An accepted reply's service is behind its count.
+-- The service of an accepted reply follows its count.
 service-after : (bytes : List ℕ) → slice_index (drop 2 bytes) 0 ≡ slice_index bytes 2
 service-after [] = refl
 service-after (x ∷ []) = refl

@@ -1,4 +1,4 @@
--- Where the stream is cut changes nothing: pieces do what their bytes do one by one.
+-- How the stream is cut does not matter: pieces do what their bytes do one by one.
 use Rattle.std.proofs.Common.{◌≡◌, ℕ, zero, suc, ◌-◌, ◌≤◌, inl, inr, Option, Some, None, List, [], ◌∷◌, ◌++◌, length}
 use Rattle.std.proofs.Common.{take, drop, refl, sym, ap, subst, ◌∙◌, arith, append_assoc, length-drop}
 use Rattle.std.specs.List.{concat}
@@ -21,7 +21,7 @@ use Rattle.enip_client.proofs.StreamLemmas.{IsReady, ready-call, ready-calls, re
 abbrev byte_fed : ClientState → ℕ → Fed
 byte_fed c b = fed c (b ∷ [])
 
--- The client after bytes that come one by one, and what is heard of them.
+-- The client after bytes that arrive one by one, and what is heard in them.
 abbrev after_bytes : ClientState → List ℕ → ClientState
 after_bytes c [] = c
 after_bytes c (b ∷ bs) = after_bytes (byte_fed c b).client bs
@@ -40,7 +40,7 @@ told-append c (x ∷ xs) ys =
     ap (heard_events_before (byte_fed c x).heard_event) (told-append (byte_fed c x).client xs ys)
     ∙ heard_event-more (byte_fed c x).heard_event (told (byte_fed c x).client xs) _
 
--- Where a fault lasts, bytes do nothing.
+-- Once a fault lasts, bytes do nothing.
 after-fault : (c : ClientState) (fault : ClientFault) (bytes : List ℕ) → c.state.fault ≡ Some fault
     → after_bytes c bytes ≡ c
 after-fault c fault [] lasts = refl
@@ -53,7 +53,7 @@ told-fault c fault (b ∷ bs) lasts =
     ap (λ (f : Fed). heard_events_before f.heard_event (told f.client bs)) (fed-fault c fault (b ∷ []) lasts)
     ∙ told-fault c fault bs lasts
 
--- A piece by all that has come of the frame.
+-- A piece, by all that has arrived of the frame.
 abbrev shown : State → List ℕ → ℕ → Fed
 shown s bytes n = fed_parsed s (cleared (parsed bytes) bytes) n (hears_parsed s (parsed bytes))
 

@@ -1,4 +1,4 @@
--- A fault that lasts.
+-- A lasting fault.
 use Rattle.std.proofs.Common.{◌≡◌, ℕ, Bool, false, cond, Some, None, Result, Err, List, [], ◌∷◌, refl, ap, ◌∙◌}
 use Rattle.enip_client.specs.declared.fault.ClientFault.{ClientFault}
 use Rattle.enip_client.specs.declared.fault.SubmitFault.TheVariants as submit_faults

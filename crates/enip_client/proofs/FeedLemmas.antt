@@ -24,7 +24,7 @@ left_some x xs bytes Incomplete = refl
 left_some x xs bytes (WholeFrame f) = refl
 left_some x xs bytes (TooLongHeader h) = refl
 
--- the bytes of a frame are in the piece where none was held, and else with the reader
+-- the bytes of a frame are in the piece if none was held before it, and otherwise in the reader
 framed : (held piece : List ℕ)
     → frame_bytes (length held == 0) (bytes_taken held piece) piece (held_after_next held piece) ≡ held_and_taken held piece
 framed [] piece = refl
@@ -50,7 +50,7 @@ frame_news s held piece left taken in_place view shown found is number whole kin
     ∙ ap (frame_bytes (length held == 0) (bytes_taken held piece) piece) kept ∙ framed held piece in
     ap (λ b. heard_event_at b found) (bytes ∙ sym joined ∙ spelled) ∙ told ∙ ap (λ x. (hears_parsed s x).heard_event) (sym seen)
 
--- the three sights differ
+-- the three cases differ
 not_nothing : {h : Header} → Incomplete ≡ TooLongHeader h → ⊥
 not_nothing is = grind arith
 
@@ -73,11 +73,11 @@ pub cleared_left_of : (held piece : List ℕ)
     ≡ cleared (parsed (held_and_taken held piece)) (held_and_taken held piece)
 cleared_left_of held piece = cleared_left held (held_and_taken held piece) (parsed (held_and_taken held piece)) refl
 
--- a header that is too long is seen as that
+-- a header over the limit is parsed as that
 long_seen : (bytes : List ℕ) → IsTooLong bytes → parsed bytes ≡ TooLongHeader (header_at bytes)
 long_seen bytes long = parsed-long bytes long.header long.over
 
--- a header that is too long is a fault that lasts
+-- a header over the limit is a lasting fault
 listening : (s : State) (held bytes : List ℕ) (seen : Parsed) → seen ≡ parsed bytes
     → IsListening (hears_parsed s seen).state (held_after_parse held bytes seen)
 listening s held bytes Incomplete is = λ none long. absurd (not_nothing (is ∙ long_seen bytes long))
@@ -92,7 +92,7 @@ listening_after s held piece = listening s held (held_and_taken held piece) (par
 abbrev client_of : State → List ℕ → ClientState
 client_of s held = record { state = s; held = held }
 
--- a piece at a client of these bytes, with no fault that lasts, is that at its reader
+-- a piece at a client of these bytes, with no lasting fault, is the one at its reader
 told_of : (s left_state : State) (held piece left : List ℕ) (told : PieceOutcome) → s.fault ≡ None
     → left_state ≡ (hears_parsed s (parsed (held_and_taken held piece))).state → left ≡ held_after_next held piece
     → told.taken ≡ bytes_taken held piece

@@ -1,4 +1,4 @@
--- What was found in a frame is what the turn says.
+-- What was found in a frame is what the turn hears.
 use Rattle.std.proofs.Common.{◌≡◌, ℕ, ◌+◌, ◌≤◌, ◌==◌, Bool, true, false, List, [], ◌∷◌, length, take, drop, ap, ◌∙◌}
 use Rattle.std.proofs.Common.{sym, subst, arith, refl, Option, Some, None, Ok, if◌then◌else◌}
 use Rattle.std.proofs.lemmas.Bool.Decides.{nat_tests}
@@ -43,7 +43,7 @@ accepted_long o item reply is =
     = accepted_by (is_reply o.t_to_o_size o.phase item) item reply is in
     (reply_long o.t_to_o_size o.phase item by.0, by.1)
 
--- the bytes behind the first two
+-- the bytes after the first two
 pub second : (place : ℕ) (item rest text : List ℕ) → LiesAt place item text → 2 ≤ length item → rest ≡ drop 2 item
     → LiesAt (place + 2) rest text
 second place [] rest text at two is = absurd (omega (arith, two))

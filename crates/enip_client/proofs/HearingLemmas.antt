@@ -30,7 +30,7 @@ use Rattle.enip_client.specs.Asking.{AskPhase, Exchange, is_awaiting, goes_on, h
 use Rattle.enip_client.specs.Asking.AskPhase.{Registering, Opening, Requesting, Closing, Completed, Failed}
 use Rattle.enip_client.specs.AskSteps.{ask_phase_of, exchange_as, exchange_now, Held, IsAtPhase, FailsAtWrite, ExchangeResult, IsAdvanced, IsPieceFed, IsHealthy, Hears}
 
--- What a sight says of the bytes.
+-- What parsing yields about the bytes.
 abbrev Seen : List ℕ → Parsed → Type 0
 Seen bytes Incomplete = ⊤
 Seen bytes (WholeFrame f) = IsFrame f × (bytes ≡ frame f)
@@ -67,7 +67,7 @@ seen bytes fits =
       sym (header_spelling-header_at bytes long fits),
     ))
 
--- Where nothing is heard the exchange stays.
+-- If nothing is heard, the exchange stays the same.
 nothing_on : (e : Exchange) (ask_phase : AskPhase) → goes_on e ask_phase Nothing ≡ e
 nothing_on e Registering = refl
 nothing_on e Opening = refl
@@ -114,12 +114,12 @@ heard_of begins before fed new e h state = record {
   state = state;
 }
 
--- a header that is too long ends the exchange
+-- a header over the limit ends the exchange
 ended_long : (e : Exchange) (h : Header) → is_awaiting e.ask_phase ≡ true → is_awaiting (after_parsed e (TooLongHeader h)).ask_phase ≡ false
 ended_long e h waits =
     ap (λ b. is_awaiting (if b then after_turn e (hears_parsed e.state (TooLongHeader h)) else e).ask_phase) waits
 
--- What a feed of further bytes came to.
+-- The result of feeding further bytes.
 pub record FedOn (begins : Exchange) (before fed held : List ℕ) (e : Exchange) (new : ClientState) : Type 0 where
   pub heard : Heard begins before fed new e
   pub hears : is_awaiting e.ask_phase ≡ true → Hears begins before fed new.held e
@@ -178,7 +178,7 @@ stands_state : (asked : Asked) (sent : List Frame) (old new : Held) (ask_phase :
     → IsAtPhase asked sent old new ask_phase e → new.client.state ≡ e.state
 stands_state asked sent old new ask_phase e p = ap (λ x. x.state) (sym p.exchange)
 
--- the client stands where the exchange does
+-- the client's state is that of the exchange
 came_state : (asked : Asked) (sent : List Frame) (old new : Held) (e : Exchange) (r : Result Step AskFault)
     → ExchangeResult asked sent old new e r → new.client.state ≡ e.state
 came_state asked sent old new e (Ok step) p = stands_state asked sent old new (ask_phase_of step) e p
@@ -228,7 +228,7 @@ came_more asked sent fs old mid new e (Err (ask_faults.Client fault)) first p =
 came_more asked sent fs old mid new e (Err (ask_faults.Submit why)) first p =
     stands_more asked sent fs old mid new (Failed (ask_faults.Submit why)) e first p
 
--- So many bytes of a piece were fed, and the exchange awaits this step.
+-- This many bytes of a piece were fed, and the exchange awaits this step.
 pub record SoFar (asked : Asked) (step : Step) (fed : List ℕ) (old new : Held) (now : Step) (sent : List Frame) : Type 0 where
   pub exchange : Exchange
   pub heard : Heard (exchange_now asked step old sent) old.client.held fed new.client exchange
@@ -252,7 +252,7 @@ none_fed asked step old sent partial =
       };
     }
 
--- What feeding once more came to.
+-- The result of feeding once more.
 pub record FedMore (asked : Asked) (step : Step) (fed : List ℕ) (old new : Held) (r : Result Step AskFault) (sent : List Frame) : Type 0 where
   pub exchange : Exchange
   pub heard : Heard (exchange_now asked step old sent) old.client.held fed new.client exchange
@@ -332,7 +332,7 @@ piece_of_fault asked step piece k rest old mid new fault r sent same is within s
       more = λ no. absurd no;
     })
 
--- a piece that was heard as far as it goes
+-- a piece that was fed as far as it goes
 pub piece_of_step : (asked : Asked) (step now : Step) (piece : List ℕ) (k : ℕ) (old new : Held) (sent : List Frame)
     → (is_awaiting (ask_phase_of now) ≡ true → length piece ≤ k) → (0 < length piece → 0 < k)
     → SoFar asked step (take k piece) old new now sent → IsPieceFed asked step piece old new (Ok now) sent

@@ -1,4 +1,4 @@
--- An identity that is read is the one spelled, and what is spelled is read.
+-- Both ways: an identity that is read has this spelling, and each spelling is read.
 use Rattle.std.proofs.Common.{◌≡◌, ◌↔◌, ℕ, zero, suc, ◌+◌, ◌*◌, ◌/◌, ◌%◌, ◌^◌, ◌-◌, ◌<◌, ◌≤◌, Bool, true, false, List, [], ◌∷◌, ◌++◌, length, slice_index, get_or, take, drop, Option, Some, None, refl, sym, ap, subst, ◌∙◌, arith, add-zero, append-nil, length-append, length-drop, length-take}
 use Rattle.std.specs.Prelude.{◌==◌, if◌then◌else◌, slice_range}
 use Rattle.std.specs.Option.{option_map}
@@ -35,7 +35,7 @@ pub same_identity : (i : Identity) (v f p : ℕ) (a : List ℕ) (n t c x y s e :
 same_identity i v f p a n t c x y s e m z ev ef ep ea en et ec ex ey es ee em ez =
     rw (ev, ef, ep, ea, en, et, ec, ex, ey, es, ee, em, ez) refl
 
--- ---- numbers whose most significant byte comes first
+-- ---- big-endian numbers
 
 big_from-drop : (n i k : ℕ) (b : List ℕ) → big_from i n (drop k b) ≡ big_from (k + i) n b
 big_from-drop zero i k b = refl
@@ -44,7 +44,7 @@ big_from-drop (suc n) i k b =
     let rest = big_from-drop n (suc i) k b ∙ ap (λ p. big_from p n b) place in
     rw (get_or-drop, rest) refl
 
--- the number that is read from `&b[k..]` is the one at that place
+-- the number that is read from `&b[k..]` is the one at that offset
 pub big_behind : (n k : ℕ) (b : List ℕ) → big_number n (take (length b - k) (drop k b)) ≡ big_from k n b
 big_behind n k b = ap (big_number n) (rest_slice k b) ∙ big_from-drop n 0 k b ∙ ap (λ p. big_from p n b) (add-zero k)
 
@@ -83,7 +83,7 @@ at_end (y ∷ xs) x = at_end xs x
 
 -- ---- what is read is spelled so
 
--- the spelling with any number in place of the name's length
+-- the spelling with any number instead of the name's length
 abbrev identity_by : ℕ → List ℕ → Identity → List ℕ
 identity_by size filling i =
     le 2 i.version ++ socket_with filling i ++ le 2 i.vendor ++ le 2 i.device_type ++ le 2 i.product_code

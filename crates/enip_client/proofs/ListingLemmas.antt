@@ -16,7 +16,7 @@ use Rattle.enip_wire.specs.Stream.{parsed}
 use Rattle.enip_client.specs.Lists.{Entry, list_frame, answer_in}
 use Rattle.enip_client.specs.Listing.{Gathers, Waits, IsGathered, Answers, IsListed, ListState, list_state}
 
--- What came so far: all of it was gathered, unless that is a frame or a header that is too long.
+-- What arrived so far: all of it was gathered, unless that is a frame or a header over the limit.
 pub record Came (before after : Option (List ℕ)) (bytes : List ℕ) : Type 0 where
   pub fresh : IsAtMostOneFrame bytes
   pub rest : List ℕ
@@ -33,7 +33,7 @@ none_came before = record {
   all = λ runs. refl;
 }
 
--- all that came is what was gathered
+-- all that arrived is what was gathered
 came_all : (before after : Option (List ℕ)) (bytes : List ℕ) → Came before after bytes → (IsComplete bytes → ⊥) → Consumes before after bytes
 came_all before after bytes c unfinished =
     subst (Consumes before after) (ap (λ (r : List ℕ). bytes ++ r) (c.all unfinished) ∙ append-nil bytes) c.consumed
@@ -54,7 +54,7 @@ nothing_left held piece n t unfinished =
       | inr all ↦ drop_all n piece (omega arith)
     ]
 
--- a further piece came
+-- a further piece arrived
 pub more_came : (before mid after : Option (List ℕ)) (held piece new : List ℕ) (n : ℕ) → Came before mid held → (IsComplete held → ⊥)
     → Consumes mid after piece → length piece ≤ 4096 → Takes held piece n → new ≡ held ++ take n piece → IsAtMostOneFrame new → Came before after new
 more_came before mid after held piece new n c unfinished read small t is fresh =
@@ -69,7 +69,7 @@ more_came before mid after held piece new n c unfinished read small t is fresh =
       all = λ runs. nothing_left held piece n t (subst (λ (x : List ℕ). IsComplete x → ⊥) is runs);
     }
 
--- what is shown and is not nothing yet
+-- what is shown and is not incomplete
 stopped : (bytes : List ℕ) (shown : Held) → Shows bytes shown → (shown ≡ held_is.More → ⊥) → IsComplete bytes
 stopped bytes held_is.More shows is = absurd (is refl)
 stopped bytes (held_is.Frame view) shows is = inl (record { of = frame_of view; is_frame = shows.0; spelled = shows.1 })

@@ -1,4 +1,4 @@
--- Entries that are read are those listed, and what is listed is read.
+-- Both ways: entries that are read are those listed, and each list is read.
 use Rattle.std.proofs.Common.{◌≡◌, ◌↔◌, ℕ, inl, inr, Bool, true, false, List, [], ◌∷◌, ◌++◌, length, Option, Some, None, Result, Ok, Err, refl, sym, ap, subst, ◌∙◌}
 use Rattle.std.specs.Prelude.{◌==◌, is_some, if◌then◌else◌}
 use Rattle.std.specs.List.{flat_map, filter_map, list_all}
@@ -53,7 +53,7 @@ entry_again lists.Identity bytes (An_identity i) h = ap (option_map An_identity)
 AreBytes-first : (a b : List ℕ) → AreBytes (a ++ b) → AreBytes a
 AreBytes-first a b fits = subst AreBytes (take_at a b (length a) refl) (AreBytes-take (length a) (a ++ b) fits)
 
--- an item in front
+-- one item before others
 abbrev front_sound : ListCommand → Item → List Item → Type 0
 front_sound command i more = list_all (is_sound command) (i ∷ more) ≡ true
 
@@ -68,7 +68,7 @@ skipped_in command i differs =
     let of : is_of command i ≡ false = ne_eqb i.kind (item_kind command) differs in
     (rw of refl, rw of refl)
 
--- what is left of the items behind one
+-- what is left of the items after one
 pub more_of : (command : ListCommand) (i : Item) (more : List Item) (o : Option Entry) → entry_in command i ≡ o
     → entries_in command (i ∷ more) ≡ filter_map (λ (x : Option Entry). x) (o ∷ []) ++ entries_in command more
 more_of command i more None e = rw e refl

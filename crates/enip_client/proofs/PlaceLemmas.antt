@@ -1,4 +1,4 @@
--- Where the data of a packet stand, and where in the frame.
+-- Where the data of a packet are, and where in the frame.
 use Rattle.std.proofs.Common.{◌≡◌, ℕ, ◌+◌, ◌-◌, List, ◌∷◌, ◌++◌, length, take, drop, ap, ◌∙◌, sym, subst, arith}
 use Rattle.std.specs.List.{flat_map}
 use Rattle.std.proofs.Math.Seq.{take-append_seam, drop-append_seam, drop-append-add}
@@ -12,7 +12,7 @@ use Rattle.enip_wire.specs.Bodies.{connected_data}
 use Rattle.enip_wire.proofs.HeaderLemmas.{length-header_spelling}
 use Rattle.enip_client.specs.Client.{LiesAt}
 
--- behind these stand those
+-- these bytes follow those
 behind : (front bytes rest : List ℕ) → LiesAt (length front) bytes (front ++ (bytes ++ rest))
 behind front bytes rest = (
   omega (arith, length-append front (bytes ++ rest), length-append bytes rest),
@@ -20,7 +20,7 @@ behind front bytes rest = (
       ∙ ap (take (length bytes)) (drop-append_seam front (bytes ++ rest)) ∙ take-append_seam bytes rest,
 )
 
--- what stands at a place of a text stands as much further where others come before it
+-- bytes at an index of a list are at a greater index if others precede the list
 further : (place : ℕ) (front bytes text : List ℕ) → LiesAt place bytes text
     → LiesAt (length front + place) bytes (front ++ text)
 further place front bytes text at = (

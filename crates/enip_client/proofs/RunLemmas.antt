@@ -1,4 +1,4 @@
--- Calls of a client and the events that they stand for.
+-- Calls of a client and their events.
 use Rattle.std.proofs.Common.{◌≡◌, ℕ, ◌+◌, ◌%◌, ◌^◌, Option, Some, None, List, [], ◌∷◌, ◌++◌, refl, sym, ap, subst}
 use Rattle.std.proofs.Common.{◌∙◌, arith}
 use Rattle.cip_bytes.specs.Numbers.{le}

@@ -1,4 +1,4 @@
--- A service that is read is the one spelled, and what is spelled is read.
+-- Both ways: a service that is read has this spelling, and each spelling is read.
 use Rattle.std.proofs.Common.{◌≡◌, ◌↔◌, ℕ, ◌<◌, ltb, cond, Bool, true, false, List, [], ◌++◌, length, take, drop, Option, Some, None, refl, sym, ap, subst, ◌∙◌, arith, length-drop}
 use Rattle.std.specs.Prelude.{◌==◌, if◌then◌else◌}
 use Rattle.std.specs.Option.{option_map}
@@ -11,7 +11,7 @@ use Rattle.enip_wire.proofs.FrameLemmas.{number-two}
 use Rattle.enip_client.specs.declared.service.ServiceView.{ServiceView}
 use Rattle.enip_client.specs.Service.{Service, SpellsService, name_in, service_fields, service_of, service_in}
 
--- a place of a first byte, or none
+-- the index of a first byte, or none
 placed : (b : Bool) (p e : ℕ) → cond b (Some p) None ≡ Some e → e ≡ p
 placed true p e h = cc
 placed false p e h = absurd cc

@@ -1,4 +1,4 @@
--- What is taken of the stream are its frames, and the bytes that are held.
+-- What is taken of the stream are its frames, followed by the bytes held.
 use Rattle.std.proofs.Common.{◌≡◌, ℕ, Option, Some, None, List, [], ◌∷◌, ◌++◌, take, refl, sym, ap, subst, ◌∙◌}
 use Rattle.std.proofs.Common.{append-nil, lit<}
 use Rattle.std.specs.List.{flat_map, AllByRecursion}
@@ -61,7 +61,7 @@ AreBytes-none i = lit< tt
 none-held : IsHeld []
 none-held = record { fits = AreBytes-none; none = none-running [] running-empty }
 
--- What a call takes of the stream are frames, and what is held then.
+-- What a call takes of the stream are frames, followed by what is held after it.
 record Advances (bytes taken : List ℕ) (events : List Event) (left : List ℕ) : Type 0 where
   at : IsHeld left
   parts : bytes ++ taken ≡ flat_map frame (frames_of_events events) ++ left

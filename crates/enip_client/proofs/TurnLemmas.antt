@@ -1,4 +1,4 @@
--- What a whole frame can be to a client.
+-- The cases of a whole frame at a client.
 use Rattle.std.proofs.Common.{◌≡◌, ℕ, Bool, true, false, cond, ◌&&◌, ◌==◌, Option, Some, None, Result, Ok, Err, List}
 use Rattle.std.proofs.Common.{[], ◌∷◌, ◌*◌, length, drop, slice_index, refl, sym, ap, subst, ◌∙◌}
 use Rattle.std.specs.Prelude.{nat_le, nat_lt}
@@ -34,7 +34,7 @@ use Rattle.enip_client.specs.Hears.{answer_in, answer_read}
 use Rattle.enip_client.specs.Hears.HeardEvent.{Nothing}
 use Rattle.enip_client.specs.Runs.{IsReplyTo, item_in, item_of}
 
--- Nothing; a fault that lasts; the reply to what is awaited; or an item of the connection.
+-- Nothing; a lasting fault; the awaited reply; or an item of the connection.
 pub data IsTurn (s : State) : Option (List ℕ) → TurnResult → Type 0 where
   Ignores : IsTurn s None (turned_to s Nothing)
   Fails : (fault : ClientFault) → IsTurn s None (faulted s fault)
@@ -65,7 +65,7 @@ other-turn s f = go (is_for_connection s f.header)
     go true = item-turn s (unit_body_of f.body)
     go false = Ignores
 
--- An awaited reply has another command than an item.
+-- The command of an awaited reply is not that of an item.
 not-connected : (s : State) (h : Header) → (h.command == command_number SendUnitData) ≡ false → is_for_connection s h ≡ false
 not-connected s h other =
     ap (λ b. b && (h.status == 0) && is_open s.connection_state && is_registered s.registration &&
@@ -99,7 +99,7 @@ first-service (service ∷ reserved ∷ status ∷ words ∷ rest) reply e =
     go additional false true e = cc
     go additional false false e = cc
 
--- A reply to a request of a service has that service with bit 7.
+-- The reply to a request has the service of that request, with bit 7.
 answer-service : (service : ℕ) (body : List ℕ) (a : Answer) → answer_to service body ≡ Some a
     → slice_index a.bytes 0 ≡ reply_service service
 answer-service service body a e = by_body (rr_body_of body) e

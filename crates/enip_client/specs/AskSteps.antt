@@ -1,4 +1,4 @@
--- What the functions below `ask` answer, in the words of the exchange.
+-- What the functions that `ask` calls return, in terms of the exchange.
 use Rattle.std.specs.Prelude.{ℕ, ◌-◌, ◌^◌, ◌≡◌, ◌<◌, suc, nat_lt, if◌then◌else◌, Bool, true, ⊤, List, [], ◌∷◌, ◌++◌}
 use Rattle.std.specs.Prelude.{length, take, Option, Some, None, Result, Ok, Err}
 use Rattle.std.specs.List.{flat_map, AllByRecursion}
@@ -44,7 +44,7 @@ called calls.Request s request connected = requests s request connected
 called calls.Close s request connected = lends_call (closes s)
 called calls.Leave s request connected = lends_call (unregisters s)
 
--- The call that follows a reply, which may be too long.
+-- The call that follows a reply, unless it is too long.
 abbrev pub next_replied : Bool → List ℕ → Result (Option Call) AskFault
 next_replied connected bytes =
     if nat_lt LONGEST_REPLY (length bytes) then Err (ask_faults.Client faults.Malformed)
@@ -65,11 +65,11 @@ next_of steps.Closing connected (Refused status extended) =
     Err (ask_faults.Client (faults.Refused status extended))
 next_of step connected heard = Ok None
 
--- A reply of so many bytes is kept, or it is too long.
+-- A reply is kept if it is not too long.
 abbrev pub fits : List ℕ → Result (Unit {0}) AskFault
 fits bytes = if nat_lt LONGEST_REPLY (length bytes) then Err (ask_faults.Client faults.Malformed) else Ok tt
 
--- A reply is kept that is not too long.
+-- The reply that is kept: the new one, unless it is too long.
 abbrev pub kept : List ℕ → List ℕ → List ℕ
 kept old bytes = if nat_lt LONGEST_REPLY (length bytes) then old else bytes
 
@@ -92,7 +92,7 @@ IsPerformed (Ok lent) before after (Err fault) = FailsWithin before after (frame
 IsPerformed (Err why) before after (Ok done) = ⊥
 IsPerformed (Err why) before after (Err fault) = (fault ≡ why) × Appends before after []
 
--- The exchange as the code holds it.
+-- The exchange, as the code holds it.
 abbrev pub exchange_as : Asked → State → AskPhase → List ℕ → List Frame → Exchange
 exchange_as asked s ask_phase reply sent = record {
   request = asked.request.now;
@@ -103,19 +103,19 @@ exchange_as asked s ask_phase reply sent = record {
   ask_phase = ask_phase;
 }
 
--- The client, what the writer has, and the reply.
+-- The client, what was written, and the reply.
 pub record Held : Type 0 where
   pub client : ClientState
   pub written : Option (List ℕ)
   pub reply : List ℕ
 
--- An exchange sent further frames, and stands there.
+-- An exchange has sent further frames, and is at this phase.
 pub record IsAtPhase (asked : Asked) (sent : List Frame) (old new : Held) (ask_phase : AskPhase) (e : Exchange) : Type 0 where
   pub frames : List Frame
   pub exchange : e ≡ exchange_as asked new.client.state ask_phase new.reply (sent ++ frames)
   pub written : Appends old.written new.written (flat_map frame frames)
 
--- An exchange sent further frames, the last of which the writer failed to write.
+-- An exchange has sent further frames, and the writer failed within the last of them.
 pub record FailsAtWrite (asked : Asked) (sent : List Frame) (old new : Held) (e : Exchange) : Type 0 where
   pub whole : List Frame
   pub last : Frame
@@ -125,7 +125,7 @@ pub record FailsAtWrite (asked : Asked) (sent : List Frame) (old new : Held) (e 
   pub not_all : front < length (frame last)
   pub written : Appends old.written new.written (flat_map frame whole ++ take front (frame last))
 
--- What an exchange came to, by what is answered.
+-- The state of an exchange, by the result.
 abbrev pub ExchangeResult : Asked → List Frame → Held → Held → Exchange → Result Step AskFault → Type 0
 ExchangeResult asked sent old new e (Ok step) = IsAtPhase asked sent old new (ask_phase_of step) e
 ExchangeResult asked sent old new e (Err ask_faults.Write) = FailsAtWrite asked sent old new e
@@ -141,7 +141,7 @@ abbrev pub step_in : Result Progress AskFault → Result Step AskFault
 step_in (Ok p) = Ok p.step
 step_in (Err fault) = Err fault
 
--- The exchange that the code holds, of which these frames were sent.
+-- The exchange that the code holds after these frames were sent.
 abbrev pub exchange_now : Asked → Step → Held → List Frame → Exchange
 exchange_now asked step held sent = exchange_as asked held.client.state (ask_phase_of step) held.reply sent
 
@@ -158,7 +158,7 @@ abbrev pub IsAwaited : Result Step AskFault → Type 0
 IsAwaited (Ok step) = is_awaiting (ask_phase_of step) ≡ true
 IsAwaited (Err fault) = ⊥
 
--- No fault lasts, where a reply is awaited.
+-- While a reply is awaited, no fault lasts.
 abbrev pub IsHealthy : State → Result Step AskFault → Type 0
 IsHealthy s (Ok steps.Completed) = ⊤
 IsHealthy s (Ok step) = s.fault ≡ None
@@ -173,7 +173,8 @@ pub record Hears (begins : Exchange) (before fed held : List ℕ) (ends : Exchan
   pub exchange : ends ≡ over begins frames
   pub partial : IsPartial held
 
--- Of a piece a front was fed, which is not empty: all of it, where a reply is awaited.
+-- A front of a piece was fed. It is not empty if the piece is not, and it is the whole piece if a reply is still
+-- awaited.
 pub record IsPieceFed (asked : Asked) (step : Step) (piece : List ℕ) (old new : Held) (result : Result Step AskFault)
     (sent : List Frame) : Type 0 where
   pub exchange : Exchange
@@ -186,7 +187,7 @@ pub record IsPieceFed (asked : Asked) (step : Step) (piece : List ℕ) (old new 
   pub more : IsAwaited result
       → (rest ≡ []) × Hears (exchange_now asked step old sent) old.client.held fed new.client.held exchange
 
--- What a read came to.
+-- The result of a read.
 abbrev pub IsRead : Option (List ℕ) → Option (List ℕ) → ℕ → ℕ → List ℕ → Result ℕ AskFault → Type 0
 IsRead before after reads_before reads_after into (Ok size) =
     Consumes before after (take size into) × (0 < size) × (reads_after ≡ suc reads_before)

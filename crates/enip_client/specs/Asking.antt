@@ -19,7 +19,7 @@ use Rattle.enip_client.specs.Client.{ClientState}
 use Rattle.enip_client.specs.Hears.{TurnResult, HeardEvent, hears_parsed}
 use Rattle.enip_client.specs.Hears.HeardEvent.{Registered, Opened, Replied, Accepted, Refused, Closed}
 
--- The longest reply that is taken, in bytes.
+-- The greatest size of a reply that is accepted, in bytes.
 abbrev pub LONGEST_REPLY : ℕ
 LONGEST_REPLY = 4000
 
@@ -40,8 +40,8 @@ is_awaiting Closing = true
 is_awaiting Completed = false
 is_awaiting (Failed fault) = false
 
--- An exchange: its request, on a connection or not; where the client stands, the frames that it sent, the reply that
--- was heard, and where the exchange stands.
+-- An exchange: its request, whether it goes on a connection, the state of the client, the frames that it sent, the
+-- reply that was heard, and the phase of the exchange.
 pub record Exchange : Type 0 where
   pub request : List ℕ
   pub connected : Bool
@@ -53,7 +53,7 @@ pub record Exchange : Type 0 where
 abbrev pub failed : Exchange → AskFault → Exchange
 failed e fault = record e { ask_phase = Failed fault }
 
--- How the exchange fails where a call is refused.
+-- How the exchange fails if a call is refused.
 abbrev pub client_failure : ClientFault → AskFault
 client_failure fault = ask_faults.Client fault
 
@@ -69,12 +69,12 @@ lends failure (Err fault) = Err (failure fault)
 abbrev pub lends_call : Result Lent ClientFault → Result Lent AskFault
 lends_call lent = lends client_failure lent
 
--- The request, on the connection or not.
+-- The request, on the connection or unconnected.
 abbrev pub requests : State → List ℕ → Bool → Result Lent AskFault
 requests s request connected =
     if connected then lends submit_failure (submits s request) else lends_call (asks s request)
 
--- The frame that a call lends is sent, and its reply is awaited; a call that is refused ends the exchange.
+-- The frame that a call lends is sent, and its reply is awaited. A call that is refused ends the exchange.
 abbrev pub sends_lent : Exchange → AskPhase → Result Lent AskFault → Exchange
 sends_lent e next (Ok lent) = record e { state = lent.state; sent = e.sent ++ (lent.frame ∷ []); ask_phase = next }
 sends_lent e next (Err fault) = failed e fault
@@ -92,7 +92,7 @@ closing e = sends_lent e Closing (lends_call (closes e.state))
 abbrev pub leaving : Exchange → Exchange
 leaving e = sends_lent e Completed (lends_call (unregisters e.state))
 
--- The reply is kept, and the connection is closed, where there is one. A longer reply ends the exchange (ours).
+-- The reply is kept, and the connection is closed, if there is one. A longer reply ends the exchange (ours).
 abbrev pub replied : Exchange → List ℕ → Exchange
 replied e bytes =
     if nat_lt LONGEST_REPLY (length bytes) then failed e (ask_faults.Client faults.Malformed)
@@ -103,7 +103,7 @@ replied e bytes =
 abbrev pub refused : Exchange → ℕ → ℕ → Exchange
 refused e status extended = failed e (ask_faults.Client (faults.Refused status extended))
 
--- What follows what was heard: the next call, as soon as the one before was answered.
+-- What follows what was heard: the next call, as soon as the one before is answered.
 abbrev pub goes_on : Exchange → AskPhase → HeardEvent → Exchange
 goes_on e Registering Registered = if e.connected then opening e else requesting e
 goes_on e Opening Opened = requesting e
@@ -114,7 +114,7 @@ goes_on e Closing Closed = leaving e
 goes_on e Closing (Refused status extended) = refused e status extended
 goes_on e ask_phase heard = e
 
--- A fault that lasts ends the exchange.
+-- A lasting fault ends the exchange.
 abbrev pub hears_unless : Exchange → HeardEvent → Option ClientFault → Exchange
 hears_unless e heard (Some fault) = failed e (ask_faults.Client fault)
 hears_unless e heard None = goes_on e e.ask_phase heard
@@ -122,11 +122,11 @@ hears_unless e heard None = goes_on e e.ask_phase heard
 abbrev pub after_turn : Exchange → TurnResult → Exchange
 after_turn e turned = hears_unless (record e { state = turned.state }) turned.heard_event turned.state.fault
 
--- The exchange after a sight of the bytes that came. Once it has ended it hears nothing.
+-- The exchange after the bytes that arrived. Once it has ended it hears nothing.
 abbrev pub after_parsed : Exchange → Parsed → Exchange
 after_parsed e parsed_frame = if is_awaiting e.ask_phase then after_turn e (hears_parsed e.state parsed_frame) else e
 
--- The exchange begins: the session is registered.
+-- The exchange begins by registering a session.
 abbrev pub begun : State → List ℕ → Bool → List ℕ → Exchange
 begun s request connected reply =
     sends_lent (record { request = request; connected = connected; state = s; sent = []; reply = reply; ask_phase = Registering })
@@ -142,15 +142,15 @@ abbrev pub AllAwaited : Exchange → List Frame → Type 0
 AllAwaited e [] = ⊤
 AllAwaited e (f ∷ fs) = (is_awaiting e.ask_phase ≡ true) × AllAwaited (after_parsed e (WholeFrame f)) fs
 
--- A header that is too long ends the exchange.
+-- A header whose length is over the limit ends the exchange.
 abbrev pub at_last : Exchange → Parsed → Exchange
 at_last e Incomplete = e
 at_last e (WholeFrame f) = e
 at_last e (TooLongHeader h) = after_parsed e (TooLongHeader h)
 
--- The bytes that the client held before, joined with those that it was fed, are these frames and what it still holds,
--- which is no frame that was not heard. The exchange is that over the frames, unless the header of what is held is too
--- long.
+-- The bytes that the client held before, joined with those that it was fed, are these frames followed by what it still
+-- holds, which is not a whole frame. The exchange is the one over these frames, unless the length in a header that is
+-- held is over the limit.
 pub record Heard (begins : Exchange) (before fed : List ℕ) (after : ClientState) (ends : Exchange) : Type 0 where
   pub frames : List Frame
   pub parts : before ++ fed ≡ flat_map frame frames ++ after.held
@@ -160,7 +160,7 @@ pub record Heard (begins : Exchange) (before fed : List ℕ) (after : ClientStat
   pub exchange : ends ≡ at_last (over begins frames) (parsed after.held)
   pub state : after.state ≡ ends.state
 
--- No byte of a frame, or a front of one.
+-- The bytes held are a front of a frame, or none.
 pub record IsPartial (held : List ℕ) : Type 0 where
   pub bytes : AreBytes held
   pub partly : parsed held ≡ Incomplete
@@ -169,7 +169,7 @@ pub record IsPartial (held : List ℕ) : Type 0 where
 abbrev pub Writes : Option (List ℕ) → Option (List ℕ) → List Frame → Type 0
 Writes before after frames = Appends before after (flat_map frame frames)
 
--- These frames were written but the last, and of the last a front that is not all of it.
+-- All of these frames but the last were written, and of the last a front that is not all of it.
 pub record WritesFront (before after : Option (List ℕ)) (frames : List Frame) : Type 0 where
   pub whole : List Frame
   pub last : Frame
@@ -191,8 +191,8 @@ abbrev pub ends : ClientState → Option (List ℕ) → ℕ → Option (List ℕ
 ends client left reads written reply =
     record { client = client; left = left; reads = reads; written = written; reply = reply }
 
--- The exchange that was heard: of the bytes that were read a front was fed. What was not fed is of the last read, which
--- gave at most 4,096 bytes, and of which a byte or more was fed.
+-- The exchange that was heard. A front of the bytes that were read was fed. What was not fed belongs to the last read,
+-- which gave at most 4,096 bytes and of which at least one byte was fed.
 pub record Asking (request : List ℕ) (connected : Bool) (old new : Ends) : Type 0 where
   pub exchange : Exchange
   pub fed : List ℕ
@@ -202,12 +202,12 @@ pub record Asking (request : List ℕ) (connected : Bool) (old new : Ends) : Typ
   pub heard : Heard (begun old.client.state request connected old.reply) old.client.held fed new.client exchange
   pub reply : new.reply ≡ exchange.reply
 
--- It awaits a reply, and heard all that was read.
+-- The exchange awaits a reply, and all that was read was fed.
 pub record IsAwaiting (e : Exchange) (rest : List ℕ) : Type 0 where
   pub ask_phase : is_awaiting e.ask_phase ≡ true
   pub all : rest ≡ []
 
--- What an exchange does, by what is answered.
+-- What an exchange does, by its result.
 abbrev pub IsAsked : List ℕ → Bool → Ends → Ends → Result (Unit {0}) AskFault → Type 0
 IsAsked request connected old new (Ok done) =
     (a : Asking request connected old new) × (a.exchange.ask_phase ≡ Completed)
@@ -230,12 +230,12 @@ IsAsked request connected old new (Err ask_faults.Spent) =
     (a : Asking request connected old new) × IsAwaiting a.exchange a.rest × (new.reads ≡ 2 ^ 64 - 1)
     × Writes old.written new.written a.exchange.sent
 
--- Where no session can be registered, that is answered, and nothing is read, written or changed.
+-- If no session can be registered, that is the result, and nothing is read, written or changed.
 abbrev pub IsRefused : Ends → Ends → Result (Unit {0}) AskFault → Type 0
 IsRefused old new result = (fault : ClientFault) → registers old.client.state ≡ Err fault
     → (result ≡ Err (ask_faults.Client fault)) × (new ≡ old)
 
--- How many calls of the reader failed, and how many of the writer, by what is answered.
+-- How many calls of the reader failed, and how many of the writer, by the result.
 abbrev pub read_faults : {A : Type 0} → Result A AskFault → ℕ
 read_faults (Ok x) = 0
 read_faults (Err ask_faults.Read) = 1

@@ -49,7 +49,7 @@ can_submit s = is_open s.connection_state
 abbrev pub can_close : State → Bool
 can_close s = is_open s.connection_state && is_free s
 
--- A fault that lasts is answered again; then a call that is not possible now is `State`.
+-- A lasting fault is reported again. Otherwise a call that is not possible now is `State`.
 abbrev pub refusal : State → Bool → Option ClientFault
 refusal s possible = elim s.fault [ Some fault ↦ Some fault | None ↦ if possible then None else Some faults.State ]
 
@@ -65,11 +65,12 @@ pub record Lent : Type 0 where
 abbrev pub lending : Frame → State → Lent
 lending f s = record { frame = f; state = s }
 
--- The number of the next frame that is counted: register, open, unconnected and close frames are, from 1.
+-- The number of the next frame that is counted. The frames of register, open, unconnected and close are counted, from
+-- 1.
 abbrev pub next_number : State → ℕ
 next_number s = (s.frames + 1) % 2 ^ 64
 
--- Such a frame was sent, and this is awaited.
+-- Such a frame was sent, and this reply is awaited.
 abbrev pub awaiting : Awaited → State → State
 awaiting awaited s =
     record s { awaiting = Some (record { number = next_number s; awaited = awaited }); frames = next_number s }
@@ -96,11 +97,11 @@ asks s request =
     unless (refusal s (can_ask s))
     (if is_unconnected request then Ok (asking s (Reply (slice_index request 0)) request) else Err faults.Request)
 
--- The connection is over from here on.
+-- The connection is over once close is called.
 abbrev pub closes : State → Result Lent ClientFault
 closes s = unless (refusal s (can_close s)) (Ok (asking (record s { connection_state = Closed }) End (close_request s.wants)))
 
--- The session is over, and the connection with it.
+-- The session is over once unregister is called, and the connection with it.
 abbrev pub unregisters : State → Result Lent ClientFault
 unregisters s =
     unless (refusal s (can_ask s))
@@ -128,22 +129,22 @@ submits s request = submits_unless s request (refusal s (can_submit s))
 abbrev pub is_connected : State → Bool
 is_connected s = elim s.fault [ Some fault ↦ false | None ↦ is_open s.connection_state ]
 
--- The frame of the request that waits, once more.
+-- The frame of the waiting request, once more.
 abbrev pub resends : State → Option Frame
 resends s = if is_connected s then option_map (item_sent s) (waiting_item s.originator.phase) else None
 
--- Whether a request waited, which is given up, and the client after it.
+-- Whether a request waited, which is then given up; and the client after it.
 abbrev pub gives_up : State → Bool
 gives_up s = is_connected s && is_waiting s.originator.phase
 
 abbrev pub after_giving_up : State → State
 after_giving_up s = if is_connected s then record s { originator = after_give_up s.originator } else s
 
--- Where the connection's originator stands, where a connection is open.
+-- The stage of the connection's originator, if a connection is open.
 abbrev pub stage_in : State → Option Stage
 stage_in s = if is_open s.connection_state then Some (stage_of s.originator.phase) else None
 
--- The client after a call that lends a frame: one that is refused changes nothing.
+-- The client after a call that lends a frame. A call that is refused changes nothing.
 abbrev pub after_lending : {E : Type 0} → State → Result Lent E → State
 after_lending s (Ok lent) = lent.state
 after_lending s (Err fault) = s

@@ -1,4 +1,4 @@
--- A client, with the bytes that have come of its next frame.
+-- A client, with the bytes that have arrived of its next frame.
 use Rattle.std.specs.Prelude.{◌≡◌, ◌≤◌, ◌+◌, ℕ, ⊤, Bool, true, false, List, [], length, take, slice_range, Option}
 use Rattle.std.specs.Prelude.{Some, None, Result, Ok, Err}
 use Rattle.cip_message.specs.Reply.{view}
@@ -32,12 +32,12 @@ pub record Fed : Type 0 where
   pub taken : ℕ
   pub heard_event : HeardEvent
 
--- Bytes are taken up to the end of one frame, and it is heard.
+-- Bytes are taken up to the end of one frame, and the frame is heard.
 abbrev pub fed_parsed : State → List ℕ → ℕ → TurnResult → Fed
 fed_parsed s left taken turned =
     record { client = record { state = turned.state; held = left }; taken = taken; heard_event = turned.heard_event }
 
--- Where a fault lasts no byte is taken.
+-- Once a fault lasts, no byte is taken.
 abbrev pub fed_unless : ClientState → List ℕ → Option ClientFault → Fed
 fed_unless c piece (Some fault) = record { client = c; taken = 0; heard_event = Nothing }
 fed_unless c piece None =
@@ -51,7 +51,7 @@ fed c piece = fed_unless c piece c.state.fault
 abbrev pub with_state : ClientState → State → ClientState
 with_state c s = record c { state = s }
 
--- What was heard, apart from where its bytes lie.
+-- What was heard, whatever the addresses of its bytes.
 abbrev pub heard_event_in : Heard → HeardEvent
 heard_event_in heards.Nothing = Nothing
 heard_event_in heards.Registered = Registered
@@ -61,7 +61,7 @@ heard_event_in (heards.Accepted bytes) = Accepted bytes.now
 heard_event_in (heards.Refused status extended) = Refused status extended
 heard_event_in heards.Closed = Closed
 
--- What was found in the bytes of a frame: a reply stands from one index to another.
+-- What was found in the bytes of a frame. A reply is between two indices.
 abbrev pub heard_event_at : List ℕ → Found → HeardEvent
 heard_event_at frame founds.Nothing = Nothing
 heard_event_at frame founds.Registered = Registered
@@ -71,7 +71,7 @@ heard_event_at frame (founds.Accepted from to) = Accepted (slice_range frame fro
 heard_event_at frame (founds.Refused status extended) = Refused status extended
 heard_event_at frame founds.Closed = Closed
 
--- The indices are within so many bytes.
+-- The indices are within this many bytes.
 abbrev pub IsWithin : ℕ → Found → Type 0
 IsWithin size founds.Nothing = ⊤
 IsWithin size founds.Registered = ⊤
@@ -81,22 +81,22 @@ IsWithin size (founds.Accepted from to) = (from ≤ to) × (to ≤ size)
 IsWithin size (founds.Refused status extended) = ⊤
 IsWithin size founds.Closed = ⊤
 
--- What was found in a frame, and the client after it, are the turn's.
+-- What was found in a frame, and the client after it, are those of the turn.
 pub record IsHeard (f : Frame) (s : State) (found : Found) (turned : TurnResult) : Type 0 where
   pub state : s ≡ turned.state
   pub heard_event : heard_event_at (frame f) found ≡ turned.heard_event
   pub within : IsWithin (length (frame f)) found
 
--- The bytes stand in a text from an index on.
+-- These bytes are in a longer list at an index.
 abbrev pub LiesAt : ℕ → List ℕ → List ℕ → Type 0
 LiesAt index bytes text = (index + length bytes ≤ length text)
     × (slice_range text index (index + length bytes) ≡ bytes)
 
--- The code's answer, apart from where it lies.
+-- The code's answer, whatever its address.
 abbrev pub answer_of : RepliedTo → Answer
 answer_of a = record { bytes = a.bytes.now; reply = view a.reply }
 
--- What a call wrote, where it wrote.
+-- What a call wrote, if it did.
 abbrev pub bytes_written : {E : Type 0} → Result (Unit {0}) E → List ℕ → Result (List ℕ) E
 bytes_written (Ok done) bytes = Ok bytes
 bytes_written (Err fault) bytes = Err fault
@@ -110,26 +110,28 @@ abbrev pub bytes_rewritten : Bool → List ℕ → Option (List ℕ)
 bytes_rewritten true bytes = Some bytes
 bytes_rewritten false bytes = None
 
--- The bytes of the frame in which something was found: it came whole in a piece, or was gathered.
+-- The bytes of the frame in which something was found. The piece contains the whole frame, or it was gathered.
 abbrev pub frame_bytes : Bool → ℕ → List ℕ → List ℕ → List ℕ
 frame_bytes true taken piece held = take taken piece
 frame_bytes false taken piece held = held
 
--- The client as it is stored: a frame that was heard stays with the reader until more comes, and counts as no byte.
+-- The client's value by the fields of the code. A frame that was heard stays in the reader until more arrives, and does
+-- not count as held.
 abbrev pub client_in : State → List ℕ → ClientState
 client_in s bytes = record { state = s; held = cleared (parsed bytes) bytes }
 
--- Between calls a client holds bytes that are no whole frame; where no fault lasts, they are a front of one, or none.
+-- Between calls, the bytes that a client holds are not a whole frame. If no fault lasts, they are a front of one, or
+-- none.
 pub record IsBetween (c : ClientState) : Type 0 where
   pub bytes : AreBytes c.held
   pub unheard : (f : Frame) → parsed c.held ≡ WholeFrame f → ⊥
   pub partly : c.state.fault ≡ None → parsed c.held ≡ Incomplete
 
--- Where no fault lasts, what is held goes on.
+-- If no fault lasts, the length in a header that is held is not over the limit.
 abbrev pub IsListening : State → List ℕ → Type 0
 IsListening s bytes = s.fault ≡ None → IsTooLong bytes → ⊥
 
--- What a piece told, and the client after it, are those of the definition.
+-- What a piece does, and the client after it, are as defined.
 pub record IsPieceOutcome (s : State) (bytes : List ℕ) (outcome : PieceOutcome) (piece : List ℕ) (f : Fed) : Type 0 where
   pub client : client_in s bytes ≡ f.client
   pub taken : outcome.taken ≡ f.taken

@@ -1,4 +1,4 @@
--- The numbers of faults, by which they are printed.
+-- The numbers of faults in printed output.
 use Rattle.std.specs.Prelude.{ℕ}
 use Rattle.enip_client.specs.declared.fault.AskFault.{AskFault}
 use Rattle.enip_client.specs.declared.fault.AskFault.TheVariants as ask_faults
@@ -20,7 +20,7 @@ abbrev pub submit_fault_number : SubmitFault → ℕ
 submit_fault_number (submit_faults.Client fault) = 1
 submit_fault_number (submit_faults.Refused why) = 2
 
--- The number of why an exchange was not completed, by which it is printed.
+-- The number of why an exchange was not completed.
 abbrev pub ask_fault_number : AskFault → ℕ
 ask_fault_number ask_faults.Read = 1
 ask_fault_number ask_faults.Write = 2

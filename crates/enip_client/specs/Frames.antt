@@ -16,7 +16,7 @@ use Rattle.enip_wire.specs.Frames.{Frame}
 use Rattle.enip_wire.specs.declared.header.Header.{Header}
 use Rattle.enip_client.specs.declared.wants.Wants.{Wants}
 
--- The header of a frame with so many bytes of data: no status, no options, and a number as its context.
+-- The header of a frame with `size` bytes of data: status 0, options 0, and a number as its context.
 abbrev pub sent_header : Command → ℕ → ℕ → ℕ → Header
 sent_header command session number size = record {
   command = command_number command;
@@ -44,11 +44,12 @@ unregister_frame session = sent UnRegisterSession session 0 []
 abbrev pub request_frame : ℕ → ℕ → List ℕ → Frame
 request_frame session number bytes = sent SendRRData session number (rr_body_bytes bytes)
 
--- SendUnitData: an item of the connection with this O->T ID. Its count tells it, and not its context.
+-- SendUnitData: an item of the connection with this O->T ID. It is identified by its count, not by its context.
 abbrev pub item_frame : ℕ → ℕ → List ℕ → Frame
 item_frame session o_to_t_id item = sent SendUnitData session 0 (unit_body_bytes o_to_t_id item)
 
--- The Connection Manager, instance 1; and the message router, instance 1, to which a connection is opened.
+-- The paths of the Connection Manager, instance 1, and of the message router, instance 1, to which a connection is
+-- opened.
 abbrev pub connection_manager : List ℕ
 connection_manager = 0x20 ∷ CONNECTION_MANAGER ∷ 0x24 ∷ 1 ∷ []
 
@@ -60,22 +61,22 @@ abbrev pub manager_request : ManagerService → List ℕ → List ℕ
 manager_request service bytes =
     request (record { service = manager_service_number service; path = connection_manager; «data» = bytes })
 
--- The parameters of one direction: point to point, of variable size up to this one, which bits 8 to 0 say.
+-- The parameters of one direction: point to point, of variable size up to this one, which is in bits 0 to 8.
 abbrev pub parameters_of : ℕ → ℕ
 parameters_of size = 0x4200 + size % 2 ^ 9
 
--- The same for a large connection, whose size bits 15 to 0 say.
+-- The same for a large connection, whose size is in bits 0 to 15.
 abbrev pub large_parameters_of : ℕ → ℕ
 large_parameters_of size = 0x42000000 + size
 
--- A size that a Forward_Open can't say, in either direction, asks for a large connection.
+-- A connection is large if the size of either direction does not fit a Forward_Open.
 abbrev pub is_large : Wants → Bool
 is_large wants = nat_lt LARGEST_FORWARD_OPEN_SIZE wants.o_to_t_size || nat_lt LARGEST_FORWARD_OPEN_SIZE wants.t_to_o_size
 
 abbrev pub layout_of : Wants → Layout
 layout_of wants = if is_large wants then large else small
 
--- What an open asks for, with the parameters of either direction. The target chooses the O->T ID; the client is the
+-- The fields of an open, with the parameters of both directions. The target chooses the O->T ID. The client is the
 -- originator of a class 3 connection.
 abbrev pub asked_by : ℕ → ℕ → Wants → Open
 asked_by o_to_t_parameters t_to_o_parameters wants = record {
@@ -102,7 +103,7 @@ abbrev pub large_asked : Wants → Open
 large_asked wants =
     asked_by (large_parameters_of wants.o_to_t_size) (large_parameters_of wants.t_to_o_size) wants
 
--- Forward_Open, or Large_Forward_Open, in its layout.
+-- Forward_Open or Large_Forward_Open, in its layout.
 abbrev pub open_service_in : Layout → ManagerService
 open_service_in small = ForwardOpen
 open_service_in large = LargeForwardOpen
@@ -121,7 +122,7 @@ open_service wants = open_service_in (layout_of wants)
 abbrev pub open_request : Wants → List ℕ
 open_request wants = open_request_in (layout_of wants) wants
 
--- Which connection a close means.
+-- The connection that a close names.
 abbrev pub close_asked : Wants → Close
 close_asked wants = record {
   priority_and_tick_time = 0x0a;

@@ -1,5 +1,5 @@
--- The client's turn: what a whole frame says, and where the client stands after it (Volume 2, encapsulation commands;
--- Volume 1, message router, Connection Manager, transport class 3).
+-- The client's turn: what is heard in a whole frame, and the state of the client after it (Volume 2, encapsulation
+-- commands; Volume 1, message router, Connection Manager, transport class 3).
 use Rattle.std.specs.Prelude.{ℕ, ◌==◌, ◌&&◌, nat_le, if◌then◌else◌, Bool, List, [], ◌∷◌, length, Option, Some, None}
 use Rattle.std.specs.Prelude.{Result, Ok, Err}
 use Rattle.cip_bytes.specs.Numbers.{number_at}
@@ -27,7 +27,7 @@ use Rattle.enip_client.specs.declared.state.Registration.TheVariants as registra
 use Rattle.enip_client.specs.declared.state.State.{State}
 use Rattle.enip_client.specs.State.{is_registered, session_in, is_open}
 
--- What is heard: nothing; the session is registered; the connection is opened; an unconnected reply; a reply that the
+-- What is heard: nothing; the session is registered; the connection is open; an unconnected reply; a reply that the
 -- connection accepts; an open or a close is refused, with its general status and first additional word; the connection
 -- is closed.
 pub data HeardEvent : Type 0 where
@@ -50,18 +50,18 @@ turned_to s heard_event = record { state = s; heard_event = heard_event }
 abbrev pub faulted : State → ClientFault → TurnResult
 faulted s fault = turned_to (record s { fault = Some fault }) Nothing
 
--- What was awaited came.
+-- The awaited reply arrived.
 abbrev pub answered : State → State
 answered s = record s { awaiting = None }
 
--- The command of what is awaited.
+-- The command of the awaited reply.
 abbrev pub command_awaited : Awaited → Command
 command_awaited awaited.Session = RegisterSession
 command_awaited awaited.Connection = SendRRData
 command_awaited (awaited.Reply service) = SendRRData
 command_awaited awaited.End = SendRRData
 
--- The frame has the command and the context of what is awaited.
+-- The frame has the command and the context of the awaited reply.
 abbrev pub is_answer : Awaiting → Header → Bool
 is_answer w h = (h.command == command_number (command_awaited w.awaited)) && (number_at 0 8 h.context == w.number)
 
@@ -80,7 +80,7 @@ abbrev pub answer_in : ℕ → Result (List ℕ) CpfFault → Option Answer
 answer_in service (Err fault) = None
 answer_in service (Ok bytes) = answer_read service bytes (reply_of bytes)
 
--- The reply that a body has to a request of this service; none where the body is none, or has another's.
+-- The reply in a body to a request of this service. None if the body is faulty, or its reply is to another service.
 abbrev pub answer_to : ℕ → List ℕ → Option Answer
 answer_to service body = answer_in service (rr_body_of body)
 
@@ -93,14 +93,14 @@ first_word (word ∷ words) = word
 abbrev pub refuses : State → Reply → TurnResult
 refuses s reply = turned_to (answered s) (Refused reply.status (first_word reply.additional))
 
--- The session is that of the reply's header. The reply has 4 bytes of data.
+-- The session handle is that of the reply's header. The reply has 4 bytes of data.
 abbrev pub session_turn : State → Frame → TurnResult
 session_turn s f =
     if length f.body == 4
     then turned_to (record (answered s) { registration = registrations.Registered f.header.session }) Registered
     else faulted s faults.Malformed
 
--- The O->T ID comes first in the 26 bytes of a connection that was opened.
+-- The O->T ID comes first in the 26 bytes of a successful open.
 abbrev pub opening_turn : State → Option Answer → TurnResult
 opening_turn s None = faulted s faults.Malformed
 opening_turn s (Some a) =
@@ -119,14 +119,14 @@ abbrev pub closing_turn : State → Option Answer → TurnResult
 closing_turn s None = faulted s faults.Malformed
 closing_turn s (Some a) = if a.reply.status == 0 then turned_to (answered s) Closed else refuses s a.reply
 
--- The shape of each reply that is awaited: 4 bytes of data, or a router's reply to the service that asked.
+-- The shape of each awaited reply: 4 bytes of data, or a router's reply to the service of the request.
 abbrev pub shaped : State → Awaited → Frame → TurnResult
 shaped s awaited.Session f = session_turn s f
 shaped s awaited.Connection f = opening_turn s (answer_to (manager_service_number (open_service s.wants)) f.body)
 shaped s (awaited.Reply service) f = reply_turn s (answer_to service f.body)
 shaped s awaited.End f = closing_turn s (answer_to (manager_service_number ForwardClose) f.body)
 
--- An awaited reply: a status that is not 0 lasts as a fault.
+-- An awaited reply. A status other than 0 is a lasting fault.
 abbrev pub answer_turn : State → Awaited → Frame → TurnResult
 answer_turn s awaited f =
     if f.header.status == 0 then shaped s awaited f else faulted s (faults.Status f.header.status)
@@ -144,13 +144,13 @@ item_turn s (Ok (id, item)) =
     then turned_to (record s { originator = after_item s.originator item }) (accepted (accepted_reply s.originator item))
     else turned_to s Nothing
 
--- A SendUnitData without a status, to the session of an open connection.
+-- A SendUnitData with status 0, to the session of an open connection.
 abbrev pub is_for_connection : State → Header → Bool
 is_for_connection s h =
     (h.command == command_number SendUnitData) && (h.status == 0) && is_open s.connection_state
     && is_registered s.registration && (h.session == session_in s.registration)
 
--- What is not awaited is ignored.
+-- Any other frame is ignored.
 abbrev pub other_turn : State → Frame → TurnResult
 other_turn s f = if is_for_connection s f.header then item_turn s (unit_body_of f.body) else turned_to s Nothing
 
@@ -158,7 +158,7 @@ abbrev pub hears_awaiting : State → Frame → Option Awaiting → TurnResult
 hears_awaiting s f None = other_turn s f
 hears_awaiting s f (Some w) = if is_answer w f.header then answer_turn s w.awaited f else other_turn s f
 
--- The client's turn at a whole frame, and at what it sees of its bytes.
+-- The client's turn at a whole frame, and at the bytes that have arrived.
 abbrev pub hears : State → Frame → TurnResult
 hears s f = hears_awaiting s f s.awaiting
 

@@ -5,7 +5,8 @@ use Rattle.byteorder.specs.Endian.{big_bytes, big_from}
 use Rattle.cip_bytes.specs.Numbers.{le, number_at}
 use Rattle.enip_client.specs.declared.identity.IdentityView.{IdentityView}
 
--- What an item says of a device: the protocol version, a socket address, and attributes 1 to 8 of its Identity object.
+-- What an item says about a device: the protocol version, a socket address, and attributes 1 to 8 of its Identity
+-- object.
 pub record Identity : Type 0 where
   pub version : ℕ
   pub family : ℕ
@@ -21,7 +22,7 @@ pub record Identity : Type 0 where
   pub name : List ℕ
   pub state : ℕ
 
--- Each field has the size that its place on the wire has.
+-- Each field fits its size on the wire.
 pub record IsIdentity (i : Identity) : Type 0 where
   pub version : i.version < 2 ^ 16
   pub family : i.family < 2 ^ 16
@@ -37,7 +38,7 @@ pub record IsIdentity (i : Identity) : Type 0 where
   pub name : length i.name < 2 ^ 8
   pub state : i.state < 2 ^ 8
 
--- A socket address, most significant byte first: family, port, address, and eight bytes of filling.
+-- A socket address, big-endian: family, port, address, and eight bytes of padding.
 abbrev pub socket_with : List ℕ → Identity → List ℕ
 socket_with filling i = big_bytes 2 i.family ++ big_bytes 2 i.port ++ i.address ++ filling
 
@@ -48,14 +49,14 @@ identity_with filling i =
     le 2 i.version ++ socket_with filling i ++ le 2 i.vendor ++ le 2 i.device_type ++ le 2 i.product_code
     ++ i.major ∷ i.minor ∷ [] ++ le 2 i.status ++ le 4 i.serial ++ length i.name ∷ [] ++ i.name ++ i.state ∷ []
 
--- The bytes spell this identity. The filling is zeros by the standard, and any here (ours).
+-- The bytes spell this identity. The standard has zeros as padding; any bytes are accepted (ours).
 pub record SpellsIdentity (i : Identity) (bytes : List ℕ) : Type 0 where
   pub filling : List ℕ
   pub eight : length filling ≡ 8
   pub is_identity : IsIdentity i
   pub spelled : bytes ≡ identity_with filling i
 
--- What a view of an identity shows.
+-- The identity in a view.
 abbrev pub identity_in : IdentityView → Identity
 identity_in v = record {
   version = v.version;
@@ -73,9 +74,9 @@ identity_in v = record {
   state = v.state;
 }
 
--- The rest says the same by numbers alone, for who computes with it.
+-- The rest states the same by numbers alone, for those who compute with it.
 
--- The fields at their places.
+-- The fields, at their offsets.
 unfoldable pub identity_fields : List ℕ → Identity
 identity_fields b = record {
   version = number_at 0 2 b;
@@ -93,6 +94,6 @@ identity_fields b = record {
   state = slice_index (drop 33 b) (slice_index b 32);
 }
 
--- The identity that the bytes spell, if they spell one: 34 bytes, and the name that byte 32 counts.
+-- The identity that the bytes spell, if any: 34 bytes, and the name, whose length is in byte 32.
 unfoldable pub identity_of : List ℕ → Option Identity
 identity_of b = if length b == 34 + slice_index b 32 then Some (identity_fields b) else None

@@ -1,4 +1,4 @@
--- One list asked of a device: what is written, what is read of the answer, and what is answered.
+-- One list request to a device: what is written, what is read of the answer, and the result.
 use Rattle.std.specs.Prelude.{ℕ, ◌-◌, ◌^◌, ◌≡◌, ◌<◌, List, ◌++◌, length, Option, Result, Ok, Err}
 use Rattle.std.specs.Io.KnownBytes.{Appends, Consumes, IsAtEnd}
 use Rattle.enip_wire.specs.Frames.{frame, IsComplete}
@@ -10,8 +10,8 @@ use Rattle.enip_client.specs.declared.lists.ListCommand.{ListCommand}
 use Rattle.enip_client.specs.AskSteps.{FailsWithin}
 use Rattle.enip_client.specs.Lists.{Entry, list_frame, answer_in}
 
--- Of the bytes that were read these are the first that are a whole frame, or a header that is too long. What follows
--- them is of the last read, which gave at most 4,096 bytes.
+-- These are the first of the bytes read that are a whole frame, or a header whose length is over the limit. What
+-- follows them belongs to the last read, which gave at most 4,096 bytes.
 pub record Gathers (before after : Option (List ℕ)) (bytes : List ℕ) : Type 0 where
   pub fresh : IsAtMostOneFrame bytes
   pub stops : IsComplete bytes
@@ -19,13 +19,13 @@ pub record Gathers (before after : Option (List ℕ)) (bytes : List ℕ) : Type 
   pub few : length rest < 4096
   pub consumed : Consumes before after (bytes ++ rest)
 
--- All that was read is no whole frame yet, and no header that is too long.
+-- All that was read is neither a whole frame yet, nor a header whose length is over the limit.
 pub record Waits (before after : Option (List ℕ)) : Type 0 where
   pub bytes : List ℕ
   pub partial : IsComplete bytes → ⊥
   pub consumed : Consumes before after bytes
 
--- What was gathered, by what is answered.
+-- What was gathered, by the result.
 abbrev pub IsGathered : Option (List ℕ) → Option (List ℕ) → ℕ → List ℕ → Result (Unit {0}) AskFault → Type 0
 IsGathered before after reads bytes (Ok done) = Gathers before after bytes
 IsGathered before after reads bytes (Err ask_faults.Read) = Waits before after
@@ -46,14 +46,14 @@ list_state left reads written = record { left = left; reads = reads; written = w
 abbrev pub Requests : ListCommand → ListState → ListState → Type 0
 Requests command old new = Appends old.written new.written (frame (list_frame command))
 
--- What was gathered answers this.
+-- This is the answer in what was gathered.
 pub record Answers (command : ListCommand) (old new : ListState) (answer : Result (List Entry) ClientFault) : Type 0 where
   pub requested : Requests command old new
   pub bytes : List ℕ
   pub gathered : Gathers old.left new.left bytes
   pub is : answer_in command (parsed bytes) ≡ answer
 
--- What asking for a list does, by what is answered.
+-- What a list request does, by its result.
 abbrev pub IsListed : ListCommand → ListState → ListState → Result (List Entry) AskFault → Type 0
 IsListed command old new (Ok entries) = Answers command old new (Ok entries)
 IsListed command old new (Err (ask_faults.Client fault)) = Answers command old new (Err fault)

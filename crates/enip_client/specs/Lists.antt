@@ -1,4 +1,4 @@
--- What a device tells of itself without a session: ListServices and ListIdentity (Volume 2, encapsulation commands).
+-- The lists that a device answers without a session: ListServices and ListIdentity (Volume 2, encapsulation commands).
 use Rattle.std.specs.Prelude.{ℕ, ◌≡◌, ◌==◌, ◌&&◌, is_some, if◌then◌else◌, Bool, true, List, [], ◌∷◌}
 use Rattle.std.specs.Prelude.{Option, None, Result, Ok, Err}
 use Rattle.std.specs.List.{filter_map, list_all}
@@ -24,12 +24,12 @@ use Rattle.enip_client.specs.Frames.{sent}
 use Rattle.enip_client.specs.Identity.{Identity, SpellsIdentity, identity_in, identity_of}
 use Rattle.enip_client.specs.Service.{Service, SpellsService, service_in, service_of}
 
--- What stands in a list.
+-- An entry of a list.
 pub data Entry : Type 0 where
   A_service : (service : Service) → Entry
   An_identity : (identity : Identity) → Entry
 
--- The command that asks for a list, and the type of its items.
+-- The command that requests a list, and the type of its items.
 abbrev pub list_command : ListCommand → Command
 list_command lists.Services = commands.ListServices
 list_command lists.Identity = commands.ListIdentity
@@ -49,7 +49,7 @@ SpellsEntry lists.Services (An_identity identity) bytes = ⊥
 SpellsEntry lists.Identity (A_service service) bytes = ⊥
 SpellsEntry lists.Identity (An_identity identity) bytes = SpellsIdentity identity bytes
 
--- The entries that items list: each item of the list's type spells one, and those of another type say nothing (ours).
+-- The entries in items. Each item of the list's type spells one, and items of another type are ignored (ours).
 pub data Lists : ListCommand → List Item → List Entry → Type 0 where
   Ended : {command : ListCommand} → Lists command [] []
   Said : {command : ListCommand} {item : Item} {entry : Entry} {more : List Item} {entries : List Entry}
@@ -58,7 +58,7 @@ pub data Lists : ListCommand → List Item → List Entry → Type 0 where
   Skipped : {command : ListCommand} {item : Item} {more : List Item} {entries : List Entry}
       → (item.kind ≡ item_kind command → ⊥) → Lists command more entries → Lists command (item ∷ more) entries
 
--- The bytes are one frame that answers with these entries: it repeats command and context of the request, has status 0,
+-- The bytes are one frame that answers with these entries. It repeats command and context of the request, has status 0,
 -- and its data are items that list the entries.
 pub record IsAnswer (command : ListCommand) (bytes : List ℕ) (entries : List Entry) : Type 0 where
   pub answer : Frame
@@ -72,14 +72,14 @@ pub record IsAnswer (command : ListCommand) (bytes : List ℕ) (entries : List E
   pub body : answer.body ≡ items items_in
   pub lists : Lists command items_in entries
 
--- What an entry of the code shows, and what is left to show.
+-- The value of an entry in the code, and the entries that an iterator has left.
 abbrev pub entry_shown : ListEntry → Entry
 entry_shown (entries.Service view) = A_service (service_in view)
 entry_shown (entries.Identity view) = An_identity (identity_in view)
 
--- The rest says the same as a computation.
+-- The rest states the same as a computation.
 
--- The entry that the bytes spell, if they spell one.
+-- The entry that the bytes spell, if any.
 abbrev pub entry_of : ListCommand → List ℕ → Option Entry
 entry_of lists.Services bytes = option_map A_service (service_of bytes)
 entry_of lists.Identity bytes = option_map An_identity (identity_of bytes)
@@ -87,7 +87,7 @@ entry_of lists.Identity bytes = option_map An_identity (identity_of bytes)
 abbrev pub is_of : ListCommand → Item → Bool
 is_of command item = item.kind == item_kind command
 
--- The entry of an item: none where its type is another.
+-- The entry of an item. None if its type is another.
 abbrev pub entry_in : ListCommand → Item → Option Entry
 entry_in command item = if is_of command item then entry_of command item.bytes else None
 
@@ -104,18 +104,18 @@ list_of command (Err fault) = Err faults.Malformed
 list_of command (Ok list) =
     if list_all (is_sound command) list then Ok (entries_in command list) else Err faults.Malformed
 
--- A reply repeats command and context of the request.
+-- A reply repeats the command and context of its request.
 abbrev pub is_reply_to : ListCommand → Header → Bool
 is_reply_to command h = (h.command == command_number (list_command command)) && (number_at 0 8 h.context == 0)
 
--- The entries of a frame: a status that is not 0 refuses.
+-- The entries of a frame. A status other than 0 is a fault.
 abbrev pub answered_with : ListCommand → Frame → Result (List Entry) ClientFault
 answered_with command f =
     if is_reply_to command f.header
     then if f.header.status == 0 then list_of command (items_of f.body) else Err (faults.Status f.header.status)
     else Err faults.Malformed
 
--- The entries of the bytes, by what they are.
+-- The entries in bytes, by what the bytes are.
 abbrev pub answer_in : ListCommand → Parsed → Result (List Entry) ClientFault
 answer_in command Incomplete = Err faults.Malformed
 answer_in command (WholeFrame f) = answered_with command f

@@ -25,7 +25,7 @@ use Rattle.enip_client.specs.Hears.{HeardEvent, hears, faulted, is_for_connectio
 use Rattle.enip_client.specs.Hears.HeardEvent.{Nothing, Registered, Opened, Replied, Accepted, Refused, Closed}
 use Rattle.enip_client.specs.Client.{ClientState, fed, with_state}
 
--- A call that hands in no bytes.
+-- A call that passes no piece.
 pub data Action : Type 0 where
   Register : Action
   Open : Action
@@ -41,7 +41,7 @@ pub data Call : Type 0 where
   Act : (action : Action) → Call
   Feed : (piece : List ℕ) → Call
 
--- The frame that was lent, if one was.
+-- The frame that was lent, if any.
 abbrev pub lent_in : {E : Type 0} → Result Lent E → Option Frame
 lent_in (Ok lent) = Some lent.frame
 lent_in (Err fault) = None
@@ -57,7 +57,7 @@ frame_lent s GiveUp = None
 frame_lent s Close = lent_in (closes s)
 frame_lent s Unregister = lent_in (unregisters s)
 
--- Where the client stands after it.
+-- The state of the client after it.
 abbrev pub after_action : State → Action → State
 after_action s Register = after_lending s (registers s)
 after_action s Open = after_lending s (opens s)
@@ -95,7 +95,7 @@ abbrev pub frames_lent : ClientState → List Call → List Frame
 frames_lent c [] = []
 frames_lent c (call ∷ calls) = frame_before (lent_by_call c call) (frames_lent (after_call c call) calls)
 
--- News before more: that nothing was heard is left out.
+-- A heard event before others. If nothing was heard, it is left out.
 abbrev pub heard_events_before : HeardEvent → List HeardEvent → List HeardEvent
 heard_events_before Nothing more = more
 heard_events_before Registered more = Registered ∷ more
@@ -114,13 +114,13 @@ abbrev pub heard_events_of_calls : ClientState → List Call → List HeardEvent
 heard_events_of_calls c [] = []
 heard_events_of_calls c (call ∷ calls) = heard_events_before (heard_events_of_call c call) (heard_events_of_calls (after_call c call) calls)
 
--- What happens to a client: a call without bytes, a whole frame, or a header that is too long.
+-- What happens to a client: a call that passes no piece, a whole frame, or a header whose length is over the limit.
 pub data Event : Type 0 where
   Acted : (action : Action) → Event
   Framed : (f : Frame) → Event
   Long : (header : Header) → Event
 
--- Where a client stands after an event, the frame that is lent, and what is heard.
+-- The state of a client after an event, the frame that is lent, and what is heard.
 abbrev pub after_event : State → Event → State
 after_event s (Acted action) = after_action s action
 after_event s (Framed f) = (hears s f).state
@@ -136,7 +136,7 @@ heard_events_of_event s (Acted action) = Nothing
 heard_events_of_event s (Framed f) = (hears s f).heard_event
 heard_events_of_event s (Long header) = Nothing
 
--- The same of events, one after the other.
+-- The same for events, one after the other.
 abbrev pub after_events : State → List Event → State
 after_events s [] = s
 after_events s (event ∷ events) = after_events (after_event s event) events
@@ -149,18 +149,18 @@ abbrev pub heard_events_of_events : State → List Event → List HeardEvent
 heard_events_of_events s [] = []
 heard_events_of_events s (event ∷ events) = heard_events_before (heard_events_of_event s event) (heard_events_of_events (after_event s event) events)
 
--- What a sight of the bytes is to the client.
+-- The event, if any, that the bytes are.
 abbrev pub events_of_parsed : Parsed → List Event
 events_of_parsed Incomplete = []
 events_of_parsed (WholeFrame f) = Framed f ∷ []
 events_of_parsed (TooLongHeader header) = Long header ∷ []
 
--- Where a fault lasts a piece is nothing.
+-- Once a fault lasts, a piece is not an event.
 abbrev pub events_of_piece : List ℕ → List ℕ → Option ClientFault → List Event
 events_of_piece held piece None = events_of_parsed (parsed (held_and_taken held piece))
 events_of_piece held piece (Some fault) = []
 
--- The events that a call stands for.
+-- The events that a call amounts to.
 abbrev pub events_of_call : ClientState → Call → List Event
 events_of_call c (Act action) = Acted action ∷ []
 events_of_call c (Feed piece) = events_of_piece c.held piece c.state.fault
@@ -186,13 +186,13 @@ abbrev pub taken_by_calls : ClientState → List Call → List ℕ
 taken_by_calls c [] = []
 taken_by_calls c (call ∷ calls) = taken_by_call c call ++ taken_by_calls (after_call c call) calls
 
--- The pieces are of bytes.
+-- The pieces consist of bytes.
 abbrev pub IsOfBytes : Call → Type 0
 IsOfBytes (Act action) = ⊤
 IsOfBytes (Feed piece) = AreBytes piece
 
--- The pieces of a stream are fed, each again and again until all of it is taken; where a fault lasts, what is left is
--- dropped. This is heard, and this is the client at the end.
+-- The pieces of a stream are fed, each until all of it is taken. Once a fault lasts, the rest is dropped. The indices
+-- are what is heard, and the last client.
 pub data FeedsPieces : ClientState → List (List ℕ) → List HeardEvent → ClientState → Type 0 where
   Ended : {c : ClientState} → FeedsPieces c [] [] c
   Taken : {c last : ClientState} {pieces : List (List ℕ)} {heard_event : List HeardEvent}
@@ -204,7 +204,7 @@ pub data FeedsPieces : ClientState → List (List ℕ) → List HeardEvent → C
   Dropped : {c : ClientState} {fault : ClientFault} {b : ℕ} {bs : List ℕ} {pieces : List (List ℕ)}
       → c.state.fault ≡ Some fault → FeedsPieces c ((b ∷ bs) ∷ pieces) [] c
 
--- What a call awaits once its frame is lent.
+-- Which reply a call awaits once its frame is lent.
 abbrev pub awaited_by : Action → Option Awaited
 awaited_by Register = Some awaited.Session
 awaited_by Open = Some awaited.Connection
@@ -215,7 +215,7 @@ awaited_by GiveUp = None
 awaited_by Close = Some awaited.End
 awaited_by Unregister = None
 
--- The context of a frame whose reply is awaited, before more.
+-- The context of a frame whose reply is awaited, before others.
 abbrev pub context_before : Option Awaited → Option Frame → List (List ℕ) → List (List ℕ)
 context_before None lent more = more
 context_before (Some what) None more = more
@@ -260,7 +260,8 @@ seen_of_calls c (Act action ∷ calls) =
 seen_of_calls c (Feed piece ∷ calls) =
     answered_before (fed c piece).heard_event (seen_of_calls (after_call c (Feed piece)) calls)
 
--- The news is a reply to what was awaited: to a request of this service, one with its service and bit 7.
+-- The heard event is a reply to what was awaited. The reply to a request has the service of that request, with bit 7
+-- set.
 abbrev pub IsReplyTo : Awaited → HeardEvent → Type 0
 IsReplyTo awaited.Session Registered = ⊤
 IsReplyTo awaited.Connection Opened = ⊤
@@ -270,8 +271,8 @@ IsReplyTo awaited.End Closed = ⊤
 IsReplyTo awaited.End (Refused status extended) = ⊤
 IsReplyTo what heard_event = ⊥
 
--- Each reply follows its own request, with no other between: none is heard unasked or twice, and nothing is asked
--- while a reply is awaited.
+-- Each reply follows its own request, with no other between them: no reply is heard without a request or twice, and
+-- nothing is requested while a reply is awaited.
 abbrev pub AnsweredOnce : List Seen → Type 0
 AnsweredOnce [] = ⊤
 AnsweredOnce (Answered heard_event ∷ seen) = ⊥
@@ -279,12 +280,12 @@ AnsweredOnce (Asked what ∷ []) = ⊤
 AnsweredOnce (Asked what ∷ Answered heard_event ∷ seen) = IsReplyTo what heard_event × AnsweredOnce seen
 AnsweredOnce (Asked what ∷ Asked more ∷ seen) = ⊥
 
--- The item that a body has for the client's connection.
+-- The item in a body for the client's connection.
 abbrev pub item_of : State → Result (ℕ × List ℕ) CpfFault → Option (List ℕ)
 item_of s (Err fault) = None
 item_of s (Ok (id, item)) = if id == s.wants.t_to_o_id then Some item else None
 
--- The item that a frame has for it.
+-- The item in a frame for it.
 abbrev pub item_in : State → Frame → Option (List ℕ)
 item_in s f = if is_for_connection s f.header then item_of s (unit_body_of f.body) else None
 
@@ -315,7 +316,7 @@ abbrev pub call_before : Option originators.OriginatorCall → List originators.
 call_before None more = more
 call_before (Some call) more = call ∷ more
 
--- The calls of the connection's originator that events are.
+-- The calls of the connection's originator among events.
 abbrev pub originator_calls : State → List Event → List originators.OriginatorCall
 originator_calls s [] = []
 originator_calls s (event ∷ events) =
@@ -333,7 +334,7 @@ frames_submitted c (Act (Submit request) ∷ calls) =
     frame_before (frame_lent c.state (Submit request)) (frames_submitted (after_call c (Act (Submit request))) calls)
 frames_submitted c (call ∷ calls) = frames_submitted (after_call c call) calls
 
--- Each has an item of the connection, with the counts from n on, modulo 65,536.
+-- Each frame has an item of the connection, with the counts from n on, modulo 65,536.
 abbrev pub HasItem : ℕ → Frame → Type 0
 HasItem count f = (session : ℕ) × (id : ℕ) × (request : List ℕ) × (f ≡ item_frame session id (item count request))
 
@@ -368,7 +369,7 @@ exchanges c (Act (Submit request) ∷ calls) =
 exchanges c (Act action ∷ calls) = exchanges (after_call c (Act action)) calls
 exchanges c (Feed piece ∷ calls) = heard_before (fed c piece).heard_event (exchanges (after_call c (Feed piece)) calls)
 
--- The reply is to the service of the request, whose bit 7 it has.
+-- The reply has the service of the request, with bit 7 set.
 abbrev pub IsReplyOf : List ℕ → List ℕ → Type 0
 IsReplyOf request reply = slice_index reply 0 ≡ reply_service (slice_index request 0)
 

@@ -1,4 +1,4 @@
--- Where a client stands: the record `State` that `src/state.rt` declares.
+-- The state of a client: the record `State` that `src/state.rt` declares.
 use Rattle.std.specs.Prelude.{ℕ, Bool, true, false, None, is_none}
 use Rattle.cip_class3.specs.OriginatorRule.{originator_at_opening}
 use Rattle.enip_client.specs.declared.state.State.{State}
@@ -8,7 +8,7 @@ use Rattle.enip_client.specs.declared.state.ConnectionState.{ConnectionState}
 use Rattle.enip_client.specs.declared.state.ConnectionState.TheVariants.{NotOpened, Open, Closed}
 use Rattle.enip_client.specs.declared.wants.Wants.{Wants}
 
--- The client that was just made: not registered, no connection, nothing awaited, counted or at fault.
+-- A client that was just made: not registered, no connection, no reply awaited, no frame counted, no fault.
 abbrev pub new_state : Wants → State
 new_state wants = record {
   wants = wants;
@@ -30,7 +30,7 @@ is_registered NotRegistered = false
 is_registered (Registered session) = true
 is_registered Unregistered = false
 
--- The registered session; 0 where there is none.
+-- The handle of the registered session; 0 if there is none.
 abbrev pub session_in : Registration → ℕ
 session_in NotRegistered = 0
 session_in (Registered session) = session
@@ -46,18 +46,18 @@ is_open NotOpened = false
 is_open (Open o_to_t_id) = true
 is_open Closed = false
 
--- The connection's O->T ID; 0 where none is open.
+-- The O->T ID of the connection; 0 if none is open.
 abbrev pub o_to_t_id_in : ConnectionState → ℕ
 o_to_t_id_in NotOpened = 0
 o_to_t_id_in (Open o_to_t_id) = o_to_t_id
 o_to_t_id_in Closed = 0
 
--- A connection that is open is over; else nothing changes.
+-- A connection that is open is over; otherwise nothing changes.
 abbrev pub ended : ConnectionState → ConnectionState
 ended NotOpened = NotOpened
 ended (Open o_to_t_id) = Closed
 ended Closed = Closed
 
--- Nothing is awaited.
+-- No reply is awaited.
 abbrev pub is_free : State → Bool
 is_free s = is_none s.awaiting

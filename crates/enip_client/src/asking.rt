@@ -12,20 +12,30 @@ use crate::step::{Asked, Step, advance, send};
 use cip_objects::ReplyBuf;
 use enip_wire::{Sink, Source};
 
-/// The most bytes of a read (ours).
+/// The greatest number of bytes of one read (ours).
 pub(crate) const LONGEST_READ: usize = 4_096;
 
-/// Asks once: registers, opens a connection where that is asked for, sends the request, hears its reply, closes the
-/// connection and unregisters. Each is sent as soon as the one before was answered, before a further frame is heard.
+/// Does one whole exchange: registers a session, opens a connection if `connected` is set, sends the request, waits for
+/// its reply, closes the connection and unregisters. Each frame is sent as soon as the one before is answered, before a
+/// further frame is processed.
 ///
-/// The reply of the router, at most 4,000 bytes, is left in `reply`. A client that cannot register is left as it was, and
+/// The router's reply, at most 4,000 bytes, is left in `reply`. If the client cannot register, it is unchanged, and
 /// nothing is read or written.
+///
+/// ```
+/// let mut client = Client::new(alloc, &wants)?;
+/// let mut reply = ReplyBuf::new();
+/// ask(&mut client, &mut reader, &mut writer, request, true, &mut reply)?;
+/// ```
 ///
 /// # Errors
 ///
-/// `Read` or `Write` where that device failed, `Ended` where the input ended first, `Client` with the client's fault or
-/// with why an open or a close was refused, `Submit` where the connection refuses the request, `Spent` where the reader
-/// has counted all the reads that it can. A longer reply is `Client` with `Malformed`, which the client does not keep.
+/// - `Read` or `Write` if that device failed.
+/// - `Ended` if the input ended first.
+/// - `Client` with the client's fault, or with the refusal of an open or a close. A longer reply is `Client` with
+///   `Malformed`, which the client does not keep as its fault.
+/// - `Submit` if the connection refuses the request.
+/// - `Spent` if the reader cannot count another read.
 pub fn ask<R: Source, W: Sink>(
     client: &mut Client,
     reader: &mut R,
@@ -57,7 +67,7 @@ pub fn ask<R: Source, W: Sink>(
     Ok(())
 }
 
-/// Reads a byte or more.
+/// Reads at least one byte.
 ///
 /// # Errors
 ///
@@ -78,18 +88,18 @@ pub(crate) fn read<R: Source>(
         return Err(AskFault::Spent);
     }
     match reader.read(into) {
-        // a read of no byte is the end of the stream
+        // A read of 0 bytes is the end of the stream.
         Ok(0) => Err(AskFault::Ended),
         Ok(size) => Ok(size),
         Err(_) => Err(AskFault::Read),
     }
 }
 
-/// Hears a piece to its end, or until the exchange is completed.
+/// Feeds a piece to its end, or until the exchange is complete.
 ///
 /// # Errors
 ///
-/// `Client`, `Submit` or `Write`. The rest is not fed then.
+/// `Client`, `Submit` or `Write`. Then the rest is not fed.
 fn feed_piece<W: Sink>(
     client: &mut Client,
     asked: Asked<'_>,

@@ -1,4 +1,4 @@
-//! The client: the calls that lend a frame to send, and what came back.
+//! The client: the calls that lend a frame to send, and `feed`, which takes what arrives.
 
 ghost use Rattle.std.specs.Prelude.{◌≡◌, ◌<◌, ◌≤◌, length, IfOk, IfErr, IfSome, None};
 ghost use Rattle.std.specs.Option.{option_map};
@@ -22,7 +22,7 @@ use enip_wire::{FrameReader, Held};
 use std::alloc::Global;
 use std::marker::Model;
 
-/// What a piece told: how many of its bytes were taken, whether a frame lay whole in it, and what was found in the
+/// What a piece does: how many of its bytes are taken, whether it contains the whole frame, and what is found in the
 /// frame.
 #[derive(Clone, Copy)]
 struct PieceOutcome {
@@ -32,7 +32,7 @@ struct PieceOutcome {
 }
 
 impl PieceOutcome {
-    /// Where a fault lasts no byte is taken.
+    /// Once a fault lasts, no byte is taken.
     const NOTHING: PieceOutcome = PieceOutcome {
         taken: 0,
         in_place: false,
@@ -41,6 +41,15 @@ impl PieceOutcome {
 }
 
 /// A client of one adapter, over one stream of bytes each way.
+///
+/// It does no input and no output. Send each frame that a call lends, and pass what arrives to `feed`. See `Wants` for
+/// the connection that it opens.
+///
+/// ```
+/// let mut client = Client::new(alloc, &wants)?;
+/// device.send(client.register()?);
+/// let Hearing { taken, heard } = client.feed(piece);
+/// ```
 #[derive(Drop)]
 pub struct Client {
     state: State,
@@ -66,11 +75,11 @@ impl Client {
     ghost use Rattle.enip_client.specs.State.{is_registered};
     ghost use Rattle.enip_client.specs.contracts.client.Client.{the_row};
 
-    /// A client that is not registered and has no connection. All its memory is taken here.
+    /// Makes a client that is not registered and has no connection. It allocates all of its memory here.
     ///
     /// # Errors
     ///
-    /// `ClientFault::Memory` where memory is refused.
+    /// `ClientFault::Memory` if memory is refused.
     pub fn new(alloc: Global, wants: &Wants) -> Result<Client, ClientFault>
         requires o_to_t_from { 4 ≤ wants.now.o_to_t_size }
         requires o_to_t_to { wants.now.o_to_t_size ≤ LARGEST_CONNECTION_SIZE }
@@ -105,11 +114,11 @@ impl Client {
         })
     }
 
-    /// Lends the RegisterSession to send. It is possible once, before all else.
+    /// Lends the RegisterSession to send. This is possible once, before all other calls.
     ///
     /// # Errors
     ///
-    /// A lasting fault, else `State`. Nothing changed.
+    /// The lasting fault, if any, otherwise `State`. Nothing changes.
     pub fn register(&mut self) -> Result<&[u8], ClientFault>
         ensures held { IsBetween self.old }
         ensures lent { bytes_in result ≡ bytes_lent (registers self.old.state) }
@@ -121,12 +130,12 @@ impl Client {
         Ok(self.sent.as_slice())
     }
 
-    /// Lends the Forward_Open to send, where the session is registered, nothing is awaited, and no connection was
-    /// opened.
+    /// Lends the Forward_Open to send. This is possible if the session is registered, no reply is awaited, and no
+    /// connection was opened.
     ///
     /// # Errors
     ///
-    /// A lasting fault, else `State`. Nothing changed.
+    /// The lasting fault, if any, otherwise `State`. Nothing changes.
     pub fn open(&mut self) -> Result<&[u8], ClientFault>
         ensures lent { bytes_in result ≡ bytes_lent (opens self.old.state) }
         ensures fits { IfOk result (λ frame. length frame.now ≤ LONGEST_SENT) }
@@ -137,12 +146,13 @@ impl Client {
         Ok(self.sent.as_slice())
     }
 
-    /// Lends the frame of an unconnected request, where the session is registered and nothing is awaited.
+    /// Lends the frame of an unconnected request. This is possible if the session is registered and no reply is
+    /// awaited.
     ///
     /// # Errors
     ///
-    /// A lasting fault, else `State`, else `Request` for under 2 or over 504 bytes, or a service with bit 7. Nothing
-    /// changed.
+    /// The lasting fault, if any, otherwise `State`, otherwise `Request` if the request has fewer than 2 or more than
+    /// 504 bytes, or a service with bit 7. Nothing changes.
     pub fn unconnected(&mut self, request: &[u8]) -> Result<&[u8], ClientFault>
         ensures lent { bytes_in result ≡ bytes_lent (asks self.old.state request.now) }
         ensures fits { IfOk result (λ frame. length frame.now ≤ LONGEST_SENT) }
@@ -153,12 +163,12 @@ impl Client {
         Ok(self.sent.as_slice())
     }
 
-    /// Lends the frame of a request on the connection, which waits for its reply from then on.
+    /// Lends the frame of a request on the connection. The request then waits for its reply.
     ///
     /// # Errors
     ///
-    /// `Client` with a lasting fault, else with `State` where no connection is open, else `Refused` by the connection's
-    /// originator. Nothing changed.
+    /// `Client` with the lasting fault, if any, otherwise with `State` if no connection is open, otherwise `Refused` by
+    /// the connection's originator. Nothing changes.
     pub fn submit(&mut self, request: &[u8]) -> Result<&[u8], SubmitFault>
         ensures lent { bytes_in result ≡ bytes_lent (submits self.old.state request.now) }
         ensures fits { IfOk result (λ frame. length frame.now ≤ LONGEST_SENT) }
@@ -169,7 +179,7 @@ impl Client {
         Ok(self.sent.as_slice())
     }
 
-    /// Lends the frame of the request that waits once more. None where none waits, after a lasting fault, and without
+    /// Lends the frame of the waiting request once more. `None` if no request waits, after a lasting fault, and without
     /// a connection.
     pub fn resend(&mut self) -> Option<&[u8]>
         ensures lent { option_map (λ lent. lent.now) result ≡ option_map frame (resends self.old.state) }
@@ -183,12 +193,12 @@ impl Client {
         }
     }
 
-    /// Lends the Forward_Close to send, where a connection is open and nothing is awaited. The connection is over at
-    /// once.
+    /// Lends the Forward_Close to send. This is possible if a connection is open and no reply is awaited. The
+    /// connection is over at once.
     ///
     /// # Errors
     ///
-    /// A lasting fault, else `State`. Nothing changed.
+    /// The lasting fault, if any, otherwise `State`. Nothing changes.
     pub fn close(&mut self) -> Result<&[u8], ClientFault>
         ensures lent { bytes_in result ≡ bytes_lent (closes self.old.state) }
         ensures fits { IfOk result (λ frame. length frame.now ≤ LONGEST_SENT) }
@@ -199,12 +209,12 @@ impl Client {
         Ok(self.sent.as_slice())
     }
 
-    /// Lends the UnRegisterSession to send, where the session is registered and nothing is awaited. The session is over
-    /// at once, and a connection with it. There is no reply.
+    /// Lends the UnRegisterSession to send. This is possible if the session is registered and no reply is awaited. The
+    /// session is over at once, and a connection with it. There is no reply.
     ///
     /// # Errors
     ///
-    /// A lasting fault, else `State`. Nothing changed.
+    /// The lasting fault, if any, otherwise `State`. Nothing changes.
     pub fn unregister(&mut self) -> Result<&[u8], ClientFault>
         ensures lent { bytes_in result ≡ bytes_lent (unregisters self.old.state) }
         ensures fits { IfOk result (λ frame. length frame.now ≤ LONGEST_SENT) }
@@ -215,8 +225,8 @@ impl Client {
         Ok(self.sent.as_slice())
     }
 
-    /// Gives the request that waits on the connection up. False where none waits, after a lasting fault, and without a
-    /// connection.
+    /// Gives up the request that waits on the connection. Returns `false` if none waits, after a lasting fault, and
+    /// without a connection.
     pub fn give_up(&mut self) -> bool
         ensures waited { result ≡ gives_up self.old.state }
         ensures state { self.new ≡ with_state self.old (after_giving_up self.old.state) }
@@ -224,7 +234,7 @@ impl Client {
         self.state.is_connected() && self.state.originator.give_up()
     }
 
-    /// Where the connection's originator stands. None without a connection.
+    /// The stage of the connection's originator. `None` without a connection.
     pub fn stage(&self) -> Option<Stage>
         ensures { result ≡ stage_in self.now.state }
     {
@@ -241,16 +251,17 @@ impl Client {
         matches!(self.state.registration, Registration::Registered(_))
     }
 
-    /// The fault that lasts.
+    /// The lasting fault, if any.
     pub fn fault(&self) -> Option<ClientFault>
         ensures { result ≡ self.now.state.fault }
     {
         self.state.fault
     }
 
-    /// Takes bytes of the piece that came back up to the end of one frame, and says what was heard. A reply is lent
-    /// from the piece, or from where its bytes were gathered. Of a piece of a byte or more it takes some, unless a
-    /// fault lasts: then it takes none.
+    /// Takes bytes of a piece up to the end of one frame, and reports what was heard. Call it again with the rest of
+    /// the piece. A reply is lent from the piece, or from the buffer in which its bytes were gathered.
+    ///
+    /// A piece that is not empty is taken in part at least, unless a fault lasts. Then nothing is taken.
     pub fn feed<'a>(&'a mut self, piece: &'a [u8]) -> Hearing<'a>
         ensures* after { sem 𝓛 (Rests the_row self.entry (λ new. new ≡ (fed self.old piece.now).client)) }
         ensures taken { result.taken ≡ (fed self.old piece.now).taken }
@@ -272,7 +283,7 @@ impl Client {
     }
 }
 
-/// Takes bytes of a piece up to the end of one frame, and hears the frame, unless a fault lasts.
+/// Takes bytes of a piece up to the end of one frame, and processes the frame, unless a fault lasts.
 fn process(state: &mut State, reader: &mut FrameReader, piece: &[u8]) -> PieceOutcome
     requires listening { IsListening state.old reader.old }
     requires bytes { AreBytes reader.old }
@@ -287,7 +298,7 @@ fn process(state: &mut State, reader: &mut FrameReader, piece: &[u8]) -> PieceOu
     process_next(state, reader, piece)
 }
 
-/// Takes bytes of a piece up to the end of one frame, and hears the frame.
+/// Takes bytes of a piece up to the end of one frame, and processes the frame.
 fn process_next(state: &mut State, reader: &mut FrameReader, piece: &[u8]) -> PieceOutcome
     requires { IsComplete reader.old → ⊥ }
     ensures state { state.new ≡ (hears_parsed state.old (parsed (held_and_taken reader.old piece.now))).state }
@@ -313,7 +324,7 @@ fn process_next(state: &mut State, reader: &mut FrameReader, piece: &[u8]) -> Pi
     }
 }
 
-/// Drops a whole frame, which was heard.
+/// Drops a whole frame that was processed.
 fn drop_processed(reader: &mut FrameReader)
     requires { IsTooLong reader.old → ⊥ }
     ensures cleared { reader.new ≡ cleared (parsed reader.old) reader.old }

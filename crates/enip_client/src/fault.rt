@@ -5,7 +5,7 @@ ghost use Rattle.std.specs.Prelude.{◌≡◌};
 use cip_class3::Refused;
 use thiserror::Error;
 
-/// Why a call is refused. `Status`, `TooLong` and `Malformed` last: each further call answers them again.
+/// Why a call is refused. `Status`, `TooLong` and `Malformed` last: each further call reports them again.
 #[derive(Clone, Copy, Debug, PartialEq, Eq, Error)]
 pub enum ClientFault {
     /// The call is not possible now.
@@ -17,16 +17,16 @@ pub enum ClientFault {
     /// An open or a close was refused: the general status, and the first additional word or 0.
     #[error("an open or a close was refused: general status {0:#04x}, extended status {1:#06x}")]
     Refused(u8, u16),
-    /// A header came whose length is over 65,511.
+    /// A header with a length over 65,511 arrived.
     #[error("a frame is longer than 65,535 bytes")]
     TooLong,
     /// Memory was refused.
-    #[error("memory was refused")]
+    #[error("out of memory")]
     Memory,
     /// An awaited reply has another shape.
     #[error("an awaited reply is malformed")]
     Malformed,
-    /// An unconnected request has under 2 or over 504 bytes, or a service with bit 7, as a reply has.
+    /// An unconnected request has fewer than 2 or more than 504 bytes, or a service with bit 7, which marks a reply.
     #[error("not an unconnected request: 2 to 504 bytes, and a service below 0x80")]
     Request,
 }
@@ -34,7 +34,7 @@ pub enum ClientFault {
 impl ClientFault {
     ghost use Rattle.enip_client.specs.Faults.{client_fault_number};
 
-    /// The number of the fault, by which it is printed.
+    /// The number of this fault in printed output.
     pub fn number(self) -> u8
         ensures { result ≡ client_fault_number self }
     {
@@ -64,7 +64,7 @@ pub enum SubmitFault {
 impl SubmitFault {
     ghost use Rattle.enip_client.specs.Faults.{submit_fault_number};
 
-    /// The number of the fault, by which it is printed.
+    /// The number of this fault in printed output.
     pub fn number(self) -> u8
         ensures { result ≡ submit_fault_number self }
     {
@@ -87,13 +87,13 @@ pub enum AskFault {
     /// The input ended before the exchange did.
     #[error("the input ended before the exchange was complete")]
     Ended,
-    /// The client refuses a call, a reply has a fault that lasts, or an open or a close was refused.
+    /// The client refuses a call, a reply causes a lasting fault, or an open or a close was refused.
     #[error("{0}")]
     Client(ClientFault),
     /// The connection refuses the request.
     #[error("{0}")]
     Submit(Refused),
-    /// The reader counts no further read.
+    /// The reader cannot count another read.
     #[error("the reader cannot count another read")]
     Spent,
 }
@@ -101,7 +101,7 @@ pub enum AskFault {
 impl AskFault {
     ghost use Rattle.enip_client.specs.Faults.{ask_fault_number};
 
-    /// The number of the fault, by which it is printed.
+    /// The number of this fault in printed output.
     pub fn number(self) -> u8
         ensures { result ≡ ask_fault_number self }
     {

@@ -1,4 +1,4 @@
-//! What a client hears.
+//! What a client does with a whole frame.
 //! Text: docs/PROTOCOL.md, "The client".
 
 ghost use Rattle.std.specs.Prelude.{◌≡◌, length, IfSome};
@@ -21,10 +21,18 @@ use cip_class3::Came;
 use cip_message::{ReplyView, reply_service};
 use enip_wire::{FrameView, Header, rr_body, unit_body};
 
-/// What a piece said.
+/// What `feed` did with a piece.
+///
+/// ```
+/// let Hearing { taken, heard } = client.feed(rest);
+/// if let Heard::Reply(reply) | Heard::Accepted(reply) = heard {
+///     written.extend_from_slice(reply)?;
+/// }
+/// rest = &rest[taken..];
+/// ```
 #[derive(Clone, Copy, Debug)]
 pub struct Hearing<'a> {
-    /// How many bytes of the piece were taken.
+    /// The number of bytes of the piece that were taken.
     pub taken: usize,
     /// What was heard.
     pub heard: Heard<'a>,
@@ -49,7 +57,7 @@ pub enum Heard<'a> {
     Closed,
 }
 
-/// What was found in a frame, whose reply stands from one index to another among the frame's bytes.
+/// What was found in a frame. A reply is given by the indices of its bytes in the frame.
 #[derive(Clone, Copy)]
 pub(crate) enum Found {
     Nothing,
@@ -62,7 +70,7 @@ pub(crate) enum Found {
 }
 
 impl Found {
-    /// What was heard, lent from the bytes of the frame.
+    /// What was heard. A reply is lent from the bytes of the frame.
     pub(crate) fn heard(self, frame: &[u8]) -> Heard<'_>
         requires { IsWithin (length frame.now) self }
         ensures { heard_event_in result ≡ heard_event_at frame.now self }
@@ -79,17 +87,17 @@ impl Found {
     }
 }
 
-/// Where the router's reply begins in a SendRRData: header 24, interface 4, timeout 2, count 2, null address 4, type
-/// and length of the data item 4.
+/// The index of the router's reply in a SendRRData: header 24, interface 4, timeout 2, item count 2, null address 4,
+/// type and length of the data item 4.
 const REPLY: usize = Header::SIZE + 16;
 
-/// Where the reply begins in a SendUnitData: as before, with a connected address of 8, and the item's count 2.
+/// The index of the reply in a SendUnitData: the same with a connected address of 8, and the item's sequence count, 2.
 const ITEM_REPLY: usize = Header::SIZE + 22;
 
-/// The least data of a connection that was opened.
+/// The least size of the data of a successful open, in bytes.
 const OPENED: usize = 26;
 
-/// The data of a session that was registered: protocol version and flags.
+/// The size of the data of a RegisterSession reply: protocol version and flags.
 const PROTOCOL: usize = 4;
 
 /// A router's reply, and its bytes.
@@ -112,18 +120,18 @@ impl Awaited {
 }
 
 impl Awaiting {
-    /// Whether a frame with this header is what is awaited.
+    /// Whether a frame with this header is the awaited reply.
     fn is_answer(self, header: &Header) -> bool
         ensures { result ≡ is_answer self header.now }
     {
-        // a reply repeats command and context of what asked (encapsulation header)
+        // A reply repeats the command and context of its request.
         header.command == self.awaited.command().number()
             && LittleEndian::read_u64(&header.context) == self.number
     }
 }
 
 impl State {
-    /// Hears a whole frame.
+    /// Processes a whole frame.
     pub(crate) fn process(&mut self, frame: FrameView<'_>) -> Found
         ensures { IsHeard (frame_of frame.entry) self.new result (hears self.old (frame_of frame.entry)) }
     {
@@ -135,11 +143,11 @@ impl State {
         }
     }
 
-    /// Hears an awaited reply.
+    /// Processes an awaited reply.
     fn process_answer(&mut self, awaited: Awaited, frame: FrameView<'_>) -> Found
         ensures { IsHeard (frame_of frame.entry) self.new result (answer_turn self.old awaited (frame_of frame.entry)) }
     {
-        // a status that is not 0 refuses (encapsulation status)
+        // A status other than 0: a lasting fault.
         if frame.header.status != 0 {
             return self.fail(ClientFault::Status(frame.header.status));
         }
@@ -151,11 +159,11 @@ impl State {
         }
     }
 
-    /// Hears the reply to RegisterSession.
+    /// Processes the reply to a RegisterSession.
     fn process_register_reply(&mut self, frame: FrameView<'_>) -> Found
         ensures { IsHeard (frame_of frame.entry) self.new result (session_turn self.old (frame_of frame.entry)) }
     {
-        // protocol version and flags (RegisterSession)
+        // Its data are the protocol version and flags.
         if frame.body.len() != PROTOCOL {
             return self.fail(ClientFault::Malformed);
         }
@@ -164,7 +172,7 @@ impl State {
         Found::Registered
     }
 
-    /// Hears the reply to Forward_Open or Large_Forward_Open.
+    /// Processes the reply to a Forward_Open or Large_Forward_Open.
     fn process_open_reply(&mut self, frame: FrameView<'_>) -> Found
         ensures { IsHeard (frame_of frame.entry) self.new result
             (opening_turn self.old
@@ -177,17 +185,17 @@ impl State {
         if reply.status != 0 {
             return self.refuse(reply);
         }
-        // IDs, numbers, intervals: 26 bytes (Forward_Open, success)
+        // A successful reply has 26 bytes of data at least: IDs, numbers and packet intervals.
         if reply.data.len() < OPENED {
             return self.fail(ClientFault::Malformed);
         }
         self.awaiting = None;
-        // the O->T ID comes first (Forward_Open, success)
+        // The O->T ID comes first.
         self.connection_state = ConnectionState::Open(LittleEndian::read_u32(reply.data));
         Found::Opened
     }
 
-    /// Hears the reply to an unconnected request of this service.
+    /// Processes the reply to an unconnected request of this service.
     fn process_unconnected_reply(&mut self, service: u8, frame: FrameView<'_>) -> Found
         ensures { IsHeard (frame_of frame.entry) self.new result
             (reply_turn self.old (answer_to service (frame_of frame.entry).body)) }
@@ -202,7 +210,7 @@ impl State {
         }
     }
 
-    /// Hears the reply to Forward_Close.
+    /// Processes the reply to a Forward_Close.
     fn process_close_reply(&mut self, frame: FrameView<'_>) -> Found
         ensures { IsHeard (frame_of frame.entry) self.new result
             (closing_turn self.old
@@ -221,7 +229,7 @@ impl State {
         Found::Closed
     }
 
-    /// Hears what is not awaited: an item of the connection, or nothing.
+    /// Processes a frame that is not the awaited reply: an item of the connection, or nothing.
     fn process_item(&mut self, frame: FrameView<'_>) -> Found
         ensures { IsHeard (frame_of frame.entry) self.new result (other_turn self.old (frame_of frame.entry)) }
     {
@@ -231,7 +239,7 @@ impl State {
         let Ok((id, item)) = unit_body(frame.body) else {
             return Found::Nothing;
         };
-        // the connection's T->O ID (SendUnitData)
+        // Not the connection's T->O ID: ignored.
         if id != self.wants.t_to_o_id {
             return Found::Nothing;
         }
@@ -268,7 +276,7 @@ impl State {
         Found::Refused(reply.status, reply.additional_word(0).unwrap_or(0))
     }
 
-    /// A fault that lasts.
+    /// Sets a lasting fault.
     pub(crate) fn fail(&mut self, fault: ClientFault) -> Found
         ensures state { self.new ≡ (faulted self.old fault).state }
         ensures found { result ≡ Found.Nothing }
@@ -278,7 +286,7 @@ impl State {
     }
 }
 
-/// The reply that the data of a SendRRData have to a request of this service.
+/// The reply to a request of this service in the data of a SendRRData. `None` if there is none.
 fn answer_to(service: u8, body: &[u8]) -> Option<Answer<'_>>
     ensures answer { option_map answer_of result ≡ answer_to service body.now }
     ensures stands { IfSome result (λ answer. LiesAt 16 answer.bytes.now body.now) }
@@ -289,7 +297,7 @@ fn answer_to(service: u8, body: &[u8]) -> Option<Answer<'_>>
     let Ok(reply) = ReplyView::read(bytes) else {
         return None;
     };
-    // the service of the request, with bit 7 (message router response)
+    // A reply has the service of its request, with bit 7 set.
     if reply.service == reply_service(service) {
         Some(Answer { bytes, reply })
     } else {

@@ -1,4 +1,4 @@
-//! What a device says of itself. (Volume 2, ListIdentity.)
+//! The identity of a device, as ListIdentity gives it. (Volume 2, ListIdentity.)
 //!
 //! ```text
 //!  [ version | socket address | vendor | device type | product code | revision | status | serial | name | state ]
@@ -11,28 +11,36 @@ ghost use Rattle.enip_client.specs.Identity.{Identity, SpellsIdentity, identity_
 
 use byteorder::{BigEndian, ByteOrder, LittleEndian};
 
-/// How many bytes stand before the name's length.
+/// The number of bytes before the name's length.
 const BEFORE_NAME: usize = 32;
 
-/// How many bytes an identity has beside its name: what stands before it, its length, and the state.
+/// The size of an identity without its name: the bytes before it, its length, and the state.
 const SIZE_WITHOUT_NAME: usize = BEFORE_NAME + 2;
 
-/// What a device says of itself, lent from an item of ListIdentity. (Volume 2, ListIdentity; Volume 1, Identity.)
+/// The identity of a device, lent from an item of ListIdentity. (Volume 2, ListIdentity; Volume 1, Identity.)
+///
+/// ```
+/// for entry in read_list(ListCommand::Identity, frame)? {
+///     if let ListEntry::Identity(identity) = entry {
+///         // identity.vendor, identity.name and so on
+///     }
+/// }
+/// ```
 #[derive(Clone, Copy, Debug, PartialEq, Eq)]
 pub struct IdentityView<'a> {
     /// The protocol version, 1.
     pub version: u16,
     /// The family of the socket address, 2 for IPv4.
     pub family: u16,
-    /// The port where the device listens.
+    /// The port on which the device listens.
     pub port: u16,
-    /// Its address, as it is written: the most significant byte first.
+    /// The device's IPv4 address, most significant byte first.
     pub address: [u8; 4],
-    /// The vendor.
+    /// The vendor ID.
     pub vendor: u16,
     /// The device type.
     pub device_type: u16,
-    /// The vendor's number of the product.
+    /// The product code, which the vendor assigns.
     pub product_code: u16,
     /// The major revision.
     pub major: u8,
@@ -42,17 +50,17 @@ pub struct IdentityView<'a> {
     pub status: u16,
     /// The serial number.
     pub serial: u32,
-    /// The bytes of the product's name, at most 255.
+    /// The bytes of the product name, at most 255.
     pub name: &'a [u8],
     /// The state.
     pub state: u8,
 }
 
 impl<'a> IdentityView<'a> {
-    /// The identity that the whole text spells, whatever the eight bytes behind the address are. Its name is lent. None
-    /// where the text spells none: it is too short, or goes on.
+    /// Reads an identity from all of these bytes. The eight bytes after the address may have any value. The name is
+    /// lent. `None` if the bytes are not an identity: too short, or followed by more.
     pub fn read(bytes: &'a [u8]) -> Option<IdentityView<'a>>
-        // What is read is spelled so, and what is spelled so is read.
+        // Both ways: what is read has this spelling, and each spelling is read.
         ensures spelled { (i : Identity) →
             (option_map identity_in result ≡ Some i) ↔ SpellsIdentity i bytes.now }
         ensures exact { option_map identity_in result ≡ identity_of bytes.now }
@@ -61,7 +69,7 @@ impl<'a> IdentityView<'a> {
     }
 }
 
-/// The identity that the whole text spells, as a computation.
+/// The identity in all of these bytes, as a computation.
 #[tactic(auto, unfolding(crate::specs::Identity::identity_of))]
 fn identity_at(bytes: &[u8]) -> Option<IdentityView<'_>>
     ensures { option_map identity_in result ≡ identity_of bytes.now }
@@ -69,14 +77,14 @@ fn identity_at(bytes: &[u8]) -> Option<IdentityView<'_>>
     if bytes.len() < SIZE_WITHOUT_NAME {
         return None;
     }
-    // the name is counted in its first byte (SHORT_STRING), and nothing follows the state
+    // A length byte precedes the name (SHORT_STRING), and nothing follows the state.
     if bytes.len() != SIZE_WITHOUT_NAME + bytes[BEFORE_NAME] as usize {
         return None;
     }
     Some(fields_at(bytes))
 }
 
-/// The fields, each read at its place.
+/// The fields, each read at its offset.
 fn fields_at(bytes: &[u8]) -> IdentityView<'_>
     requires { length bytes.now ≡ 34 + slice_index bytes.now 32 }
     ensures { identity_in result ≡ identity_fields bytes.now }
@@ -87,7 +95,7 @@ fn fields_at(bytes: &[u8]) -> IdentityView<'_>
     let size = bytes[BEFORE_NAME] as usize;
     IdentityView {
         version: LittleEndian::read_u16(&bytes[0..]),
-        // the socket address alone has its most significant byte first (ListIdentity)
+        // Only the socket address is big-endian (ListIdentity).
         family: BigEndian::read_u16(&bytes[2..]),
         port: BigEndian::read_u16(&bytes[4..]),
         address,

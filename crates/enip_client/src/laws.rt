@@ -1,5 +1,5 @@
-//! What holds for every list of calls of a client. Each law is the contract of a function that does nothing, over the
-//! same definitions as the contracts of the calls.
+//! Laws that hold for every list of calls of a client. Each law is the contract of a function that does nothing. It is
+//! stated over the same definitions as the contracts of the calls.
 
 ghost use Rattle.std.specs.Prelude.{ℕ, List, [], ◌≡◌, ◌<◌, ◌^◌, false, Some, None, Err};
 ghost use Rattle.std.specs.List.{concat, AllByRecursion};
@@ -18,8 +18,9 @@ ghost use Rattle.enip_client.specs.Runs.{taken_by_calls, frames_of_events, IsOfB
 ghost use Rattle.enip_client.specs.Runs.{seen_of_calls, AnsweredOnce, originator_calls, originator_after};
 ghost use Rattle.enip_client.specs.Runs.{frames_submitted, ItemsFrom, exchanges, RepliedOnce};
 
-/// Whatever calls come, the client is where the events lead that they stand for: its calls without bytes, and the whole
-/// frames that came. The frames that it lends and what it hears are those of the events, of all calls and of each one.
+/// For every list of calls, the client is in the state to which their events lead: its calls that take no bytes, and
+/// the whole frames that arrived. The frames that it lends and what it hears are those of the events, for all calls
+/// together and for each one.
 pub fn answers_of_events()
     ensures state { (c : ClientState) (calls : List Call) →
         (after_calls c calls).state ≡ after_events c.state (events_of_calls c calls) }
@@ -33,17 +34,17 @@ pub fn answers_of_events()
         × (heard_events_before (heard_events_of_call c call) [] ≡ heard_events_of_events c.state (events_of_call c call)) }
 {}
 
-/// From a new client on, whatever calls come between, what is taken of the stream are the frames that are heard, and
-/// then the bytes that are held: the frames and the rest of the stream's cut.
+/// From a new client on, whatever calls come between: the bytes taken of the stream are the frames that are heard,
+/// followed by the bytes held. These are the frames and the rest of the stream's cut.
 pub fn frames_of_the_stream()
     ensures { (wants : Wants) (calls : List Call) → AllByRecursion IsOfBytes calls →
         Cut (taken_by_calls (new_client wants) calls) (frames_of_events (events_of_calls (new_client wants) calls))
         (after_calls (new_client wants) calls).held }
 {}
 
-/// Where the stream is cut changes nothing: after any calls, two lists of pieces that join to the same bytes, fed each
-/// again and again until all of it is taken or a fault lasts, tell the same news in the same order and leave the same
-/// client. Every list of pieces can be fed so.
+/// How the stream is cut into pieces does not matter. After any calls, take two lists of pieces that join to the same
+/// bytes and feed each piece until all of it is taken or a fault lasts: both hear the same in the same order and leave
+/// the same client. Every list of pieces can be fed this way.
 pub fn cuts_change_nothing()
     ensures heard_event { (wants : Wants) (calls : List Call) (pieces others : List (List ℕ)) (heard_event outcome : List HeardEvent)
         (last end : ClientState) → concat pieces ≡ concat others →
@@ -59,40 +60,40 @@ pub fn cuts_change_nothing()
         (heard_event : List HeardEvent) × ((last : ClientState) × FeedsPieces (after_calls (new_client wants) calls) pieces heard_event last) }
 {}
 
-/// No context comes twice in 2^64 frames: the frames that `register`, `open`, `unconnected` and `close` lend have 1, 2,
-/// 3, .. as contexts, in this order and modulo 2^64.
+/// No context comes twice in 2^64 frames: the frames that `register`, `open`, `unconnected` and `close` lend have the
+/// contexts 1, 2, 3, .., in this order and modulo 2^64.
 pub fn contexts_count()
     ensures { (wants : Wants) (calls : List Call) → CountFrom 1 (contexts_lent (new_client wants) calls) }
 {}
 
 /// Each reply to a session, an open, an unconnected request or a close is heard once, after its own request and before
-/// the next one. None is heard that was not asked for.
+/// the next one. No reply is heard without a request.
 pub fn heard_once()
     ensures { (wants : Wants) (calls : List Call) → AnsweredOnce (seen_of_calls (new_client wants) calls) }
 {}
 
-/// The client's connection is an originator's: whatever calls come, the originator in the client is where its own calls
-/// lead, which are the submits, resends, items and giving up of the open connection.
+/// The client's connection is an originator's: whatever calls come, the originator in the client is in the state to
+/// which its own calls lead. These are the submits, resends, items and give-ups of the open connection.
 pub fn connection_of_an_originator()
     ensures { (wants : Wants) (calls : List Call) → (after_calls (new_client wants) calls).state.originator
         ≡ originator_after (originator_at_opening wants.first_count wants.o_to_t_size wants.t_to_o_size)
         (originator_calls (new_client wants).state (events_of_calls (new_client wants) calls)) }
 {}
 
-/// The items that `submit` lends have counts that follow one another from the first one, modulo 65,536.
+/// The items that `submit` lends have consecutive counts from the first one on, modulo 65,536.
 pub fn counts_follow()
     ensures { (wants : Wants) (calls : List Call) → wants.first_count < 2 ^ 16 →
         ItemsFrom wants.first_count (frames_submitted (new_client wants) calls) }
 {}
 
-/// A reply is accepted at most once for each request that was submitted, and it is one to the service of that request,
+/// At most one reply is accepted for each request that was submitted, and it is a reply to the service of that request,
 /// whatever is resent, lost, repeated or given up.
 pub fn one_reply_each()
     ensures { (wants : Wants) (calls : List Call) → RepliedOnce (exchanges (new_client wants) calls) }
 {}
 
-/// A fault that lasts ends all: from then on no call changes the client, no frame is lent, nothing is heard, no byte is
-/// taken, and each call that can answer a fault answers this one.
+/// A lasting fault ends everything. From then on no call changes the client, no frame is lent, nothing is heard, no
+/// byte is taken, and each call that can report a fault reports this one.
 pub fn faults_last()
     ensures same { (c : ClientState) (fault : ClientFault) (calls : List Call) → c.state.fault ≡ Some fault →
         after_calls c calls ≡ c }

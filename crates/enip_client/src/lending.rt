@@ -21,7 +21,7 @@ impl State {
         ensures state { self.new ≡ after_lending self.old (registers self.old) }
         ensures bytes { bytes_written result sent.new.items ≡ bytes_lent (registers self.old) }
     {
-        // once, before all else (ours)
+        // Once, before all other calls (ours).
         let possible = matches!(self.registration, Registration::NotRegistered) && self.is_free();
         self.allow(possible)?;
         let number = self.await_reply(Awaited::Session);
@@ -34,7 +34,7 @@ impl State {
         ensures state { self.new ≡ after_lending self.old (opens self.old) }
         ensures bytes { bytes_written result sent.new.items ≡ bytes_lent (opens self.old) }
     {
-        // one connection of one client (ours)
+        // A client opens at most one connection (ours).
         let possible = self.is_ready()
             && matches!(self.connection_state, ConnectionState::NotOpened);
         self.allow(possible)?;
@@ -49,7 +49,8 @@ impl State {
         ensures bytes { bytes_written result sent.new.items ≡ bytes_lent (asks self.old request.now) }
     {
         self.allow(self.is_ready())?;
-        // a service and a path size at least, the room of a target, and bit 7 marks a reply (message router)
+        // A request has a service and a path size at least, and at most as many bytes as a target accepts. Bit 7 marks
+        // a reply.
         if request.len() < SMALLEST_REQUEST
             || request.len() > UNCONNECTED_LIMIT
             || request[0] >= 0x80
@@ -79,7 +80,7 @@ impl State {
         }
     }
 
-    /// Writes the item of the request that waits once more. False where none is sent.
+    /// Writes the item of the waiting request once more. Returns `false` if there is none to send.
     pub(crate) fn resend(&self, sent: &mut Sent) -> bool
         ensures { bytes_rewritten result sent.new.items ≡ option_map frame (resends self.now) }
     {
@@ -117,14 +118,14 @@ impl State {
         self.allow(possible)?;
         write_unregister(self.session(), sent);
         self.registration = Registration::Unregistered;
-        // a session's connections end with it (UnRegisterSession)
+        // A session's connections end with it.
         if self.is_open() {
             self.connection_state = ConnectionState::Closed;
         }
         Ok(())
     }
 
-    /// Writes a request to the message router, whose reply is awaited.
+    /// Writes a request to the message router whose reply is awaited.
     fn write_awaited_request(&mut self, awaited: Awaited, request: &[u8], sent: &mut Sent)
         requires { length request.now ≤ UNCONNECTED_LIMIT }
         ensures state { self.new ≡ (asking self.old awaited request.now).state }

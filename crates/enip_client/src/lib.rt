@@ -1,14 +1,14 @@
 //! An EtherNet/IP client for explicit messages (ODVA CIP Networks Library, Volume 2; class 3: Volume 1).
 //!
 //! A [`Client`] has no socket and no clock. `register`, `open`, `unconnected`, `submit`, `resend`, `close` and
-//! `unregister` lend the frame to send; `feed` hands it bytes that came back, and says what was heard. [`ask`] does one
+//! `unregister` lend the frame to send. `feed` takes bytes that arrived and reports what was heard. [`ask`] does one
 //! whole exchange over a reader and a writer.
 //!
-//! What it sends and hears is a function of its calls and of the whole frames that came: the turn of
-//! `specs/Hears.antt`; what follows for every list of calls is in [`laws`]. Its calls after `Client::new` take no
-//! memory, and replies are lent from where their bytes lie.
+//! What it sends and hears is a function of its calls and of the whole frames that arrived: the turn of
+//! `specs/Hears.antt`. What follows from that for every list of calls is in [`laws`]. No call after `Client::new`
+//! allocates memory, and replies are lent from the bytes that arrived.
 //!
-//! A session and one request; `device` is the stream to a device and from it:
+//! A session and one request. `device` is the stream to and from a device:
 //!
 //! ```
 //! fn ask_vendor(client: &mut Client, device: &mut Device) -> Result<Option<u16>, ClientFault> {

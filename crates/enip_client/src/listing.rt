@@ -1,4 +1,4 @@
-//! One list asked of a device, over a reader and a writer.
+//! One list request to a device, over a reader and a writer.
 
 ghost use Rattle.std.specs.Prelude.{◌≡◌, ◌+◌, ◌<◌};
 ghost use Rattle.cip_bytes.specs.Reading.{map_ok};
@@ -13,14 +13,21 @@ use crate::sending::Sent;
 use crate::step::send;
 use enip_wire::{FrameReader, Held, Sink, Source};
 
-/// Asks for a list, and reads until one whole frame has come. No session is needed. The entries are lent from `frames`,
-/// which is cleared before.
+/// Requests a list, and reads until one whole frame has arrived. No session is needed. The entries are lent from
+/// `frames`, which is cleared first.
+///
+/// ```
+/// let mut frames = FrameReader::new(alloc)?;
+/// let entries = ask_list(ListCommand::Identity, &mut frames, &mut reader, &mut writer)?;
+/// ```
 ///
 /// # Errors
 ///
-/// `Read` or `Write` where that device failed, `Ended` where the input ended before a whole frame, `Spent` where the
-/// reader has counted all the reads that it can; `Client` with `TooLong` for a header whose length is over 65,511, with
-/// `Status` where the reply has one, with `Malformed` where the first frame is no such reply.
+/// - `Read` or `Write` if that device failed.
+/// - `Ended` if the input ended before a whole frame.
+/// - `Spent` if the reader cannot count another read.
+/// - `Client` with `TooLong` for a header with a length over 65,511, with `Status` if the reply has one, with
+///   `Malformed` if the first frame is not such a reply.
 pub fn ask_list<'a, R: Source, W: Sink>(
     command: ListCommand,
     frames: &'a mut FrameReader,
@@ -42,7 +49,7 @@ pub fn ask_list<'a, R: Source, W: Sink>(
     Ok(read_list(command, frames.bytes())?)
 }
 
-/// Reads until the bytes that came are one whole frame, or a header that is too long.
+/// Reads until the bytes that arrived are one whole frame, or a header whose length is over the limit.
 ///
 /// # Errors
 ///

@@ -1,4 +1,4 @@
-//! What a device tells of itself without a session. (Volume 2, ListServices and ListIdentity.)
+//! The lists that a device answers without a session. (Volume 2, ListServices and ListIdentity.)
 
 ghost use Rattle.std.specs.Prelude.{◌≡◌, ◌↔◌, List, Ok};
 ghost use Rattle.std.specs.List.{list_all};
@@ -18,17 +18,17 @@ use byteorder::{ByteOrder, LittleEndian};
 use cip_bytes::protocol::Command;
 use enip_wire::{FrameView, Header, Held, ItemView, Items, cpf_items, parse_frame};
 
-/// A list that a device gives of itself, without a session. (Volume 2, encapsulation commands.)
+/// A list that a device answers without a session. (Volume 2, encapsulation commands.)
 #[derive(Clone, Copy, Debug, PartialEq, Eq)]
 pub enum ListCommand {
-    /// What it serves.
+    /// Its services.
     Services,
-    /// What it is.
+    /// Its identity.
     Identity,
 }
 
 impl ListCommand {
-    /// The command that asks for it.
+    /// The command that requests the list.
     fn command(self) -> Command
         ensures { result ≡ list_command self }
     {
@@ -38,7 +38,7 @@ impl ListCommand {
         }
     }
 
-    /// The type of its items. (Volume 2, common packet format.)
+    /// The type of the list's items. (Volume 2, common packet format.)
     fn item_kind(self) -> u16
         ensures { result ≡ item_kind self }
     {
@@ -52,11 +52,11 @@ impl ListCommand {
     fn is_replied(self, header: &Header) -> bool
         ensures { result ≡ is_reply_to self header.now }
     {
-        // a reply repeats command and context of what asked (encapsulation header)
+        // A reply repeats the command and context of its request.
         header.command == self.command().number() && LittleEndian::read_u64(&header.context) == 0
     }
 
-    /// The entry that an item has. Those of another type say nothing (ours).
+    /// The entry in an item. Items of another type are ignored (ours).
     fn entry(self, item: ItemView<'_>) -> Option<ListEntry<'_>>
         ensures { option_map entry_shown result ≡ entry_in self (item_of item.entry) }
     {
@@ -78,14 +78,14 @@ impl ListCommand {
 /// An entry of a list, lent.
 #[derive(Clone, Copy, Debug, PartialEq, Eq)]
 pub enum ListEntry<'a> {
-    /// A service that the device has.
+    /// A service of the device.
     Service(ServiceView<'a>),
-    /// What the device is.
+    /// The identity of the device.
     Identity(IdentityView<'a>),
 }
 
 impl<'a> ListEntry<'a> {
-    /// The entry of a list that the bytes of an item spell.
+    /// Reads the entry of a list from the bytes of an item.
     fn read(command: ListCommand, bytes: &'a [u8]) -> Option<ListEntry<'a>>
         ensures { option_map entry_shown result ≡ entry_of command bytes.now }
     {
@@ -123,22 +123,27 @@ impl<'a> Iterator for ListEntries<'a> {
     }
 }
 
-/// Writes the frame that asks for a list, 24 bytes, in place of what `sent` had.
+/// Writes the frame that requests a list, 24 bytes, in place of the content of `sent`.
+///
+/// ```
+/// let mut sent = Sent::new();
+/// write_list(ListCommand::Identity, &mut sent);
+/// ```
 pub fn write_list(command: ListCommand, sent: &mut Sent)
     ensures { sent.new.items ≡ frame (list_frame command) }
 {
     begin_frame(command.command(), 0, 0, 0, sent);
 }
 
-/// The entries that a device answers in these bytes, which are one whole frame: what came over TCP, or a datagram. They
-/// are lent. Items of another type say nothing (ours).
+/// Reads the entries that a device answers. The bytes are one whole frame, from a TCP stream or a datagram. The entries
+/// are lent. Items of another type are ignored (ours).
 ///
 /// # Errors
 ///
-/// `TooLong` for a header whose length is over 65,511, `Status` where the reply has one, else `Malformed` where the bytes
-/// are no such reply.
+/// `TooLong` for a header with a length over 65,511, `Status` if the reply has one, otherwise `Malformed` if the bytes
+/// are not such a reply.
 pub fn read_list(command: ListCommand, bytes: &[u8]) -> Result<ListEntries<'_>, ClientFault>
-    // What is read is spelled so, and what is spelled so is read.
+    // Both ways: what is read has this spelling, and each spelling is read.
     ensures spelled { (entries : List Entry) →
         (map_ok entries_left result ≡ Ok entries) ↔ IsAnswer command bytes.now entries }
     ensures exact { map_ok entries_left result ≡ answer_in command (parsed bytes.now) }
@@ -164,7 +169,7 @@ fn list_by(command: ListCommand, frame: FrameView<'_>) -> Result<ListEntries<'_>
     if !command.is_replied(&frame.header) {
         return Err(ClientFault::Malformed);
     }
-    // a status that is not 0 refuses (encapsulation status)
+    // A status other than 0: refused.
     if frame.header.status != 0 {
         return Err(ClientFault::Status(frame.header.status));
     }

@@ -20,23 +20,23 @@ use cip_bytes::protocol::{
 use cip_message::{CloseRequest, LargeParameters, OpenRequest, Parameters, Transport};
 use enip_wire::{Header, write_rr_body, write_unit_body};
 
-/// The bytes of a packet in front of an unconnected request: interface 4, timeout 2, count 2, null address 4, type and
-/// length of the data item 4. (Volume 2, common packet format.)
+/// The number of bytes of a packet before an unconnected request: interface 4, timeout 2, item count 2, null address 4,
+/// type and length of the data item 4. (Volume 2, common packet format.)
 const UNCONNECTED_HEAD: usize = 16;
 
-/// The same in front of a connection's item, with a connected address of 8.
+/// The same before an item of a connection, with a connected address of 8.
 const CONNECTED_HEAD: usize = 20;
 
-/// The most data of a frame that is sent, in bytes.
+/// The greatest size of the data of a frame that is sent, in bytes.
 const LONGEST_DATA: usize = CONNECTED_HEAD + LARGEST_CONNECTION_SIZE;
 
-/// The longest frame that is sent, in bytes: a header, and an item of the largest connection.
+/// The greatest size of a frame that is sent, in bytes: a header, and an item of the largest connection.
 pub const LONGEST_SENT: usize = Header::SIZE + LONGEST_DATA;
 
 /// The bytes of one frame to send, its header first.
 pub type Sent = ArrayVec<u8, LONGEST_SENT>;
 
-/// Protocol version 1 and no option flags, the data of RegisterSession.
+/// The data of RegisterSession: protocol version 1 and no option flags.
 const PROTOCOL: [u8; 4] = [1, 0, 0, 0];
 
 /// The path of the Connection Manager, instance 1.
@@ -49,22 +49,23 @@ const PRIORITY_AND_TICK_TIME: u8 = 0x0a;
 
 const TIMEOUT_TICKS: u8 = 0x0e;
 
-/// The target is the server, the application object triggers, class 3. (Volume 1, transport class and trigger.)
+/// The target is the server, the trigger is the application object, class 3. (Volume 1, transport class and trigger.)
 const SERVER_CLASS_3: u8 = 0xa3;
 
-/// Point to point, and of variable size. (Volume 1, network connection parameters.)
+/// Point to point, with variable size. (Volume 1, network connection parameters.)
 const POINT_TO_POINT_VARIABLE: u16 = 0x4200;
 
 /// The same in the parameters of a large connection.
 const LARGE_POINT_TO_POINT_VARIABLE: u32 = 0x4200_0000;
 
-/// The most bytes of a request to the Connection Manager: service, path size and path 6, a large open 40 and its path 4.
+/// The greatest size of a request to the Connection Manager, in bytes: service, path size and path 6, a large open 40
+/// and its path 4.
 const LONGEST_MANAGER_REQUEST: usize = 50;
 
 /// A request to the Connection Manager.
 pub(crate) type ManagerRequest = ArrayVec<u8, LONGEST_MANAGER_REQUEST>;
 
-/// Writes the header of a frame with so many bytes of data.
+/// Writes the header of a frame with `size` bytes of data.
 pub(crate) fn begin_frame(command: Command, session: u32, number: u64, size: usize, sent: &mut Sent)
     requires { size ≤ LONGEST_DATA }
     ensures header { sent.new.items ≡ header_spelling (sent_header command session number size) }
@@ -82,9 +83,10 @@ pub(crate) fn begin_frame(command: Command, session: u32, number: u64, size: usi
     let _ = sent.try_extend_from_slice(&header.write());
 }
 
-/// Writes a RegisterSession, 28 bytes, in place of what `sent` had. Its session is 0, since there is none yet.
+/// Writes a RegisterSession, 28 bytes, in place of the content of `sent`. Its session field is 0, since there is no
+/// session yet.
 ///
-/// `number` is the context, its least byte first: the answer repeats it, and is known by it.
+/// `number` is the sender context, least significant byte first. The answer repeats it, which identifies the answer.
 pub fn write_register(number: u64, sent: &mut Sent)
     ensures { sent.new.items ≡ frame (register_frame number) }
 {
@@ -99,10 +101,17 @@ pub(crate) fn write_unregister(session: u32, sent: &mut Sent)
     begin_frame(Command::UnRegisterSession, session, 0, 0, sent);
 }
 
-/// Writes a SendRRData with an unconnected request, 40 bytes and the request's, in place of what `sent` had.
+/// Writes a SendRRData with an unconnected request in place of the content of `sent`: 40 bytes, then those of the
+/// request.
 ///
-/// `session` is the handle that the answer to a RegisterSession gave. `number` is the context, its least byte first:
-/// the answer repeats it, and is known by it. `request` is one to the message router, of at most 504 bytes.
+/// `session` is the handle in the answer to a RegisterSession. `number` is the sender context, least significant byte
+/// first. The answer repeats it, which identifies the answer. `request` is a request to the message router, of at most
+/// 504 bytes.
+///
+/// ```
+/// let mut sent = Sent::new();
+/// write_request(session, 1, b"\x0e\x03\x20\x01\x24\x01\x30\x01", &mut sent);
+/// ```
 pub fn write_request(session: u32, number: u64, request: &[u8], sent: &mut Sent)
     requires { length request.now ≤ UNCONNECTED_LIMIT }
     ensures { sent.new.items ≡ frame (request_frame session number request.now) }
@@ -127,7 +136,7 @@ pub(crate) fn write_item(session: u32, o_to_t_id: u32, item: &[u8], sent: &mut S
     let _ = write_unit_body(sent, o_to_t_id, item);
 }
 
-/// The service that opens the connection that a client wants. One of up to 511 bytes each way is small.
+/// The service that opens the connection that a client wants: Forward_Open if neither size is over 511 bytes.
 pub(crate) fn open_service(wants: &Wants) -> ManagerService
     ensures { result ≡ open_service wants.now }
 {
@@ -177,7 +186,7 @@ fn large_open_request(wants: &Wants) -> ManagerRequest
     request
 }
 
-/// What is asked for, with the parameters of either direction.
+/// The fields of an open, with the parameters of both directions.
 fn asked<P>(wants: &Wants, o_to_t_parameters: P, t_to_o_parameters: P) -> OpenRequest<'static, P>
     ensures asked { (bits : P → ℕ) →
         view_by bits result ≡ asked_by (bits o_to_t_parameters) (bits t_to_o_parameters) wants.now }
@@ -203,7 +212,7 @@ fn asked<P>(wants: &Wants, o_to_t_parameters: P, t_to_o_parameters: P) -> OpenRe
     }
 }
 
-/// Whether a size is over what the parameters of a Forward_Open can say.
+/// Whether a size is too large for the parameters of a Forward_Open.
 fn is_large(wants: &Wants) -> bool
     ensures { result ≡ is_large wants.now }
 {
@@ -227,7 +236,7 @@ pub(crate) fn close_request(wants: &Wants) -> ManagerRequest
     request
 }
 
-/// Service, path size in words and path of a request to the Connection Manager.
+/// The service, the path size in words and the path of a request to the Connection Manager.
 fn begin_manager_request(service: ManagerService) -> ManagerRequest
     ensures text { result.items ≡ manager_request service [] }
     ensures size { array_vec_len result ≡ 6 }
@@ -242,17 +251,17 @@ fn begin_manager_request(service: ManagerService) -> ManagerRequest
 fn parameters(size: u16) -> Parameters
     ensures { result.bits ≡ parameters_of size }
 {
-    // bits 8 to 0 are the size (network connection parameters)
+    // Bits 0 to 8 are the size (network connection parameters).
     Parameters {
         bits: POINT_TO_POINT_VARIABLE + size % 0x200,
     }
 }
 
-/// The same of a large connection.
+/// The same for a large connection.
 fn large_parameters(size: u16) -> LargeParameters
     ensures { result.bits ≡ large_parameters_of size }
 {
-    // bits 15 to 0 are the size (network connection parameters)
+    // Bits 0 to 15 are the size (network connection parameters).
     LargeParameters {
         bits: LARGE_POINT_TO_POINT_VARIABLE + u32::from(size),
     }

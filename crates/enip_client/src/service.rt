@@ -1,4 +1,4 @@
-//! A service that a device has. (Volume 2, ListServices.)
+//! A service of a device, as ListServices gives it. (Volume 2, ListServices.)
 //!
 //! ```text
 //!  [ version | capability flags | name ]
@@ -11,28 +11,28 @@ ghost use Rattle.enip_client.specs.Service.{Service, SpellsService, name_in, ser
 
 use byteorder::{ByteOrder, LittleEndian};
 
-/// How many bytes stand before the name.
+/// The number of bytes before the name.
 const BEFORE_NAME: usize = 4;
 
-/// How many bytes the field of a name has.
+/// The size of the name field, in bytes.
 const NAME: usize = 16;
 
-/// A service that a device has, lent from an item of ListServices. (Volume 2, ListServices.)
+/// A service of a device, lent from an item of ListServices. (Volume 2, ListServices.)
 #[derive(Clone, Copy, Debug, PartialEq, Eq)]
 pub struct ServiceView<'a> {
     /// The protocol version, 1.
     pub version: u16,
-    /// The capability flags: bit 5 is CIP over TCP, bit 8 CIP class 0 or 1 over UDP.
+    /// The capability flags: bit 5 is CIP over TCP, bit 8 is CIP class 0 or 1 over UDP.
     pub flags: u16,
-    /// The bytes of the name, at most 16, without the NUL bytes behind it.
+    /// The bytes of the name, at most 16, without the NUL bytes that follow it.
     pub name: &'a [u8],
 }
 
 impl<'a> ServiceView<'a> {
-    /// The service that the whole text spells. Its name ends at the first NUL byte, and is lent. None where the text does
-    /// not have 20 bytes.
+    /// Reads a service from all of these bytes. Its name ends at the first NUL byte, and is lent. `None` unless there
+    /// are 20 bytes.
     pub fn read(bytes: &'a [u8]) -> Option<ServiceView<'a>>
-        // What is read is spelled so, and what is spelled so is read.
+        // Both ways: what is read has this spelling, and each spelling is read.
         ensures spelled { (s : Service) → (option_map service_in result ≡ Some s) ↔ SpellsService s bytes.now }
         ensures exact { option_map service_in result ≡ service_of bytes.now }
     {
@@ -40,7 +40,7 @@ impl<'a> ServiceView<'a> {
     }
 }
 
-/// The service that the whole text spells, as a computation.
+/// The service in all of these bytes, as a computation.
 #[tactic(auto, unfolding(crate::specs::Service::service_of))]
 fn service_at(bytes: &[u8]) -> Option<ServiceView<'_>>
     ensures { option_map service_in result ≡ service_of bytes.now }
@@ -51,7 +51,7 @@ fn service_at(bytes: &[u8]) -> Option<ServiceView<'_>>
     Some(fields_at(bytes))
 }
 
-/// The fields, each read at its place.
+/// The fields, each read at its offset.
 fn fields_at(bytes: &[u8]) -> ServiceView<'_>
     requires { length bytes.now ≡ 20 }
     ensures { service_in result ≡ service_fields bytes.now }
@@ -63,7 +63,7 @@ fn fields_at(bytes: &[u8]) -> ServiceView<'_>
     }
 }
 
-/// What stands before the first NUL byte.
+/// The bytes before the first NUL byte.
 fn before_nul(field: &[u8]) -> &[u8]
     ensures { result.now ≡ name_in field.now }
 {

@@ -1,6 +1,6 @@
-//! Where a client stands.
+//! The state of a client.
 //!
-//! What moves it, a call or what is heard. Nothing else does, but that a fault lasts once it came: then nothing moves.
+//! A call or a frame that is heard changes it, and nothing else. Once a fault lasts, nothing changes it any more.
 //!
 //! ```text
 //! session      NotRegistered ── register, heard Registered ──▶ Registered ── unregister ──▶ Unregistered
@@ -28,9 +28,9 @@ use cip_class3::Originator;
 /// The client's session.
 #[derive(Clone, Copy)]
 pub(crate) enum Registration {
-    /// None was registered yet.
+    /// No session was registered yet.
     NotRegistered,
-    /// This session is registered.
+    /// The session with this handle is registered.
     Registered(u32),
     /// The session is over.
     Unregistered,
@@ -39,15 +39,15 @@ pub(crate) enum Registration {
 /// The client's connection.
 #[derive(Clone, Copy)]
 pub(crate) enum ConnectionState {
-    /// None was opened yet.
+    /// No connection was opened yet.
     NotOpened,
-    /// It is open, with this O->T connection ID.
+    /// The connection is open, with this O->T ID.
     Open(u32),
-    /// It is over.
+    /// The connection is over.
     Closed,
 }
 
-/// What is awaited.
+/// Which reply is awaited.
 #[derive(Clone, Copy)]
 pub(crate) enum Awaited {
     /// The reply to RegisterSession.
@@ -60,14 +60,14 @@ pub(crate) enum Awaited {
     End,
 }
 
-/// What is awaited, and the number of the frame that asked, which is the context of the reply.
+/// Which reply is awaited, and the number of its request, which is the context of both.
 #[derive(Clone, Copy)]
 pub(crate) struct Awaiting {
     pub(crate) number: u64,
     pub(crate) awaited: Awaited,
 }
 
-/// Where a client stands, beside the bytes of its next frame.
+/// The state of a client, apart from the bytes held of its next frame.
 #[derive(Drop)]
 pub(crate) struct State {
     pub(crate) wants: Wants,
@@ -76,21 +76,21 @@ pub(crate) struct State {
     pub(crate) connection_state: ConnectionState,
     /// The originator's end of the connection. It is idle until the connection is open.
     pub(crate) originator: Originator,
-    /// How many frames were counted for contexts, modulo 2^64.
+    /// The number of frames that were counted for contexts, modulo 2^64.
     pub(crate) frames: u64,
-    /// The fault that lasts.
+    /// The lasting fault, if any.
     pub(crate) fault: Option<ClientFault>,
 }
 
 impl State {
-    /// Whether nothing is awaited.
+    /// Whether no reply is awaited.
     pub(crate) fn is_free(&self) -> bool
         ensures { result ≡ is_free self.now }
     {
         self.awaiting.is_none()
     }
 
-    /// Whether the session is registered and nothing is awaited.
+    /// Whether the session is registered and no reply is awaited.
     pub(crate) fn is_ready(&self) -> bool
         ensures { result ≡ can_ask self.now }
     {
@@ -111,7 +111,7 @@ impl State {
         self.fault.is_none() && self.is_open()
     }
 
-    /// The registered session, or 0.
+    /// The handle of the registered session, or 0.
     pub(crate) fn session(&self) -> u32
         ensures { result ≡ session_in self.now.registration }
     {
@@ -121,7 +121,7 @@ impl State {
         }
     }
 
-    /// The open connection's O->T ID, or 0.
+    /// The O->T ID of the open connection, or 0.
     pub(crate) fn o_to_t_id(&self) -> u32
         ensures { result ≡ o_to_t_id_in self.now.connection_state }
     {
@@ -131,11 +131,11 @@ impl State {
         }
     }
 
-    /// Why a call is refused that is possible now or not.
+    /// Checks whether a call is allowed: no fault lasts, and it is possible now.
     ///
     /// # Errors
     ///
-    /// A lasting fault, else `State`.
+    /// The lasting fault, if any, otherwise `State`.
     pub(crate) fn allow(&self, possible: bool) -> Result<(), ClientFault>
         ensures { result ≡ allowed (refusal self.now possible) }
     {
@@ -149,12 +149,12 @@ impl State {
         }
     }
 
-    /// Counts a frame whose reply is awaited, and answers its number.
+    /// Counts a frame whose reply is awaited, and returns its number.
     pub(crate) fn await_reply(&mut self, awaited: Awaited) -> u64
         ensures number { result ≡ next_number self.old }
         ensures state { self.new ≡ awaiting awaited self.old }
     {
-        // from 1 on, modulo 2^64
+        // From 1 on, modulo 2^64.
         let number = self.frames.wrapping_add(1);
         self.frames = number;
         self.awaiting = Some(Awaiting { number, awaited });

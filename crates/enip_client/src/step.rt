@@ -1,4 +1,4 @@
-//! The steps of an exchange: what is heard of a piece, and the call that follows.
+//! The steps of an exchange: what is heard in a piece, and the call that follows.
 
 ghost use Rattle.std.specs.Prelude.{◌≡◌, ◌+◌, ◌<◌, ◌≤◌, length, true, None, IfOk, MatchResult};
 ghost use Rattle.std.specs.Io.KnownBytes.{Appends};
@@ -34,7 +34,7 @@ impl Step {
     }
 }
 
-/// A call that follows what was heard.
+/// The call that follows what was heard.
 #[derive(Clone, Copy)]
 pub(crate) enum Call {
     Open,
@@ -44,7 +44,7 @@ pub(crate) enum Call {
 }
 
 impl Call {
-    /// Which reply is awaited after it.
+    /// Which reply is awaited after this call.
     fn step(self) -> Step
         ensures { result ≡ step_after self }
     {
@@ -57,21 +57,21 @@ impl Call {
     }
 }
 
-/// What is asked, on a connection or not.
+/// A request, and whether it goes on a connection.
 #[derive(Clone, Copy)]
 pub(crate) struct Asked<'a> {
     pub(crate) request: &'a [u8],
     pub(crate) connected: bool,
 }
 
-/// How many bytes of a piece were taken, and which reply is awaited then.
+/// How many bytes of a piece were taken, and which reply is awaited after them.
 #[derive(Clone, Copy)]
 pub(crate) struct Progress {
     pub(crate) taken: usize,
     pub(crate) step: Step,
 }
 
-/// Hears a piece up to the end of one frame, and sends what follows.
+/// Feeds a piece up to the end of one frame, and sends what follows.
 ///
 /// # Errors
 ///
@@ -120,7 +120,7 @@ pub(crate) fn advance<W: Sink>(
 ///
 /// # Errors
 ///
-/// `Client` where an open or a close was refused, or a reply is too long.
+/// `Client` if an open or a close was refused, or a reply is too long.
 fn next_call(
     step: Step,
     connected: bool,
@@ -152,12 +152,12 @@ fn next_call(
 ///
 /// # Errors
 ///
-/// `Client` with `Malformed` where it is too long, and then nothing is changed.
+/// `Client` with `Malformed` if it is too long. Then nothing changes.
 fn keep(bytes: &[u8], reply: &mut ReplyBuf) -> Result<(), AskFault>
     ensures fits { result ≡ fits bytes.now }
     ensures reply { reply.new.items ≡ kept reply.old.items bytes.now }
 {
-    // the room of a reply (ours)
+    // The capacity of a reply buffer (ours).
     if bytes.len() > REPLY_LIMIT {
         return Err(AskFault::Client(ClientFault::Malformed));
     }
@@ -170,7 +170,7 @@ fn keep(bytes: &[u8], reply: &mut ReplyBuf) -> Result<(), AskFault>
 ///
 /// # Errors
 ///
-/// `Client` or `Submit` where the call was refused, else `Write`.
+/// `Client` or `Submit` if the call was refused, otherwise `Write`.
 fn perform<W: Sink>(
     client: &mut Client,
     asked: Asked<'_>,
@@ -213,7 +213,7 @@ fn perform<W: Sink>(
 ///
 /// # Errors
 ///
-/// `Write` where the writer failed.
+/// `Write` if the writer failed.
 pub(crate) fn send<W: Sink>(frame: &[u8], writer: &mut W) -> Result<(), AskFault>
     requires { W.failures writer.old < u64.MAX }
     ensures not_read { read_faults result ≡ 0 }

@@ -1,13 +1,13 @@
--- What a read of a socket tells of what more has come.
+-- When a read of a socket has read all there is.
 use Rattle.std.specs.Prelude.{ℕ, ◌≡◌, ◌<◌, ◌≤◌, ◌⊎◌, ⊤}
 use Rattle.enip_server.specs.declared.wire.ReadOutcome.{ReadOutcome}
-use Rattle.enip_server.specs.declared.wire.ReadOutcome.TheVariants.{Bytes, All, Later, End, Failed}
+use Rattle.enip_server.specs.declared.wire.ReadOutcome.TheVariants.{Bytes, Drained, WouldBlock, End, Failed}
 
--- A read that filled its room may have left some, and so may one of fewer bytes than a header has; any other took all that
--- had come.
-abbrev pub IsShortWhereAll : ℕ → ReadOutcome → Type 0
-IsShortWhereAll room (Bytes size) = (size ≡ room) ⊎ (size < 24)
-IsShortWhereAll room (All size) = (size < room) × (24 ≤ size)
-IsShortWhereAll room Later = ⊤
-IsShortWhereAll room End = ⊤
-IsShortWhereAll room Failed = ⊤
+-- A read that fills its buffer may leave bytes behind, and one that is shorter than a header is not relied on. Any other
+-- read has read all there is.
+abbrev pub IsDrainedOnlyIfShort : ℕ → ReadOutcome → Type 0
+IsDrainedOnlyIfShort capacity (Bytes size) = (size ≡ capacity) ⊎ (size < 24)
+IsDrainedOnlyIfShort capacity (Drained size) = (size < capacity) × (24 ≤ size)
+IsDrainedOnlyIfShort capacity WouldBlock = ⊤
+IsDrainedOnlyIfShort capacity End = ⊤
+IsDrainedOnlyIfShort capacity Failed = ⊤

@@ -1,4 +1,4 @@
-//! `enip answer`: lines of pieces in, the adapter's answers out.
+//! `enip answer`: reads lines with pieces of streams, and prints the adapter's answers.
 
 ghost use Rattle.std.specs.Prelude.{◌≡◌, IfOk, IfErr};
 ghost use Rattle.enip_config.specs.declared.fault.ConfigurationRefusal.{ConfigurationRefusal};
@@ -7,54 +7,38 @@ ghost use Rattle.enip_config.specs.Documents.{IsRefused};
 ghost use Rattle.enip_cmd.specs.Statuses.{IsStatus, IsFaultOf};
 
 use crate::fault::Fault;
+use crate::report::Report;
 use enip_config::adapter_from;
 use std::alloc::Global;
 use std::io::{Read, Write};
 
-/// Runs an adapter over the lines of an input, and answers the exit status of the program: 0, or 3 where the
-/// configuration is refused, 4 where a line is, 5 where a device or memory failed, with a line on `errors`.
+/// Runs an adapter over the lines of an input. Returns the exit status of the program: 0 if all lines were run, 3 if the
+/// configuration is refused, 4 if a line is refused, 5 if a stream or memory failed. `errors` receives the fault.
 ///
 /// What can be answered is written before more input is read, and before a line is refused.
-pub fn answer<R: Read + Drop, W: Write + Drop, E: Write + Drop>(
+pub fn answer<R: Read + Drop, W: Write + Drop, E: Report>(
     alloc: Global,
     config: &str,
     input: R,
     output: W,
-    errors: E,
+    errors: &mut E,
 ) -> u8
     ensures status { IsStatus result }
     ensures accepted { result ≡ 0 → IsAccepted config.now }
     ensures line { result ≡ 4 → IsAccepted config.now }
     ensures refused { result ≡ 3 → (refusal : ConfigurationRefusal) × IsRefused config.now refusal }
 {
-    answer_bytes(alloc, config.as_bytes(), input, output, errors)
-}
-
-/// As `answer`, with the bytes of the configuration, which need not be text.
-pub fn answer_bytes<R: Read + Drop, W: Write + Drop, E: Write + Drop>(
-    alloc: Global,
-    config: &[u8],
-    input: R,
-    output: W,
-    errors: E,
-) -> u8
-    ensures status { IsStatus result }
-    ensures accepted { result ≡ 0 → IsAccepted config.now }
-    ensures line { result ≡ 4 → IsAccepted config.now }
-    ensures refused { result ≡ 3 → (refusal : ConfigurationRefusal) × IsRefused config.now refusal }
-{
-    let mut errors = errors;
-    match run(alloc, config, input, output) {
+    match run(alloc, config.as_bytes(), input, output) {
         Ok(()) => 0,
         Err(fault) => {
-            let _ = writeln!(errors, "{fault}");
+            errors.report(fault);
             fault.exit_status()
         }
     }
 }
 
-/// As `answer_bytes`, and answers why it ended early.
-pub(crate) fn run<R: Read + Drop, W: Write + Drop>(
+/// As `answer`, but returns the fault.
+fn run<R: Read + Drop, W: Write + Drop>(
     alloc: Global,
     config: &[u8],
     input: R,

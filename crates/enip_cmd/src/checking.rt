@@ -1,11 +1,11 @@
-//! `enip check`: says which device a configuration tells.
+//! `enip check`: prints the device that a configuration describes.
 
 use cip_objects::{AssemblyConfig, Config};
 use enip_config::Configuration;
 use std::alloc::Global;
 use std::io::{self, BufWriter, Write};
 
-/// Prints the device that a configuration tells, a line for each thing: its identity, its objects, and its places.
+/// Prints the device that a configuration describes: its identity, its objects, and its limits.
 pub(crate) fn print_device<W: Write + Drop>(
     alloc: Global,
     configuration: &Configuration,
@@ -15,14 +15,14 @@ pub(crate) fn print_device<W: Write + Drop>(
     print_lines(&mut output, configuration)
 }
 
-/// Prints these lines, and sends them off.
+/// Prints all lines, and flushes the output.
 fn print_lines<W: Write>(output: &mut W, configuration: &Configuration) -> io::Result<()> {
     print_identity(output, &configuration.objects)?;
-    print_address(output, configuration)?;
+    print_address_and_counter(output, configuration)?;
     for assembly in &configuration.objects.assemblies {
         print_assembly(output, assembly)?;
     }
-    print_places(output, configuration)?;
+    print_limits(output, configuration)?;
     output.flush()
 }
 
@@ -42,8 +42,11 @@ fn print_identity<W: Write>(output: &mut W, objects: &Config) -> io::Result<()> 
     )
 }
 
-/// Prints the address that the device shows, and its counter.
-fn print_address<W: Write>(output: &mut W, configuration: &Configuration) -> io::Result<()> {
+/// Prints the address that ListIdentity shows, and the counter object.
+fn print_address_and_counter<W: Write>(
+    output: &mut W,
+    configuration: &Configuration,
+) -> io::Result<()> {
     let [first, second, third, last] = configuration.address;
     let port = configuration.port;
     writeln!(output, "address {first}.{second}.{third}.{last}:{port}")?;
@@ -52,14 +55,11 @@ fn print_address<W: Write>(output: &mut W, configuration: &Configuration) -> io:
     writeln!(output, "counter {value}, limit {limit}")
 }
 
-/// Prints how much it has room for, and the first numbers that it gives.
-fn print_places<W: Write>(output: &mut W, configuration: &Configuration) -> io::Result<()> {
+/// Prints how many peers and connections there may be, and the first numbers that they get.
+fn print_limits<W: Write>(output: &mut W, configuration: &Configuration) -> io::Result<()> {
     let peers = configuration.peers;
     let connections = configuration.connections;
-    writeln!(
-        output,
-        "places for {peers} peers and {connections} connections"
-    )?;
+    writeln!(output, "up to {peers} peers and {connections} connections")?;
     let (handle, id) = (configuration.first_handle, configuration.first_id);
     writeln!(
         output,
@@ -67,7 +67,7 @@ fn print_places<W: Write>(output: &mut W, configuration: &Configuration) -> io::
     )
 }
 
-/// Prints an assembly: its instance, whether it can be set, its bytes, and the sizes of its members. (Volume 1,
+/// Prints an assembly: its instance, whether it can be set, its size, and the sizes of its members. (Volume 1,
 /// Assembly.)
 fn print_assembly<W: Write>(output: &mut W, assembly: &AssemblyConfig) -> io::Result<()> {
     let instance = assembly.instance;
@@ -82,7 +82,7 @@ fn print_assembly<W: Write>(output: &mut W, assembly: &AssemblyConfig) -> io::Re
         .fold(0u64, |sum, size| sum.saturating_add(u64::from(*size)));
     write!(
         output,
-        "assembly {instance}, {access}, {bytes} bytes, members of"
+        "assembly {instance}, {access}, {bytes} bytes, member sizes"
     )?;
     for size in &assembly.members {
         write!(output, " {size}")?;

@@ -1,67 +1,70 @@
-//! Clients that look for devices, by datagrams of UDP.
+//! Answers clients that look for devices over UDP.
 
+use crate::observer::Observer;
 use crate::readiness::Readiness;
-use crate::watch::Watch;
 use enip_adapter::DiscoveryBuffer;
 use enip_server::Peers;
 use mio::net::UdpSocket;
 use std::alloc::{AllocError, Global};
 
-/// More bytes than a datagram has, so that none is cut.
-const ROOM: usize = 65_536;
+/// More bytes than a datagram can have, so that none is cut off.
+const DATAGRAM_CAPACITY: usize = 65_536;
 
-/// A socket for datagrams whose calls never wait.
+/// A nonblocking UDP socket, and the buffers of a datagram and its answer.
 #[derive(Drop)]
 pub(crate) struct Discovery {
     socket: UdpSocket,
     readiness: Readiness,
-    /// The datagram that came.
-    block: Vec<u8>,
-    /// What answers it.
-    room: DiscoveryBuffer,
+    buffer: Vec<u8>,
+    answer: DiscoveryBuffer,
 }
 
 impl Discovery {
-    /// The discovery over a socket, at which something may wait.
+    /// Takes over a socket. A datagram may be waiting already.
     ///
     /// # Errors
     ///
-    /// `AllocError` where memory is refused.
+    /// `AllocError` if memory is refused.
     pub(crate) fn new(alloc: Global, socket: UdpSocket) -> Result<Discovery, AllocError> {
         Ok(Discovery {
             socket,
             readiness: Readiness::Ready,
-            block: Vec::from_elem(alloc, 0, ROOM)?,
-            room: DiscoveryBuffer::new(),
+            buffer: Vec::from_elem(alloc, 0, DATAGRAM_CAPACITY)?,
+            answer: DiscoveryBuffer::new(),
         })
     }
 
-    /// When the socket is tried again.
+    /// When to try the socket next.
     pub(crate) fn readiness(&self) -> Readiness {
         self.readiness
     }
 
-    /// The system reports the socket.
-    pub(crate) fn report(&mut self) {
-        self.readiness = self.readiness.reported();
+    /// The system has reported the socket as readable.
+    pub(crate) fn on_readable(&mut self) {
+        self.readiness = self.readiness.on_readable();
     }
 
-    /// Takes one datagram at a moment, in microseconds, where there is one, and sends what answers it to its sender. An
-    /// answer that cannot be sent is dropped.
-    pub(crate) fn answer_one<W: Watch>(&mut self, peers: &Peers<W::Wire>, watch: &W, now: u64) {
+    /// Reads one datagram, if there is one, and sends the answer to its sender. An answer that cannot be sent is dropped.
+    /// `now` is in microseconds.
+    pub(crate) fn answer_one<O: Observer>(
+        &mut self,
+        peers: &Peers<O::Wire>,
+        observer: &O,
+        now: u64,
+    ) {
         if !self.readiness.is_due(now) {
             return;
         }
-        match self.socket.recv_from(&mut self.block) {
+        match self.socket.recv_from(&mut self.buffer) {
             Ok((size, sender)) => {
                 self.readiness = Readiness::Ready;
-                let datagram = &self.block[..size];
-                if let Some(answer) = peers.discover(datagram, &mut self.room) {
+                let datagram = &self.buffer[..size];
+                if let Some(answer) = peers.discover(datagram, &mut self.answer) {
                     let _ = self.socket.send_to(answer, sender);
-                    watch.answered(sender, datagram, answer);
+                    observer.answered(sender, datagram, answer);
                 }
             }
-            Err(error) => self.readiness = Readiness::after(&error, now),
+            Err(error) => self.readiness = Readiness::after_error(&error, now),
         }
     }
 }

@@ -1,4 +1,4 @@
-//! Why a command of the program ends early, what it then prints, and its exit status.
+//! The faults of the program's commands, with their texts and exit statuses.
 
 ghost use Rattle.std.specs.Prelude.{◌≡◌};
 ghost use Rattle.enip_cmd.specs.Statuses.{exit_status};
@@ -10,28 +10,28 @@ use std::alloc::AllocError;
 use std::io;
 use thiserror::Error;
 
-/// Why a command ends early. Its text goes to standard error.
+/// Why a command ends early. The text is the last line on standard error.
 #[derive(Clone, Copy, Debug, PartialEq, Eq, Error)]
 pub enum Fault {
     /// The configuration is refused.
     #[error("configuration {}", .0.number())]
     Configuration(ConfigurationRefusal),
-    /// The client of a replay could not open its connection, or the second session could not begin.
+    /// The client of a replay could not open its connection, or the second session could not be registered.
     #[error("setup")]
     Setup,
-    /// A line of the input is refused, or a device or memory failed.
+    /// A line of the input is refused, or a file, a stream or memory failed.
     #[error("{0}")]
     Run(enip_commands::ProgramFault),
-    /// A word is no value of the type of a request's data.
+    /// An argument is not a value of the requested type.
     #[error("value")]
     Value,
-    /// A device that was asked gave no reply.
+    /// A client's request got no reply.
     #[error("{0}")]
-    Asking(RequestFailure),
+    Request(RequestFailure),
 }
 
 impl Fault {
-    /// The exit status of a program that ends so.
+    /// The exit status of the program.
     pub fn exit_status(self) -> u8
         ensures { result ≡ exit_status self }
     {
@@ -40,7 +40,7 @@ impl Fault {
             Fault::Configuration(_) => 3,
             Fault::Setup => ReplayFailure::Setup.exit_status(),
             Fault::Run(fault) => fault.exit_status(),
-            Fault::Asking(stop) => stop.exit_status(),
+            Fault::Request(failure) => failure.exit_status(),
         }
     }
 }
@@ -50,8 +50,8 @@ impl From<enip_commands::ProgramFault> for Fault {
 
     ghost from_gives = { λ ended fault. fault ≡ Run ended };
 
-    fn from(ended: enip_commands::ProgramFault) -> Fault {
-        Fault::Run(ended)
+    fn from(fault: enip_commands::ProgramFault) -> Fault {
+        Fault::Run(fault)
     }
 }
 
@@ -83,8 +83,8 @@ impl From<enip_config::LoadFault> for Fault {
 
     ghost from_gives = { λ refused fault. fault ≡ fault_of_configuration refused };
 
-    fn from(refused: enip_config::LoadFault) -> Fault {
-        match refused {
+    fn from(fault: enip_config::LoadFault) -> Fault {
+        match fault {
             enip_config::LoadFault::Refused(refusal) => Fault::Configuration(refusal),
             enip_config::LoadFault::Memory => Fault::Run(enip_commands::ProgramFault::Memory),
         }
@@ -94,10 +94,10 @@ impl From<enip_config::LoadFault> for Fault {
 impl From<ReplayFailure> for Fault {
     ghost use Rattle.enip_cmd.specs.Statuses.{fault_of_replay};
 
-    ghost from_gives = { λ stop fault. fault ≡ fault_of_replay stop };
+    ghost from_gives = { λ failure fault. fault ≡ fault_of_replay failure };
 
-    fn from(stop: ReplayFailure) -> Fault {
-        match stop {
+    fn from(failure: ReplayFailure) -> Fault {
+        match failure {
             ReplayFailure::Setup => Fault::Setup,
             ReplayFailure::Program(fault) => Fault::Run(fault),
         }

@@ -1,12 +1,12 @@
-//! `enip identity`, `enip services` and `enip discover`: what devices say of themselves, without a session.
+//! `enip identity`, `enip services` and `enip discover`: the lists that a device sends without a session.
 
 ghost use Rattle.std.specs.Prelude.{◌≤◌, length, IfOk, IfSome};
 
-use crate::asking::reason_of_client;
+use crate::error_keeping::ErrorKeeping;
 use crate::fault::Fault;
-use crate::noted::Noted;
-use crate::place::{Patience, Place};
-use crate::reason::{Ending, Reason};
+use crate::host_port::{HostPort, Timeout};
+use crate::reason::{CommandError, Reason};
+use crate::request::reason_of_client;
 use crate::socket::{SocketSink, SocketSource};
 use enip_client::{ListCommand, Sent, write_list};
 use enip_commands::{
@@ -16,30 +16,26 @@ use std::io::{ErrorKind, Write};
 use std::net::UdpSocket;
 use std::time::Instant;
 
-/// More bytes than a datagram has, so that none is cut.
-const ROOM: usize = 65_536;
+/// More bytes than a datagram can have, so that none is cut off.
+const DATAGRAM_CAPACITY: usize = 65_536;
 
-/// The most datagrams that are looked at (ours).
-const MOST_DATAGRAMS: u32 = 100_000;
+/// Our own limit: how many datagrams are read.
+const MAX_DATAGRAMS: u32 = 100_000;
 
-/// The name of the program's output.
 const OUTPUT: &str = "standard output";
 
-/// The name of the clock.
-const CLOCK: &str = "the clock";
-
-/// Asks a device for a list over TCP, prints it, and gives the exit status of the program.
+/// Requests a list from a device over TCP, and prints it. Returns the exit status.
 pub(crate) fn run_list<'a>(
     rt: &HostRuntime,
     command: ListCommand,
     is_json: bool,
     address: &'a str,
-    patience: Patience<'a>,
-) -> Result<u8, Ending<'a>> {
-    let place = Place::of(address)?;
-    let start = Instant::now(rt).map_err(|error| Ending::of_device(CLOCK, error))?;
-    let stream = place.dial(rt, patience)?;
-    let mut output = Noted::new(rt.stdout());
+    timeout: Timeout<'a>,
+) -> Result<u8, CommandError<'a>> {
+    let device = HostPort::parse(address)?;
+    let start = Instant::now(rt).map_err(CommandError::of_clock)?;
+    let stream = device.connect(rt, timeout)?;
+    let mut output = ErrorKeeping::new(rt.stdout());
     let mut source = SocketSource::new(&stream, rt, start);
     let mut sink = SocketSink::new(&stream);
     let listed = if is_json {
@@ -49,87 +45,84 @@ pub(crate) fn run_list<'a>(
     };
     match listed {
         Ok(()) => Ok(0),
-        Err(stop) => {
-            let lost = match source.lost().or(sink.lost()) {
-                Some(lost) => Some(lost.reason(address, patience)),
+        Err(failure) => {
+            let network = match source.fault().or(sink.fault()) {
+                Some(fault) => Some(fault.reason(address, timeout)),
                 None => None,
             };
-            let device = output
+            let reason = output
                 .reason(OUTPUT)
-                .or(lost)
+                .or(network)
                 .unwrap_or(Reason::Failed(address));
-            Err(ending_of(stop, device))
+            Err(error_of_failure(failure, reason))
         }
     }
 }
 
-/// How the program ends where no list was told. `device` is why a device failed, where one did.
-fn ending_of<'a>(stop: RequestFailure, device: Reason<'a>) -> Ending<'a> {
-    let reason = match stop {
+/// The error of a request without a printed list. `stream_reason` is why a stream failed, if one did.
+fn error_of_failure<'a>(failure: RequestFailure, stream_reason: Reason<'a>) -> CommandError<'a> {
+    let reason = match failure {
         RequestFailure::Client(fault) => reason_of_client(fault),
         RequestFailure::Program(enip_commands::ProgramFault::Memory) => Reason::Memory,
-        _ => device,
+        _ => stream_reason,
     };
-    Ending::new(Fault::Asking(stop), reason)
+    CommandError::new(Fault::Request(failure), reason)
 }
 
-/// Asks with one datagram which devices there are, prints those that answer within the patience, and gives the exit
-/// status of the program.
+/// Sends one ListIdentity as a datagram, and prints the devices that answer within the timeout. Returns the exit status.
 pub(crate) fn run_discovery<'a>(
     rt: &HostRuntime,
     is_json: bool,
     address: &'a str,
-    patience: Patience<'a>,
-) -> Result<u8, Ending<'a>> {
-    let place = Place::of(address)?;
-    let socket = place.datagrams(rt)?;
-    let start = Instant::now(rt).map_err(|error| Ending::of_device(CLOCK, error))?;
-    let mut block = Vec::from_elem(rt.alloc(), 0, ROOM)?;
+    timeout: Timeout<'a>,
+) -> Result<u8, CommandError<'a>> {
+    let target = HostPort::parse(address)?;
+    let socket = target.send_list_identity(rt)?;
+    let start = Instant::now(rt).map_err(CommandError::of_clock)?;
+    let mut buffer = Vec::from_elem(rt.alloc(), 0, DATAGRAM_CAPACITY)?;
     let mut output = rt.stdout();
-    for _ in 0..MOST_DATAGRAMS {
-        let Some(size) = next_datagram(rt, &socket, place, patience, start, &mut block)? else {
+    for _ in 0..MAX_DATAGRAMS {
+        let Some(size) = next_datagram(rt, &socket, target, timeout, start, &mut buffer)? else {
             break;
         };
-        let datagram = &block[..size];
+        let datagram = &buffer[..size];
         let printed = if is_json {
             print_device_objects(rt.alloc(), &mut output, datagram)
         } else {
             print_devices(&mut output, datagram)
         };
         if let Err(fault) = printed {
-            return Err(ending_of_output(fault));
+            return Err(error_of_output(fault));
         }
     }
     output
         .flush()
-        .map_err(|error| Ending::of_device(OUTPUT, error))?;
+        .map_err(|error| CommandError::of_system(OUTPUT, error))?;
     Ok(0)
 }
 
-/// How the program ends where its output failed.
-fn ending_of_output<'a>(fault: enip_commands::ProgramFault) -> Ending<'a> {
+/// The error of a command whose output failed.
+fn error_of_output<'a>(fault: enip_commands::ProgramFault) -> CommandError<'a> {
     match fault {
-        enip_commands::ProgramFault::Memory => Ending::of_memory(),
-        _ => Ending::of_reason(Reason::Failed(OUTPUT)),
+        enip_commands::ProgramFault::Memory => CommandError::of_memory(),
+        _ => CommandError::of_reason(Reason::Failed(OUTPUT)),
     }
 }
 
-/// The size of the next datagram that comes, written in a block. None comes once the patience is over.
+/// Reads the next datagram into a buffer. Returns its size, or `None` once the timeout is over.
 fn next_datagram<'a>(
     rt: &HostRuntime,
     socket: &UdpSocket,
-    place: Place<'a>,
-    patience: Patience<'a>,
+    target: HostPort<'a>,
+    timeout: Timeout<'a>,
     start: Instant,
-    block: &mut [u8],
-) -> Result<Option<usize>, Ending<'a>>
-    ensures { IfOk result (λ came. IfSome came (λ size. size ≤ length block.new)) }
+    buffer: &mut [u8],
+) -> Result<Option<usize>, CommandError<'a>>
+    ensures { IfOk result (λ received. IfSome received (λ size. size ≤ length buffer.new)) }
 {
-    let elapsed = start
-        .elapsed(rt)
-        .map_err(|error| Ending::of_device(CLOCK, error))?;
+    let elapsed = start.elapsed(rt).map_err(CommandError::of_clock)?;
     let mut left = None;
-    if let Some(limit) = patience.limit() {
+    if let Some(limit) = timeout.limit() {
         let rest = limit.saturating_sub(elapsed);
         if rest.is_zero() {
             return Ok(None);
@@ -138,20 +131,20 @@ fn next_datagram<'a>(
     }
     socket
         .set_read_timeout(left)
-        .map_err(|error| Ending::of_device(place.word(), error))?;
-    match socket.recv_from(block) {
+        .map_err(|error| CommandError::of_system(target.text(), error))?;
+    match socket.recv_from(buffer) {
         Ok((size, _)) => Ok(Some(size)),
         Err(error) => match error.kind() {
             ErrorKind::WouldBlock | ErrorKind::TimedOut => Ok(None),
-            // a machine without a device says so, and others may still answer
+            // A machine without a device refuses the datagram. Others may still answer.
             ErrorKind::Interrupted | ErrorKind::ConnectionRefused => Ok(Some(0)),
-            _ => Err(Ending::of_device(place.word(), error)),
+            _ => Err(CommandError::of_system(target.text(), error)),
         },
     }
 }
 
-/// The request of a list, as it is sent in a datagram.
-pub(crate) fn request(command: ListCommand) -> Sent {
+/// The frame that requests a list.
+pub(crate) fn list_request(command: ListCommand) -> Sent {
     let mut sent = Sent::new();
     write_list(command, &mut sent);
     sent

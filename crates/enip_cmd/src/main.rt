@@ -1,112 +1,125 @@
-//! `enip`: an EtherNet/IP adapter and client on the command line.
+//! `enip`: an EtherNet/IP adapter and explicit messaging client on the command line.
 #![tactic(auto)]
 
 ghost use Rattle.std.specs.Prelude.{◌≡◌, ◌<◌, ◌*◌, ◌-◌, ◌^◌};
 
+mod acceptor;
 pub mod answer;
-mod asking;
+mod argument_error;
 mod checking;
 mod discovery;
-mod door;
+mod error_keeping;
 pub mod fault;
-mod journal;
+mod frame_log;
+mod frame_summary;
+mod host_port;
 mod listing;
-mod named;
-mod noted;
-mod place;
+mod logged_wire;
+mod named_file;
+mod observer;
+mod polling;
 mod readiness;
 mod reason;
-mod refused;
 pub mod replay;
-mod retried;
+pub mod report;
+mod request;
+mod retry;
 pub mod serve;
-mod served;
+pub mod show;
 pub mod socket;
-mod watch;
-mod watched_wire;
-mod watching;
 mod wire;
 
-use asking::{Asked, run_asking};
+use answer::answer;
+use argument_error::ArgumentError;
 use checking::print_device;
 use clap::ArgMatches;
 use clap::error::ErrorKind;
-use enip_cli::{PROGRAM, Word, program, words};
+use enip_cli::{OsArg, PROGRAM, os_args, program};
 use enip_client::ListCommand;
 use enip_server::NO_IDLE_TIMEOUT;
-use journal::Journal;
+use error_keeping::ErrorKeeping;
+use fault::Fault;
+use frame_log::FrameLog;
+use host_port::{HostPort, Timeout};
 use listing::{run_discovery, run_list};
 use mio::net::UdpSocket;
-use named::{Named, ending_of_run};
-use noted::Noted;
-use place::{Patience, Place};
-use reason::{Ending, Reason};
-use refused::RefusedWord;
-use serve::{Serving, Sockets, serve_connections};
+use named_file::{NamedFile, error_of_run};
+use observer::NoObserver;
+use polling::{PollOptions, run_polling};
+use reason::{CommandError, Reason};
+use replay::{draw, replay};
+use report::Reported;
+use request::{Request, run_request};
+use serve::{ServeOptions, Sockets, serve_connections};
+use show::show;
 use std::io;
 use std::net::TcpListener;
 use std::process::ExitCode;
 use std::time::Instant;
-use watch::Unwatched;
-use watching::{ConnectionInfo, run_watching};
 
-/// The exit status where the words are refused.
-const WORDS_REFUSED: u8 = 2;
+/// The exit status if the arguments are refused.
+const ARGUMENTS_REFUSED: u8 = 2;
 
 /// The microseconds of a second.
 const SECOND: u64 = 1_000_000;
 
-/// Services of all objects. (Volume 1, common services.)
+/// Common services. (Volume 1, common services.)
 const GET_ATTRIBUTES_ALL: u8 = 0x01;
 
 const GET_ATTRIBUTE_SINGLE: u8 = 0x0e;
 
 const SET_ATTRIBUTE_SINGLE: u8 = 0x10;
 
-/// The names of the program's streams.
+/// What messages call the program's streams.
 const INPUT: &str = "standard input";
 
 const OUTPUT: &str = "standard output";
 
 const ERRORS: &str = "standard error";
 
-/// Runs the command that was asked for, and answers the exit status.
-fn run<'a>(rt: &HostRuntime, words: &[Word], matches: &ArgMatches<'a>) -> Result<u8, Ending<'a>> {
+/// Runs the command in the arguments. Returns the exit status.
+fn run_command<'a>(
+    rt: &HostRuntime,
+    args: &[OsArg],
+    matches: &ArgMatches<'a>,
+) -> Result<u8, CommandError<'a>> {
     let Some((command, matches)) = matches.subcommand() else {
-        return Ok(WORDS_REFUSED);
+        return Ok(ARGUMENTS_REFUSED);
     };
     match command {
-        "answer" => return run_answer(rt, words, matches),
-        "replay" => return run_replay(rt, words, matches),
-        "check" => return run_check(rt, words, matches),
-        "serve" => return run_serve(rt, words, matches),
+        "answer" => return run_answer(rt, args, matches),
+        "replay" => return run_replay(rt, args, matches),
+        "check" => return run_check(rt, args, matches),
+        "serve" => return run_serve(rt, args, matches),
         "show" => return run_show(rt),
-        "identity" => return run_listing(rt, Inquiry::Of(ListCommand::Identity), matches),
-        "services" => return run_listing(rt, Inquiry::Of(ListCommand::Services), matches),
-        "discover" => return run_listing(rt, Inquiry::Devices, matches),
+        "identity" => return run_query(rt, Query::List(ListCommand::Identity), matches),
+        "services" => return run_query(rt, Query::List(ListCommand::Services), matches),
+        "discover" => return run_query(rt, Query::Discovery, matches),
         "get" => return run_client(rt, Some(service_of_get(matches)), matches),
         "set" => return run_client(rt, Some(SET_ATTRIBUTE_SINGLE), matches),
         "call" => return run_client(rt, matches.get_one("SERVICE"), matches),
         _ => {}
     }
-    Ok(WORDS_REFUSED)
+    Ok(ARGUMENTS_REFUSED)
 }
 
 /// `enip answer`.
 fn run_answer<'a>(
     rt: &HostRuntime,
-    words: &[Word],
+    args: &[OsArg],
     matches: &ArgMatches<'a>,
-) -> Result<u8, Ending<'a>> {
-    let config = Named::read(rt.alloc(), words, matches, "CONFIG")?;
-    let mut input = Noted::new(rt.stdin());
-    let mut output = Noted::new(rt.stdout());
-    let ran = answer::run(rt.alloc(), config.bytes(), &mut input, &mut output);
-    match ran {
-        Ok(()) => Ok(0),
-        Err(fault) => {
-            let device = output.reason(OUTPUT).or(input.reason(INPUT));
-            Err(ending_of_run(rt.alloc(), fault, &config, INPUT, device))
+) -> Result<u8, CommandError<'a>> {
+    let config = NamedFile::read(rt.alloc(), args, matches, "CONFIG")?;
+    let text = config.config_text(rt.alloc())?;
+    let mut input = ErrorKeeping::new(rt.stdin());
+    let mut output = ErrorKeeping::new(rt.stdout());
+    let mut reported = Reported::new();
+    let status = answer(rt.alloc(), text, &mut input, &mut output, &mut reported);
+    match reported.fault() {
+        None => Ok(status),
+        Some(fault) => {
+            let reason = output.reason(OUTPUT).or(input.reason(INPUT));
+            Err(error_of_run(rt.alloc(), fault, &config, INPUT, reason))
         }
     }
 }
@@ -114,23 +127,37 @@ fn run_answer<'a>(
 /// `enip replay`.
 fn run_replay<'a>(
     rt: &HostRuntime,
-    words: &[Word],
+    args: &[OsArg],
     matches: &ArgMatches<'a>,
-) -> Result<u8, Ending<'a>> {
-    let config = Named::read(rt.alloc(), words, matches, "CONFIG")?;
-    let script = Named::read(rt.alloc(), words, matches, "SCRIPT")?;
-    let mut output = Noted::new(rt.stdout());
-    let ran = if matches.get_flag("ladder") {
-        replay::draw(rt.alloc(), config.bytes(), script.bytes(), &mut output)
+) -> Result<u8, CommandError<'a>> {
+    let config = NamedFile::read(rt.alloc(), args, matches, "CONFIG")?;
+    let script = NamedFile::read(rt.alloc(), args, matches, "SCRIPT")?;
+    replay_files(rt, &config, &script, matches.get_flag("ladder"))
+}
+
+/// Runs or draws the script in a file.
+fn replay_files<'a>(
+    rt: &HostRuntime,
+    config: &NamedFile<'a>,
+    script: &NamedFile<'a>,
+    ladder: bool,
+) -> Result<u8, CommandError<'a>> {
+    let config_text = config.config_text(rt.alloc())?;
+    let script_text = script.script_text(rt.alloc())?;
+    let mut output = ErrorKeeping::new(rt.stdout());
+    let mut reported = Reported::new();
+    let (alloc, lines) = (rt.alloc(), script_text.as_str());
+    let status = if ladder {
+        draw(alloc, config_text, lines, &mut output, &mut reported)
     } else {
-        replay::run(rt.alloc(), config.bytes(), script.bytes(), &mut output)
+        replay(alloc, config_text, lines, &mut output, &mut reported)
     };
-    match ran {
-        Ok(()) => Ok(0),
-        Err(fault) => Err(ending_of_run(
-            rt.alloc(),
+    match reported.fault() {
+        None => Ok(status),
+        Some(fault) => Err(error_of_run(
+            alloc,
             fault,
-            &config,
+            config,
             script.name(),
             output.reason(OUTPUT),
         )),
@@ -138,48 +165,49 @@ fn run_replay<'a>(
 }
 
 /// `enip show`.
-fn run_show<'a>(rt: &HostRuntime) -> Result<u8, Ending<'a>> {
-    let mut input = Noted::new(rt.stdin());
-    let mut output = Noted::new(rt.stdout());
-    let shown = enip_commands::show_frames(rt.alloc(), &mut input, &mut output);
-    match shown {
-        Ok(()) => Ok(0),
-        Err(enip_commands::ProgramFault::Memory) => Err(Ending::of_memory()),
-        Err(_) => {
-            let device = output.reason(OUTPUT).or(input.reason(INPUT));
-            Err(Ending::of_reason(device.unwrap_or(Reason::Failed(INPUT))))
+fn run_show<'a>(rt: &HostRuntime) -> Result<u8, CommandError<'a>> {
+    let mut input = ErrorKeeping::new(rt.stdin());
+    let mut output = ErrorKeeping::new(rt.stdout());
+    let mut reported = Reported::new();
+    let status = show(rt.alloc(), &mut input, &mut output, &mut reported);
+    match reported.fault() {
+        None => Ok(status),
+        Some(Fault::Run(enip_commands::ProgramFault::Memory)) => Err(CommandError::of_memory()),
+        Some(_) => {
+            let reason = output.reason(OUTPUT).or(input.reason(INPUT));
+            Err(CommandError::of_reason(reason.unwrap_or(Reason::Failed(INPUT))))
         }
     }
 }
 
-/// What is asked for without a session.
+/// What is requested without a session.
 #[derive(Clone, Copy)]
-enum Inquiry {
-    /// A list of a device.
-    Of(ListCommand),
-    /// The devices that there are.
-    Devices,
+enum Query {
+    /// A list of one device.
+    List(ListCommand),
+    /// The identities of all devices of a network.
+    Discovery,
 }
 
 /// `enip identity`, `enip services` and `enip discover`.
-fn run_listing<'a>(
+fn run_query<'a>(
     rt: &HostRuntime,
-    inquiry: Inquiry,
+    query: Query,
     matches: &ArgMatches<'a>,
-) -> Result<u8, Ending<'a>> {
-    let patience = match Patience::of(matches.get_str("timeout").unwrap_or("")) {
-        Ok(patience) => patience,
-        Err(refused) => return Ok(refuse(rt, refused)),
+) -> Result<u8, CommandError<'a>> {
+    let timeout = match Timeout::parse(matches.get_str("timeout").unwrap_or("")) {
+        Ok(timeout) => timeout,
+        Err(error) => return Ok(print_argument_error(rt, error)),
     };
     let is_json = matches.get_flag("json");
     let address = matches.get_str("ADDRESS").unwrap_or("");
-    match inquiry {
-        Inquiry::Of(command) => run_list(rt, command, is_json, address, patience),
-        Inquiry::Devices => run_discovery(rt, is_json, address, patience),
+    match query {
+        Query::List(command) => run_list(rt, command, is_json, address, timeout),
+        Query::Discovery => run_discovery(rt, is_json, address, timeout),
     }
 }
 
-/// The service of `enip get`: of all attributes where none is said.
+/// The service of `enip get`: without ATTRIBUTE that of all attributes.
 fn service_of_get(matches: &ArgMatches<'_>) -> u8 {
     match matches.get_one::<u16>("ATTRIBUTE") {
         Some(_) => GET_ATTRIBUTE_SINGLE,
@@ -190,89 +218,89 @@ fn service_of_get(matches: &ArgMatches<'_>) -> u8 {
 /// `enip check`.
 fn run_check<'a>(
     rt: &HostRuntime,
-    words: &[Word],
+    args: &[OsArg],
     matches: &ArgMatches<'a>,
-) -> Result<u8, Ending<'a>> {
-    let config = Named::read(rt.alloc(), words, matches, "CONFIG")?;
+) -> Result<u8, CommandError<'a>> {
+    let config = NamedFile::read(rt.alloc(), args, matches, "CONFIG")?;
     let configuration = config.configuration(rt.alloc())?;
     match print_device(rt.alloc(), &configuration, rt.stdout()) {
         Ok(()) => Ok(0),
-        Err(error) => Err(Ending::of_device(OUTPUT, error)),
+        Err(error) => Err(CommandError::of_system(OUTPUT, error)),
     }
 }
 
-/// `enip get`, `enip set` and `enip call`: asks with a service, once or again and again.
+/// `enip get`, `enip set` and `enip call`: sends a request for a service once, or again and again.
 fn run_client<'a>(
     rt: &HostRuntime,
     service: Option<u8>,
     matches: &ArgMatches<'a>,
-) -> Result<u8, Ending<'a>> {
-    match asked_of(service, matches) {
-        Ok((asked, None)) => run_asking(rt, asked),
-        Ok((asked, Some(connection_info))) => run_watching(rt, asked, connection_info),
-        Err(refused) => Ok(refuse(rt, refused)),
+) -> Result<u8, CommandError<'a>> {
+    match request_of(service, matches) {
+        Ok((request, None)) => run_request(rt, request),
+        Ok((request, Some(options))) => run_polling(rt, request, options),
+        Err(error) => Ok(print_argument_error(rt, error)),
     }
 }
 
-/// What the words ask with a service, and how often, where it is more than once.
-fn asked_of<'a, 'm>(
+/// The request for a service that the arguments describe, and how often it is sent if more than once.
+fn request_of<'a, 'm>(
     service: Option<u8>,
     matches: &'m ArgMatches<'a>,
-) -> Result<(Asked<'a, 'm>, Option<ConnectionInfo>), RefusedWord<'a>> {
-    let patience = Patience::of(matches.get_str("timeout").unwrap_or(""))?;
-    let connection_info = ConnectionInfo::of(matches)?;
-    Ok((Asked::of(service, matches, patience)?, connection_info))
+) -> Result<(Request<'a, 'm>, Option<PollOptions>), ArgumentError<'a>> {
+    let timeout = Timeout::parse(matches.get_str("timeout").unwrap_or(""))?;
+    let options = PollOptions::from_matches(matches)?;
+    Ok((Request::from_matches(service, matches, timeout)?, options))
 }
 
-/// Says why a word is refused, and gives the exit status.
-fn refuse(rt: &HostRuntime, refused: RefusedWord<'_>) -> u8 {
-    let _ = eprintln!(rt; "error: {refused}\n\nFor more information, try '--help'.");
-    WORDS_REFUSED
+/// Prints why an argument is refused. Returns the exit status.
+fn print_argument_error(rt: &HostRuntime, error: ArgumentError<'_>) -> u8 {
+    let _ = eprintln!(rt; "error: {error}\n\nFor more information, try '--help'.");
+    ARGUMENTS_REFUSED
 }
 
 /// `enip serve`.
 fn run_serve<'a>(
     rt: &HostRuntime,
-    words: &[Word],
+    args: &[OsArg],
     matches: &ArgMatches<'a>,
-) -> Result<u8, Ending<'a>> {
-    // all that come, where it is not said: more than can come
+) -> Result<u8, CommandError<'a>> {
+    // Without --count there is no end: more connections than there can be.
     let count = matches.get_one::<u16>("count").map_or(u64::MAX, u64::from);
     let Some(seconds) = matches.get_one("idle") else {
-        return Ok(WORDS_REFUSED);
+        return Ok(ARGUMENTS_REFUSED);
     };
-    let idle_timeout = silence_of(seconds);
-    let config = Named::read(rt.alloc(), words, matches, "CONFIG")?;
+    let idle_timeout = idle_timeout_of(seconds);
+    let config = NamedFile::read(rt.alloc(), args, matches, "CONFIG")?;
     let adapter = config.adapter(rt.alloc())?;
-    let place = Place::of(matches.get_str("ADDRESS").unwrap_or(""))?;
-    let sockets = bind_at(rt, place, matches.get_flag("discovery"))?;
-    print_listening(rt, &sockets).map_err(|error| Ending::of_device(ERRORS, error))?;
-    let serving = Serving {
+    let address = HostPort::parse(matches.get_str("ADDRESS").unwrap_or(""))?;
+    let sockets = bind(rt, address, matches.get_flag("discovery"))?;
+    print_listening(rt, &sockets).map_err(|error| CommandError::of_system(ERRORS, error))?;
+    let options = ServeOptions {
         count,
         idle_timeout,
     };
     let served = if matches.get_flag("log") {
-        let start = Instant::now(rt).map_err(|error| Ending::of_device("the clock", error))?;
-        let journal = Journal::new(rt, rt.alloc(), start);
-        serve_connections(rt, rt.alloc(), sockets, adapter, serving, &journal)
+        let start = Instant::now(rt).map_err(CommandError::of_clock)?;
+        let log = FrameLog::new(rt, rt.alloc(), start);
+        serve_connections(rt, rt.alloc(), sockets, adapter, options, &log)
     } else {
-        serve_connections(rt, rt.alloc(), sockets, adapter, serving, Unwatched)
+        serve_connections(rt, rt.alloc(), sockets, adapter, options, NoObserver)
     };
     match served {
         Ok(()) => Ok(0),
-        Err(enip_commands::ProgramFault::Memory) => Err(Ending::of_memory()),
-        Err(_) => Err(Ending::of_reason(Reason::Failed(place.word()))),
+        Err(enip_commands::ProgramFault::Memory) => Err(CommandError::of_memory()),
+        Err(_) => Err(CommandError::of_reason(Reason::Failed(address.text()))),
     }
 }
 
-/// Prints where the device listens.
+/// Prints the address at which the device listens.
 fn print_listening(rt: &HostRuntime, sockets: &Sockets) -> io::Result<()> {
     let listening = sockets.listener.local_addr()?;
     eprintln!(rt; "listening on {listening}")
 }
 
-/// How long a peer may be silent, in microseconds, where so many seconds are said.
-fn silence_of(seconds: u16) -> u64
+/// The idle timeout of so many seconds, in microseconds. 0 is no limit.
+fn idle_timeout_of(seconds: u16) -> u64
     ensures limit { 0 < seconds → result ≡ seconds * 1_000_000 }
     ensures no_limit { seconds ≡ 0 → result ≡ 2 ^ 64 - 1 }
 {
@@ -282,13 +310,20 @@ fn silence_of(seconds: u16) -> u64
     }
 }
 
-/// The sockets of a device at a place, with one for datagrams where they are to be heard.
-fn bind_at<'a>(rt: &HostRuntime, place: Place<'a>, discovery: bool) -> Result<Sockets, Ending<'a>> {
-    let listener = place.bind(rt)?;
-    sockets_of(rt, listener, discovery).map_err(|error| Ending::of_device(place.word(), error))
+/// Binds the sockets of a device to an address, with discovery one for datagrams too.
+fn bind<'a>(
+    rt: &HostRuntime,
+    address: HostPort<'a>,
+    discovery: bool,
+) -> Result<Sockets, CommandError<'a>> {
+    let listener = address.bind(rt)?;
+    sockets_of(rt, listener, discovery).map_err(|error| CommandError::of_system(
+        address.text(),
+        error,
+    ))
 }
 
-/// The sockets of a device that listens so.
+/// The sockets of a device that listens, with discovery one for datagrams at the same address too.
 fn sockets_of(rt: &HostRuntime, listener: TcpListener, discovery: bool) -> io::Result<Sockets> {
     listener.set_nonblocking(true)?;
     let bound = listener.local_addr()?;
@@ -302,29 +337,29 @@ fn sockets_of(rt: &HostRuntime, listener: TcpListener, discovery: bool) -> io::R
     })
 }
 
-/// Reads the words of the command line, runs the command, and gives the exit status.
-fn run_words(rt: &HostRuntime) -> u8 {
+/// Parses the command line, and runs its command. Returns the exit status.
+fn run_program(rt: &HostRuntime) -> u8 {
     let alloc = rt.alloc();
-    let (Ok(words), Ok(program)) = (words(rt, alloc, PROGRAM), program(alloc)) else {
-        return Ending::of_memory().tell(rt);
+    let (Ok(args), Ok(program)) = (os_args(rt, alloc, PROGRAM), program(alloc)) else {
+        return CommandError::of_memory().print(rt);
     };
-    match program.try_get_matches_from(words.as_slice()) {
-        Ok(matches) => match run(rt, words.as_slice(), &matches) {
+    match program.try_get_matches_from(args.as_slice()) {
+        Ok(matches) => match run_command(rt, args.as_slice(), &matches) {
             Ok(status) => status,
-            Err(ending) => ending.tell(rt),
+            Err(error) => error.print(rt),
         },
-        Err(error) if error.kind() == ErrorKind::OutOfMemory => Ending::of_memory().tell(rt),
+        Err(error) if error.kind() == ErrorKind::OutOfMemory => CommandError::of_memory().print(rt),
         Err(error) if error.use_stderr() => {
             let _ = error.print(rt);
-            WORDS_REFUSED
+            ARGUMENTS_REFUSED
         }
         Err(error) => match error.print(rt) {
             Ok(()) => 0,
-            Err(error) => Ending::of_device(OUTPUT, error).tell(rt),
+            Err(error) => CommandError::of_system(OUTPUT, error).print(rt),
         },
     }
 }
 
 fn main(rt: HostRuntime) -> ExitCode {
-    ExitCode::from(run_words(&rt))
+    ExitCode::from(run_program(&rt))
 }

@@ -1,4 +1,4 @@
-//! When a socket that gives one thing after another is tried again.
+//! When to try a socket that gives one connection or datagram after another.
 
 ghost use Rattle.std.specs.Prelude.{◌≡◌, ◌↔◌, IsTrue};
 ghost use Rattle.std.specs.IoError.{error_kind};
@@ -7,69 +7,69 @@ ghost use Rattle.enip_cmd.specs.Readiness as spec;
 use std::io;
 use std::io::ErrorKind;
 
-/// How long a socket rests that could not give what it has, in microseconds: a second.
-const REST: u64 = 1_000_000;
+/// How long a socket is left alone after an error, in microseconds: a second.
+const RETRY_DELAY: u64 = 1_000_000;
 
-/// When a socket is tried again. Moments are in microseconds.
+/// When a socket is tried next. Times are in microseconds.
 #[derive(Clone, Copy)]
 pub(crate) enum Readiness {
     /// At once: it may have more.
     Ready,
-    /// Once the system reports it: it has nothing.
-    Waits,
-    /// At this moment: it has something that it could not give, as where no descriptors are left.
-    Rests(u64),
+    /// When the system reports it: it has nothing now.
+    Blocked,
+    /// At this time: it has something that it could not give, for example for lack of descriptors.
+    RetryAt(u64),
 }
 
 impl Readiness {
-    /// What comes of an error of a socket at a moment.
-    pub(crate) fn after(error: &io::Error, now: u64) -> Readiness
-        ensures { result ≡ spec.after (error_kind error.now) now }
+    /// The readiness of a socket after an error.
+    pub(crate) fn after_error(error: &io::Error, now: u64) -> Readiness
+        ensures { result ≡ spec.after_error (error_kind error.now) now }
     {
         match error.kind() {
-            ErrorKind::WouldBlock => Readiness::Waits,
+            ErrorKind::WouldBlock => Readiness::Blocked,
             ErrorKind::Interrupted | ErrorKind::ConnectionAborted => Readiness::Ready,
-            _ => Readiness::Rests(now.saturating_add(REST)),
+            _ => Readiness::RetryAt(now.saturating_add(RETRY_DELAY)),
         }
     }
 
-    /// What comes of a report of the system. A socket that rests goes on resting.
-    pub(crate) fn reported(self) -> Readiness
-        ensures { result ≡ spec.reported self }
+    /// The readiness once the system reports the socket as readable. A delay after an error goes on.
+    pub(crate) fn on_readable(self) -> Readiness
+        ensures { result ≡ spec.on_readable self }
     {
         match self {
-            Readiness::Ready | Readiness::Waits => Readiness::Ready,
-            Readiness::Rests(moment) => Readiness::Rests(moment),
+            Readiness::Ready | Readiness::Blocked => Readiness::Ready,
+            Readiness::RetryAt(time) => Readiness::RetryAt(time),
         }
     }
 
-    /// What comes of it where something was given back that the socket may have lacked.
-    pub(crate) fn relieved(self) -> Readiness
-        ensures { result ≡ spec.relieved self }
+    /// The readiness once a descriptor is free that the socket may have lacked.
+    pub(crate) fn on_descriptor_freed(self) -> Readiness
+        ensures { result ≡ spec.on_descriptor_freed self }
     {
         match self {
-            Readiness::Waits => Readiness::Waits,
-            Readiness::Ready | Readiness::Rests(_) => Readiness::Ready,
+            Readiness::Blocked => Readiness::Blocked,
+            Readiness::Ready | Readiness::RetryAt(_) => Readiness::Ready,
         }
     }
 
-    /// The moment at which the socket is tried without a report: any, where it is ready.
-    pub(crate) fn next_moment(self) -> Option<u64>
-        ensures { result ≡ spec.next_moment self }
+    /// The time of the next try, unless the system reports the socket earlier. A socket that is ready has time 0.
+    pub(crate) fn next_try(self) -> Option<u64>
+        ensures { result ≡ spec.next_try self }
     {
         match self {
             Readiness::Ready => Some(0),
-            Readiness::Waits => None,
-            Readiness::Rests(moment) => Some(moment),
+            Readiness::Blocked => None,
+            Readiness::RetryAt(time) => Some(time),
         }
     }
 
-    /// Whether the socket is to be tried at a moment.
+    /// Whether to try the socket now.
     pub(crate) fn is_due(self, now: u64) -> bool
         ensures { IsTrue result ↔ spec.IsDue now self }
     {
-        match self.next_moment() {
-            Some(moment) => moment <= now,
+        match self.next_try() {
+            Some(time) => time <= now,
             None => false,
         }
     }

@@ -1,4 +1,4 @@
-//! `enip replay`: a client and an adapter side by side, moved by the lines of a script.
+//! `enip replay`: runs a client and an adapter by the lines of a script.
 
 ghost use Rattle.std.specs.Prelude.{◌≡◌, IfOk, IfErr};
 ghost use Rattle.enip_config.specs.declared.fault.ConfigurationRefusal.{ConfigurationRefusal};
@@ -7,21 +7,22 @@ ghost use Rattle.enip_config.specs.Documents.{IsRefused};
 ghost use Rattle.enip_cmd.specs.Statuses.{IsOpeningRefused, IsReplayFaultOf, IsReplayStatus};
 
 use crate::fault::Fault;
+use crate::report::Report;
 use enip_config::adapter_from;
 use std::alloc::Global;
 use std::io::Write;
 
-/// Moves a client and an adapter by the lines of a script, and answers the exit status of the program: 0, or 3 where
-/// the configuration is refused, 4 where a line is, 5 where a device or memory failed, 6 where the client could not
-/// open its connection, with a line on `errors`.
+/// Runs a client and an adapter by the lines of a script. Returns the exit status of the program: 0 if all lines were
+/// run, 3 if the configuration is refused, 4 if a line is refused, 5 if the output or memory failed, 6 if the client
+/// could not open its connection. `errors` receives the fault.
 ///
-/// Before a line is refused what the lines before it told is written.
-pub fn replay<W: Write + Drop, E: Write + Drop>(
+/// The output of the lines before a refused one is written.
+pub fn replay<W: Write + Drop, E: Report>(
     alloc: Global,
     config: &str,
     script: &str,
     output: W,
-    errors: E,
+    errors: &mut E,
 ) -> u8
     ensures status { IsReplayStatus result }
     ensures accepted { result ≡ 0 → IsAccepted config.now }
@@ -29,40 +30,17 @@ pub fn replay<W: Write + Drop, E: Write + Drop>(
     ensures refused { result ≡ 3 → (refusal : ConfigurationRefusal) × IsRefused config.now refusal }
     ensures setup { result ≡ 6 → IsOpeningRefused config.now }
 {
-    replay_bytes(alloc, config.as_bytes(), script.as_bytes(), output, errors)
-}
-
-/// As `replay`, with the bytes of the configuration and of the script, which need not be text.
-pub fn replay_bytes<W: Write + Drop, E: Write + Drop>(
-    alloc: Global,
-    config: &[u8],
-    script: &[u8],
-    output: W,
-    errors: E,
-) -> u8
-    ensures status { IsReplayStatus result }
-    ensures accepted { result ≡ 0 → IsAccepted config.now }
-    ensures line { result ≡ 4 → IsAccepted config.now }
-    ensures refused { result ≡ 3 → (refusal : ConfigurationRefusal) × IsRefused config.now refusal }
-    ensures setup { result ≡ 6 → IsOpeningRefused config.now }
-{
-    let mut errors = errors;
-    match run(alloc, config, script, output) {
+    match run(alloc, config.as_bytes(), script.as_bytes(), output) {
         Ok(()) => 0,
         Err(fault) => {
-            let _ = writeln!(errors, "{fault}");
+            errors.report(fault);
             fault.exit_status()
         }
     }
 }
 
-/// As `replay_bytes`, and answers why it ended early.
-pub(crate) fn run<W: Write + Drop>(
-    alloc: Global,
-    config: &[u8],
-    script: &[u8],
-    output: W,
-) -> Result<(), Fault>
+/// As `replay`, but returns the fault.
+fn run<W: Write + Drop>(alloc: Global, config: &[u8], script: &[u8], output: W) -> Result<(), Fault>
     ensures accepted { IfOk result (λ _. IsAccepted config.now) }
     ensures refused { IfErr result (IsReplayFaultOf config.now) }
 {
@@ -71,8 +49,31 @@ pub(crate) fn run<W: Write + Drop>(
     Ok(())
 }
 
-/// As `replay_bytes`, with the run drawn as a picture, and the fault in place of a status and a line.
-pub fn draw<W: Write + Drop>(
+/// As `replay`, but draws the run as a ladder.
+pub fn draw<W: Write + Drop, E: Report>(
+    alloc: Global,
+    config: &str,
+    script: &str,
+    output: W,
+    errors: &mut E,
+) -> u8
+    ensures status { IsReplayStatus result }
+    ensures accepted { result ≡ 0 → IsAccepted config.now }
+    ensures line { result ≡ 4 → IsAccepted config.now }
+    ensures refused { result ≡ 3 → (refusal : ConfigurationRefusal) × IsRefused config.now refusal }
+    ensures setup { result ≡ 6 → IsOpeningRefused config.now }
+{
+    match run_drawn(alloc, config.as_bytes(), script.as_bytes(), output) {
+        Ok(()) => 0,
+        Err(fault) => {
+            errors.report(fault);
+            fault.exit_status()
+        }
+    }
+}
+
+/// As `draw`, but returns the fault.
+fn run_drawn<W: Write + Drop>(
     alloc: Global,
     config: &[u8],
     script: &[u8],

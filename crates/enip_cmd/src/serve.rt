@@ -1,14 +1,15 @@
-//! `enip serve`: the adapter's peers on the sockets of the machine.
+//! `enip serve`: serves a device on TCP and UDP sockets.
 //!
-//! In a round the system is asked which sockets may be ready, then one datagram is answered, each peer that may be
-//! ready has one turn, and one connection is taken. All of it has one moment, in microseconds since the beginning.
+//! A loop of rounds. In each the system reports which sockets may be ready. Then one datagram is answered, each peer that
+//! may be ready has one turn, and one connection is accepted. All of a round has the same time, in microseconds since
+//! the start.
 
 ghost use Rattle.std.specs.Prelude.{◌≡◌, ◌≤◌, ◌<◌, ◌⊎◌, ◌↔◌, Some, IfSome, IsSomeAnd, IfErr, IsTrue};
 ghost use Rattle.enip_commands.specs.Statuses.{IsOfDevices};
 
+use crate::acceptor::Acceptor;
 use crate::discovery::Discovery;
-use crate::door::Door;
-use crate::watch::Watch;
+use crate::observer::Observer;
 use enip_adapter::Adapter;
 use enip_commands::ProgramFault;
 use enip_server::{Peers, RoundEnd};
@@ -19,90 +20,89 @@ use std::net::Net;
 use std::rt::Clock;
 use std::time::{Duration, Instant};
 
-/// The tokens of the sockets that are no peer's. A peer's is its place, which is less.
+/// The tokens of the listener and of the UDP socket. A peer's token is its slot, which is less.
 const LISTENER: usize = 64;
 
 const DATAGRAMS: usize = 65;
 
-/// How many sockets the system reports at once.
-const REPORTS: usize = 32;
+/// How many events the system reports at once.
+const EVENT_CAPACITY: usize = 32;
 
-/// For how many rounds a connection waits while all places are taken and a peer may be at its end.
-const ROUNDS_HELD: u32 = 16;
+/// For how many rounds a connection is deferred while all slots are taken and a peer may be about to end.
+const MAX_ROUNDS_DEFERRED: u32 = 16;
 
-/// The sockets of a device, whose calls never wait.
+/// The nonblocking sockets of a device.
 #[derive(Drop)]
 pub(crate) struct Sockets {
-    /// Where connections come in.
+    /// Receives connections.
     pub(crate) listener: TcpListener,
-    /// Where datagrams come in, if they are heard.
+    /// Receives datagrams, with --discovery.
     pub(crate) datagrams: Option<UdpSocket>,
 }
 
 /// How a device is served.
 #[derive(Clone, Copy)]
-pub(crate) struct Serving {
-    /// How many connections are taken.
+pub(crate) struct ServeOptions {
+    /// After how many connections to return.
     pub(crate) count: u64,
     /// How long a peer may be silent, in microseconds.
     pub(crate) idle_timeout: u64,
 }
 
-/// Serves the connections that come, until so many as are taken were taken and are over. One that fails ends alone.
-pub(crate) fn serve_connections<R: Clock + Net, W: Watch + Drop>(
+/// Serves connections until as many as the options say have come and gone. A connection that fails ends only itself.
+pub(crate) fn serve_connections<R: Clock + Net, O: Observer + Drop>(
     rt: &R,
     alloc: Global,
     sockets: Sockets,
     adapter: Adapter,
-    serving: Serving,
-    watch: W,
+    options: ServeOptions,
+    observer: O,
 ) -> Result<(), ProgramFault>
     ensures { IfErr result IsOfDevices }
 {
-    let mut server = Server::new(rt, alloc, adapter, serving, watch)?;
+    let mut server = Server::new(rt, alloc, adapter, options, observer)?;
     server.run(rt, alloc, sockets)
 }
 
-/// The microseconds since a start.
-fn moment<C: Clock>(clock: &C, start: Instant) -> Result<u64, ProgramFault>
+/// The microseconds since `start`.
+fn microseconds_since<C: Clock>(clock: &C, start: Instant) -> Result<u64, ProgramFault>
     ensures { IfErr result IsOfDevices }
 {
     let elapsed = start.elapsed(clock)?;
     Ok(u64::try_from(elapsed.as_micros()).unwrap_or(u64::MAX))
 }
 
-/// The earlier one of two moments that there may be.
+/// The earlier of two times, either of which may be missing.
 fn earlier(first: Option<u64>, second: Option<u64>) -> Option<u64>
-    ensures first { IfSome first (λ moment. IsSomeAnd result (λ m. m ≤ moment)) }
-    ensures second { IfSome second (λ moment. IsSomeAnd result (λ m. m ≤ moment)) }
-    ensures either { IfSome result (λ m. (first ≡ Some m) ⊎ (second ≡ Some m)) }
+    ensures first { IfSome first (λ time. IsSomeAnd result (λ t. t ≤ time)) }
+    ensures second { IfSome second (λ time. IsSomeAnd result (λ t. t ≤ time)) }
+    ensures either { IfSome result (λ t. (first ≡ Some t) ⊎ (second ≡ Some t)) }
 {
     match (first, second) {
         (Some(first), Some(second)) => Some(first.min(second)),
-        (Some(moment), None) | (None, Some(moment)) => Some(moment),
+        (Some(time), None) | (None, Some(time)) => Some(time),
         (None, None) => None,
     }
 }
 
-/// What a server has of the system.
+/// The clock and the poll of a server.
 #[derive(Drop)]
 struct System {
-    /// When it began.
     start: Instant,
-    /// Who reports which sockets may be ready.
+    /// Reports which sockets may be ready.
     poll: Poll,
-    /// What was reported.
+    /// What was reported last.
     events: Events,
 }
 
 impl System {
-    /// The system, which reports no socket yet.
+    /// A poll without sockets.
     fn new<R: Clock + Net>(rt: &R, alloc: Global) -> Result<System, ProgramFault>
         ensures { IfErr result IsOfDevices }
     {
         let start = Instant::now(rt)?;
         let poll = Poll::new(rt)?;
-        let events = Events::with_capacity(alloc, REPORTS)?;
+        let events = Events::with_capacity(alloc, EVENT_CAPACITY)?;
         Ok(System {
             start,
             poll,
@@ -111,61 +111,60 @@ impl System {
     }
 }
 
-/// The peers and the sockets of a device that is served.
+/// The peers and the sockets of a served device.
 #[derive(Drop)]
-struct Server<W: Watch + Drop> {
+struct Server<O: Observer + Drop> {
     system: System,
-    /// Where connections come in, while they are taken.
-    door: Option<Door>,
+    /// `None` before the sockets are open, and once all connections were accepted.
+    acceptor: Option<Acceptor>,
     discovery: Option<Discovery>,
-    peers: Peers<W::Wire>,
-    /// Who watches the connections.
-    watch: W,
-    /// What the last round came to; a peer that came since may be ready.
-    last: RoundEnd,
-    /// How many connections are taken.
+    peers: Peers<O::Wire>,
+    observer: O,
+    /// The end of the last round. `ready` is set if a peer was added since.
+    last_round: RoundEnd,
+    /// How many connections to accept.
     count: u64,
-    /// How many were taken.
-    taken: u64,
-    /// How many of these are over.
+    /// How many were accepted.
+    accepted: u64,
+    /// How many of these have ended.
     ended: u64,
-    /// For how many rounds the next connection has waited for a place.
-    held: u32,
+    /// For how many rounds the next connection has been deferred.
+    rounds_deferred: u32,
 }
 
-impl<W: Watch + Drop> Server<W> {
-    /// A device's peers, of which there are none yet. It has no sockets, so none can come.
+impl<O: Observer + Drop> Server<O> {
+    /// A server without sockets and peers.
     fn new<R: Clock + Net>(
         rt: &R,
         alloc: Global,
         adapter: Adapter,
-        serving: Serving,
-        watch: W,
-    ) -> Result<Server<W>, ProgramFault>
+        options: ServeOptions,
+        observer: O,
+    ) -> Result<Server<O>, ProgramFault>
         ensures { IfErr result IsOfDevices }
     {
         let system = System::new(rt, alloc)?;
-        let peers = Peers::new(alloc, adapter, serving.idle_timeout)?;
-        let last = RoundEnd {
+        let peers = Peers::new(alloc, adapter, options.idle_timeout)?;
+        let last_round = RoundEnd {
             ended: 0,
             ready: false,
             next: peers.next_moment(),
         };
         Ok(Server {
             system,
-            door: None,
+            acceptor: None,
             discovery: None,
             peers,
-            watch,
-            last,
-            count: serving.count,
-            taken: 0,
+            observer,
+            last_round,
+            count: options.count,
+            accepted: 0,
             ended: 0,
-            held: 0,
+            rounds_deferred: 0,
         })
     }
 
-    /// Opens the sockets of the device, which the system reports from now on.
+    /// Takes over the sockets. The system reports them from now on.
     fn open(&mut self, alloc: Global, sockets: Sockets) -> Result<(), ProgramFault>
         ensures { IfErr result IsOfDevices }
     {
@@ -175,23 +174,23 @@ impl<W: Watch + Drop> Server<W> {
         } = sockets;
         self.listen(listener)?;
         match datagrams {
-            Some(socket) => self.hear(alloc, socket),
+            Some(socket) => self.answer_datagrams(alloc, socket),
             None => Ok(()),
         }
     }
 
-    /// Takes the connections that come to a listener.
+    /// Accepts connections from a listener.
     fn listen(&mut self, mut listener: TcpListener) -> Result<(), ProgramFault>
         ensures { IfErr result IsOfDevices }
     {
         let registry = self.system.poll.registry();
         registry.register(&mut listener, Token(LISTENER), Interest::READABLE)?;
-        self.door = Some(Door::new(listener));
+        self.acceptor = Some(Acceptor::new(listener));
         Ok(())
     }
 
-    /// Answers the datagrams that come to a socket.
-    fn hear(&mut self, alloc: Global, mut socket: UdpSocket) -> Result<(), ProgramFault>
+    /// Answers datagrams from a socket.
+    fn answer_datagrams(&mut self, alloc: Global, mut socket: UdpSocket) -> Result<(), ProgramFault>
         ensures { IfErr result IsOfDevices }
     {
         let registry = self.system.poll.registry();
@@ -200,7 +199,7 @@ impl<W: Watch + Drop> Server<W> {
         Ok(())
     }
 
-    /// Opens the sockets, and goes round until so many connections as are taken were taken and are over.
+    /// Takes over the sockets, and serves them until all connections have come and gone.
     fn run<C: Clock>(
         &mut self,
         clock: &C,
@@ -216,20 +215,20 @@ impl<W: Watch + Drop> Server<W> {
                 break;
             }
             self.wait(now)?;
-            now = moment(clock, self.system.start)?;
+            now = microseconds_since(clock, self.system.start)?;
             self.round(now);
         }
         Ok(())
     }
 
-    /// Whether all connections that are taken were taken and are over.
+    /// Whether all connections have come and gone.
     fn is_done(&self) -> bool
         ensures { IsTrue result ↔ (self.now.count ≤ self.now.ended) }
     {
         self.ended >= self.count
     }
 
-    /// Waits until a socket may be ready or something is to be done without one. `now` is the moment of the last round.
+    /// Waits until a socket may be ready or a time limit is reached. `now` is the time of the last round.
     fn wait(&mut self, now: u64) -> Result<(), ProgramFault>
         ensures { IfErr result IsOfDevices }
     {
@@ -238,98 +237,101 @@ impl<W: Watch + Drop> Server<W> {
         for event in &self.system.events {
             match event.token().0 {
                 LISTENER => {
-                    if let Some(door) = &mut self.door {
-                        door.report();
+                    if let Some(acceptor) = &mut self.acceptor {
+                        acceptor.on_readable();
                     }
                 }
                 DATAGRAMS => {
                     if let Some(discovery) = &mut self.discovery {
-                        discovery.report();
+                        discovery.on_readable();
                     }
                 }
-                place => {
+                slot => {
                     let ends = event.is_read_closed() || event.is_error();
-                    self.peers.mark_ready(place, ends);
+                    self.peers.mark_ready(slot, ends);
                 }
             }
         }
         Ok(())
     }
 
-    /// How long the next wait may last. `None` is without a limit.
+    /// How long the next wait may take. `None` is no limit.
     fn timeout(&self, now: u64) -> Option<Duration> {
-        if self.last.ready {
+        if self.last_round.ready {
             return Some(Duration::ZERO);
         }
-        let mut next = self.last.next;
-        if let Some(door) = &self.door {
-            next = earlier(next, door.readiness().next_moment());
+        let mut next = self.last_round.next;
+        if let Some(acceptor) = &self.acceptor {
+            next = earlier(next, acceptor.readiness().next_try());
         }
         if let Some(discovery) = &self.discovery {
-            next = earlier(next, discovery.readiness().next_moment());
+            next = earlier(next, discovery.readiness().next_try());
         }
         match next {
-            Some(moment) => Some(Duration::from_micros(moment.saturating_sub(now))),
+            Some(time) => Some(Duration::from_micros(time.saturating_sub(now))),
             None => None,
         }
     }
 
-    /// One round: a datagram, a turn for each peer that may be ready, and a connection.
+    /// One round: answers a datagram, gives each peer that may be ready a turn, and accepts a connection.
     fn round(&mut self, now: u64) {
         if let Some(discovery) = &mut self.discovery {
-            discovery.answer_one(&self.peers, &self.watch, now);
+            discovery.answer_one(&self.peers, &self.observer, now);
         }
-        self.last = self.peers.round(now);
-        if self.last.ended > 0 {
-            self.ended = self.ended.saturating_add(self.last.ended as u64);
-            if let Some(door) = &mut self.door {
-                door.relieve();
+        self.last_round = self.peers.round(now);
+        if self.last_round.ended > 0 {
+            self.ended = self.ended.saturating_add(self.last_round.ended as u64);
+            if let Some(acceptor) = &mut self.acceptor {
+                acceptor.on_descriptor_freed();
             }
         }
-        self.admit(now);
+        self.accept_one(now);
     }
 
-    /// Takes the next connection, where there is one. It is closed at once where there is no place for it.
-    fn admit(&mut self, now: u64) {
-        let is_due = matches!(&self.door, Some(door) if door.readiness().is_due(now));
-        if !is_due || self.is_held() {
+    /// Accepts the next connection, if there is one. If it cannot become a peer it is closed at once.
+    fn accept_one(&mut self, now: u64) {
+        let is_due = matches!(&self.acceptor, Some(acceptor) if acceptor.readiness().is_due(now));
+        if !is_due || self.is_deferred() {
             return;
         }
-        let Some(door) = &mut self.door else {
+        let Some(acceptor) = &mut self.acceptor else {
             return;
         };
-        let Some(stream) = door.next_connection(now) else {
+        let Some(stream) = acceptor.accept(now) else {
             return;
         };
-        self.taken = self.taken.saturating_add(1);
-        if self.taken >= self.count {
-            self.door = None;
+        self.accepted = self.accepted.saturating_add(1);
+        if self.accepted >= self.count {
+            self.acceptor = None;
         }
-        if !self.seat(now, stream) {
+        if !self.add_peer(now, stream) {
             self.ended = self.ended.saturating_add(1);
         }
     }
 
-    /// Whether the next connection waits for the next round: all places are taken, but a peer may be at its end. Of one
-    /// that is not ready the system may have more to report, so it is asked once more in any case.
-    fn is_held(&mut self) -> bool
-        ensures counted { IsTrue result → self.old.held < self.new.held }
-        ensures limit { IsTrue result → self.new.held ≤ 16 }
+    /// Whether the next connection is deferred to the next round: all slots are taken, but a peer may be about to end. If
+    /// no peer is ready, the system may still have something to report, so the first deferral needs no ready peer.
+    fn is_deferred(&mut self) -> bool
+        ensures counted { IsTrue result → self.old.rounds_deferred < self.new.rounds_deferred }
+        ensures limit { IsTrue result → self.new.rounds_deferred ≤ 16 }
     {
-        let may_have_ended = self.last.ready || self.held == 0;
-        if may_have_ended && self.held < ROUNDS_HELD && self.peers.first_free().is_none() {
-            self.held += 1;
+        let may_have_ended = self.last_round.ready || self.rounds_deferred == 0;
+        if may_have_ended
+            && self.rounds_deferred < MAX_ROUNDS_DEFERRED
+            && self.peers.first_free().is_none()
+        {
+            self.rounds_deferred += 1;
             return true;
         }
-        self.held = 0;
+        self.rounds_deferred = 0;
         false
     }
 
-    /// Gives a connection the first free place. Answers whether there was one, and a session handle for it.
-    fn seat(&mut self, now: u64, stream: TcpStream) -> bool {
+    /// Makes a connection a peer in the first free slot. Returns whether there is a slot and a session handle for it.
+    fn add_peer(&mut self, now: u64, stream: TcpStream) -> bool {
         let mut stream = stream;
-        let Some(place) = self.peers.first_free() else {
-            self.watch.turned_away(stream);
+        let Some(slot) = self.peers.first_free() else {
+            self.observer.turned_away(stream);
             return false;
         };
         let interests = Interest::READABLE | Interest::WRITABLE;
@@ -337,17 +339,17 @@ impl<W: Watch + Drop> Server<W> {
             .system
             .poll
             .registry()
-            .register(&mut stream, Token(place), interests);
+            .register(&mut stream, Token(slot), interests);
         if registered.is_err() {
             return false;
         }
-        let Some(wire) = self.watch.wire(stream) else {
+        let Some(wire) = self.observer.wire(stream) else {
             return false;
         };
         if self.peers.add(now, wire).is_err() {
             return false;
         }
-        self.last.ready = true;
+        self.last_round.ready = true;
         true
     }
 }

@@ -1,36 +1,36 @@
-//! A client's connection of TCP as a source and a sink of bytes, whose calls wait.
+//! A client's TCP connection as a source and a sink of bytes. The calls block.
 
 ghost use Rattle.std.specs.Prelude.{◌≡◌, None};
 
-use crate::place::Patience;
+use crate::host_port::Timeout;
 use crate::reason::Reason;
-use crate::retried::{read_some, write_some};
+use crate::retry::{read_some, write_some};
 use enip_wire::{Failed, Sink, Source};
 use std::io::{self, ErrorKind};
 use std::net::TcpStream;
 use std::rt::Clock;
 use std::time::Instant;
 
-/// Why nothing more comes from a connection, or goes out.
+/// Why a connection can no longer be read or written.
 #[derive(Clone, Copy)]
-pub(crate) enum Lost {
+pub(crate) enum StreamFault {
     /// The other end shut its writing side.
     Ended,
-    /// The system failed it.
+    /// The system reports an error.
     Failed(io::Error),
 }
 
-impl Lost {
-    /// Why, of the connection to an address that was waited for so long.
-    pub(crate) fn reason<'a>(self, address: &'a str, patience: Patience<'a>) -> Reason<'a> {
+impl StreamFault {
+    /// The reason to print for a connection to an address, with the timeout that it had.
+    pub(crate) fn reason<'a>(self, address: &'a str, timeout: Timeout<'a>) -> Reason<'a> {
         match self {
-            Lost::Ended => Reason::Left(address),
-            Lost::Failed(error) => patience.reason(address, error),
+            StreamFault::Ended => Reason::Disconnected(address),
+            StreamFault::Failed(error) => timeout.reason(address, error),
         }
     }
 }
 
-/// The reading side of a connection, with the microseconds since a start.
+/// The reading side of a connection. Its moments are microseconds since `start`.
 #[derive(Drop)]
 pub(crate) struct SocketSource<'a, C> {
     stream: &'a TcpStream,
@@ -39,11 +39,11 @@ pub(crate) struct SocketSource<'a, C> {
     moment: u64,
     reads: u64,
     failures: u64,
-    lost: Option<Lost>,
+    fault: Option<StreamFault>,
 }
 
 impl<'a, C: Clock> SocketSource<'a, C> {
-    /// The reading side of a connection, of which nothing was read yet.
+    /// The reading side of a new connection.
     pub(crate) fn new(stream: &'a TcpStream, clock: &'a C, start: Instant) -> SocketSource<'a, C>
         ensures failures { result.failures ≡ 0 }
         ensures reads { result.reads ≡ 0 }
@@ -55,13 +55,13 @@ impl<'a, C: Clock> SocketSource<'a, C> {
             moment: 0,
             reads: 0,
             failures: 0,
-            lost: None,
+            fault: None,
         }
     }
 
-    /// Why nothing more comes, where the last read gave nothing.
-    pub(crate) fn lost(&self) -> Option<Lost> {
-        self.lost
+    /// Why the last read gave nothing, if it did.
+    pub(crate) fn fault(&self) -> Option<StreamFault> {
+        self.fault
     }
 }
 
@@ -80,7 +80,7 @@ impl<C: Clock> Source for SocketSource<'_, C> {
         let count = read_some(&mut stream, into);
         match (count, self.start.elapsed(self.clock)) {
             (Ok(0), _) => {
-                self.lost = Some(Lost::Ended);
+                self.fault = Some(StreamFault::Ended);
                 Ok(0)
             }
             (Ok(count), Ok(elapsed)) => {
@@ -88,7 +88,7 @@ impl<C: Clock> Source for SocketSource<'_, C> {
                 Ok(count)
             }
             (Err(error), _) | (Ok(_), Err(error)) => {
-                self.lost = Some(Lost::Failed(error));
+                self.fault = Some(StreamFault::Failed(error));
                 self.failures += 1;
                 Err(Failed)
             }
@@ -113,24 +113,24 @@ impl<C: Clock> Source for SocketSource<'_, C> {
 pub(crate) struct SocketSink<'a> {
     stream: &'a TcpStream,
     failures: u64,
-    lost: Option<Lost>,
+    fault: Option<StreamFault>,
 }
 
 impl<'a> SocketSink<'a> {
-    /// The writing side of a connection, to which nothing was written yet.
+    /// The writing side of a new connection.
     pub(crate) fn new(stream: &'a TcpStream) -> SocketSink<'a>
         ensures { result.failures ≡ 0 }
     {
         SocketSink {
             stream,
             failures: 0,
-            lost: None,
+            fault: None,
         }
     }
 
-    /// Why nothing more goes out, where the last write failed.
-    pub(crate) fn lost(&self) -> Option<Lost> {
-        self.lost
+    /// Why the last write failed, if it did.
+    pub(crate) fn fault(&self) -> Option<StreamFault> {
+        self.fault
     }
 }
 
@@ -146,7 +146,7 @@ impl Sink for SocketSink<'_> {
             Ok(_) => io::Error::from(ErrorKind::WriteZero),
             Err(error) => error,
         };
-        self.lost = Some(Lost::Failed(error));
+        self.fault = Some(StreamFault::Failed(error));
         self.failures += 1;
         Err(Failed)
     }

@@ -1,17 +1,17 @@
-//! A connection of TCP whose calls never wait, as a peer's wire.
+//! A nonblocking TCP connection as a peer's wire.
 
 ghost use Rattle.std.specs.Prelude.{◌≡◌, ◌<◌, ◌≤◌, length, None, IfSome};
-ghost use Rattle.enip_cmd.specs.Reads.{IsShortWhereAll};
+ghost use Rattle.enip_cmd.specs.Reads.{IsDrainedOnlyIfShort};
 ghost use Rattle.enip_server.specs.Wires.{IsRead, after_read};
 
-use crate::retried::{read_some, write_some};
+use crate::retry::{read_some, write_some};
 use enip_server::{ReadOutcome, Wire, WireCounts};
 use enip_wire::Header;
 use mio::net::TcpStream;
 use std::io::ErrorKind;
 use std::net::Shutdown;
 
-/// A connection of TCP whose calls never wait.
+/// A nonblocking TCP connection.
 #[derive(Drop)]
 pub(crate) struct TcpWire {
     stream: TcpStream,
@@ -19,7 +19,7 @@ pub(crate) struct TcpWire {
 }
 
 impl TcpWire {
-    /// The wire of a connection.
+    /// The wire of a new connection.
     pub(crate) fn new(stream: TcpStream) -> TcpWire {
         TcpWire {
             stream,
@@ -27,18 +27,18 @@ impl TcpWire {
         }
     }
 
-    /// As `read`, but never told that it took all, so that another read follows once what came is served.
-    pub(crate) fn read_on(&mut self, into: &mut [u8]) -> ReadOutcome
+    /// As `read`, but never reports that it read all, so that another read follows once these bytes are served.
+    pub(crate) fn read_partial(&mut self, into: &mut [u8]) -> ReadOutcome
         requires { 0 < length into.old }
         ensures read { IsRead None None result into.new }
         ensures counts { self.new.counts ≡ after_read result self.old.counts }
     {
-        let came = match read_now(&mut self.stream, into) {
+        let outcome = match read_now(&mut self.stream, into) {
             ReadOutcome::Drained(size) => ReadOutcome::Bytes(size),
-            came => came,
+            outcome => outcome,
         };
-        self.counts.add_read(came);
-        came
+        self.counts.add_read(outcome);
+        outcome
     }
 }
 
@@ -50,9 +50,9 @@ impl Wire for TcpWire {
     ghost counts = { λ wire. wire.counts };
 
     fn read(&mut self, into: &mut [u8]) -> ReadOutcome {
-        let came = read_now(&mut self.stream, into);
-        self.counts.add_read(came);
-        came
+        let outcome = read_now(&mut self.stream, into);
+        self.counts.add_read(outcome);
+        outcome
     }
 
     fn write(&mut self, from: &[u8]) -> Option<usize> {
@@ -66,12 +66,12 @@ impl Wire for TcpWire {
     }
 }
 
-/// Reads what has come. A read that did not fill its room took all of it, and the system reports what comes next. One
-/// that is shorter than a header is not relied on for that: another read follows, once in a frame at most.
+/// Reads once. A read that does not fill its buffer has read all there is, and the system will report what comes next.
+/// After a read that is shorter than a header another one follows all the same. That happens once in a frame at most.
 fn read_now(stream: &mut TcpStream, into: &mut [u8]) -> ReadOutcome
     requires { 0 < length into.old }
     ensures read { IsRead None None result into.new }
-    ensures short { IsShortWhereAll (length into.new) result }
+    ensures short { IsDrainedOnlyIfShort (length into.new) result }
 {
     match read_some(stream, into) {
         Ok(0) => ReadOutcome::End,
@@ -82,7 +82,7 @@ fn read_now(stream: &mut TcpStream, into: &mut [u8]) -> ReadOutcome
     }
 }
 
-/// Writes a front of these bytes, and answers how many.
+/// Writes once. Returns how many of the bytes were written.
 fn write_now(stream: &mut TcpStream, from: &[u8]) -> Option<usize>
     ensures { IfSome result (λ n. n ≤ length from.now) }
 {

@@ -1,4 +1,4 @@
--- Values that are told one after the other.
+-- Values as JSON, one after the other.
 use Rattle.std.proofs.Common.{◌≡◌, ℕ, ◌+◌, ◌<◌, ◌≤◌, List, [], ◌∷◌, ◌++◌, length, map, take, get_or, sym, ap, subst, refl, suc, ℤ, pos, negsuc, ◌∙◌, Vec, Global}
 use Rattle.std.proofs.lemmas.List.{take_more, take_all, map-append}
 use Rattle.cip_values.specs.Values.{Value, Truth, Signed, Unsigned, Bits, Real, Text, value_in}
@@ -33,7 +33,7 @@ pub told_all : (values : List ValueInCode) (place : ℕ) (list : Vec Json Global
 told_all values place list done h =
     rw (view-Array list) (subst (λ (vs : List ValueInCode). EachJsonOf (map value_in vs) (items_view list.items)) (take_all place values done) h)
 
--- Values nest no further.
+-- Values do not nest.
 integer_flat : (z : ℤ) → depth (integer z) ≡ 0
 integer_flat (pos n) = refl
 integer_flat (negsuc n) = refl

@@ -1,4 +1,4 @@
--- What is printed of a list, piece by piece.
+-- A list is printed entry by entry.
 use Rattle.std.proofs.Common.{◌≡◌, ℕ, ◌+◌, ◌<◌, List, [], ◌∷◌, ◌++◌, length, take, get_or, Option, refl, sym, ap, subst, ◌∙◌, append-nil, append_assoc}
 use Rattle.std.proofs.KnownBytes.{Appends-nil, Appends-trans}
 use Rattle.std.specs.Io.KnownBytes.{Appends}
@@ -8,7 +8,7 @@ use Rattle.std.proofs.lemmas.List.Concat.{flat_map-append}
 use Rattle.enip_client.specs.Lists.{Entry}
 use Rattle.enip_commands.specs.Listing.{name_byte, name_text}
 
--- One byte more of a name.
+-- One more byte of a name.
 pub name_text-more : (name : List ℕ) (place : ℕ) → place < length name
     → name_text (take place name) ++ name_byte (get_or name place 0) ≡ name_text (take (place + 1) name)
 name_text-more name place inside =
@@ -16,7 +16,7 @@ name_text-more name place inside =
     ∙ sym (flat_map-append name_byte (take place name) (get_or name place 0 ∷ []))
     ∙ sym (ap name_text (take_more name place 0 inside))
 
--- The texts of some entries were printed; the others are left.
+-- Some entries are printed, the others are left.
 pub record Printed (text : Entry → List ℕ) (before after : Option (List ℕ)) (whole left : List Entry) : Type 0 where
   pub done : List ℕ
   pub printed : Appends before after done

@@ -36,7 +36,7 @@ short_optional_at_most : (first : ℕ) (v : Option ℕ) → length (short_option
 short_optional_at_most first None = omega arith
 short_optional_at_most first (Some v) = short16_at_most first v
 
--- The shortest spelling of a path has 18 bytes at most.
+-- The shortest encoding of a path has at most 18 bytes.
 pub short_at_most : (p : Path) → length (short p) ≤ 18
 unfolding short
 short_at_most p =

@@ -3,7 +3,7 @@ use Rattle.enip_commands.specs.declared.fault.ProgramFault.{ProgramFault}
 use Rattle.enip_commands.specs.declared.fault.ProgramFault.TheVariants.{Line, Device, Memory}
 use Rattle.enip_commands.specs.Statuses.{IsOfDevices, EndsAt, EndsBy}
 
--- What a line's fault is to the whole input.
+-- The fault of a line is one of the whole input.
 from_line : (refuses : ℕ → List ℕ → Type 0) (number : ℕ) (text : List ℕ) (fault : ProgramFault) → EndsAt (refuses number text) number fault → EndsBy refuses fault
 from_line refuses number text (Line n why) (same, so) = (text, rw same so)
 from_line refuses number text Device so = tt
@@ -14,7 +14,7 @@ from_devices refuses (Line n why) so = absurd so
 from_devices refuses Device so = tt
 from_devices refuses Memory so = tt
 
--- Where no line may be refused, a device or memory failed.
+-- If no line may be refused, a device or memory failed.
 of_none : (fault : ProgramFault) → EndsBy (λ _ _. ⊥) fault → IsOfDevices fault
 of_none (Line n why) (text, never) = absurd never
 of_none Device so = tt
@@ -28,7 +28,7 @@ pub devices_end : {T : Type 0} (refuses : ℕ → List ℕ → Type 0) (r : Resu
 devices_end refuses (Ok x) so = tt
 devices_end refuses (Err fault) so = from_devices refuses fault so
 
--- A device that fails at a line.
+-- A device fails at a line.
 pub devices_at : {T : Type 0} (refused : Type 0) (number : ℕ) (r : Result T ProgramFault) → IfErr r IsOfDevices → IfErr r (EndsAt refused number)
 devices_at refused number (Ok x) so = tt
 devices_at refused number (Err (Line n why)) so = absurd so

@@ -1,4 +1,4 @@
--- One request to a device, and what is told of its reply.
+-- One request to a device, and how its reply is reported.
 use Rattle.std.specs.Prelude.{◌≡◌, ◌==◌, ℕ, List, Some, Ok, ⊤, if◌then◌else◌, slice_get, unwrap_or}
 use Rattle.cip_message.specs.PathWriting.{short}
 use Rattle.cip_message.specs.Request.{request}
@@ -17,13 +17,13 @@ use Rattle.enip_commands.specs.Digits.{bytes_spelled}
 use Rattle.enip_commands.specs.Statuses.{IsOfDevices}
 use Rattle.enip_commands.specs.Styles.{IsUnprinted}
 
--- The bytes that ask this: service, the shortest path, and the data that the digits spell.
+-- The bytes of this request: service, shortest path, and the data that the digits spell.
 abbrev pub IsRequested : DeviceRequest → List ℕ → Type 0
 IsRequested q bytes = (given : List ℕ)
     × (bytes_spelled q.digits.now ≡ Some given)
     × (bytes ≡ request (record { service = q.service; path = short q.path; «data» = given }))
 
--- Why an exchange was not completed, as the program tells it.
+-- Why an exchange was not completed, as the program reports it.
 abbrev pub stop_of : AskFault → RequestFailure
 stop_of ask.Read = Program Device
 stop_of ask.Write = Program Device
@@ -38,7 +38,7 @@ abbrev pub IsOfDevice : RequestFailure → Type 0
 IsOfDevice (Program fault) = IsOfDevices fault
 IsOfDevice _ = ⊥
 
--- The exchange failed, a device or memory did.
+-- The exchange failed, or a device or memory did.
 abbrev pub IsOfExchange : RequestFailure → Type 0
 IsOfExchange Hex = ⊥
 IsOfExchange (Session status) = ⊤
@@ -46,15 +46,15 @@ IsOfExchange (Client fault) = ⊤
 IsOfExchange (Shape value_type fault) = ⊤
 IsOfExchange (Program fault) = IsOfDevices fault
 
--- What is told of a reply: general status 0 is success, another is told with the first additional word, or 0.
+-- The outcome of a reply: general status 0 is success. Any other is a refusal, with the first additional word or 0.
 abbrev pub told_of : Reply → ReplyOutcome
 told_of a = if a.status == 0 then Done else Refused a.status (unwrap_or (slice_get a.additional 0) 0)
 
--- These bytes are a reply, of which this is told.
+-- These bytes are a reply with this outcome.
 abbrev pub IsReplyPrinted : List ℕ → ReplyOutcome → Type 0
 IsReplyPrinted bytes replied = (a : Reply) × (reply_of bytes ≡ Ok a) × (replied ≡ told_of a)
 
--- These bytes are no reply, or one whose data are no values of the style's type, or else a device or memory failed.
+-- These bytes are not a reply, or its data are not values of the style's type, or a device or memory failed.
 abbrev pub IsNotPrinted : Style → List ℕ → RequestFailure → Type 0
 IsNotPrinted style bytes Hex = ⊥
 IsNotPrinted style bytes (Session status) = ⊥

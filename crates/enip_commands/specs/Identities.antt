@@ -1,4 +1,4 @@
--- What is printed of identities as JSON: an object on a line for each.
+-- Identities as JSON: one object per line.
 use Rattle.std.specs.Prelude.{ℕ, List, [], Option, Result, Ok, Err}
 use Rattle.std.specs.List.{flat_map}
 use Rattle.std.specs.Io.KnownBytes.{Appends}
@@ -6,7 +6,7 @@ use Rattle.serde_json.specs.Written.{compact_text}
 use Rattle.enip_commands.specs.Json.{identity_data}
 use Rattle.enip_wire.specs.Stream.{parsed}
 use Rattle.enip_client.specs.Lists.{Entry, A_service, An_identity, answer_in}
-use Rattle.enip_client.specs.Listing.{Sides, IsListed}
+use Rattle.enip_client.specs.Listing.{ListState, IsListed}
 use Rattle.enip_client.specs.declared.fault.AskFault.TheVariants as ask
 use Rattle.enip_client.specs.declared.fault.ClientFault.{ClientFault}
 use Rattle.enip_client.specs.declared.lists.ListCommand.TheVariants as lists
@@ -23,7 +23,7 @@ object_line (An_identity identity) = with_newline (compact_text (identity_data i
 abbrev pub object_lines : List Entry → List ℕ
 object_lines entries = flat_map object_line entries
 
--- The lines of what a datagram answers to ListIdentity. One that is no whole answer is left out.
+-- The lines of an answer to ListIdentity. A datagram that is not a whole answer has none.
 abbrev pub objects_in : Result (List Entry) ClientFault → List ℕ
 objects_in (Ok entries) = object_lines entries
 objects_in (Err fault) = []
@@ -31,8 +31,8 @@ objects_in (Err fault) = []
 abbrev pub datagram_objects : List ℕ → List ℕ
 datagram_objects datagram = objects_in (answer_in lists.Identity (parsed datagram))
 
--- The device's identities were printed, or its answer is of another shape, or else a device or memory failed.
-abbrev pub AreIdentitiesPrinted : Sides → Sides → Option (List ℕ) → Option (List ℕ)
+-- The identities in the answer were printed, or the answer is malformed, or a device or memory failed.
+abbrev pub AreIdentitiesPrinted : ListState → ListState → Option (List ℕ) → Option (List ℕ)
     → Result (Unit {0}) RequestFailure → Type 0
 AreIdentitiesPrinted old new before after (Ok done) =
     (entries : List Entry) × IsListed lists.Identity old new (Ok entries) × Appends before after (object_lines entries)

@@ -1,4 +1,4 @@
--- What devices say, as data of JSON. Members stand in the order of their names.
+-- The JSON that is printed. Members are sorted by name.
 use Rattle.std.specs.Prelude.{◌≡◌, ⊤, ℕ, ℤ, pos, negsuc, List, [], ◌∷◌, ◌++◌, codes, slice_index, Some}
 use Rattle.std.specs.Char.{encode_utf8}
 use Rattle.std.specs.Fmt.{decimal}
@@ -11,21 +11,21 @@ use Rattle.enip_client.specs.Identity.{Identity}
 use Rattle.serde_json.specs.Read.{read}
 use Rattle.serde_json.specs.Data.{Data, boolean, number, unsigned, negative, string, array, object, Items, no_items, item, member, no_members, depth}
 
--- a number that is not negative
+-- A number that is not negative.
 abbrev pub count : ℕ → Data
 count n = number (unsigned n)
 
--- a text of a device, whose characters have a byte each (ISO 8859-1)
+-- Text from a device, which has one byte per character (ISO 8859-1).
 abbrev pub latin : List ℕ → List ℕ
 latin bytes = flat_map encode_utf8 bytes
 
--- an address as it is written, without a port
+-- An address in dotted decimal, without a port.
 abbrev pub host_text : List ℕ → List ℕ
 host_text address =
     decimal (slice_index address 0) ++ codes "." ++ decimal (slice_index address 1) ++ codes "."
     ++ decimal (slice_index address 2) ++ codes "." ++ decimal (slice_index address 3)
 
--- what a device says of itself
+-- An identity.
 abbrev pub identity_data : Identity → Data
 identity_data i =
     object (member (codes "address") (string (host_text i.address))
@@ -40,21 +40,21 @@ identity_data i =
     (member (codes "status") (count i.status)
     (member (codes "vendor") (count i.vendor) no_members)))))))))))
 
--- a reply, by the digits of its data
+-- A reply, with its data in hexadecimal.
 abbrev pub data_told : List ℕ → Data
 data_told bytes = object (member (codes "data") (string (encode_lower bytes)) (member (codes "status") (count 0) no_members))
 
--- a refusal: the general status, and the first additional word or 0
+-- A refusal: the general status, and the first additional word or 0.
 abbrev pub refusal_json : ℕ → ℕ → Data
 refusal_json status extended =
     object (member (codes "extended") (count extended) (member (codes "status") (count status) no_members))
 
--- an integer
+-- An integer.
 abbrev pub integer : ℤ → Data
 integer (pos n) = number (unsigned n)
 integer (negsuc n) = number (negative (negsuc n))
 
--- What a value is as data. Of a REAL it is not said which number, or which text where JSON has no such number.
+-- A value as JSON. Of a REAL, this says only that it does not nest.
 abbrev pub IsJsonOf : Value → Data → Type 0
 IsJsonOf (Truth truth) d = d ≡ boolean truth
 IsJsonOf (Signed z) d = d ≡ integer z
@@ -63,7 +63,7 @@ IsJsonOf (Bits n) d = d ≡ count n
 IsJsonOf (Real bits) d = depth d ≡ 0
 IsJsonOf (Text bytes) d = d ≡ string (latin bytes)
 
--- values are told one by one, in their order
+-- Values as JSON, one by one and in their order.
 abbrev pub EachJsonOf : List Value → Items → Type 0
 EachJsonOf [] no_items = ⊤
 EachJsonOf (value ∷ values) (item d ds) = IsJsonOf value d × EachJsonOf values ds
@@ -73,7 +73,7 @@ abbrev pub AreJsonOf : List Value → Data → Type 0
 AreJsonOf values (array items) = EachJsonOf values items
 AreJsonOf values other = ⊥
 
--- A reply, by the digits of its data, their type and the values that they are.
+-- A reply, with its data in hexadecimal, their type and their values.
 abbrev pub values_json : List ℕ → ValueType → Data → Data
 values_json bytes value_type list =
     object (member (codes "data") (string (encode_lower bytes))
@@ -84,6 +84,6 @@ values_json bytes value_type list =
 abbrev pub AreValuesJson : List ℕ → ValueType → List Value → Data → Type 0
 AreValuesJson bytes value_type values d = (list : Data) × AreJsonOf values list × (d ≡ values_json bytes value_type list)
 
--- The line is read as that.
+-- The line parses to that object.
 abbrev pub IsValuesLine : List ℕ → ValueType → List Value → List ℕ → Type 0
 IsValuesLine bytes value_type values line = (d : Data) × AreValuesJson bytes value_type values d × (read line ≡ Some d)

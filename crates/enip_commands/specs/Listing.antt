@@ -1,4 +1,4 @@
--- What is printed of the lists that a device gives of itself.
+-- How the lists of a device are printed.
 use Rattle.std.specs.Prelude.{ℕ, ◌≡◌, ◌&&◌, nat_le, List, [], ◌∷◌, ◌++◌, slice_index, codes, Option, Result, Ok, Err}
 use Rattle.std.specs.Prelude.{if◌then◌else◌}
 use Rattle.std.specs.Fmt.{decimal}
@@ -10,7 +10,7 @@ use Rattle.enip_wire.specs.Stream.{parsed}
 use Rattle.enip_client.specs.Identity.{Identity}
 use Rattle.enip_client.specs.Service.{Service}
 use Rattle.enip_client.specs.Lists.{Entry, A_service, An_identity, answer_in}
-use Rattle.enip_client.specs.Listing.{Sides, IsListed}
+use Rattle.enip_client.specs.Listing.{ListState, IsListed}
 use Rattle.enip_client.specs.declared.fault.AskFault.TheVariants as ask
 use Rattle.enip_client.specs.declared.fault.ClientFault.{ClientFault}
 use Rattle.enip_client.specs.declared.lists.ListCommand.{ListCommand}
@@ -20,14 +20,14 @@ use Rattle.enip_commands.specs.Statuses.{IsOfDevices}
 use Rattle.enip_commands.specs.declared.asking.RequestFailure.{RequestFailure}
 use Rattle.enip_commands.specs.declared.asking.RequestFailure.TheVariants.{Hex, Session, Client, Shape, Program}
 
--- Two and four bytes of a number, in digits.
+-- Numbers of two and of four bytes, in hexadecimal.
 abbrev pub hex_word : ℕ → List ℕ
 hex_word n = codes "0x" ++ encode_lower (big_bytes 2 n)
 
 abbrev pub hex_number : ℕ → List ℕ
 hex_number n = codes "0x" ++ encode_lower (big_bytes 4 n)
 
--- A byte of a name: the character, where it is one of ASCII that can be printed, else its digits.
+-- A byte of a name: itself if it is printable ASCII, otherwise `\xHH`.
 abbrev pub name_byte : ℕ → List ℕ
 name_byte byte =
     if nat_le 32 byte && nat_le byte 126 then byte ∷ [] else codes "\\x" ++ encode_lower (byte ∷ [])
@@ -44,7 +44,7 @@ address_text address port =
 abbrev pub revision_text : ℕ → ℕ → List ℕ
 revision_text major minor = decimal major ++ codes "." ++ decimal minor
 
--- The fields of a device, one a line.
+-- The fields of an identity, one per line.
 abbrev pub identity_lines : Identity → List ℕ
 identity_lines i =
     (codes "vendor " ++ decimal i.vendor)
@@ -57,7 +57,7 @@ identity_lines i =
     ++ (codes "\nstate " ++ decimal i.state)
     ++ (codes "\naddress " ++ address_text i.address i.port)
 
--- The fields of a service, one a line.
+-- The fields of a service, one per line.
 abbrev pub service_lines : Service → List ℕ
 service_lines s =
     (codes "version " ++ decimal s.version)
@@ -68,16 +68,16 @@ abbrev pub entry_lines : Entry → List ℕ
 entry_lines (A_service service) = service_lines service
 entry_lines (An_identity identity) = identity_lines identity
 
--- A further paragraph, behind an empty line.
+-- A further entry, after an empty line.
 abbrev pub further : Entry → List ℕ
 further entry = codes "\n" ++ with_newline (entry_lines entry)
 
--- The paragraphs of a list.
+-- The entries of a list.
 abbrev pub list_text : List Entry → List ℕ
 list_text [] = []
 list_text (entry ∷ more) = with_newline (entry_lines entry) ++ flat_map further more
 
--- The line of a device: address, name, vendor, product code, serial number.
+-- A device on one line: address, name, vendor, product code, serial number.
 abbrev pub device_text : Identity → List ℕ
 device_text i =
     address_text i.address i.port
@@ -90,7 +90,7 @@ abbrev pub device_line : Entry → List ℕ
 device_line (A_service service) = []
 device_line (An_identity identity) = with_newline (device_text identity)
 
--- The lines of what a datagram answers to ListIdentity. One that is no whole answer is left out.
+-- The lines of an answer to ListIdentity. A datagram that is not a whole answer has none.
 abbrev pub devices_in : Result (List Entry) ClientFault → List ℕ
 devices_in (Ok entries) = flat_map device_line entries
 devices_in (Err fault) = []
@@ -98,8 +98,8 @@ devices_in (Err fault) = []
 abbrev pub datagram_text : List ℕ → List ℕ
 datagram_text datagram = devices_in (answer_in lists.Identity (parsed datagram))
 
--- The device's answer was printed, or is of another shape, or else a device or memory failed.
-abbrev pub IsListPrinted : ListCommand → Sides → Sides → Option (List ℕ) → Option (List ℕ)
+-- The answer was printed, or it is malformed, or a device or memory failed.
+abbrev pub IsListPrinted : ListCommand → ListState → ListState → Option (List ℕ) → Option (List ℕ)
     → Result (Unit {0}) RequestFailure → Type 0
 IsListPrinted command old new before after (Ok done) =
     (entries : List Entry) × IsListed command old new (Ok entries) × Appends before after (list_text entries)
@@ -109,8 +109,8 @@ IsListPrinted command old new before after (Err (Client fault)) = IsListed comma
 IsListPrinted command old new before after (Err (Shape value_type fault)) = ⊥
 IsListPrinted command old new before after (Err (Program fault)) = IsOfDevices fault
 
--- The same of who asks, wherever the answer is printed.
-abbrev pub IsListAsked : ListCommand → Sides → Sides → Result (Unit {0}) RequestFailure → Type 0
+-- The same, without what was printed.
+abbrev pub IsListAsked : ListCommand → ListState → ListState → Result (Unit {0}) RequestFailure → Type 0
 IsListAsked command old new (Ok done) = (entries : List Entry) × IsListed command old new (Ok entries)
 IsListAsked command old new (Err Hex) = ⊥
 IsListAsked command old new (Err (Session status)) = ⊥

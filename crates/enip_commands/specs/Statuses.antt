@@ -1,4 +1,4 @@
--- How a program ends.
+-- How the program ends.
 use Rattle.std.specs.Prelude.{◌≡◌, ℕ, List, ⊤, Result, Ok, Err}
 use Rattle.std.specs.declared.io.ErrorKind.{ErrorKind}
 use Rattle.std.specs.declared.io.ErrorKind.TheVariants.{OutOfMemory}
@@ -11,13 +11,13 @@ use Rattle.enip_commands.specs.declared.asking.RequestFailure.TheVariants as ask
 use Rattle.enip_commands.specs.declared.showing.ShowFailure.{ShowFailure}
 use Rattle.enip_commands.specs.declared.showing.ShowFailure.TheVariants.{Program}
 
--- The exit status of a program that ends so.
+-- The exit status for a fault of the program.
 abbrev pub exit_status : ProgramFault → ℕ
 exit_status (Line number why) = 4
 exit_status Device = 5
 exit_status Memory = 5
 
--- The exit status of a program that told a reply, and of one that told none.
+-- The exit status when a reply was printed, and when none was.
 abbrev pub replied_status : ReplyOutcome → ℕ
 replied_status replied.Done = 0
 replied_status (replied.Refused status extended) = 6
@@ -29,7 +29,7 @@ request_failure_status (asking.Client fault) = 7
 request_failure_status (asking.Shape value_type fault) = 7
 request_failure_status (asking.Program fault) = exit_status fault
 
--- The exit status of a program that asked: that of what was told, or of why nothing was.
+-- The exit status of a request: that of its reply, or of its failure.
 abbrev pub asking_status : Result ReplyOutcome RequestFailure → ℕ
 asking_status (Ok replied) = replied_status replied
 asking_status (Err stop) = request_failure_status stop
@@ -40,22 +40,22 @@ IsOfDevices Device = ⊤
 IsOfDevices Memory = ⊤
 IsOfDevices _ = ⊥
 
--- This line is refused, which is so only where it may be, or else a device or memory failed.
+-- The fault is of the line with this number, which may be refused, or a device or memory failed.
 abbrev pub EndsAt : Type 0 → ℕ → ProgramFault → Type 0
 EndsAt refused number (Line n why) = (n ≡ number) × refused
 EndsAt refused number fault = IsOfDevices fault
 
--- The same, of a line of some number and text.
+-- The same for a line of any number and text.
 abbrev pub EndsBy : (ℕ → List ℕ → Type 0) → ProgramFault → Type 0
 EndsBy refuses (Line number why) = (text : List ℕ) × refuses number text
 EndsBy refuses fault = IsOfDevices fault
 
--- What a stream that fails is to the program: want of memory, or a device that failed.
+-- A failed stream as a fault of the program.
 abbrev pub fault_of_kind : ErrorKind → ProgramFault
 fault_of_kind OutOfMemory = Memory
 fault_of_kind kind = Device
 
--- A line is shown no further, or else a device or memory failed.
+-- The line has a fault, or a device or memory failed.
 abbrev pub IsStopOfDevices : ShowFailure → Type 0
 IsStopOfDevices (Program fault) = IsOfDevices fault
 IsStopOfDevices _ = ⊤

@@ -1,8 +1,8 @@
--- Data of requests and replies as values of the standard's elementary types.
+-- Data of requests and replies as values of elementary types.
 use Rattle.std.specs.Prelude.{◌≡◌, ◌≢◌, ℕ, List, map, Some}
 use Rattle.cip_message.specs.PathWriting.{short}
 use Rattle.cip_message.specs.Request.{request}
-use Rattle.cip_values.specs.Values.{IsUnreadable}
+use Rattle.cip_values.specs.Values.{IsReadFault}
 use Rattle.cip_values.specs.Parsing.{AreWritten}
 use Rattle.cip_values.specs.declared.element.ValueType.{ValueType}
 use Rattle.cip_values.specs.declared.fault.ValueFault.TheVariants as faults
@@ -12,22 +12,22 @@ use Rattle.enip_commands.specs.declared.asking.RequestFailure.TheVariants.{Hex, 
 use Rattle.enip_commands.specs.declared.style.Style.{Style}
 use Rattle.enip_commands.specs.declared.typed.TypedRequest.{TypedRequest}
 
--- The bytes that ask this: service, the shortest path, and the bytes of the values that the words tell.
+-- The bytes of this request: service, shortest path, and the bytes of the values.
 abbrev pub IsTypedRequest : TypedRequest → List ℕ → Type 0
 IsTypedRequest q bytes = (given : List ℕ)
     × AreWritten q.value_type (map (λ word. word.now) q.words.now) given
     × (bytes ≡ request (record { service = q.service; path = short q.path; «data» = given }))
 
--- These data are no values of the type, or memory failed.
+-- These data are not values of the type, or a device or memory failed.
 abbrev pub IsOfValues : ValueType → List ℕ → RequestFailure → Type 0
 IsOfValues value_type bytes Hex = ⊥
 IsOfValues value_type bytes (Session status) = ⊥
 IsOfValues value_type bytes (Client fault) = ⊥
 IsOfValues value_type bytes (Shape rendered fault) =
-    (rendered ≡ value_type) × (fault ≢ faults.Memory) × IsUnreadable value_type bytes fault
+    (rendered ≡ value_type) × (fault ≢ faults.Memory) × IsReadFault value_type bytes fault
 IsOfValues value_type bytes (Program fault) = IsOfDevices fault
 
--- The style has a type, and these data are no values of it, or else a device or memory failed.
+-- The style has a type and these data are not values of it, or a device or memory failed.
 abbrev pub IsUnprinted : Style → List ℕ → RequestFailure → Type 0
 IsUnprinted style bytes Hex = ⊥
 IsUnprinted style bytes (Session status) = ⊥

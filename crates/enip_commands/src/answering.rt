@@ -1,4 +1,4 @@
-//! `enip answer`: lines of pieces in, the adapter's answers out.
+//! `enip answer`: reads lines of hexadecimal pieces, and prints the answers of an adapter.
 
 ghost use Rattle.std.specs.Prelude.{◌≡◌, ◌≤◌, true, false, IfOk, IfErr, Some, length};
 ghost use Rattle.enip_commands.specs.Digits.{bytes_spelled};
@@ -15,20 +15,20 @@ use enip_adapter::{Adapter, Full, LONGEST_ANSWER, Peer};
 use std::alloc::Global;
 use std::io::{BufWriter, Read, Write};
 
-/// How many bytes of answers are kept before they are written.
+/// The size of the output buffer, in bytes.
 const OUTPUT_BUFFER: usize = 65_536;
 
-/// The digits of the longest answer.
+/// The length of the longest answer in hexadecimal.
 const LONGEST_TEXT: usize = 2 * LONGEST_ANSWER;
 
-/// Runs an adapter over the lines of an input, and prints what it answers on `output`.
+/// Runs an adapter over lines of input, and prints its answers on `output`.
 ///
-/// What can be answered is written before more input is read, and before a line is refused.
+/// Answers are written before more input is read, and before a refused line is reported.
 ///
 /// # Errors
 ///
-/// `Line` with the number of the first line, from 1, that is refused; the lines before it were run. `Device` where the
-/// input could not be read or the output written. `Memory` where memory is refused.
+/// `Line` with the number of the first line that is refused, from 1; the lines before it were run. `Device` if the
+/// input could not be read or the output written. `Memory` if memory was refused.
 pub fn answer<R: Read + Drop, W: Write + Drop>(
     alloc: Global,
     adapter: Adapter,
@@ -41,18 +41,18 @@ pub fn answer<R: Read + Drop, W: Write + Drop>(
     read_lines(alloc, input, &mut desk)
 }
 
-/// Who has one of the nine numbers of an input.
+/// The state of one of the nine peers.
 #[derive(Clone, Copy)]
 enum PeerEntry {
-    /// No peer.
+    /// It has not begun, or has ended.
     Free,
-    /// A peer.
+    /// It has a slot in the adapter.
     Taken(Peer),
-    /// A peer that is closed, which was printed.
+    /// The adapter closed it, and that was printed.
     Closed(Peer),
 }
 
-/// The adapter, who is at it, and where its answers go.
+/// The adapter with its peers, and the output.
 #[derive(Drop)]
 struct Answerer<W: Write + Drop> {
     adapter: Adapter,
@@ -79,7 +79,7 @@ impl<W: Write + Drop> Answerer<W> {
         })
     }
 
-    /// Ends the peer of a number, if there is one.
+    /// Ends a peer, if it has begun.
     fn end(&mut self, number: PeerNumber) {
         let entry = self.peers[number.index()];
         match entry {
@@ -89,7 +89,7 @@ impl<W: Write + Drop> Answerer<W> {
         self.peers[number.index()] = PeerEntry::Free;
     }
 
-    /// Takes the piece that digits spell, and says whether it has a byte or more.
+    /// Decodes a piece into `self.piece`. Returns whether it is hexadecimal and not empty.
     fn take_piece(&mut self, digits: &[u8]) -> Result<bool, ProgramFault>
         ensures is_run { IfOk result (λ some. some ≡ spells_bytes digits.now) }
         ensures piece { IfOk result (λ some. some ≡ true → bytes_spelled digits.now ≡ Some self.new.piece.items) }
@@ -98,7 +98,7 @@ impl<W: Write + Drop> Answerer<W> {
         Ok(decode(digits, &mut self.digits, &mut self.piece)? && !self.piece.is_empty())
     }
 
-    /// Runs a line, and says whether it is one that can be run.
+    /// Runs a line. Returns false if it is refused.
     fn run_line(&mut self, text: &[u8]) -> Result<bool, ProgramFault>
         ensures is_run { IfOk result (λ runs. runs ≡ false → IsRefusedLine text.now) }
         ensures refused { IfErr result IsOfDevices }
@@ -118,7 +118,7 @@ impl<W: Write + Drop> Answerer<W> {
         Ok(true)
     }
 
-    /// Feeds the piece to the peer of a number, who begins where there is none.
+    /// Feeds the piece to a peer, which begins if it has not yet.
     fn feed(&mut self, number: PeerNumber) -> Result<(), ProgramFault>
         ensures { IfErr result IsOfDevices }
     {
@@ -133,7 +133,7 @@ impl<W: Write + Drop> Answerer<W> {
         };
         self.peers[number.index()] = PeerEntry::Taken(peer);
         let mut rest = self.piece.as_slice();
-        // Each turn takes a byte or more, or closes.
+        // each turn takes one byte or more, or closes
         for _ in 0..self.piece.len() {
             if rest.is_empty() {
                 break;
@@ -169,7 +169,7 @@ impl<W: Write + Drop> TakeLines for Answerer<W> {
     }
 }
 
-/// Prints an answer: `P hex`. `text` is room for its digits.
+/// Prints an answer: `P hex`. `text` is a scratch buffer for the digits.
 fn print_answer<W: Write>(
     output: &mut W,
     text: &mut [u8; LONGEST_TEXT],
@@ -187,7 +187,7 @@ fn print_answer<W: Write>(
     Ok(())
 }
 
-/// Prints that a peer is closed: `P closed`.
+/// Prints that the adapter closed a peer: `P closed`.
 fn print_closed<W: Write>(output: &mut W, number: PeerNumber) -> Result<(), ProgramFault>
     ensures { IfErr result IsOfDevices }
 {
@@ -196,7 +196,7 @@ fn print_closed<W: Write>(output: &mut W, number: PeerNumber) -> Result<(), Prog
     Ok(())
 }
 
-/// Prints that a peer could not begin: `P full N`.
+/// Prints that a peer cannot begin: `P full N`.
 fn print_full<W: Write>(output: &mut W, number: PeerNumber, full: Full) -> Result<(), ProgramFault>
     ensures { IfErr result IsOfDevices }
 {

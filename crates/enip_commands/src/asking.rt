@@ -1,4 +1,4 @@
-//! `enip get`, `enip set` and `enip call`: one request to a device, and its reply.
+//! `enip get`, `enip set` and `enip call`: one request and its reply.
 
 ghost use Rattle.std.specs.Prelude.{◌≡◌, ◌<◌, None, IfOk, IfErr};
 ghost use Rattle.cip_message.specs.PathWriting.{short};
@@ -21,7 +21,7 @@ use std::alloc::{AllocError, Global};
 use std::io::{self, BufWriter, Write};
 use thiserror::Error;
 
-/// What is asked of a connection. (Volume 1, Forward_Open.)
+/// The connection that the commands open. (Volume 1, Forward_Open.)
 pub const WANTS: Wants = Wants {
     originator_vendor: 66,
     originator_serial: 305_419_896,
@@ -34,26 +34,26 @@ pub const WANTS: Wants = Wants {
     first_count: 1,
 };
 
-/// The longest path: class 4, instance 6, attribute 4 and member 4 bytes. (Volume 1, logical segments.)
+/// The longest path in bytes: class 4, instance 6, attribute 4 and member 4. (Volume 1, logical segments.)
 const LONGEST_PATH: usize = 18;
 
-/// A request to a device.
+/// A request whose data are given in hexadecimal.
 #[derive(Clone, Copy, Debug)]
 pub struct DeviceRequest<'a> {
-    /// The service.
+    /// The service code.
     pub service: u8,
-    /// The object.
+    /// The object that the request goes to.
     pub path: Path,
-    /// The data of the service in hexadecimal digits, perhaps with spaces.
+    /// The data in hexadecimal, with spaces anywhere.
     pub digits: &'a str,
 }
 
 impl DeviceRequest<'_> {
-    /// The bytes of the request.
+    /// Encodes the request: service, shortest path, and data.
     ///
     /// # Errors
     ///
-    /// `Hex` where the digits spell no bytes, else `Program` for want of memory.
+    /// `Hex` if the digits are not hexadecimal. `Program` if memory was refused.
     pub fn request(&self, alloc: Global) -> Result<Vec<u8>, RequestFailure>
         ensures made { IfOk result (λ request. IsRequested self.now request.items) }
         ensures hex { result ≡ Err RequestFailure.Hex → bytes_spelled self.now.digits.now ≡ None }
@@ -67,7 +67,11 @@ impl DeviceRequest<'_> {
     }
 }
 
-/// The bytes of a request: service, the shortest path, and data.
+/// Encodes a request: service, shortest path, and data.
+///
+/// # Errors
+///
+/// `AllocError` if memory is refused.
 pub(crate) fn spell_request(
     alloc: Global,
     service: u8,
@@ -79,14 +83,14 @@ pub(crate) fn spell_request(
 {
     let path = path_bytes(path);
     let mut request = Vec::new(alloc);
-    // the path is counted in words of two bytes (message router)
+    // the path size is in words of two bytes (Volume 1, message router)
     request.extend_from_slice(&[service, (path.len() / 2) as u8])?;
     request.extend_from_slice(path.as_slice())?;
     request.extend_from_slice(bytes)?;
     Ok(request)
 }
 
-/// The shortest spelling of a path.
+/// The shortest encoding of a path.
 #[tactic(auto, using(crate::proofs::PathLemmas::short_at_most))]
 fn path_bytes(path: Path) -> ArrayVec<u8, LONGEST_PATH>
     ensures { result.items ≡ short path }
@@ -96,17 +100,17 @@ fn path_bytes(path: Path) -> ArrayVec<u8, LONGEST_PATH>
     bytes
 }
 
-/// How a reply was told.
+/// What a device replied.
 #[derive(Clone, Copy, Debug, PartialEq, Eq)]
 pub enum ReplyOutcome {
-    /// The request was done.
+    /// The request succeeded.
     Done,
-    /// It was refused: the general status, and the first additional word or 0.
+    /// The request was refused: the general status, and the first additional word or 0.
     Refused(u8, u16),
 }
 
 impl ReplyOutcome {
-    /// The exit status of the program.
+    /// The exit status of the program: 0 or 6.
     pub fn exit_status(self) -> u8
         ensures { result ≡ replied_status self }
     {
@@ -117,19 +121,19 @@ impl ReplyOutcome {
     }
 }
 
-/// Why no reply is told. Its text goes to standard error.
+/// Why no reply was printed. The text is the code for scripts on standard error.
 #[derive(Clone, Copy, Debug, PartialEq, Eq, Error)]
 pub enum RequestFailure {
-    /// The data of the request are no hexadecimal digits.
+    /// The data of the request are not hexadecimal.
     #[error("hex")]
     Hex,
-    /// The device answered RegisterSession with this encapsulation status, 32 bits.
+    /// The device refused the session with this encapsulation status.
     #[error("fault {}", ClientFault::Status(*.0).number())]
     Session(u32),
-    /// The exchange met this fault.
+    /// The client met this fault.
     #[error("fault {}", .0.number())]
     Client(ClientFault),
-    /// The data of the reply are no values of this type.
+    /// The data of the reply are not values of this type.
     #[error("fault {}", ClientFault::Malformed.number())]
     Shape(ValueType, ValueFault<'static>),
     /// The program itself failed.
@@ -138,7 +142,7 @@ pub enum RequestFailure {
 }
 
 impl RequestFailure {
-    /// The exit status of the program.
+    /// The exit status of the program: 2, 7, or that of the program's own fault.
     pub fn exit_status(self) -> u8
         ensures { result ≡ request_failure_status self }
     {
@@ -193,20 +197,22 @@ impl From<AskFault> for RequestFailure {
             }
             AskFault::Client(ClientFault::Memory) => RequestFailure::Program(ProgramFault::Memory),
             AskFault::Client(fault) => RequestFailure::Client(fault),
-            // the connection takes no such request (ours)
+            // the request cannot be sent on the connection (ours)
             AskFault::Submit(_) => RequestFailure::Client(ClientFault::Request),
         }
     }
 }
 
-/// Asks once over a reader and a writer, on a connection or not, and prints the reply on `output` in a style: its
-/// data, or `refused 0xGG`, with ` 0xEEEE` where the first additional word is not 0.
+/// Sends one request over a reader and a writer, and prints the reply on `output` in a style: its data, or `refused
+/// 0xGG`, with ` 0xEEEE` if the first additional word is not 0. If `connected` is set, the request is sent on a
+/// connection, which is opened before and closed afterwards.
 ///
 /// # Errors
 ///
-/// `Session` where the device refuses the session; `Client` with the client's fault, with `Request` where the
-/// connection refuses the request, with `Malformed` where the reply is none; `Shape` where its data are no values of
-/// the style's type; `Program` where a device failed, the input ended, or memory was refused.
+/// `Session` if the device refuses the session. `Client` with `Request` if the request cannot be sent on the
+/// connection, with `Malformed` if the reply is malformed, or with another fault of the client. `Shape` if the data
+/// of the reply are not values of the style's type. `Program` if the reader, the writer or the output failed, the
+/// input ended, or memory was refused.
 pub fn ask_over<R: Source, W: Sink, O: Write + Drop>(
     alloc: Global,
     reader: &mut R,
@@ -226,11 +232,11 @@ pub fn ask_over<R: Source, W: Sink, O: Write + Drop>(
     print_asked(alloc, &mut output, style, asked, reply.as_slice())
 }
 
-/// Asks once, with a client for that.
+/// Sends one request with a new client.
 ///
 /// # Errors
 ///
-/// As of `ask_over`, and `Client` with `Refused` where the connection was not opened or not closed.
+/// As for `ask_over`, and `Client` with `Refused` if the connection was not opened or not closed.
 fn ask_once<R: Source, W: Sink>(
     alloc: Global,
     reader: &mut R,
@@ -251,7 +257,7 @@ fn ask_once<R: Source, W: Sink>(
     session_refusal(asked, client.is_registered())
 }
 
-/// Why an exchange was not completed. A status is that of the session where it is not registered.
+/// Why an exchange was not completed. If the session is not registered, a status is the answer to RegisterSession.
 fn session_refusal(asked: Result<(), AskFault>, is_registered: bool) -> Result<(), RequestFailure>
     ensures { IfErr result IsOfExchange }
 {
@@ -264,7 +270,7 @@ fn session_refusal(asked: Result<(), AskFault>, is_registered: bool) -> Result<(
     }
 }
 
-/// Prints the reply to what was asked, or why a connection was not opened or not closed.
+/// Prints the reply, or why a connection was not opened or not closed.
 fn print_asked<O: Write>(
     alloc: Global,
     output: &mut O,
@@ -287,6 +293,10 @@ fn print_asked<O: Write>(
 }
 
 /// Prints a reply in a style.
+///
+/// # Errors
+///
+/// As for `reply_object`, and `Program` if the output failed.
 pub(crate) fn print_reply<O: Write>(
     alloc: Global,
     output: &mut O,
@@ -304,7 +314,7 @@ pub(crate) fn print_reply<O: Write>(
     let Ok(reply) = ReplyView::read(bytes) else {
         return Err(RequestFailure::Client(ClientFault::Malformed));
     };
-    // general status 0 is success (message router)
+    // general status 0 is success (Volume 1, message router)
     if reply.status != 0 {
         let extended = reply.additional_word(0).unwrap_or(0);
         return print_refused(output, reply.status, extended);
@@ -313,14 +323,19 @@ pub(crate) fn print_reply<O: Write>(
     Ok(ReplyOutcome::Done)
 }
 
-/// The object of a reply, and how the reply was told by it.
+/// The JSON object of a reply, and the outcome.
 #[derive(Drop)]
 pub(crate) struct ReplyObject {
     pub(crate) replied: ReplyOutcome,
     pub(crate) text: String,
 }
 
-/// The object of a reply.
+/// The JSON object of a reply.
+///
+/// # Errors
+///
+/// `Client` with `Malformed` if the bytes are not a reply. `Shape` if its data are not values of the style's type.
+/// `Program` if memory was refused.
 pub(crate) fn reply_object(
     alloc: Global,
     style: Style,
@@ -363,7 +378,7 @@ fn print_refusal<O: Write>(
     print_refused(output, status, extended)
 }
 
-/// Prints that a request was refused: `refused 0xGG`, with ` 0xEEEE` where the first additional word is not 0.
+/// Prints a refusal as text: `refused 0xGG`, with ` 0xEEEE` if the first additional word is not 0.
 fn print_refused<O: Write>(
     output: &mut O,
     status: u8,
@@ -380,7 +395,7 @@ fn print_refused<O: Write>(
     Ok(ReplyOutcome::Refused(status, extended))
 }
 
-/// The exit status of the program, with a line on `errors` where no reply was told.
+/// The exit status of the program. If no reply was printed, also prints the reason on `errors`.
 pub fn report_outcome<E: Write + Drop>(
     rendered: Result<ReplyOutcome, RequestFailure>,
     errors: E,

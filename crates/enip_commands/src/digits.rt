@@ -1,4 +1,4 @@
-//! Bytes as hexadecimal digits, read and printed.
+//! Hexadecimal: read with spaces, printed in lower case.
 
 ghost use Rattle.std.specs.Prelude.{◌≡◌, true, is_some, IfOk, IfErr, OnOk, Some};
 ghost use Rattle.std.specs.Result.{result_ok};
@@ -10,11 +10,17 @@ use crate::fault::ProgramFault;
 use std::io::{self, Write};
 use std::{fmt, str};
 
-/// How many bytes are spelled at a time.
+/// How many bytes are encoded at a time.
 const BLOCK: usize = 128;
 
-/// Reads hexadecimal digits, with spaces or without, and says whether they spell bytes, perhaps none.
-/// `digits` is room for the digits without their spaces.
+/// Decodes hexadecimal digits, two per byte, and replaces the contents of `bytes` with the result. Spaces are ignored
+/// anywhere. Returns false if `text` is not hexadecimal; `bytes` is then unspecified. An empty text is hexadecimal.
+///
+/// `digits` is a scratch buffer for the text without its spaces.
+///
+/// # Errors
+///
+/// `Memory` if memory is refused.
 pub fn decode(text: &[u8], digits: &mut Vec<u8>, bytes: &mut Vec<u8>) -> Result<bool, ProgramFault>
     ensures read { IfOk result (λ spelled. spelled ≡ is_some (bytes_spelled text.now)) }
     ensures bytes { IfOk result (λ spelled. spelled ≡ true → bytes_spelled text.now ≡ Some bytes.new.items) }
@@ -27,7 +33,7 @@ pub fn decode(text: &[u8], digits: &mut Vec<u8>, bytes: &mut Vec<u8>) -> Result<
     decode_digits(digits.as_slice(), bytes)
 }
 
-/// Copies a text without its spaces.
+/// Copies a text without its spaces into `digits`.
 fn copy_digits(text: &[u8], digits: &mut Vec<u8>) -> Result<(), ProgramFault>
     ensures copied { OnOk result (digits.new.items ≡ without_spaces text.now) }
     ensures refused { IfErr result IsOfDevices }
@@ -41,7 +47,7 @@ fn copy_digits(text: &[u8], digits: &mut Vec<u8>) -> Result<(), ProgramFault>
     Ok(())
 }
 
-/// Reads hexadecimal digits, and says whether they spell bytes, perhaps none.
+/// Decodes hexadecimal digits without spaces. Returns false if the text is not hexadecimal.
 fn decode_digits(digits: &[u8], bytes: &mut Vec<u8>) -> Result<bool, ProgramFault>
     ensures read { IfOk result (λ spelled. spelled ≡ is_some (result_ok (decode_of digits.now))) }
     ensures bytes { IfOk result (λ spelled. spelled ≡ true → result_ok (decode_of digits.now) ≡ Some bytes.new.items) }
@@ -54,7 +60,7 @@ fn decode_digits(digits: &[u8], bytes: &mut Vec<u8>) -> Result<bool, ProgramFaul
     Ok(hex::decode_to_slice(digits, bytes.as_mut_slice()).is_ok())
 }
 
-/// Prints the digits of bytes, two each.
+/// Prints bytes in hexadecimal, two lower-case digits each.
 pub(crate) fn print_digits<W: Write>(output: &mut W, bytes: &[u8]) -> io::Result<()> {
     let mut text = [0u8; 2 * BLOCK];
     let mut rest = bytes;
@@ -68,7 +74,7 @@ pub(crate) fn print_digits<W: Write>(output: &mut W, bytes: &[u8]) -> io::Result
     Ok(())
 }
 
-/// Bytes that are printed as their digits, two each.
+/// Bytes that print in hexadecimal, two lower-case digits each.
 #[derive(Clone, Copy)]
 pub struct Digits<'a>(pub &'a [u8]);
 

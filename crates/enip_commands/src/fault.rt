@@ -1,4 +1,4 @@
-//! Why work over lines ends early, what is then printed, and the exit status of a program.
+//! Why a command ends early: the line that it prints, and its exit status.
 
 ghost use Rattle.std.specs.Prelude.{◌≡◌};
 ghost use Rattle.enip_commands.specs.Statuses.{exit_status};
@@ -8,22 +8,22 @@ use std::alloc::{AllocError, AllocFailed};
 use std::io;
 use thiserror::Error;
 
-/// Why a command ends early. Its text goes to standard error.
+/// Why a command ends early. The text is the code for scripts on standard error.
 #[derive(Clone, Copy, Debug, PartialEq, Eq, Error)]
 pub enum ProgramFault {
-    /// A line of the input is refused, by its number from 1, and why. The lines before it were run.
+    /// A line of the input is refused: its number, from 1, and the reason. The lines before it were run.
     #[error("line {0}")]
     Line(u64, LineFault),
     /// A file or a stream could not be read or written.
     #[error("device")]
     Device,
-    /// There was no memory.
+    /// Memory was refused.
     #[error("memory")]
     Memory,
 }
 
 impl ProgramFault {
-    /// The exit status of a program that ends so.
+    /// The exit status of the program: 4 or 5.
     pub fn exit_status(self) -> u8
         ensures { result ≡ exit_status self }
     {

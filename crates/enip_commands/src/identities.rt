@@ -1,8 +1,8 @@
-//! `enip identity --json` and `enip discover --json`: an object on a line for each identity.
+//! `enip identity --json` and `enip discover --json`: one object per line for each identity.
 
 ghost use Rattle.std.specs.Prelude.{◌<◌, IfErr, OnOk};
 ghost use Rattle.std.specs.Io.KnownBytes.{Appends};
-ghost use Rattle.enip_client.specs.Listing.{sides};
+ghost use Rattle.enip_client.specs.Listing.{list_state};
 ghost use Rattle.enip_client.specs.Lists.{entries_left, entry_shown};
 ghost use Rattle.enip_commands.specs.Asking.{IsOfExchange};
 ghost use Rattle.enip_commands.specs.Identities.{AreIdentitiesPrinted, object_line, object_lines, datagram_objects};
@@ -16,12 +16,12 @@ use enip_wire::{FrameReader, Sink, Source};
 use std::alloc::Global;
 use std::io::{BufWriter, Write};
 
-/// Asks a device what it is over a reader and a writer, without a session, and prints an object on `output` for each
-/// identity.
+/// Asks a device for its identity over a reader and a writer, without a session. Prints one JSON object per line on
+/// `output` for each identity in the answer.
 ///
 /// # Errors
 ///
-/// As of `list_over`.
+/// As for [`list_over`](crate::list_over).
 pub fn identities_over<R: Source, W: Sink, O: Write + Drop>(
     alloc: Global,
     reader: &mut R,
@@ -39,7 +39,7 @@ pub fn identities_over<R: Source, W: Sink, O: Write + Drop>(
     Ok(())
 }
 
-/// Asks for the identities, and prints them.
+/// Asks for the identities and prints them.
 fn print_identities<R: Source, W: Sink, O: Write>(
     alloc: Global,
     frames: &mut FrameReader,
@@ -50,8 +50,8 @@ fn print_identities<R: Source, W: Sink, O: Write>(
     requires reads { R.failures reader.old < u64.MAX }
     requires writes { W.failures writer.old < u64.MAX }
     ensures { AreIdentitiesPrinted
-        (sides (R.left reader.old) (R.reads reader.old) (W.written writer.old))
-        (sides (R.left reader.new) (R.reads reader.new) (W.written writer.new))
+        (list_state (R.left reader.old) (R.reads reader.old) (W.written writer.old))
+        (list_state (R.left reader.new) (R.reads reader.new) (W.written writer.new))
         (O.contents output.old) (O.contents output.new) result }
 {
     let entries = ask_list(ListCommand::Identity, frames, reader, writer)?;
@@ -59,12 +59,12 @@ fn print_identities<R: Source, W: Sink, O: Write>(
     Ok(())
 }
 
-/// Prints an object for each identity that a datagram answers to ListIdentity. A datagram that is no whole answer is
-/// left out.
+/// Prints one JSON object per line for each identity in an answer to ListIdentity. A datagram that is not a whole
+/// answer is ignored.
 ///
 /// # Errors
 ///
-/// `Device` or `Memory` where the output failed, `Memory` where memory was refused.
+/// `Device` if the output failed. `Memory` if memory was refused.
 pub fn print_device_objects<O: Write>(
     alloc: Global,
     output: &mut O,
@@ -80,7 +80,7 @@ pub fn print_device_objects<O: Write>(
     print_objects(alloc, output, entries)
 }
 
-/// Prints an object for each identity of a list.
+/// Prints the objects of a list.
 fn print_objects<O: Write>(
     alloc: Global,
     output: &mut O,

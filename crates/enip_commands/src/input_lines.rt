@@ -1,4 +1,4 @@
-//! The lines of an input, one at a time, in whatever chunks it is read. Memory is taken for one line.
+//! Splits an input into lines, however it is cut into reads. Memory is taken for one line at a time.
 
 ghost use Rattle.std.specs.Prelude.{ℕ, List, ◌≡◌, IfErr};
 ghost use Rattle.enip_commands.specs.Lines.{without_return};
@@ -9,25 +9,38 @@ use memchr::memchr;
 use std::alloc::Global;
 use std::io::Read;
 
-/// How many bytes of the input are read at a time.
+/// The size of a read, in bytes.
 const CHUNK: usize = 65_536;
 
-/// Who takes the lines of an input.
+/// A command that runs line by line.
 pub trait TakeLines {
-    /// Which lines may be refused, by their number and text.
+    /// Which lines may be refused, by number and text.
     ghost refuses: { ℕ → List ℕ → Type 0 };
 
-    /// Takes a line, without its end, and its number from 1. A line's fault is this line's.
+    /// Runs a line. `text` has no line ending, and `number` counts from 1.
+    ///
+    /// # Errors
+    ///
+    /// `Line` with this number if the line is refused. `Device` or `Memory` if the command itself failed.
     fn take_line(&mut self, text: &[u8], number: u64) -> Result<(), ProgramFault>
         ensures { IfErr result (EndsAt (refuses number text.now) number) };
 
-    /// Makes what was answered go out. More of the input is read only then.
+    /// Writes out what is buffered. It is called before each read of the input but the first, and at the end.
+    ///
+    /// # Errors
+    ///
+    /// `Device` or `Memory` if the output failed.
     fn send(&mut self) -> Result<(), ProgramFault>
         ensures { IfErr result IsOfDevices };
 }
 
-/// Hands each line of an input to who takes them, up to the first fault. What was answered goes out before that
-/// is told; where it can't, that is the fault.
+/// Runs `taker` on each line of `input`, up to the first error. Lines end in `\n` or `\r\n`; the last one may have no
+/// ending. After an error too, `taker` sends its output before this returns.
+///
+/// # Errors
+///
+/// `Line` if `taker` refused a line. `Device` if the input could not be read. `Memory` if memory was refused.
+/// Otherwise the first error of `taker`. If the last `send` fails, its error is returned instead.
 pub fn read_lines<R: Read + Drop, T: TakeLines>(
     alloc: Global,
     input: R,
@@ -40,7 +53,7 @@ pub fn read_lines<R: Read + Drop, T: TakeLines>(
     taken
 }
 
-/// Hands each line of an input to who takes them, up to the first fault.
+/// Runs `taker` on each line of `input`, up to the first error.
 fn take_lines<R: Read + Drop, T: TakeLines>(
     alloc: Global,
     input: R,
@@ -54,7 +67,7 @@ fn take_lines<R: Read + Drop, T: TakeLines>(
     take_chunks(&mut input, &mut chunk, &mut line, taker)
 }
 
-/// Reads an input chunk by chunk, and hands on its lines. `line` has the front of one that does not end in its chunk.
+/// Reads an input chunk by chunk, and passes on its lines. `line` holds the beginning of a line that spans chunks.
 fn take_chunks<R: Read, T: TakeLines>(
     input: &mut R,
     chunk: &mut [u8],
@@ -78,8 +91,8 @@ fn take_chunks<R: Read, T: TakeLines>(
     Ok(())
 }
 
-/// Hands on the lines that end in a chunk. `line` has the front of the first, and then that of the next,
-/// whose number is answered.
+/// Passes on the lines that end in a chunk, and returns the number of the next one. `line` holds the beginning of the
+/// first line, and afterwards that of the next one.
 fn take_chunk<T: TakeLines>(
     taker: &mut T,
     chunk: &[u8],
@@ -106,14 +119,14 @@ fn take_chunk<T: TakeLines>(
     Ok(number)
 }
 
-/// Hands on a line.
+/// Passes on a line.
 fn pass_on<T: TakeLines>(taker: &mut T, line: &[u8], number: u64) -> Result<(), ProgramFault>
     ensures { IfErr result (EndsBy T.refuses) }
 {
     taker.take_line(without_return(line), number)
 }
 
-/// A line without the carriage return that other systems end it with.
+/// A line without its carriage return, for input with `\r\n` line endings.
 fn without_return(text: &[u8]) -> &[u8]
     ensures { result.now ≡ without_return text.now }
 {

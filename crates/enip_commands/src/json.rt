@@ -1,7 +1,7 @@
-//! What devices say, as JSON: one object on one line.
+//! The output of `--json`: one object per line, its members sorted by name.
 //!
-//! [`identity_line`] tells what a device is, [`data_line`] and [`values_line`] a reply, [`refusal_line`] a refusal.
-//! Which data each line is read as stands in `specs/Objects.antt`. Members stand in the order of their names.
+//! [`identity_line`] writes an identity, [`data_line`] and [`values_line`] a reply, [`refusal_line`] a refusal, and
+//! [`timed_line`] a reply with its time. `specs/Json.antt` defines the objects.
 
 mod identity;
 mod latin;

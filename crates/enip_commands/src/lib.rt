@@ -1,14 +1,21 @@
-//! The program's work over lines of text: the digits of bytes, the lines that it reads, what it prints, and the exit
-//! status with which it ends.
+//! The commands of the program `enip`: each reads its input from any reader, and prints to any writer.
 //!
-//! [`answer`] runs an adapter over lines of pieces, [`replay`] an adapter and a client over the lines of a script,
-//! which [`draw_replay`] draws; [`show`] prints the fields of frames; [`ask_over`] asks a device once, with a request
-//! that a [`DeviceRequest`] makes; [`list_over`] asks what a device is, or what it offers. Each is over any reader and
-//! writer. Why one ends early is a [`ProgramFault`], a [`ReplayStop`] or an [`RequestFailure`], with its text and its exit status
-//! (`specs/Statuses.antt`). Which lines there are, and what each means, stands in `specs/Lines.antt` and
-//! `specs/Script.antt`; what a replay prints in `specs/Outcome.antt` and `specs/Replay.antt`.
+//! - [`answer`] runs an adapter over lines of hexadecimal pieces, and prints its answers.
+//! - [`show_frames`] prints the fields of frames, one frame per line of input.
+//! - [`ask_over`] sends one request and prints the reply. A [`DeviceRequest`] or a [`TypedRequest`] makes the
+//!   request, and [`report_outcome`] gives the exit status. [`DeviceSession`], [`Readings`] and [`print_reading`] are
+//!   for repeated reads.
+//! - [`list_over`] and [`identities_over`] ask a device for its identity or its services. [`print_devices`] and
+//!   [`print_device_objects`] print the answers to a broadcast.
 //!
-//! It knows neither the words of a command line nor a configuration's text: who calls it makes the adapter.
+//! A command over lines is built from [`TakeLines`], [`read_lines`], [`decode`], [`decimal`] and [`Digits`].
+//! `enip_replay` uses them for scripts.
+//!
+//! A [`ProgramFault`] or a [`RequestFailure`] says why a command ended early. Its text is the line for standard
+//! error, and `specs/Statuses.antt` defines its exit status. `specs/Lines.antt` defines the lines of `answer`.
+//!
+//! This crate opens no file and no socket, and it knows neither the command line nor the configuration file. The
+//! caller makes the adapter.
 #![tactic(auto)]
 
 mod answering;
@@ -39,6 +46,6 @@ pub use lines::decimal;
 pub use listing::{list_over, print_devices};
 pub use reading::{Readings, print_reading};
 pub use session::DeviceSession;
-pub use showing::{show, show_frames};
+pub use showing::show_frames;
 pub use style::{DIGITS, Style};
 pub use typed::TypedRequest;

@@ -1,41 +1,41 @@
-//! Why a line is refused, in words.
+//! The reasons for refusing a line.
 
 use thiserror::Error;
 
-/// Why a line is refused: what it should be, by the word that it begins with.
+/// Why a line is refused. The first word of the line selects the reason, and the text says what was expected.
 #[derive(Clone, Copy, Debug, PartialEq, Eq, Error)]
 pub enum LineFault {
-    /// It is no line of `enip answer`.
-    #[error("a line is `P HEX`, `end P` or `now N`")]
+    /// The line is not one of `enip answer`.
+    #[error("expected `P HEX`, `end P` or `now N`")]
     Input,
-    /// `P HEX`, whose digits spell no byte.
-    #[error("a piece wants hexadecimal digits, two for each byte, and a byte or more")]
+    /// `P HEX`, but HEX is empty or not hexadecimal.
+    #[error("piece: empty, or not two hex digits per byte")]
     Piece,
-    /// `end P`, with no peer's digit.
-    #[error("end wants a peer, 1 to 9")]
+    /// `end P`, but P is not a digit from 1 to 9.
+    #[error("end: expected a peer, 1 to 9")]
     End,
-    /// `now N`, with no moment.
-    #[error("now wants a moment, 0 to 18446744073709551615")]
+    /// `now N`, but N is not a decimal number of 64 bits.
+    #[error("now: expected 0 to 18446744073709551615")]
     Now,
-    /// It is no line of a script.
-    #[error("a line is `submit HEX`, `resend`, `reach K`, `back J`, `other HEX`, `shut` or `giveup`")]
+    /// The line is not one of a script.
+    #[error("expected an event (see `enip replay --help`)")]
     Script,
-    /// `submit HEX`, whose digits spell no bytes.
-    #[error("submit wants hexadecimal digits, two for each byte")]
+    /// `submit HEX`, but HEX is not hexadecimal.
+    #[error("submit: not hexadecimal (two digits per byte)")]
     Submit,
-    /// `other HEX`, whose digits spell no bytes.
-    #[error("other wants hexadecimal digits, two for each byte")]
+    /// `other HEX`, but HEX is not hexadecimal.
+    #[error("other: not hexadecimal (two digits per byte)")]
     Other,
-    /// `reach K`, with no position.
-    #[error("reach wants a position")]
+    /// `reach K`, but K is not a decimal number of 64 bits.
+    #[error("reach: expected a position")]
     Reach,
-    /// `back J`, with no position.
-    #[error("back wants a position")]
+    /// `back J`, but J is not a decimal number of 64 bits.
+    #[error("back: expected a position")]
     Back,
 }
 
 impl LineFault {
-    /// Why a line of `enip answer` is refused.
+    /// The reason for refusing a line of `enip answer`.
     pub(crate) fn of_input(text: &[u8]) -> LineFault {
         match text {
             [b'1'..=b'9', b' ', ..] => LineFault::Piece,

@@ -1,4 +1,4 @@
-//! The lines that `enip answer` reads.
+//! The input lines of `enip answer`.
 
 ghost use Rattle.std.specs.Prelude.{◌≡◌, ◌<◌, ◌^◌, None, IfSome};
 ghost use Rattle.std.specs.Option.{SomeIff};
@@ -8,21 +8,21 @@ ghost use Rattle.enip_commands.specs.declared.lines.Line.{Line};
 
 use crate::peer_number::PeerNumber;
 
-/// A line of the input.
+/// An input line.
 #[derive(Clone, Copy, Debug, PartialEq, Eq)]
 pub enum Line<'a> {
-    /// An empty line or a remark.
+    /// An empty line or a comment.
     Nothing,
-    /// A piece of a peer's stream, as the text of its hexadecimal digits, perhaps with spaces.
+    /// `P HEX`: a piece of a peer's stream. The text is not yet checked to be hexadecimal; it may have spaces.
     Piece(PeerNumber, &'a [u8]),
-    /// The end of a peer.
+    /// `end P`: the peer closes its connection.
     End(PeerNumber),
-    /// The moment of the pieces that follow.
+    /// `now N`: the time of the pieces that follow, in microseconds.
     Now(u64),
 }
 
 impl<'a> Line<'a> {
-    /// Reads a line: empty, `# ..`, `P HEX`, `end P` or `now N`.
+    /// Parses a line: empty, `# ..`, `P HEX`, `end P` or `now N`. `None` if it is none of these.
     pub(crate) fn read(text: &'a [u8]) -> Option<Line<'a>>
         ensures read { IfSome result (Says text.now) }
         ensures refused { result ≡ None → (line : Line) → Says text.now line → ⊥ }
@@ -37,7 +37,8 @@ impl<'a> Line<'a> {
     }
 }
 
-/// The number that decimal digits spell, one digit or more.
+/// The number that decimal digits spell. `None` if `digits` is empty, if a byte is not a digit, or if the number is
+/// over `u64::MAX`. Leading zeros are allowed.
 pub fn decimal(digits: &[u8]) -> Option<u64>
     ensures { SomeIff result (IsNumeral 10 digits.now × (digits_value 10 digits.now < 2 ^ 64))
         (digits_value 10 digits.now) }

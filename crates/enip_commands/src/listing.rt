@@ -1,8 +1,8 @@
-//! `enip identity`, `enip services` and `enip discover`: what a device tells of itself without a session.
+//! `enip identity`, `enip services` and `enip discover`: the lists that a device answers without a session.
 
 ghost use Rattle.std.specs.Prelude.{◌≡◌, ◌<◌, IfErr, OnOk, Some};
 ghost use Rattle.std.specs.Io.KnownBytes.{Appends};
-ghost use Rattle.enip_client.specs.Listing.{sides};
+ghost use Rattle.enip_client.specs.Listing.{list_state};
 ghost use Rattle.enip_client.specs.Lists.{entries_left, entry_shown};
 ghost use Rattle.enip_commands.specs.Listing.{IsListAsked, IsListPrinted, list_text, device_line, datagram_text};
 ghost use Rattle.enip_commands.specs.Statuses.{IsOfDevices};
@@ -18,7 +18,7 @@ use std::alloc::Global;
 use std::io::{BufWriter, Write};
 use std::{fmt, str};
 
-/// A byte of a name: the character, where it is one of ASCII that can be printed, else its digits.
+/// A byte of a name: itself if it is printable ASCII, otherwise `\xHH`.
 #[derive(Clone, Copy)]
 struct NameByte(u8);
 
@@ -39,7 +39,7 @@ impl fmt::Display for NameByte {
     }
 }
 
-/// A name, byte by byte.
+/// A name, printed byte by byte.
 #[derive(Clone, Copy)]
 struct Name<'a>(&'a [u8]);
 
@@ -56,7 +56,7 @@ impl fmt::Display for Name<'_> {
     }
 }
 
-/// The address of a device, and its port.
+/// The address of a device, with its port.
 #[derive(Clone, Copy)]
 struct Address<'a, 'b>(&'b IdentityView<'a>);
 
@@ -72,7 +72,7 @@ impl fmt::Display for Address<'_, '_> {
     }
 }
 
-/// The revision of a device.
+/// The revision of a device, as `major.minor`.
 #[derive(Clone, Copy)]
 struct Revision<'a, 'b>(&'b IdentityView<'a>);
 
@@ -86,7 +86,7 @@ impl fmt::Display for Revision<'_, '_> {
     }
 }
 
-/// A number of 16 bits in digits.
+/// A number of 16 bits in hexadecimal.
 #[derive(Clone, Copy)]
 struct HexWord(u16);
 
@@ -100,7 +100,7 @@ impl fmt::Display for HexWord {
     }
 }
 
-/// A number of 32 bits in digits.
+/// A number of 32 bits in hexadecimal.
 #[derive(Clone, Copy)]
 struct HexNumber(u32);
 
@@ -114,7 +114,7 @@ impl fmt::Display for HexNumber {
     }
 }
 
-/// The fields of a device, one a line.
+/// The fields of an identity, one per line.
 #[derive(Clone, Copy)]
 struct IdentityLines<'a, 'b>(&'b IdentityView<'a>);
 
@@ -138,7 +138,7 @@ impl fmt::Display for IdentityLines<'_, '_> {
     }
 }
 
-/// The fields of a service, one a line.
+/// The fields of a service, one per line.
 #[derive(Clone, Copy)]
 struct ServiceLines<'a, 'b>(&'b ServiceView<'a>);
 
@@ -156,7 +156,7 @@ impl fmt::Display for ServiceLines<'_, '_> {
     }
 }
 
-/// The fields of an entry, one a line.
+/// The fields of an entry, one per line.
 #[derive(Clone, Copy)]
 struct EntryLines<'a>(ListEntry<'a>);
 
@@ -174,7 +174,7 @@ impl fmt::Display for EntryLines<'_> {
     }
 }
 
-/// The line of a device.
+/// A device on one line.
 #[derive(Clone, Copy)]
 struct DeviceLine<'a, 'b>(&'b IdentityView<'a>);
 
@@ -194,13 +194,13 @@ impl fmt::Display for DeviceLine<'_, '_> {
     }
 }
 
-/// Asks a device for a list over a reader and a writer, without a session, and prints it on `output`: a line a field,
-/// several entries divided by an empty line.
+/// Asks a device for a list over a reader and a writer, without a session. Prints it on `output`: one field per line,
+/// and an empty line between entries.
 ///
 /// # Errors
 ///
-/// `Client` with `Status`, `TooLong` or `Malformed` for the answer; `Program` where a device failed, the input ended,
-/// or memory was refused.
+/// `Client` with `Status`, `TooLong` or `Malformed` if the answer is a refusal, too long or malformed. `Program` if
+/// the reader, the writer or the output failed, the input ended, or memory was refused.
 pub fn list_over<R: Source, W: Sink, O: Write + Drop>(
     alloc: Global,
     reader: &mut R,
@@ -211,8 +211,8 @@ pub fn list_over<R: Source, W: Sink, O: Write + Drop>(
     requires reads { R.failures reader.old < u64.MAX }
     requires writes { W.failures writer.old < u64.MAX }
     ensures { IsListAsked command
-        (sides (R.left reader.old) (R.reads reader.old) (W.written writer.old))
-        (sides (R.left reader.new) (R.reads reader.new) (W.written writer.new)) result }
+        (list_state (R.left reader.old) (R.reads reader.old) (W.written writer.old))
+        (list_state (R.left reader.new) (R.reads reader.new) (W.written writer.new)) result }
 {
     let mut frames = FrameReader::new(alloc)?;
     let mut output = BufWriter::new(alloc, output)?;
@@ -232,8 +232,8 @@ fn print_list<R: Source, W: Sink, O: Write>(
     requires reads { R.failures reader.old < u64.MAX }
     requires writes { W.failures writer.old < u64.MAX }
     ensures { IsListPrinted command
-        (sides (R.left reader.old) (R.reads reader.old) (W.written writer.old))
-        (sides (R.left reader.new) (R.reads reader.new) (W.written writer.new))
+        (list_state (R.left reader.old) (R.reads reader.old) (W.written writer.old))
+        (list_state (R.left reader.new) (R.reads reader.new) (W.written writer.new))
         (O.contents output.old) (O.contents output.new) result }
 {
     let entries = ask_list(command, frames, reader, writer)?;
@@ -241,7 +241,7 @@ fn print_list<R: Source, W: Sink, O: Write>(
     Ok(())
 }
 
-/// Prints the entries of a list, several divided by an empty line.
+/// Prints the entries of a list, with an empty line between them.
 fn print_entries<O: Write>(output: &mut O, entries: ListEntries<'_>) -> Result<(), ProgramFault>
     ensures printed { OnOk result (Appends (O.contents output.old) (O.contents output.new)
         (list_text (entries_left entries.entry))) }
@@ -258,12 +258,12 @@ fn print_entries<O: Write>(output: &mut O, entries: ListEntries<'_>) -> Result<(
     Ok(())
 }
 
-/// Prints a line for each device that a datagram answers to ListIdentity: its address, name, vendor, product code and
-/// serial number. A datagram that is no whole answer is left out.
+/// Prints one line for each identity in an answer to ListIdentity: address, name, vendor, product code and serial
+/// number. A datagram that is not a whole answer is ignored.
 ///
 /// # Errors
 ///
-/// `Device` or `Memory` where the output failed.
+/// `Device` or `Memory` if the output failed.
 pub fn print_devices<O: Write>(output: &mut O, datagram: &[u8]) -> Result<(), ProgramFault>
     ensures printed { OnOk result (Appends (O.contents output.old) (O.contents output.new)
         (datagram_text datagram.now)) }
@@ -278,7 +278,7 @@ pub fn print_devices<O: Write>(output: &mut O, datagram: &[u8]) -> Result<(), Pr
     Ok(())
 }
 
-/// Prints the line of a device. A service has none.
+/// Prints the line of an identity. A service has none.
 fn print_device<O: Write>(output: &mut O, entry: ListEntry<'_>) -> Result<(), ProgramFault>
     ensures printed { OnOk result (Appends (O.contents output.old) (O.contents output.new)
         (device_line (entry_shown entry.entry))) }

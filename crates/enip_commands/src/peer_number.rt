@@ -1,8 +1,8 @@
-//! The number of a peer of an input.
+//! The digit that names a peer.
 
 ghost use Rattle.std.specs.Prelude.{◌<◌};
 
-/// One of the nine peers of an input, known by a digit from 1 to 9.
+/// One of the nine peers of `enip answer`, named by a digit from 1 to 9.
 #[derive(Clone, Copy, Debug, PartialEq, Eq)]
 pub struct PeerNumber {
     index: usize,
@@ -13,7 +13,7 @@ impl PeerNumber {
     ghost use Rattle.std.specs.Prelude.{◌≡◌, ◌⊎◌, ◌≤◌, IfSome, None};
     ghost use Rattle.enip_commands.specs.Lines.{index_of, digit};
 
-    /// The peer of a digit.
+    /// The peer that an ASCII digit names, or `None` for another byte.
     pub(crate) fn of(code: u8) -> Option<PeerNumber>
         ensures number { IfSome result (λ number. digit number ≡ code) }
         ensures none { result ≡ None → (code < 49) ⊎ (57 < code) }
@@ -26,7 +26,7 @@ impl PeerNumber {
         }
     }
 
-    /// Its index among the nine, from 0.
+    /// The index among the nine, from 0.
     pub fn index(self) -> usize
         ensures value { result ≡ index_of self }
         ensures to { result < 9 }
@@ -34,7 +34,7 @@ impl PeerNumber {
         self.index
     }
 
-    /// Its digit.
+    /// The ASCII digit.
     pub fn digit(self) -> u8
         ensures value { result ≡ digit self }
         ensures from { 49 ≤ result }

@@ -1,4 +1,4 @@
-//! Readings of an attribute that is asked for again and again.
+//! Repeated reads of an attribute.
 
 ghost use Rattle.std.specs.Prelude.{◌≡◌, ◌↔◌, false, OnOk, IfOk, IfErr, Some};
 ghost use Rattle.enip_commands.specs.Asking.{IsReplyPrinted, IsNotPrinted};
@@ -11,10 +11,10 @@ use std::alloc::{AllocError, Global};
 use std::io::{BufWriter, Write};
 use std::marker::Model;
 
-/// The microseconds of a second.
+/// Microseconds per second.
 const SECOND: u64 = 1_000_000;
 
-/// The last reply, by which the next one is told from it.
+/// Remembers the last reply, to find out whether the next one differs.
 #[derive(Drop)]
 pub struct Readings {
     last: Vec<u8>,
@@ -33,7 +33,7 @@ impl Model for Readings {
 impl Readings {
     ghost use Rattle.std.specs.Prelude.{None};
 
-    /// Before the first reply.
+    /// Starts without a reply.
     pub fn new(alloc: Global) -> Readings
         ensures { result ≡ None }
     {
@@ -43,11 +43,11 @@ impl Readings {
         }
     }
 
-    /// Takes a reply, and says whether it is the first or differs from the last.
+    /// Remembers a reply. Returns whether it is the first, or differs from the last one.
     ///
     /// # Errors
     ///
-    /// `AllocError` where memory is refused.
+    /// `AllocError` if memory is refused.
     pub fn is_changed(&mut self, reply: &[u8]) -> Result<bool, AllocError>
         ensures rendered { IfOk result (λ changed. (changed ≡ false) ↔ (self.old ≡ Some reply.now)) }
         ensures kept { OnOk result (self.new ≡ Some reply.now) }
@@ -62,13 +62,13 @@ impl Readings {
     }
 }
 
-/// Prints a reply on a line, with the moment at which it came, in microseconds: in front of it as seconds, or in an
-/// object of JSON.
+/// Prints a reply on one line, with the time at which it came. `moment` is in microseconds. As text, the time is
+/// printed before the reply, in seconds with six decimals.
 ///
 /// # Errors
 ///
-/// `Client` with `Malformed` where it is none, `Shape` where its data are no values of the style's type, `Program`
-/// where the output failed or memory was refused.
+/// `Client` with `Malformed` if the bytes are not a reply. `Shape` if its data are not values of the style's type.
+/// `Program` if the output failed or memory was refused.
 pub fn print_reading<O: Write + Drop>(
     alloc: Global,
     output: O,
@@ -83,7 +83,7 @@ pub fn print_reading<O: Write + Drop>(
     print_timed(alloc, &mut output, style, moment, reply)
 }
 
-/// Prints a reply on a line, with the moment at which it came.
+/// Prints a reply with its time to a buffered output, and flushes it.
 fn print_timed<O: Write>(
     alloc: Global,
     output: &mut O,
@@ -105,7 +105,7 @@ fn print_timed<O: Write>(
     Ok(replied)
 }
 
-/// Prints the object of a reply, and of the moment at which it came.
+/// Prints the JSON object of a reply and its time.
 fn print_timed_object<O: Write>(
     alloc: Global,
     output: &mut O,

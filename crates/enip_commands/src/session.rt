@@ -1,4 +1,4 @@
-//! A session with a device in which requests are asked one after the other, on a connection or not.
+//! A session for several requests, one after the other, with or without a connection.
 
 ghost use Rattle.std.specs.Prelude.{◌≡◌, ◌≤◌, length, IfOk, IfErr};
 ghost use Rattle.enip_commands.specs.Asking.{IsOfExchange};
@@ -9,17 +9,17 @@ use enip_client::{AskFault, Client, ClientFault, Heard, Wants};
 use enip_wire::{Sink, Source, write_all};
 use std::alloc::Global;
 
-/// The most bytes of a read (ours).
+/// The size of a read, in bytes (ours).
 const LONGEST_READ: usize = 4_096;
 
-/// What is asked of the connection: as for one request, and that it lasts 512 packet intervals without a request.
+/// The connection: as for one request, but with a timeout of 512 packet intervals.
 /// (Volume 1, connection timeout multiplier.)
 const LONG_LIVED: Wants = Wants {
     timeout_multiplier: 7,
     ..WANTS
 };
 
-/// A session with a device.
+/// A session with a device, and its connection if it has one.
 #[derive(Drop)]
 pub struct DeviceSession {
     client: Client,
@@ -28,12 +28,13 @@ pub struct DeviceSession {
 }
 
 impl DeviceSession {
-    /// Begins a session over a reader and a writer, and opens a connection where that is asked for.
+    /// Registers a session over a reader and a writer. If `connected` is set, also opens a connection.
     ///
     /// # Errors
     ///
-    /// `Session` where the device refuses the session, `Client` with the client's fault or with why the connection was
-    /// refused, `Program` where a device failed, the input ended, or memory was refused.
+    /// `Session` if the device refuses the session. `Client` with `Refused` if it refuses the connection, or with
+    /// another fault of the client. `Program` if the reader or the writer failed, the input ended, or memory was
+    /// refused.
     pub fn begin<R: Source, W: Sink>(
         alloc: Global,
         reader: &mut R,
@@ -64,12 +65,12 @@ impl DeviceSession {
         Ok(session)
     }
 
-    /// Asks once, and lends the reply of the device.
+    /// Sends a request and lends the reply.
     ///
     /// # Errors
     ///
-    /// `Client` with the client's fault, with `Request` where the connection refuses the request; `Program` where a
-    /// device failed or the input ended.
+    /// `Client` with `Request` if the request cannot be sent on the connection, or with another fault of the client.
+    /// `Program` if the reader or the writer failed, or the input ended.
     pub fn ask<R: Source, W: Sink>(
         &mut self,
         reader: &mut R,
@@ -83,11 +84,12 @@ impl DeviceSession {
         Ok(self.reply.as_slice())
     }
 
-    /// Closes the connection, where there is one, and ends the session.
+    /// Closes the connection, if there is one, and unregisters the session.
     ///
     /// # Errors
     ///
-    /// As of [`DeviceSession::ask`].
+    /// `Client` with `Refused` if the device refuses the close, or with another fault of the client. `Program` as for
+    /// [`DeviceSession::ask`].
     pub fn end<R: Source, W: Sink>(
         &mut self,
         reader: &mut R,
@@ -123,7 +125,7 @@ impl DeviceSession {
         await_reply(&mut self.client, reader, &mut self.reply)
     }
 
-    /// Sends a request, on the connection or not.
+    /// Sends a request, on the connection if there is one.
     fn send_request<W: Sink>(&mut self, writer: &mut W, request: &[u8]) -> Result<(), AskFault> {
         if self.connected {
             let frame = self.client.submit(request)?;
@@ -139,7 +141,7 @@ impl DeviceSession {
 ///
 /// # Errors
 ///
-/// `Write` where the writer failed.
+/// `Write` if the writer failed.
 fn send<W: Sink>(writer: &mut W, frame: &[u8]) -> Result<(), AskFault> {
     if writer.failures() == u64::MAX {
         return Err(AskFault::Write);
@@ -150,11 +152,12 @@ fn send<W: Sink>(writer: &mut W, frame: &[u8]) -> Result<(), AskFault> {
     }
 }
 
-/// Reads until what is awaited is heard. A reply is left in `reply`.
+/// Reads until the awaited answer has come. A reply is stored in `reply`.
 ///
 /// # Errors
 ///
-/// `Read`, `Ended` or `Spent`; `Client` with the client's fault, or with why an open or a close was refused.
+/// `Read`, `Ended` or `Spent`. `Client` with `Refused` if an open or a close was refused, or with another fault of
+/// the client.
 fn await_reply<R: Source>(
     client: &mut Client,
     reader: &mut R,
@@ -170,11 +173,11 @@ fn await_reply<R: Source>(
     Err(AskFault::Spent)
 }
 
-/// Reads a byte or more.
+/// Reads one byte or more.
 ///
 /// # Errors
 ///
-/// `Spent`, `Ended` or `Read`.
+/// `Ended` at the end of the stream, `Read` if the reader failed, `Spent` if its counters are used up.
 fn read<R: Source>(reader: &mut R, into: &mut [u8; LONGEST_READ]) -> Result<usize, AskFault>
     ensures within { IfOk result (λ size. size ≤ LONGEST_READ) }
     ensures room { length into.new ≡ LONGEST_READ }
@@ -190,11 +193,11 @@ fn read<R: Source>(reader: &mut R, into: &mut [u8; LONGEST_READ]) -> Result<usiz
     }
 }
 
-/// Hears a piece to its end, and says whether something awaited was heard.
+/// Feeds a whole piece to the client. Returns whether it has the awaited answer.
 ///
 /// # Errors
 ///
-/// `Client`.
+/// `Client`, as for `keep`, or with the fault that the piece caused.
 fn feed_piece(client: &mut Client, piece: &[u8], reply: &mut ReplyBuf) -> Result<bool, AskFault> {
     let mut is_heard = false;
     let mut rest = piece;
@@ -210,11 +213,11 @@ fn feed_piece(client: &mut Client, piece: &[u8], reply: &mut ReplyBuf) -> Result
     Ok(is_heard)
 }
 
-/// Keeps a reply, and says whether something awaited was heard.
+/// Stores a reply. Returns whether this is the awaited answer.
 ///
 /// # Errors
 ///
-/// `Client` where an open or a close was refused, or a reply is too long.
+/// `Client` with `Refused` if an open or a close was refused, or with `Malformed` if a reply is too long.
 fn keep(heard: Heard<'_>, reply: &mut ReplyBuf) -> Result<bool, AskFault> {
     match heard {
         Heard::Nothing => Ok(false),
@@ -223,7 +226,7 @@ fn keep(heard: Heard<'_>, reply: &mut ReplyBuf) -> Result<bool, AskFault> {
             status, extended,
         ))),
         Heard::Reply(bytes) | Heard::Accepted(bytes) => {
-            // the room of a reply (ours)
+            // the capacity of a reply (ours)
             if bytes.len() > REPLY_LIMIT {
                 return Err(AskFault::Client(ClientFault::Malformed));
             }

@@ -1,8 +1,8 @@
-//! `enip show`: lines of frames in, their fields out.
+//! `enip show`: reads frames, one per line, and prints their fields.
 //!
-//! Each line is shown part by part, up to the first fault in it, which is not a fault of the program.
+//! A line is printed part by part, up to the first fault in it. A fault in a line does not end the program.
 
-ghost use Rattle.std.specs.Prelude.{◌≡◌, ◌⊎◌, IfErr};
+ghost use Rattle.std.specs.Prelude.{◌≡◌, IfErr};
 ghost use Rattle.enip_commands.specs.Statuses.{IsOfDevices, IsStopOfDevices};
 
 use crate::digits::{decode, print_digits};
@@ -15,36 +15,16 @@ use std::alloc::Global;
 use std::io::{self, BufWriter, Read, Write};
 use thiserror::Error;
 
-/// How many bytes of interface and timeout come before the packet's items. (Volume 2, SendRRData.)
+/// How many bytes precede the items of a packet: interface and timeout. (Volume 2, SendRRData.)
 const BEFORE_ITEMS: usize = 6;
 
-/// Prints the fields of the frames of an input, one frame of hexadecimal digits a line, and answers the exit
-/// status of the program: 0, or 5 where a device or memory failed, with a line on `errors`.
+/// Prints the fields of frames, which the input has in hexadecimal, one per line.
 ///
-/// A line that is no frame is shown as the fault that it has, and the lines after it are shown too.
-pub fn show<R: Read + Drop, W: Write + Drop, E: Write + Drop>(
-    alloc: Global,
-    input: R,
-    output: W,
-    errors: E,
-) -> u8
-    ensures { (result ≡ 0) ⊎ (result ≡ 5) }
-{
-    let mut errors = errors;
-    match show_frames(alloc, input, output) {
-        Ok(()) => 0,
-        Err(fault) => {
-            let _ = writeln!(errors, "{fault}");
-            fault.exit_status()
-        }
-    }
-}
-
-/// As `show`, and answers why it ended early.
+/// For a line that is not exactly one frame it prints the fault, and goes on with the next line.
 ///
 /// # Errors
 ///
-/// `Device` where the input could not be read or the output written. `Memory` where memory is refused.
+/// `Device` if the input could not be read or the output written. `Memory` if memory was refused.
 pub fn show_frames<R: Read + Drop, W: Write + Drop>(
     alloc: Global,
     input: R,
@@ -61,25 +41,25 @@ pub fn show_frames<R: Read + Drop, W: Write + Drop>(
     read_lines(alloc, input, &mut printer)
 }
 
-/// Why a line is shown no further.
+/// Why the rest of a line is not printed. The text follows `fault `.
 #[derive(Clone, Copy, Debug, PartialEq, Eq, Error)]
 enum ShowFailure {
-    /// It is not hexadecimal.
+    /// The line is not hexadecimal.
     #[error("hex")]
     Hex,
-    /// It is not exactly one frame.
+    /// The line is not exactly one frame.
     #[error("header")]
     Header,
-    /// The body has no such items.
+    /// The body does not have the items of its command.
     #[error("cpf {}", .0.number())]
     Cpf(CpfFault),
-    /// The message is no request.
+    /// The message is not a request.
     #[error("request {}", .0.number())]
     Request(RequestFault),
-    /// The request's path is none.
+    /// The path of the request is invalid.
     #[error("path {}", .0.number())]
     Path(PathFault),
-    /// The message is no reply.
+    /// The message is not a reply.
     #[error("reply {}", .0.number())]
     Reply(ReplyFault),
     /// The program itself failed.
@@ -137,7 +117,7 @@ impl From<ReplyFault> for ShowFailure {
     }
 }
 
-/// Who shows the lines: the buffers of one line, and where the fields go.
+/// The output, and the buffers for one line.
 #[derive(Drop)]
 struct Printer<W: Write + Drop> {
     output: BufWriter<W>,
@@ -147,7 +127,7 @@ struct Printer<W: Write + Drop> {
 }
 
 impl<W: Write + Drop> Printer<W> {
-    /// Shows a line up to its first fault.
+    /// Prints a line up to its first fault, which is the error.
     fn show_line(&mut self, text: &[u8]) -> Result<(), ShowFailure>
         ensures { IfErr result IsStopOfDevices }
     {
@@ -162,7 +142,7 @@ impl<W: Write + Drop> Printer<W> {
         }
     }
 
-    /// Shows a line, and its first fault.
+    /// Prints a line up to its first fault, and the fault.
     fn print_line(&mut self, text: &[u8]) -> Result<(), ProgramFault>
         ensures { IfErr result IsOfDevices }
     {
@@ -190,7 +170,7 @@ impl<W: Write + Drop> TakeLines for Printer<W> {
     }
 }
 
-/// Shows a frame: its header, and what it carries of the router's messages.
+/// Prints a frame: its header, and the router message that it carries, if any.
 fn show_frame<W: Write>(output: &mut W, frame: FrameView<'_>) -> Result<(), ShowFailure>
     ensures { IfErr result IsStopOfDevices }
 {
@@ -221,7 +201,7 @@ fn print_header<W: Write>(output: &mut W, header: &Header) -> io::Result<()> {
     writeln!(output, " options {}", header.options)
 }
 
-/// Prints the type and the length of each item of a body, which is known to have its items.
+/// Prints the type and the length of each item of a body, whose items were checked before.
 fn print_items<W: Write>(output: &mut W, body: &[u8]) -> Result<(), ShowFailure>
     ensures { IfErr result IsStopOfDevices }
 {
@@ -239,7 +219,7 @@ fn print_items<W: Write>(output: &mut W, body: &[u8]) -> Result<(), ShowFailure>
     Ok(())
 }
 
-/// Shows the data of a connected item: the sequence count, and the message behind it. (Volume 1, transport
+/// Prints the data of a connected item: the sequence count, and the message after it. (Volume 1, transport
 /// class 3.)
 fn show_counted<W: Write>(output: &mut W, item: &[u8]) -> Result<(), ShowFailure>
     ensures { IfErr result IsStopOfDevices }
@@ -251,7 +231,7 @@ fn show_counted<W: Write>(output: &mut W, item: &[u8]) -> Result<(), ShowFailure
     show_message(output, message)
 }
 
-/// Shows a message of the router: a reply where bit 7 of its first byte is set, else a request.
+/// Prints a router message: a reply if bit 7 of its first byte is set, otherwise a request.
 fn show_message<W: Write>(output: &mut W, message: &[u8]) -> Result<(), ShowFailure>
     ensures { IfErr result IsStopOfDevices }
 {
@@ -261,7 +241,7 @@ fn show_message<W: Write>(output: &mut W, message: &[u8]) -> Result<(), ShowFail
     }
 }
 
-/// Shows a request and where it goes.
+/// Prints a request and its path.
 fn show_request<W: Write>(output: &mut W, message: &[u8]) -> Result<(), ShowFailure>
     ensures { IfErr result IsStopOfDevices }
 {
@@ -281,7 +261,7 @@ fn show_request<W: Write>(output: &mut W, message: &[u8]) -> Result<(), ShowFail
     Ok(())
 }
 
-/// Shows a reply, whose additional status words are printed as numbers of four digits.
+/// Prints a reply. Each additional status word has four digits.
 fn show_reply<W: Write>(output: &mut W, message: &[u8]) -> Result<(), ShowFailure>
     ensures { IfErr result IsStopOfDevices }
 {
@@ -298,7 +278,7 @@ fn show_reply<W: Write>(output: &mut W, message: &[u8]) -> Result<(), ShowFailur
     Ok(())
 }
 
-/// Prints a number, or `-` where there is none.
+/// Prints a number, or `-` if there is none.
 fn print_number<W: Write>(output: &mut W, number: Option<u16>) -> io::Result<()> {
     match number {
         Some(number) => write!(output, "{number}"),
@@ -306,7 +286,7 @@ fn print_number<W: Write>(output: &mut W, number: Option<u16>) -> io::Result<()>
     }
 }
 
-/// Prints bytes as digits, or `-` where there are none.
+/// Prints bytes in hexadecimal, or `-` if there are none.
 fn print_bytes<W: Write>(output: &mut W, bytes: &[u8]) -> io::Result<()> {
     if bytes.is_empty() {
         output.write_all(b"-")
@@ -315,12 +295,12 @@ fn print_bytes<W: Write>(output: &mut W, bytes: &[u8]) -> io::Result<()> {
     }
 }
 
-/// Prints the additional status words of a reply, joined, or `-` where there are none.
+/// Prints the additional status words of a reply, joined, or `-` if there are none.
 fn print_words<W: Write>(output: &mut W, reply: &ReplyView<'_>) -> io::Result<()> {
     if reply.additional.is_empty() {
         return output.write_all(b"-");
     }
-    // A reply has at most 255 of them.
+    // a reply has at most 255 words
     for place in 0..255 {
         let Some(word) = reply.additional_word(place) else {
             break;

@@ -1,4 +1,4 @@
-//! How the data of a reply are printed: as digits, as values of a type, or as an object of JSON.
+//! How the data of a reply are printed: in hexadecimal, as values of a type, or as JSON.
 
 ghost use Rattle.std.specs.Prelude.{IfOk, IfErr, map};
 ghost use Rattle.cip_values.specs.Values.{value_in, AreBytesOf};
@@ -16,13 +16,13 @@ use std::io::Write;
 /// How the data of a reply are printed.
 #[derive(Clone, Copy, Debug, PartialEq, Eq)]
 pub struct Style {
-    /// The type of their values, where they are not told by their digits alone.
+    /// The type of the values, or `None` for hexadecimal.
     pub value_type: Option<ValueType>,
-    /// Whether an object of JSON is printed.
+    /// Whether a JSON object is printed.
     pub is_json: bool,
 }
 
-/// Hexadecimal digits alone.
+/// Hexadecimal digits, without JSON.
 pub const DIGITS: Style = Style {
     value_type: None,
     is_json: false,
@@ -32,7 +32,7 @@ pub const DIGITS: Style = Style {
 ///
 /// # Errors
 ///
-/// `Shape` where they are no values of the type, `Program` where the output failed or memory was refused.
+/// `Shape` if the data are not values of the type. `Program` if the output failed or memory was refused.
 pub(crate) fn print_data<O: Write>(
     alloc: Global,
     output: &mut O,
@@ -51,11 +51,11 @@ pub(crate) fn print_data<O: Write>(
     Ok(())
 }
 
-/// The object of the data of a reply.
+/// The JSON object of the data of a reply.
 ///
 /// # Errors
 ///
-/// `Shape` where they are no values of the type, `Program` where memory was refused.
+/// `Shape` if the data are not values of the type. `Program` if memory was refused.
 pub(crate) fn data_object(
     alloc: Global,
     style: Style,
@@ -72,11 +72,11 @@ pub(crate) fn data_object(
     }
 }
 
-/// The values that data are.
+/// Reads data as values of a type.
 ///
 /// # Errors
 ///
-/// `Shape`, `Program`.
+/// `Shape` if they are not. `Program` if memory was refused.
 fn values_of(
     alloc: Global,
     value_type: ValueType,
@@ -92,7 +92,7 @@ fn values_of(
     }
 }
 
-/// Prints values on a line.
+/// Prints values on one line.
 fn print_values<O: Write>(
     output: &mut O,
     value_type: ValueType,
@@ -104,7 +104,7 @@ fn print_values<O: Write>(
     Ok(())
 }
 
-/// Prints hexadecimal digits on a line, `ok` where there are none.
+/// Prints bytes in hexadecimal on one line, or `ok` if there are none.
 fn print_plain<O: Write>(output: &mut O, bytes: &[u8]) -> Result<(), ProgramFault>
     ensures { IfErr result IsOfDevices }
 {

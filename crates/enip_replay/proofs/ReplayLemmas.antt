@@ -22,7 +22,7 @@ no_bench adapter client made benches.Setup (Err stop) same opening failed gives 
     let refused : opening_between adapter client ≡ Err ARefusal = subst (λ m. IsOpening (opening_between adapter client) m) failed opening in
     rw gives.1 (subst (λ c. opening_between adapter c ≡ Err ARefusal) same refused)
 
--- One instance more is printed.
+-- One more instance is printed.
 pub assemblies_printed-more : (contents : Contents) (instance : ℕ) → 1 ≤ instance
     → assemblies_printed contents (instance - 1) ++ assembly_printed contents instance ≡ assemblies_printed contents (instance + 1 - 1)
 unfolding assemblies_printed

@@ -11,10 +11,10 @@ use Rattle.enip_replay.specs.declared.rungs.Rung.{Rung}
 use Rattle.enip_replay.specs.declared.rungs.Direction.{Direction}
 use Rattle.enip_replay.specs.declared.rungs.Direction.TheVariants as ways
 
--- A request or a reply in digits, the end of one of more than ten bytes left out.
+-- A request or a reply in hexadecimal. One of more than six bytes is cut.
 abbrev pub message_text : List ℕ → List ℕ
 message_text bytes =
-    if nat_le (length bytes) 10 then encode_lower bytes else encode_lower (take 9 bytes) ++ codes ".."
+    if nat_le (length bytes) 6 then encode_lower bytes else encode_lower (take 5 bytes) ++ codes ".."
 
 -- How many digits a count has.
 abbrev pub digits_of : ℕ → ℕ
@@ -22,33 +22,33 @@ digits_of count =
     if nat_le count 9 then 1
     else (if nat_le count 99 then 2 else (if nat_le count 999 then 3 else (if nat_le count 9999 then 4 else 5)))
 
--- How much of the 34 characters of a column is left behind a count and a message.
-abbrev pub room_behind : Arrow → ℕ
-room_behind a = 34 - (2 + digits_of a.count + 2 * min (length a.message.now) 10)
+-- How many of the 22 characters of a column a count and a message leave for dashes.
+abbrev pub dashes_of : Arrow → ℕ
+dashes_of a = 22 - (5 + digits_of a.count + 2 * min (length a.message.now) 6)
 
--- A count and its message.
+-- A sequence count and its message.
 abbrev pub item_text : Arrow → List ℕ
-item_text a = codes "-- " ++ decimal a.count ++ codes ": " ++ message_text a.message.now ++ codes " "
+item_text a = codes "-" ++ decimal a.count ++ codes ": " ++ message_text a.message.now ++ codes " "
 
 abbrev pub head_of : List ℕ → Bool → List ℕ
 head_of head arrives = if arrives then head else codes "x"
 
--- An arrow: its head stands where it points, a cross where it was lost.
+-- An arrow. If the item is lost, its head is a cross.
 abbrev pub arrow_by : Direction → Arrow → List ℕ
 arrow_by ways.ToAdapter a =
-    (codes "-" ++ item_text a) ++ replicate (room_behind a - 6) 45 ++ head_of (codes ">") a.arrives
-arrow_by ways.ToClient a = head_of (codes "<") a.arrives ++ item_text a ++ replicate (room_behind a - 5) 45
+    item_text a ++ replicate (dashes_of a) 45 ++ head_of (codes ">") a.arrives
+arrow_by ways.ToClient a = head_of (codes "<") a.arrives ++ item_text a ++ replicate (dashes_of a) 45
 
 abbrev pub arrow_text : Arrow → List ℕ
 arrow_text a = arrow_by a.way a
 
--- What stands between an end and the wire: 34 characters.
+-- What is drawn between an end and the wire: 22 characters.
 abbrev pub field_text : Field → List ℕ
-field_text fields.Blank = replicate 34 32
-field_text (fields.Words words) = codes " " ++ words.now ++ replicate (34 - length words.now - 1) 32
+field_text fields.Blank = replicate 22 32
+field_text (fields.Words words) = codes " " ++ words.now ++ replicate (22 - length words.now - 1) 32
 field_text (fields.Arrow arrow) = arrow_text arrow
 
--- A text, and a number, with spaces behind them up to so many characters; a number with spaces before it.
+-- A text and a number, padded on the right to this width. A number, padded on the left.
 abbrev pub text_in : ℕ → List ℕ → List ℕ
 text_in width text = padded (format_spec 32 1 0 width (2 ^ 64 - 1)) text
 
@@ -58,21 +58,21 @@ number_in width n = padded_integral (format_spec 32 1 0 width (2 ^ 64 - 1)) fals
 abbrev pub number_behind : ℕ → ℕ → List ℕ
 number_behind width n = padded_integral (format_spec 32 3 0 width (2 ^ 64 - 1)) false [] (decimal n)
 
--- What stands beside the client: 15 characters.
+-- The note next to the client: 13 characters, and a bar.
 abbrev pub client_text : List ℕ → Option ℕ → List ℕ
-client_text words (Some number) = text_in 9 words ++ number_in 6 number ++ codes "|"
-client_text words None = text_in 15 words ++ codes "|"
+client_text words (Some number) = text_in 8 words ++ number_in 5 number ++ codes "|"
+client_text words None = text_in 13 words ++ codes "|"
 
--- The position on the wire: 6 characters.
+-- The position on the wire: 5 characters.
 abbrev pub position_text : Option ℕ → List ℕ
-position_text (Some position) = number_behind 4 position ++ codes "  "
-position_text None = codes "      "
+position_text (Some position) = number_behind 4 position ++ codes " "
+position_text None = codes "     "
 
--- What stands beside the adapter.
+-- The note next to the adapter.
 abbrev pub adapter_text : List ℕ → Option ℕ → List ℕ
 adapter_text [] number = []
-adapter_text (first ∷ more) (Some number) = codes "  " ++ (first ∷ more) ++ codes " " ++ decimal number
-adapter_text (first ∷ more) None = codes "  " ++ (first ∷ more)
+adapter_text (first ∷ more) (Some number) = codes " " ++ (first ∷ more) ++ codes " " ++ decimal number
+adapter_text (first ∷ more) None = codes " " ++ (first ∷ more)
 
 -- A line of the ladder.
 abbrev pub rung_text : Rung → List ℕ

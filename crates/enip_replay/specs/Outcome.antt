@@ -10,7 +10,7 @@ use Rattle.cip_objects.specs.Contents.{Contents, bytes_at, udint_at}
 use Rattle.enip_bench.specs.Events.{Event, Submit, Resend, Reach, Back, Other, Shut, GiveUp}
 use Rattle.enip_bench.specs.EventResults.{EventResult, Sends, Refuses, Resends, Reaches, Accepts, Ignores, Impossible, Done}
 
--- the words of an event's line, a request's digits left out
+-- The line of an event, without the digits of a request.
 abbrev pub words : Event → List ℕ
 words (Submit request) = codes "submit"
 words Resend = codes "resend"
@@ -20,17 +20,17 @@ words (Other request) = codes "other"
 words Shut = codes "shut"
 words GiveUp = codes "giveup"
 
--- what is printed of an event that was done, and of which no more is to tell
+-- The outcome of an event that is simply done.
 abbrev pub done_text : Event → List ℕ
 done_text (Other request) = codes " done"
 done_text event = []
 
--- a position behind this word, or that there is none
+-- A word and a position, or `none`.
 abbrev pub position_words : List ℕ → Option ℕ → List ℕ
 position_words word None = codes " none"
 position_words word (Some position) = word ++ decimal position
 
--- what is printed behind an event's words of what became of it
+-- The outcome of an event, as it is printed after its line.
 abbrev pub step_text : Event → EventResult → List ℕ
 step_text event (Sends number position) = codes " " ++ decimal number ++ codes " sent " ++ decimal position
 step_text event (Refuses why) = codes " refused " ++ decimal (refused_number why)
@@ -41,25 +41,25 @@ step_text event Ignores = codes " ignored"
 step_text event Impossible = codes " impossible"
 step_text event Done = done_text event
 
--- the line of an event and of what became of it
+-- The line of an event, with its outcome.
 abbrev pub outcome : Event → EventResult → List ℕ
 outcome event event_result = words event ++ step_text event event_result
 
--- an attribute of the counter, 0 where it is no number of four bytes
+-- An attribute of the counter, or 0 if it has fewer than four bytes.
 abbrev pub counter_number : Contents → ℕ → ℕ
 counter_number contents attribute =
     if nat_le 4 (length (bytes_at contents COUNTER 1 attribute)) then udint_at contents COUNTER 1 attribute else 0
 
--- the line of the counter
+-- The line of the counter.
 abbrev pub counter_line : ℕ → ℕ → ℕ → List ℕ
 counter_line value limit additions =
     codes "counter " ++ decimal value ++ codes " " ++ decimal limit ++ codes " " ++ decimal additions
 
--- the line of an assembly with these data
+-- The line of an assembly with these data.
 abbrev pub assembly_line : ℕ → List ℕ → List ℕ
 assembly_line instance bytes = codes "assembly " ++ decimal instance ++ codes " " ++ encode_lower bytes
 
--- the line of where the client stands
+-- The line with the state of the client.
 abbrev pub final_line : Stage → List ℕ
 final_line stages.Idle = codes "client idle"
 final_line stages.Waiting = codes "client waiting"

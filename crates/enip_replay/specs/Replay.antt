@@ -1,4 +1,4 @@
--- What `enip replay` does with an adapter and the lines of its script.
+-- What `enip replay` does with an adapter and a script.
 use Rattle.std.specs.Prelude.{◌≡◌, ℕ, zero, suc, true, List, [], ◌++◌, Option, Ok, Err, codes}
 use Rattle.std.specs.Option.{option_map_or}
 use Rattle.std.specs.Io.KnownBytes.{Appends, Keeps}
@@ -21,12 +21,12 @@ use Rattle.enip_commands.specs.declared.fault.ProgramFault.TheVariants.{Memory}
 use Rattle.enip_replay.specs.declared.replaying.ReplayFailure.{ReplayFailure}
 use Rattle.enip_replay.specs.declared.replaying.ReplayFailure.TheVariants as stops
 
--- Why no bench is made, as the program tells it.
+-- Why no bench is made, as the program reports it.
 abbrev pub stop_of : BenchFault → ReplayFailure
 stop_of benches.Memory = stops.Program Memory
 stop_of benches.Setup = stops.Setup
 
--- Both ends as they stand after the opening between this adapter and the program's client.
+-- The state after the opening between this adapter and the program's client.
 abbrev pub IsOpeningOf : AdapterState → CountingWorld → Type 0
 IsOpeningOf adapter world = opening_between adapter (new_client WANTS) ≡ Ok world
 
@@ -34,7 +34,7 @@ IsOpeningOf adapter world = opening_between adapter (new_client WANTS) ≡ Ok wo
 abbrev pub IsOpeningRefused : AdapterState → Type 0
 IsOpeningRefused adapter = opening_between adapter (new_client WANTS) ≡ Err ARefusal
 
--- Why a replay ends: the opening is refused, or a line that may be, or else a device or memory failed.
+-- Why a replay ends early: the opening is refused, or a line that may be, or a device or memory failed.
 abbrev pub IsStopOf : AdapterState → ReplayFailure → Type 0
 IsStopOf adapter stops.Setup = IsOpeningRefused adapter
 IsStopOf adapter (stops.Program fault) = EndsBy (λ _ text. IsRefusedLine text) fault
@@ -49,22 +49,22 @@ abbrev pub IsStopOfDevices : ReplayFailure → Type 0
 IsStopOfDevices stops.Setup = ⊥
 IsStopOfDevices (stops.Program fault) = IsOfDevices fault
 
--- An event was done, and the line of what became of it was printed.
+-- An event was run, and its line was printed with its outcome.
 pub record IsDone (event : Event) (old new : CountingWorld) (before after : Option (List ℕ)) : Type 0 where
   pub world : new ≡ counting_step old event
   pub printed : Appends before after (with_newline (outcome event (event_result old event)))
 
--- A line was run: it is skipped, and nothing was done or printed, or the event that it means was done.
+-- A line was run: it is skipped, and nothing changed or was printed; or the event that it means was run.
 pub data IsRun (text : List ℕ) (old new : CountingWorld) (before after : Option (List ℕ)) : Type 0 where
   Skips : is_skipped text ≡ true → new ≡ old → Keeps before after → IsRun text old new before after
   Does : (event : Event) → Means text event → IsDone event old new before after → IsRun text old new before after
 
--- The line of the assembly of this instance, if there is one.
+-- The line of the assembly with this instance, if there is one.
 abbrev pub assembly_printed : Contents → ℕ → List ℕ
 assembly_printed contents instance =
     option_map_or (λ bytes. with_newline (assembly_line instance bytes)) (value_at contents ASSEMBLY instance 3) []
 
--- The lines of the assemblies of instances up to this one, by rising instance.
+-- The lines of the assemblies up to this instance, sorted by instance.
 unfoldable pub assemblies_printed : Contents → ℕ → List ℕ
 assemblies_printed contents zero = []
 assemblies_printed contents (suc instance) =
@@ -76,6 +76,6 @@ objects_printed contents =
     with_newline (counter_line (counter_number contents 1) (counter_number contents 2) (counter_number contents 3))
     ++ assemblies_printed contents 65535
 
--- What is printed at the end: the objects, and where the client stands.
+-- What is printed at the end: the objects and the state of the client.
 abbrev pub ending : CountingWorld → List ℕ
 ending world = objects_printed (counting_seen world).router ++ with_newline (final_line (counting_seen world).stage)

@@ -1,11 +1,12 @@
-//! `enip replay --ladder`: the same run as a picture, with the client, the wire and the adapter as three columns.
+//! `enip replay --ladder`: draws a run with the client, the wire and the adapter as three columns.
 //!
-//! Each rung is one event. A frame has its count and its request or reply, and its position in its direction:
+//! Each rung is a frame that is sent or delivered, or an event that moves none. An arrow shows the sequence count and
+//! the request or reply of a frame; the number on the wire is the position of the frame in its direction:
 //!
 //! ```text
-//! submit 0  |--- 1: 32022064240105000000 -->  0                                 |
-//!           |                                 0  --- 1: 32022064240105000000 -->|  executes 0
-//!           |                                 0  x-- 1: b200000005000000 -------|
+//! submit   0     |--- 1: 32022064240105000000 ----->   0                                    |
+//!                |                                     0  --- 1: 32022064240105000000 ----->|  executes 0
+//!                |                                     0  x-- 1: b200000005000000 ----------|
 //! ```
 
 ghost use Rattle.std.specs.Prelude.{IfErr};
@@ -27,25 +28,24 @@ use enip_wire::{Header, unit_body};
 use std::alloc::Global;
 use std::io::{BufWriter, Write};
 
-/// What is said at the end. That it is so for every script is what `Bench::seen` promises.
-const SAME: &str = "both worlds show the same: what a world without counts or kept replies shows";
+/// The last line. It holds for every script: that is what `Bench::seen` promises.
+const SAME: &str = "same result as in a world without sequence counts or kept replies";
 
 /// The names of the columns.
-const HEAD: &str =
-    "            client                                 wire                               adapter";
+const HEAD: &str = "          client                    wire                    adapter";
 
-/// What is said where the adapter executes nothing, since the count is that of the reply that it keeps.
-const KEPT: &str = "kept reply of";
+/// The note for a repeat: the adapter executes nothing, since the count is that of its kept reply.
+const KEPT: &str = "repeat of";
 
-/// How many counts there are. (Volume 1, transport class 3.)
+/// How many sequence counts there are. (Volume 1, transport class 3.)
 const COUNTS: usize = 65_536;
 
-/// Moves a client and an adapter by the lines of a script, and draws on `output` what became of each, and at the end
-/// prints where both stand. What was drawn before a line is refused is written.
+/// Runs a script with a client and an adapter. Draws the run on `output`, and then prints the objects and the state
+/// of the client. If a line is refused, the events before it are still drawn.
 ///
 /// # Errors
 ///
-/// As `replay`.
+/// As for [`replay`](crate::replay).
 pub fn draw_replay<W: Write + Drop>(
     alloc: Global,
     adapter: Adapter,
@@ -60,7 +60,7 @@ pub fn draw_replay<W: Write + Drop>(
     Ok(())
 }
 
-/// Runs the lines of a script at a bench, and draws what became of them.
+/// Runs a script at a bench and draws it.
 fn draw_script<W: Write + Drop>(
     alloc: Global,
     bench: Bench,
@@ -79,7 +79,7 @@ fn draw_script<W: Write + Drop>(
     draw_events(alloc, script, &mut climber, &mut output)
 }
 
-/// Runs the lines of a script, and draws what became of them.
+/// Runs a script, draws it on a buffered output, and flushes it.
 fn draw_events<W: Write>(
     alloc: Global,
     script: &[u8],
@@ -97,46 +97,46 @@ fn draw_events<W: Write>(
     ran
 }
 
-/// What happened, as it is drawn.
+/// An event with its outcome, as the ladder shows it.
 #[derive(Drop)]
 enum LadderEvent {
-    /// The request of a number was submitted or sent again, at a position.
+    /// The client sent or resent this request. The frame is at this position.
     Sent {
         words: &'static str,
         number: usize,
         position: usize,
     },
-    /// The frame sent at a position reached the adapter, which answered at a position, or did not.
+    /// The frame at this position reached the adapter, which answered with the frame at `back`, or not at all.
     Reached {
         position: usize,
         back: Option<usize>,
     },
-    /// The frame sent back at a position reached the client, which accepted it or not.
+    /// The answer at this position reached the client, which accepted or ignored it.
     Heard {
         position: usize,
         accepted: bool,
     },
-    /// Something that moves no frame, at the client or at the adapter.
+    /// An event that moves no frame, drawn next to the client or the adapter.
     Aside {
         words: String,
         way: Direction,
     },
 }
 
-/// All that happened, and what lies in the frames that were sent.
+/// The events so far, and what is needed to draw their frames.
 #[derive(Drop)]
 struct Ladder {
-    /// The requests, by number.
+    /// The requests, indexed by number.
     requests: Vec<Vec<u8>>,
-    /// The number of the request of each frame that was sent, by position, and whether it reached the adapter.
+    /// For each frame from the client, by position: the number of its request, and whether it reached the adapter.
     sent: Vec<(usize, bool)>,
-    /// Whether each frame that was sent back reached the client, by position.
+    /// For each frame from the adapter, by position: whether it reached the client.
     heard: Vec<bool>,
     happened: Vec<LadderEvent>,
 }
 
 impl Ladder {
-    /// One of nothing.
+    /// A ladder without events.
     fn new(alloc: Global) -> Ladder {
         Ladder {
             requests: Vec::new(alloc),
@@ -146,7 +146,7 @@ impl Ladder {
         }
     }
 
-    /// Puts what happened behind the rest.
+    /// Appends an event.
     fn put(&mut self, event: Event, happened: LadderEvent) -> Result<(), ProgramFault>
         ensures { IfErr result IsOfDevices }
     {
@@ -158,7 +158,7 @@ impl Ladder {
         Ok(())
     }
 
-    /// Marks the frames that were sent or have arrived.
+    /// Records which frames were sent and which have arrived.
     fn mark(&mut self, happened: &LadderEvent) -> Result<(), ProgramFault>
         ensures { IfErr result IsOfDevices }
     {
@@ -182,7 +182,7 @@ impl Ladder {
         Ok(())
     }
 
-    /// Keeps the request that was submitted, if one was.
+    /// Keeps the request of a `Submit`.
     fn keep(&mut self, event: Event) -> Result<(), ProgramFault>
         ensures { IfErr result IsOfDevices }
     {
@@ -192,23 +192,23 @@ impl Ladder {
         Ok(())
     }
 
-    /// The number of the request that was submitted last.
+    /// The number of the last submitted request.
     fn last_number(&self) -> usize {
         self.requests.len().saturating_sub(1)
     }
 
-    /// The number of the request that was sent at a position.
+    /// The number of the request in the client's frame at a position.
     fn number_at(&self, position: usize) -> usize {
         self.sent.get(position).map_or(0, |sent| sent.0)
     }
 
-    /// The arrow of the request that was sent at a position.
+    /// The arrow of the client's frame at a position.
     fn request_at(&self, position: usize, arrives: bool) -> Field<'_> {
         let number = self.number_at(position);
         Field::Arrow(Arrow {
             way: Direction::ToAdapter,
             arrives,
-            // counts go from the first on, and begin anew at 65,536 (transport class 3)
+            // counts go up from the first one and wrap at 65,536 (Volume 1, transport class 3)
             count: WANTS.first_count.wrapping_add((number % COUNTS) as u16),
             message: self
                 .requests
@@ -218,7 +218,7 @@ impl Ladder {
     }
 }
 
-/// The item in a frame that was sent back: its count and its reply.
+/// The sequence count and the reply in a frame from the adapter.
 fn item_of(frame: &[u8]) -> (u16, &[u8]) {
     if frame.len() < Header::SIZE {
         return (0, &[]);
@@ -231,17 +231,17 @@ fn item_of(frame: &[u8]) -> (u16, &[u8]) {
     }
 }
 
-/// What was drawn so far.
+/// What the rungs so far show.
 #[derive(Clone, Copy)]
 struct Drawn {
-    /// The number of the request that was sent last.
+    /// The number of the request that the client sent last.
     submitted: usize,
     /// The number of the request whose reply the adapter keeps.
     kept: Option<usize>,
 }
 
 impl Drawn {
-    /// What the adapter does with the request of a number: the count of the one whose reply it keeps is known to it.
+    /// What the adapter does with this request: a repeat of the last one gets the kept reply.
     fn executed(&mut self, number: usize) -> &'static str {
         if self.kept == Some(number) {
             return KEPT;
@@ -251,9 +251,9 @@ impl Drawn {
     }
 }
 
-/// The lines of a ladder.
+/// Drawing.
 impl Ladder {
-    /// Draws all that happened. `back` are the frames that were sent back.
+    /// Draws all events. `back` has the frames from the adapter.
     fn draw<'a, W: Write>(&'a self, back: &'a Frames, output: &mut W) -> Result<(), ProgramFault>
         ensures { IfErr result IsOfDevices }
     {
@@ -268,7 +268,7 @@ impl Ladder {
         Ok(())
     }
 
-    /// Draws one thing that happened.
+    /// Draws one event.
     fn draw_one<'a, W: Write>(
         &'a self,
         happened: &'a LadderEvent,
@@ -334,7 +334,7 @@ impl Ladder {
         }
     }
 
-    /// The adapter sends a reply back.
+    /// The adapter sends a reply.
     fn answered<'a>(&'a self, back: &'a Frames, position: usize) -> Rung<'a> {
         let arrives = self.heard.get(position).is_some_and(|heard| *heard);
         Rung {
@@ -355,7 +355,7 @@ fn draw_rung<W: Write>(rung: Rung<'_>, output: &mut W) -> Result<(), ProgramFaul
     Ok(())
 }
 
-/// The arrow of the reply that was sent back at a position.
+/// The arrow of the adapter's frame at a position.
 fn reply_at(back: &Frames, position: usize, arrives: bool) -> Field<'_> {
     let (count, message) = item_of(back.get(position).unwrap_or(&[]));
     Field::Arrow(Arrow {
@@ -366,7 +366,7 @@ fn reply_at(back: &Frames, position: usize, arrives: bool) -> Field<'_> {
     })
 }
 
-/// A reply reaches the client, which accepts it as that of a request, or ignores it.
+/// A reply reaches the client, which accepts it for a request or ignores it.
 fn heard(back: &Frames, position: usize, number: Option<usize>) -> Rung<'_> {
     let words = if number.is_some() {
         "accepts"
@@ -382,7 +382,7 @@ fn heard(back: &Frames, position: usize, number: Option<usize>) -> Rung<'_> {
     }
 }
 
-/// Something moves no frame, at the end from which this way leads.
+/// An event that moves no frame, next to the end where arrows of this direction start.
 fn aside(words: &str, way: Direction) -> Rung<'_> {
     let (near, far) = match way {
         Direction::ToAdapter => (Field::Words(words), Field::Blank),
@@ -397,7 +397,7 @@ fn aside(words: &str, way: Direction) -> Rung<'_> {
     }
 }
 
-/// Both ends, and what happened to them.
+/// The bench and the ladder of its events.
 #[derive(Drop)]
 struct LadderWriter {
     alloc: Global,
@@ -407,7 +407,7 @@ struct LadderWriter {
 }
 
 impl LadderWriter {
-    /// Does an event, and keeps what became of it.
+    /// Runs an event, and appends it to the ladder.
     fn run_event(&mut self, event: Event) -> Result<(), ProgramFault>
         ensures { IfErr result IsOfDevices }
     {
@@ -416,14 +416,14 @@ impl LadderWriter {
         self.ladder.put(event, happened)
     }
 
-    /// Draws what happened.
+    /// Draws the ladder.
     fn draw<W: Write>(&self, output: &mut W) -> Result<(), ProgramFault>
         ensures { IfErr result IsOfDevices }
     {
         self.ladder.draw(self.bench.seen().back, output)
     }
 
-    /// Prints where both ends stand.
+    /// Prints the objects, the state of the client, and the last line.
     fn end<W: Write>(&self, output: &mut W) -> Result<(), ProgramFault>
         ensures { IfErr result IsOfDevices }
     {
@@ -435,7 +435,7 @@ impl LadderWriter {
     }
 }
 
-/// What is kept of an event and of what became of it. `last` is the number of the request that was submitted last.
+/// An event with its outcome, as the ladder shows it. `last` is the number of the last submitted request.
 fn what_happened(
     alloc: Global,
     event: &Event,
@@ -474,7 +474,7 @@ fn what_happened(
     })
 }
 
-/// The way that leads from the end at which an event happens.
+/// The direction of arrows that start at the end where an event happens.
 fn end_of(event: &Event) -> Direction {
     match event {
         Event::Reach(_) | Event::Other(_) | Event::Shut => Direction::ToClient,

@@ -1,9 +1,11 @@
-//! An adapter and a client side by side, moved by the lines of a script.
+//! `enip replay`: runs a client and an adapter side by side, step by step, as a script says.
 //!
-//! [`replay`] prints what became of each line, and the objects at the end. [`draw_replay`] draws the frames between both
-//! ends as a ladder. `specs/Script.antt` defines the lines and what each means, `specs/Outcome.antt` and
-//! `specs/Replay.antt` what a replay prints, `specs/Ladder.antt` the lines of the picture. A [`ReplayFailure`] says why a
-//! replay ended early. The caller makes the adapter.
+//! [`replay`] prints the outcome of each event, and the objects and the state of the client at the end.
+//! [`draw_replay`] draws the frames between client and adapter as a ladder. A [`ReplayFailure`] says why a replay
+//! ended early. The caller makes the adapter.
+//!
+//! `specs/Script.antt` defines the lines of a script and what they mean, `specs/Outcome.antt` and `specs/Replay.antt`
+//! what is printed, and `specs/Ladder.antt` the lines of the picture.
 #![tactic(auto)]
 
 mod ladder;

@@ -1,4 +1,4 @@
-//! What `enip replay` prints: what became of an event, and where both ends stand at the end.
+//! The lines that `enip replay` prints: the outcome of an event, and the final state.
 
 ghost use Rattle.std.specs.Prelude.{◌≡◌, Some};
 ghost use Rattle.enip_replay.specs.Outcome.{counter_number};
@@ -11,7 +11,7 @@ use enip_bench::{Event, Step};
 use enip_commands::Digits;
 use std::fmt;
 
-/// The words of an event's line, a request's digits left out.
+/// The line of an event, without the digits of a request.
 #[derive(Clone, Copy)]
 struct Words<'a>(&'a Event);
 
@@ -34,7 +34,7 @@ impl fmt::Display for Words<'_> {
     }
 }
 
-/// What became of an event, and the event.
+/// An event and its outcome.
 #[derive(Clone, Copy)]
 pub(crate) struct Outcome<'a, 'b> {
     pub(crate) event: &'a Event,
@@ -66,7 +66,7 @@ impl fmt::Display for Outcome<'_, '_> {
     }
 }
 
-/// The counter's value and limit, and how many additions it took.
+/// The value and limit of the counter, and its number of additions.
 #[derive(Clone, Copy)]
 pub(crate) struct Counter {
     value: u32,
@@ -104,7 +104,7 @@ impl fmt::Display for Counter {
     }
 }
 
-/// An attribute of the counter, 0 where there is none.
+/// An attribute of the counter, or 0 if there is none.
 fn counter_number(objects: &Objects, attribute: u16) -> u32
     ensures { result ≡ counter_number objects.now attribute }
 {
@@ -131,7 +131,7 @@ impl fmt::Display for AssemblyData<'_> {
     }
 }
 
-/// Where the client stands.
+/// The state of the client.
 #[derive(Clone, Copy)]
 pub(crate) struct FinalState(pub(crate) Stage);
 

@@ -1,14 +1,14 @@
-//! `enip replay`: a client and an adapter side by side, moved by the lines of a script.
+//! `enip replay`: runs a script with a client and an adapter, and prints the outcome of each event.
 
 ghost use Rattle.std.specs.Prelude.{◌≡◌, true, false, IfOk, IfErr, OnOk, OnErr};
 ghost use Rattle.std.specs.Io.Buffered.{writer_contents};
 ghost use Rattle.std.specs.Io.KnownBytes.{Appends, Keeps};
 ghost use Rattle.enip_bench.specs.Reached.{IsNewAdapter};
 ghost use Rattle.enip_bench.specs.Stored.{event_in};
-ghost use Rattle.enip_replay.specs.Replay.{IsOpeningOf, IsStopOf, IsDone, IsRun, ending};
+ghost use Rattle.enip_replay.specs.Replay.{IsOpeningOf, IsStopOf, IsDone, IsRun, ending, replay_failure_status};
 ghost use Rattle.enip_replay.specs.Replay.{objects_printed, assembly_printed, assemblies_printed};
 ghost use Rattle.enip_replay.specs.Script.{IsRefusedLine};
-ghost use Rattle.enip_commands.specs.Statuses.{EndsBy, IsOfDevices, replay_failure_status};
+ghost use Rattle.enip_commands.specs.Statuses.{EndsBy, IsOfDevices};
 
 use crate::outcome::{AssemblyData, Counter, FinalState, Outcome};
 use crate::script::{event_of, is_skipped, line_fault};
@@ -22,22 +22,22 @@ use std::alloc::Global;
 use std::io::{self, BufWriter, Write};
 use thiserror::Error;
 
-/// The attribute of an assembly that is its data. (Volume 1, Assembly.)
+/// The attribute that has the data of an assembly. (Volume 1, Assembly.)
 const DATA: u16 = 3;
 
-/// The greatest instance that an assembly can have. (Volume 1, Assembly.)
+/// The greatest instance number of an assembly. (Volume 1, Assembly.)
 const LAST_INSTANCE: u32 = 65_535;
 
-/// Moves a client and an adapter by the lines of a script, and prints on `output` what became of each, and at the end
-/// where both stand.
+/// Runs a script with a client and an adapter. Prints the outcome of each event on `output`, and then the objects and
+/// the state of the client.
 ///
-/// Before a line is refused what the lines before it told is written.
+/// If a line is refused, the outcomes of the lines before it are still written.
 ///
 /// # Errors
 ///
-/// `Setup` where the client could not open its connection, or the second session could not begin. `Program` with
-/// `Line` and the number of the first line, from 1, that is refused; with `Device` where the output could not be
-/// written; with `Memory` where memory is refused.
+/// `Setup` if the client cannot open its connection, or the second session cannot begin. `Program` with `Line` and
+/// the number of the first line that is refused, from 1; with `Device` if the output could not be written; with
+/// `Memory` if memory was refused.
 pub fn replay<W: Write + Drop>(
     alloc: Global,
     adapter: Adapter,
@@ -52,7 +52,7 @@ pub fn replay<W: Write + Drop>(
     Ok(())
 }
 
-/// Runs the lines of a script at a bench, and prints where both ends stand.
+/// Runs a script at a bench, and prints the final state.
 fn play<W: Write + Drop>(
     alloc: Global,
     bench: Bench,
@@ -72,10 +72,10 @@ fn play<W: Write + Drop>(
     player.end(ran)
 }
 
-/// Why a replay ends early. Its text goes to standard error.
+/// Why a replay ends early. The text is the code for scripts on standard error.
 #[derive(Clone, Copy, Debug, PartialEq, Eq, Error)]
 pub enum ReplayFailure {
-    /// The client could not open its connection, or the second session could not begin.
+    /// The client cannot open its connection, or the second session cannot begin.
     #[error("setup")]
     Setup,
     /// The program itself failed.
@@ -84,7 +84,7 @@ pub enum ReplayFailure {
 }
 
 impl ReplayFailure {
-    /// The exit status of the program.
+    /// The exit status of the program: 6, or that of the program's own fault.
     pub fn exit_status(self) -> u8
         ensures { result ≡ replay_failure_status self }
     {
@@ -128,7 +128,11 @@ impl From<BenchFault> for ReplayFailure {
     }
 }
 
-/// An adapter and a client with its connection open.
+/// A bench with this adapter, and a client whose connection is open.
+///
+/// # Errors
+///
+/// `Setup` and `Program` with `Memory`, as for `replay`.
 pub(crate) fn bench_of(alloc: Global, adapter: Adapter) -> Result<Bench, ReplayFailure>
     requires { IsNewAdapter adapter }
     ensures made { IfOk result (IsOpeningOf adapter) }
@@ -140,7 +144,7 @@ pub(crate) fn bench_of(alloc: Global, adapter: Adapter) -> Result<Bench, ReplayF
     Ok(Bench::new(alloc, adapter, client)?)
 }
 
-/// Both ends, and where what became of each event goes.
+/// The bench and the output.
 #[derive(Drop)]
 struct Player<W: Write + Drop> {
     alloc: Global,
@@ -150,7 +154,7 @@ struct Player<W: Write + Drop> {
 }
 
 impl<W: Write + Drop> Player<W> {
-    /// Runs a line, and says whether it is one that can be run.
+    /// Runs a line. Returns false if it is refused.
     fn run_line(&mut self, text: &[u8]) -> Result<bool, ProgramFault>
         ensures run { IfOk result (λ runs. runs ≡ true → IsRun text.now self.old.bench self.new.bench
             (writer_contents W.contents self.old.output) (writer_contents W.contents self.new.output)) }
@@ -167,7 +171,7 @@ impl<W: Write + Drop> Player<W> {
         Ok(true)
     }
 
-    /// Does an event, and tells what became of it.
+    /// Runs an event and prints its outcome.
     fn run_event(&mut self, event: &Event) -> Result<(), ProgramFault>
         ensures done { OnOk result (IsDone (event_in event.now) self.old.bench self.new.bench
             (writer_contents W.contents self.old.output) (writer_contents W.contents self.new.output)) }
@@ -178,7 +182,7 @@ impl<W: Write + Drop> Player<W> {
         Ok(())
     }
 
-    /// Prints where both ends stand, where all lines were run.
+    /// Prints the final state if all lines were run. Otherwise returns the error of `ran`.
     fn end(&mut self, ran: Result<(), ProgramFault>) -> Result<(), ProgramFault>
         ensures printed { OnOk ran (OnOk result (Appends (writer_contents W.contents self.old.output)
             (writer_contents W.contents self.new.output) (ending self.old.bench))) }
@@ -211,7 +215,7 @@ impl<W: Write + Drop> TakeLines for Player<W> {
     }
 }
 
-/// Prints the counter, and the data of each assembly, by rising instance.
+/// Prints the counter and the data of each assembly, sorted by instance.
 pub(crate) fn print_objects<W: Write>(output: &mut W, objects: &Objects) -> Result<(), ProgramFault>
     ensures printed { OnOk result (Appends (W.contents output.old) (W.contents output.new)
         (objects_printed objects.now)) }
@@ -221,7 +225,7 @@ pub(crate) fn print_objects<W: Write>(output: &mut W, objects: &Objects) -> Resu
     print_assemblies(output, objects)
 }
 
-/// Prints the data of each assembly, by rising instance.
+/// Prints the data of each assembly, sorted by instance.
 fn print_assemblies<W: Write>(output: &mut W, objects: &Objects) -> Result<(), ProgramFault>
     ensures printed { OnOk result (Appends (W.contents output.old) (W.contents output.new)
         (assemblies_printed objects.now LAST_INSTANCE)) }
@@ -234,7 +238,7 @@ fn print_assemblies<W: Write>(output: &mut W, objects: &Objects) -> Result<(), P
     Ok(())
 }
 
-/// Prints the data of the assembly of an instance, if there is one; they are read into `data`.
+/// Prints the data of an assembly, if it exists. `data` is a scratch buffer.
 fn print_assembly<W: Write>(
     output: &mut W,
     objects: &Objects,

@@ -1,4 +1,6 @@
-//! The rungs of a ladder: a line of text for what happened, with the client, the wire and the adapter as columns.
+//! The rungs of a ladder: one line of text each, with the client, the wire and the adapter as columns.
+//!
+//! A rung has at most 80 characters, unless a position has more than four digits or a request number more than five.
 
 ghost use Rattle.std.specs.Prelude.{◌≡◌, ◌≤◌, ◌*◌, min, length, replicate, Some};
 ghost use Rattle.std.specs.Fmt.{WritesOnOk};
@@ -7,24 +9,24 @@ ghost use Rattle.enip_replay.specs.Ladder.{digits_of};
 use enip_commands::Digits;
 use std::fmt;
 
-/// How many characters an arrow has between an end and the wire.
-const WIDTH: usize = 34;
+/// The width of a column between an end and the wire, in characters.
+const WIDTH: usize = 22;
 
-/// How many bytes of a request or a reply are shown whole.
-const SHOWN: usize = 10;
+/// A request or a reply of up to this many bytes is shown whole.
+const SHOWN: usize = 6;
 
-/// What lies between an end and the wire.
+/// What is drawn between an end and the wire.
 #[derive(Clone, Copy)]
 pub(crate) enum Field<'a> {
     /// Nothing.
     Blank,
-    /// What became of an event that sends and delivers nothing.
+    /// The outcome of an event that moves no frame.
     Words(&'a str),
-    /// An item, with its count and its request or reply.
+    /// An item with its sequence count and its request or reply.
     Arrow(Arrow<'a>),
 }
 
-/// Where an arrow points.
+/// The direction of an arrow.
 #[derive(Clone, Copy)]
 pub(crate) enum Direction {
     /// From the client to the adapter.
@@ -33,11 +35,11 @@ pub(crate) enum Direction {
     ToClient,
 }
 
-/// An item that is under way.
+/// An item on its way.
 #[derive(Clone, Copy)]
 pub(crate) struct Arrow<'a> {
     pub(crate) way: Direction,
-    /// Whether it arrives where the arrow points; a cross stands there if not.
+    /// Whether it arrives. If not, the arrow has a cross for a head.
     pub(crate) arrives: bool,
     pub(crate) count: u16,
     /// The request or the reply.
@@ -68,28 +70,28 @@ impl fmt::Display for Arrow<'_> {
 
     fn fmt<W: fmt::Write>(&self, f: &mut fmt::Formatter<W>) -> fmt::Result {
         let (count, message) = (self.count, Message(self.message));
-        let room = WIDTH.saturating_sub(2 + digits_of(count) + message.width());
+        let rest = WIDTH.saturating_sub(5 + digits_of(count) + message.width());
         match self.way {
             Direction::ToAdapter => {
-                write!(f, "--- {count}: {message} ")?;
-                write_dashes(f, room.saturating_sub(6))?;
+                write!(f, "-{count}: {message} ")?;
+                write_dashes(f, rest)?;
                 f.write_str(if self.arrives { ">" } else { "x" })
             }
             Direction::ToClient => {
                 f.write_str(if self.arrives { "<" } else { "x" })?;
-                write!(f, "-- {count}: {message} ")?;
-                write_dashes(f, room.saturating_sub(5))
+                write!(f, "-{count}: {message} ")?;
+                write_dashes(f, rest)
             }
         }
     }
 }
 
-/// A request or a reply as hexadecimal digits, the end of a long one left out.
+/// A request or a reply in hexadecimal. A long one is cut, and ends in `..`.
 #[derive(Clone, Copy)]
 struct Message<'a>(&'a [u8]);
 
 impl Message<'_> {
-    /// How many characters it has.
+    /// The number of characters.
     fn width(self) -> usize
         ensures width { result ≡ 2 * min (length self.entry.0.now) SHOWN }
         ensures few { result ≤ 2 * SHOWN }
@@ -111,7 +113,7 @@ impl fmt::Display for Message<'_> {
     }
 }
 
-/// How many decimal digits a count has.
+/// The number of decimal digits of a count.
 fn digits_of(count: u16) -> usize
     ensures digits { result ≡ digits_of count }
     ensures few { result ≤ 5 }
@@ -125,7 +127,7 @@ fn digits_of(count: u16) -> usize
     }
 }
 
-/// Writes so many spaces.
+/// Writes `count` spaces.
 fn write_spaces<W: fmt::Write>(f: &mut fmt::Formatter<W>, count: usize) -> fmt::Result
     ensures { WritesOnOk W.write_str_gives f.old result (replicate count 32) f.new }
 {
@@ -135,7 +137,7 @@ fn write_spaces<W: fmt::Write>(f: &mut fmt::Formatter<W>, count: usize) -> fmt::
     Ok(())
 }
 
-/// Writes so many dashes.
+/// Writes `count` dashes.
 fn write_dashes<W: fmt::Write>(f: &mut fmt::Formatter<W>, count: usize) -> fmt::Result
     ensures { WritesOnOk W.write_str_gives f.old result (replicate count 45) f.new }
 {
@@ -145,7 +147,7 @@ fn write_dashes<W: fmt::Write>(f: &mut fmt::Formatter<W>, count: usize) -> fmt::
     Ok(())
 }
 
-/// What stands beside an end, with the number of a request where it is about one.
+/// The note next to an end, with the number of a request if it concerns one.
 #[derive(Clone, Copy)]
 pub(crate) struct Note<'a> {
     pub(crate) words: &'a str,
@@ -153,7 +155,7 @@ pub(crate) struct Note<'a> {
 }
 
 impl Note<'_> {
-    /// Nothing.
+    /// No note.
     pub(crate) const BLANK: Note<'static> = Note {
         words: "",
         number: None,
@@ -163,7 +165,7 @@ impl Note<'_> {
 /// A line of the ladder.
 #[derive(Clone, Copy)]
 pub(crate) struct Rung<'a> {
-    /// Beside the client: what was asked of it, or what it accepted.
+    /// Next to the client: which request it sent, or what it accepted.
     pub(crate) client: Note<'a>,
     /// Between the client and the wire.
     pub(crate) near: Field<'a>,
@@ -171,7 +173,7 @@ pub(crate) struct Rung<'a> {
     pub(crate) position: Option<usize>,
     /// Between the wire and the adapter.
     pub(crate) far: Field<'a>,
-    /// Beside the adapter: what was executed.
+    /// Next to the adapter: what it executed.
     pub(crate) adapter: Note<'a>,
 }
 
@@ -187,7 +189,7 @@ impl fmt::Display for Rung<'_> {
     }
 }
 
-/// What stands beside the client.
+/// The note next to the client.
 #[derive(Clone, Copy)]
 struct AtClient<'a>(Note<'a>);
 
@@ -199,13 +201,13 @@ impl fmt::Display for AtClient<'_> {
     fn fmt<W: fmt::Write>(&self, f: &mut fmt::Formatter<W>) -> fmt::Result {
         let words = self.0.words;
         match self.0.number {
-            Some(number) => write!(f, "{words:<9}{number:<6}|"),
-            None => write!(f, "{words:<15}|"),
+            Some(number) => write!(f, "{words:<8}{number:<5}|"),
+            None => write!(f, "{words:<13}|"),
         }
     }
 }
 
-/// The position of a frame, if there is one.
+/// The position of a frame, or blanks.
 #[derive(Clone, Copy)]
 struct OnWire(Option<usize>);
 
@@ -216,13 +218,13 @@ impl fmt::Display for OnWire {
 
     fn fmt<W: fmt::Write>(&self, f: &mut fmt::Formatter<W>) -> fmt::Result {
         match self.0 {
-            Some(position) => write!(f, "{position:>4}  "),
-            None => f.write_str("      "),
+            Some(position) => write!(f, "{position:>4} "),
+            None => f.write_str("     "),
         }
     }
 }
 
-/// What stands beside the adapter.
+/// The note next to the adapter.
 #[derive(Clone, Copy)]
 struct AtAdapter<'a>(Note<'a>);
 
@@ -237,8 +239,8 @@ impl fmt::Display for AtAdapter<'_> {
             return Ok(());
         }
         match self.0.number {
-            Some(number) => write!(f, "  {words} {number}"),
-            None => write!(f, "  {words}"),
+            Some(number) => write!(f, " {words} {number}"),
+            None => write!(f, " {words}"),
         }
     }
 }

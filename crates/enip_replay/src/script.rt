@@ -1,4 +1,4 @@
-//! The lines that `enip replay` reads.
+//! The lines of a script.
 
 ghost use Rattle.std.specs.Prelude.{◌≡◌, ◌<◌, ◌^◌, ◌++◌, None, IfSome, IfOk, IfErr, MatchOption, option_map};
 ghost use Rattle.std.specs.Option.{SomeIff};
@@ -12,19 +12,19 @@ use enip_bench::Event;
 use enip_commands::{LineFault, ProgramFault, decimal, decode};
 use std::alloc::Global;
 
-/// Whether a line is empty or a remark.
+/// Whether a line is empty or a comment.
 pub(crate) fn is_skipped(text: &[u8]) -> bool
     ensures { result ≡ is_skipped text.now }
 {
     matches!(text, [] | [b'#', ..])
 }
 
-/// The event of a line: `submit HEX`, `resend`, `reach K`, `back J`, `other HEX`, `shut` or `giveup`. None where it is
-/// no such line. `digits` is room for digits without their spaces.
+/// Parses a line: `submit HEX`, `resend`, `reach K`, `back J`, `other HEX`, `shut` or `giveup`. `None` if it is none
+/// of these. `digits` is a scratch buffer for hexadecimal digits without their spaces.
 ///
 /// # Errors
 ///
-/// `Memory` where memory is refused.
+/// `Memory` if memory is refused.
 pub(crate) fn event_of(
     alloc: Global,
     text: &[u8],
@@ -49,7 +49,7 @@ pub(crate) fn event_of(
     Ok(event_of_word(text))
 }
 
-/// The event of a line of one word.
+/// Parses a line of one word.
 fn event_of_word(text: &[u8]) -> Option<Event>
     ensures meant { IfSome result (λ event. Means text.now (event_in event)) }
     ensures other { result ≡ None → IsNotAKeyword text.now }
@@ -62,14 +62,14 @@ fn event_of_word(text: &[u8]) -> Option<Event>
     }
 }
 
-/// What stands behind a word.
+/// The rest of a line that starts with a word, or `None` if it does not.
 fn rest_after<'a>(word: &[u8], text: &'a [u8]) -> Option<&'a [u8]>
     ensures { MatchOption result (BeginsOtherwise word.now text.now) (λ rest. text.now ≡ word.now ++ rest.now) }
 {
     text.strip_prefix(word)
 }
 
-/// The position that decimal digits spell.
+/// The position that decimal digits spell, or `None`.
 fn position_of(digits: &[u8]) -> Option<usize>
     ensures { SomeIff result (IsNumeral 10 digits.now × (digits_value 10 digits.now < 2 ^ 64))
         (digits_value 10 digits.now) }
@@ -77,7 +77,7 @@ fn position_of(digits: &[u8]) -> Option<usize>
     Some(decimal(digits)? as usize)
 }
 
-/// The bytes that hexadecimal digits spell, perhaps none, with spaces or without.
+/// The bytes that hexadecimal digits spell, or `None` if they are not hexadecimal. Spaces are ignored.
 fn bytes_of(
     alloc: Global,
     text: &[u8],
@@ -94,7 +94,7 @@ fn bytes_of(
     }
 }
 
-/// Why a line of a script is refused.
+/// The reason for refusing a line of a script.
 pub(crate) fn line_fault(text: &[u8]) -> LineFault {
     match text {
         [b's', b'u', b'b', b'm', b'i', b't', b' ', ..] => LineFault::Submit,

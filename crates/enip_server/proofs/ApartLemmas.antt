@@ -1,4 +1,4 @@
--- The peers of an adapter have handles of their own, each below the adapter's next one.
+-- The peers of an adapter have different handles, each below the adapter's next one.
 use Rattle.std.proofs.Common.{◌≡◌, ◌≢◌, ◌<◌, ◌≤◌, ◌+◌, ℕ, zero, suc, List, [], ◌∷◌, replicate, slice_get, slice_set}
 use Rattle.std.proofs.Common.{Bool, true, Option, Some, None, refl, sym, subst, arith}
 use Rattle.std.specs.Prelude.{◌-◌, length, ⊤}
@@ -6,19 +6,19 @@ use Rattle.enip_adapter.specs.Calls.{AdapterState}
 use Rattle.enip_server.specs.declared.peer_io.PeerIo.{PeerIo}
 use Rattle.enip_server.specs.Rounds.{ServerState, new_peers, marked_ready_in, marked_ready_at}
 
--- None of these lines is of this peer.
+-- None of these slots holds this peer.
 abbrev pub HasNone : {W : Type 0} → ℕ → List (Option (PeerIo W)) → Type 0
 HasNone peer [] = ⊤
 HasNone peer (None ∷ slots) = HasNone peer slots
 HasNone peer (Some io ∷ slots) = (io.peer ≢ peer) × HasNone peer slots
 
--- The peers of these lines differ.
+-- The peers in these slots differ.
 abbrev pub AreApart : {W : Type 0} → List (Option (PeerIo W)) → Type 0
 AreApart [] = ⊤
 AreApart (None ∷ slots) = AreApart slots
 AreApart (Some io ∷ slots) = HasNone io.peer slots × AreApart slots
 
--- The peers of these lines are below a number.
+-- The handles of the peers in these slots are below a number.
 abbrev pub AreBelow : {W : Type 0} → ℕ → List (Option (PeerIo W)) → Type 0
 AreBelow n [] = ⊤
 AreBelow n (None ∷ slots) = AreBelow n slots
@@ -28,7 +28,7 @@ pub record AreSound {W : Type 0} (p : ServerState W) : Type 0 where
   pub apart : AreApart p.slots
   pub below : AreBelow p.adapter.state.next_handle p.slots
 
--- A place is free, or its peer is the one that was there.
+-- A slot is free, or holds the same peer as before.
 abbrev pub IsOf : {W : Type 0} → Option (PeerIo W) → Option (PeerIo W) → Type 0
 IsOf None None = ⊤
 IsOf None (Some after) = ⊥
@@ -42,7 +42,7 @@ AreOf (io ∷ slots) [] = ⊥
 AreOf (io ∷ slots) (slot ∷ places) = IsOf io slot × AreOf slots places
 
 module _ {W : Type 0} where
-  -- the places after the first
+  -- the slots after the first
   pub none_tail : (peer : ℕ) (first : Option (PeerIo W)) (slots : List (Option (PeerIo W))) → HasNone peer (first ∷ slots)
       → HasNone peer slots
   none_tail peer None slots none = none
@@ -57,7 +57,7 @@ module _ {W : Type 0} where
   below_tail n None slots below = below
   below_tail n (Some io) slots below = below.1
 
-  -- a place holds no line of a peer of which there is none
+  -- no slot holds a peer that is in none of them
   pub none_at : (peer : ℕ) (slots : List (Option (PeerIo W))) (slot : ℕ) (io : PeerIo W) → HasNone peer slots
       → slice_get slots slot ≡ Some (Some io) → io.peer ≢ peer
   none_at peer [] slot io none there = cc
@@ -67,7 +67,7 @@ module _ {W : Type 0} where
   none_at peer (first ∷ slots) (suc slot) io none there =
       none_at peer slots slot io (none_tail peer first slots none) there
 
-  -- the next number is no peer's
+  -- no peer has the next handle
   none_next : (n : ℕ) (slots : List (Option (PeerIo W))) → AreBelow n slots → HasNone n slots
   none_next n [] below = tt
   none_next n (None ∷ slots) below = none_next n slots below
@@ -80,7 +80,7 @@ module _ {W : Type 0} where
   below_more n m (Some io ∷ slots) more below =
       (let first : io.peer < n = below.0 in omega arith, below_more n m slots more below.1)
 
-  -- one peer more
+  -- one more peer
   none_set : (peer slot : ℕ) (io : PeerIo W) (slots : List (Option (PeerIo W))) → io.peer ≢ peer → HasNone peer slots
       → HasNone peer (slice_set slots slot (Some io))
   none_set peer slot io [] differs none = tt
@@ -107,7 +107,7 @@ module _ {W : Type 0} where
   below_set n (suc slot) io (None ∷ slots) less below = below_set n slot io slots less below
   below_set n (suc slot) io (Some first ∷ slots) less below = (below.0, below_set n slot io slots less below.1)
 
-  -- a peer with the next number comes
+  -- a peer with the next handle is added
   pub sound_come : (p new : ServerState W) (slot : ℕ) (io : PeerIo W) → AreSound p
       → io.peer ≡ p.adapter.state.next_handle → new.slots ≡ slice_set p.slots slot (Some io)
       → new.adapter.state.next_handle ≡ p.adapter.state.next_handle + 1 → AreSound new
@@ -120,7 +120,7 @@ module _ {W : Type 0} where
         (below_more p.adapter.state.next_handle new.adapter.state.next_handle p.slots (omega arith) sound.below));
   }
 
-  -- each peer stays or goes
+  -- each peer stays or is ended
   none_of : (peer : ℕ) (slots places : List (Option (PeerIo W))) → AreOf slots places → HasNone peer slots
       → HasNone peer places
   none_of peer [] [] of none = tt
@@ -154,7 +154,7 @@ module _ {W : Type 0} where
   below_of n (Some io ∷ slots) (Some after ∷ places) of below =
       (subst (λ m. m < n) (sym of.0) below.0, below_of n slots places of.1 below.1)
 
-  -- no peer comes
+  -- no peer is added
   pub sound_of : (p new : ServerState W) → AreSound p → AreOf p.slots new.slots
       → p.adapter.state.next_handle ≤ new.adapter.state.next_handle → AreSound new
   sound_of p new sound of next = record {
@@ -180,7 +180,7 @@ module _ {W : Type 0} where
   of_set (first ∷ slots) (suc slot) io after there same =
       (is_of_itself first, of_set slots slot io after there same)
 
-  -- a line is woken
+  -- a slot is marked ready
   pub of_woken : (ends : Bool) (slots : List (Option (PeerIo W))) (slot : ℕ) (found : Option (Option (PeerIo W)))
       → slice_get slots slot ≡ found → AreOf slots (marked_ready_at ends slots slot found)
   of_woken ends slots slot None is = are_of_themselves slots
@@ -195,7 +195,7 @@ below_free : (W : Type 0) (next n : ℕ) → AreBelow {W = W} next (replicate n 
 below_free W next zero = tt
 below_free W next (suc n) = below_free W next n
 
--- peers at their beginning
+-- at the beginning, without peers
 pub sound_new : {W : Type 0} (adapter : AdapterState) (idle_timeout : ℕ) → AreSound {W = W} (new_peers adapter idle_timeout)
 sound_new {W} adapter idle_timeout = record {
   apart = apart_free W (adapter.state.places - length adapter.state.peers);

@@ -1,4 +1,4 @@
--- What was read, fed.
+-- Feeding what was read.
 use Rattle.std.proofs.Common.{◌≡◌, ◌≢◌, ℕ, List, [], ◌∷◌, length, eqb, true, false, Option, Some, None, is_some}
 use Rattle.std.proofs.Common.{refl, sym, subst, true≢false, arith}
 use Rattle.std.proofs.lemmas.Bool.{eqb-true}
@@ -11,19 +11,19 @@ use Rattle.enip_server.specs.PeerStates.AreFed.{None_fed, One_more_fed}
 pub none_fed : (now peer : ℕ) (d : PeerState) → AreFed now peer d d
 none_fed now peer d = None_fed
 
--- one feed more
+-- one more feed
 pub one_more : (now peer to : ℕ) (old d between new : PeerState) → to ≡ peer → AreFed now peer old d → d.outbox ≡ []
     → d.closed ≡ None → between ≡ fed_once now to d → IsFlushed between new → AreFed now peer old new
 one_more now peer to old d between new same fed out served is flushed =
     One_more_fed fed out served
     (subst (λ p. IsFlushed (fed_once now p d) new) same (subst (λ x. IsFlushed x new) is flushed))
 
--- what is not there
+-- what does not exist
 pub none_there : {X : Type 0} → (o : Option X) → is_some o ≡ false → o ≡ None
 none_there None is = refl
 none_there (Some x) is = absurd (true≢false is)
 
--- what is there
+-- what exists
 pub some_there : {X : Type 0} → (o : Option X) → is_some o ≡ true → o ≢ None
 some_there None is none = true≢false (sym is)
 some_there (Some x) is none = cc

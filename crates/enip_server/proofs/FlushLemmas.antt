@@ -1,4 +1,4 @@
--- What is written of an answer that waits.
+-- Writing what is left of an answer.
 use Rattle.std.proofs.Common.{◌≡◌, ◌≢◌, ℕ, zero, suc, List, [], ◌++◌, take, drop, Option, Some, None, refl, sym, ap, subst, ◌∙◌, append_assoc, take-append-drop}
 use Rattle.std.proofs.KnownBytes.{Appends-nil, Appends-trans}
 use Rattle.std.specs.Io.KnownBytes.{Appends}
@@ -42,7 +42,7 @@ more_flushed old between new size bytes f same appends rest adapter inbox closed
   reads = reads ∙ f.reads;
 }
 
--- a write is no read
+-- a write is not a read
 pub write_reads : (taken : Option ℕ) (t : WireCounts) → (after_write taken t).reads ≡ t.reads
 write_reads None t = refl
 write_reads (Some zero) t = refl

@@ -1,7 +1,7 @@
 -- What a call does to the adapter's next session handle.
 use Rattle.std.proofs.Common.{◌≡◌, ◌≤◌, ◌+◌, ℕ, List, [], ◌∷◌, not, ltb, length, refl, ◌∙◌, arith}
 use Rattle.std.specs.List.{AllByRecursion}
-use Rattle.enip_adapter.specs.Turn.{Turned, after, session_of}
+use Rattle.enip_adapter.specs.Turn.{TurnResult, after, session_of}
 use Rattle.enip_adapter.specs.Turn.Output.{Begins}
 use Rattle.enip_adapter.specs.Calls.{AdapterState, Call, after_call, call_answer}
 use Rattle.enip_adapter.specs.Calls.Call.{Begins_peer, Feeds, Ends_peer, Ticks}
@@ -27,25 +27,25 @@ next_call peer a (Feeds now other piece) is =
 next_call peer a (Ends_peer other) is = next-ended a.state other (session_of a.state other)
 next_call peer a (Ticks now) is = absurd is
 
--- feeds and ends leave it
+-- feeds and ends do not change it
 pub next_calls : (peer : ℕ) (a : AdapterState) (calls : List Call) → AllByRecursion (IsAbout peer) calls
     → (after_calls a calls).state.next_handle ≡ a.state.next_handle
 next_calls peer a [] each = refl
 next_calls peer a (call ∷ calls) each =
     next_calls peer (after_call a call) calls each.1 ∙ next_call peer a call each.0
 
--- a peer that begins does not make it less
+-- a peer that begins does not decrease it
 pub next_begun : (a : AdapterState) → a.state.next_handle ≤ (after_call a Begins_peer).state.next_handle
 next_begun a =
-    let P : Turned → Type 0 = λ t. a.state.next_handle ≤ t.state.next_handle in
+    let P : TurnResult → Type 0 = λ t. a.state.next_handle ≤ t.state.next_handle in
     both P (not (ltb (length a.state.peers) a.state.places)) _ _ (omega arith)
     (both P (ltb 0xffffffff a.state.next_handle) _ _ (omega arith) (omega arith))
 
--- a peer that begins is given it, and the next is one more
+-- a peer that begins is assigned it, and the next one is greater by one
 pub next_given : (a : AdapterState) (handle : ℕ) → (call_answer a Begins_peer).output ≡ Begins handle
     → (handle ≡ a.state.next_handle) × ((after_call a Begins_peer).state.next_handle ≡ a.state.next_handle + 1)
 next_given a handle =
-    let P : Turned → Type 0 = λ t. t.answer.output ≡ Begins handle
+    let P : TurnResult → Type 0 = λ t. t.answer.output ≡ Begins handle
     → (handle ≡ a.state.next_handle) × (t.state.next_handle ≡ a.state.next_handle + 1) in
     both P (not (ltb (length a.state.peers) a.state.places)) _ _ (λ is. absurd (cc))
     (both P (ltb 0xffffffff a.state.next_handle) _ _ (λ is. absurd (cc)) (λ is. (cc, refl)))

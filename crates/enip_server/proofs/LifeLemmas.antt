@@ -1,4 +1,4 @@
--- Lists of calls of the peers, and the life of one peer among them.
+-- Lists of calls, and one peer that keeps its slot among them.
 use Rattle.std.proofs.Common.{◌≡◌, ◌≢◌, ◌+◌, ℕ, zero, suc, List, [], ◌∷◌, get_or, slice_get, slice_set}
 use Rattle.std.proofs.Common.{Bool, true, false, eqb, Option, Some, None, is_none, Result, Ok, Err, inl, inr, refl, sym, ap}
 use Rattle.std.proofs.Common.{subst, ◌∙◌, arith}
@@ -23,7 +23,7 @@ use Rattle.enip_server.proofs.HandleLemmas.{next_begun, next_given}
 use Rattle.enip_server.proofs.TransferLemmas.{MovesBy, moves_by_then, moves_by_weaker, moves_not, moves_other}
 use Rattle.enip_server.proofs.RoundMoves.{round_moves, sound_round, other_goes_on}
 
--- what a list holds at a place after another place was set
+-- what a list holds at an index after another index was set
 get_set_other : {X : Type 0} → (xs : List X) (i j : ℕ) (x : X) → i ≢ j → slice_get (slice_set xs i x) j ≡ slice_get xs j
 get_set_other [] i j x differs = refl
 get_set_other (y ∷ ys) zero zero x differs = absurd (differs refl)
@@ -31,7 +31,7 @@ get_set_other (y ∷ ys) zero (suc j) x differs = refl
 get_set_other (y ∷ ys) (suc i) zero x differs = refl
 get_set_other (y ∷ ys) (suc i) (suc j) x differs = get_set_other ys i j x (λ same. differs (ap suc same))
 
--- and at that place, where there is one
+-- and at that index, if it exists
 get_set_same : {X : Type 0} → (xs : List X) (i : ℕ) (x y : X) → slice_get xs i ≡ Some y
     → slice_get (slice_set xs i x) i ≡ Some x
 get_set_same [] i x y there = cc
@@ -44,7 +44,7 @@ got (y ∷ ys) zero d x there = cc
 got (y ∷ ys) (suc i) d x there = got ys i d x there
 
 module _ {W : Type 0} where
-  -- the first place that is free is not one that holds a line
+  -- the first free slot is not one that holds a peer
   free_elsewhere : (slots : List (Option (PeerIo W))) (free slot : ℕ) (io : PeerIo W) → first_free slots ≡ Some free
       → slice_get slots slot ≡ Some (Some io) → free ≢ slot
   free_elsewhere slots free slot io is there same =
@@ -90,7 +90,7 @@ module _ {W : Type 0} (left written : W → Option (List ℕ)) (counts : W → W
 
   -- ---- one step of a peer that stays
 
-  -- Its line is the same but for whether it is ready, and calls for other peers were made.
+  -- The peer is the same except for whether it is ready, and calls for other peers were made.
   record IsKept (a : AdapterState) (io : PeerIo W) (b : AdapterState) (after : PeerIo W) : Type 0 where
     calls : List Call
     each : AllByRecursion (IsForOther io.peer) calls
@@ -140,7 +140,7 @@ module _ {W : Type 0} (left written : W → Option (List ℕ)) (counts : W → W
       (same_line old.slots slot io after there
       (subst (λ (p : ServerState W). slice_get p.slots slot ≡ Some (Some after)) is.1 stays))
 
-  -- waking shows in no desk
+  -- marking a slot ready does not show in a peer's state
   woken_desk : (ends : Bool) (a : AdapterState) (slots : List (Option (PeerIo W))) (waken slot : ℕ) (found : Option (Option (PeerIo W)))
       → slice_get slots waken ≡ found → (io after : PeerIo W) → slice_get slots slot ≡ Some (Some io)
       → slice_get (marked_ready_at ends slots waken found) slot ≡ Some (Some after) → (here : Bool) → eqb waken slot ≡ here
@@ -181,7 +181,7 @@ module _ {W : Type 0} (left written : W → Option (List ℕ)) (counts : W → W
   step_moves old new sound (Rounds now is) slot io after there stays =
       round_moves left written counts now old new is sound slot io after there stays
 
-  -- ---- a peer's life
+  -- ---- a peer that keeps its slot
 
   holds_at_end : (slot peer : ℕ) (first last : ServerState W) (io after : PeerIo W)
       → KeepsSlot left written counts slot peer first io last after → HoldsSlot slot peer last after
@@ -210,7 +210,7 @@ module _ {W : Type 0} (left written : W → Option (List ℕ)) (counts : W → W
       (step_moves between last (sound_life slot peer first between io mid lives sound) step slot mid after before.there
       holds.there))
 
-  -- as the law says it
+  -- as the law states it
   pub law_peers : (adapter : AdapterState) (idle_timeout slot peer : ℕ) (first last : ServerState W) (io after : PeerIo W)
       → IsRun left written counts (new_peers adapter idle_timeout) first → KeepsSlot left written counts slot peer first io last after
       → (calls : List Call) × (received : List ℕ) × (gone : List ℕ) × AllByRecursion (GoesOnWith peer) calls

@@ -1,4 +1,4 @@
--- A place in a round.
+-- A slot in a round.
 use Rattle.std.proofs.Common.{◌≡◌, ◌<◌, ℕ, ◌-◌, List, ◌∷◌, length, replicate, get_or, slice_get, slice_set, Bool, true, false}
 use Rattle.std.proofs.Common.{Option, Some, None, refl, sym, ap, subst, ◌∙◌, [], arith}
 use Rattle.std.proofs.lemmas.List.{set-get_or}
@@ -17,7 +17,7 @@ use Rattle.enip_server.specs.Rounds.{IsServedPeer, IsLeft, IsSlotServed, AreSlot
 use Rattle.enip_server.specs.Rounds.{timeout_at, is_ready, due_with, due_by, earliest_of}
 
 module _ {W : Type 0} (left written : W → Option (List ℕ)) (counts : W → WireCounts) (now idle_timeout : ℕ) (a : AdapterState) where
-  -- what became of its peer is what became of the place
+  -- what happened to its peer is what happened to the slot
   place_left : (old : Option (PeerIo W)) (io after : PeerIo W) (between b : AdapterState) (goes_on : Bool)
       (slot : Option (PeerIo W)) → old ≡ Some io → IsServedPeer left written counts now idle_timeout a io between after goes_on
       → IsLeft between after goes_on b slot → IsSlotServed left written counts now idle_timeout a old b slot
@@ -41,7 +41,7 @@ module _ {W : Type 0} (left written : W → Option (List ℕ)) (counts : W → W
       place_left old io after between b goes_on None is served
       (subst (λ r. IsLeft between after r b None) (sym leaves) (ends, refl))
 
-  -- one place more
+  -- one more slot
   pub places_more : (old : List (Option (PeerIo W))) (first : Option (PeerIo W)) (rest : List (Option (PeerIo W)))
       (between b : AdapterState) (slot : Option (PeerIo W)) (places : List (Option (PeerIo W))) → old ≡ first ∷ rest
       → IsSlotServed left written counts now idle_timeout a first between slot
@@ -59,7 +59,7 @@ state_by {W} p adapter idle_timeout slots a s l =
     ∙ ap (λ x. let r : ServerState W = record { adapter = adapter; idle_timeout = x; slots = boxed_slice_items p.slots } in r) s
     ∙ ap (λ x. let r : ServerState W = record { adapter = adapter; idle_timeout = idle_timeout; slots = x } in r) l
 
--- so many places, all free
+-- this many slots, all free
 pub all_free : {W : Type 0} (p : Peers W) (adapter : AdapterState) (idle_timeout places counter : ℕ)
     → p.adapter ≡ adapter → p.idle_timeout ≡ idle_timeout → places ≡ adapter.state.places - length adapter.state.peers
     → counter ≡ places → boxed_slice_items p.slots ≡ replicate counter None → state_of p ≡ new_peers adapter idle_timeout
@@ -70,7 +70,7 @@ woken_none : {W : Type 0} (ends : Bool) (slots : List (Option (PeerIo W))) (slot
     → slice_get slots slot ≡ o → o ≡ Some None → marked_ready_at ends slots slot o ≡ slots
 woken_none ends slots slot o is none = subst (λ x. marked_ready_at ends slots slot x ≡ slots) (sym none) refl
 
--- a place that is free stays as it is
+-- a free slot stays the same
 pub woken_free : {W : Type 0} (ends : Bool) (p q : Peers W) (slot : ℕ) (found d : Option (PeerIo W)) → q.adapter ≡ p.adapter
     → q.idle_timeout ≡ p.idle_timeout → boxed_slice_items q.slots ≡ slice_set (boxed_slice_items p.slots) slot found
     → slot < length (boxed_slice_items p.slots) → found ≡ get_or (boxed_slice_items p.slots) slot d → found ≡ None
@@ -82,7 +82,7 @@ woken_free ends p q slot found d a s l within is none =
     ∙ sym (woken_none ends (boxed_slice_items p.slots) slot _ refl
     (slice_get-within (boxed_slice_items p.slots) slot d within ∙ ap Some (sym is ∙ none))))
 
--- ---- when lines are to be served again
+-- ---- when peers are due again
 
 or_false : (b : Bool) → (b || false) ≡ b
 or_false false = refl

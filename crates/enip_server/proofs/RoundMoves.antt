@@ -1,4 +1,4 @@
--- What a round does to the desk of a peer that stays.
+-- What a round does to the state of a peer that stays.
 use Rattle.std.proofs.Common.{◌≡◌, ◌≢◌, ◌<◌, ◌≤◌, ℕ, zero, suc, List, [], ◌∷◌, ◌++◌, slice_get, Bool, true, false}
 use Rattle.std.proofs.Common.{ltb, ltb-true, ltb-false, Option, Some, None, refl, sym, ap, subst, ◌∙◌, arith}
 use Rattle.std.specs.List.{AllByRecursion}
@@ -30,7 +30,7 @@ about_other other peer differs (Feeds now to piece) is = subst (λ n. n ≢ peer
 about_other other peer differs (Ends_peer to) is = subst (λ n. n ≢ peer) (sym is) differs
 about_other other peer differs (Ticks now) is = absurd is
 
--- a feed, and a call for another peer, does not end this one
+-- a feed, or a call for another peer, does not end this one
 pub feed_goes_on : (now peer : ℕ) (call : Call) → IsFeedOf now peer call → GoesOnWith peer call
 feed_goes_on now peer Begins_peer is = tt
 feed_goes_on now peer (Feeds at other piece) is = tt
@@ -64,7 +64,7 @@ leads_weaker : (P Q : Call → Type 0) (a b : AdapterState) → ((call : Call) �
 leads_weaker P Q a b weaker l = record { calls = l.calls; each = all_weaker P Q weaker l.calls l.each; after = l.after }
 
 module _ {W : Type 0} (left written : W → Option (List ℕ)) (counts : W → WireCounts) (now idle_timeout : ℕ) where
-  -- What a line's turn came to: its peer is the same, and its desk is moved by feeds.
+  -- The result of a peer's turn: the peer is the same, and feeds change its state.
   record HasMoved (a : AdapterState) (io : PeerIo W) (b : AdapterState) (after : PeerIo W) : Type 0 where
     peer : after.peer ≡ io.peer
     moves : MovesBy io.peer (IsFeedOf now io.peer) (peer_state_of left written counts a io) (peer_state_of left written counts b after)
@@ -99,8 +99,8 @@ module _ {W : Type 0} (left written : W → Option (List ℕ)) (counts : W → W
       let late : timeout_at idle_timeout io ≤ now = ltb-false now (timeout_at idle_timeout io) is in
       moved_not a io b after (s.silent late).0 (s.silent late).1
 
-  -- What became of a place with a line: its peer stays, and its desk is moved by feeds; or it is free, and the calls were
-  -- about its peer.
+  -- What happened to a slot with a peer: the peer stays, and feeds change its state; or the slot is free, and the calls
+  -- were about this peer.
   data Became (a : AdapterState) (io : PeerIo W) (b : AdapterState) : Option (PeerIo W) → Type 0 where
     Stays : {after : PeerIo W} → HasMoved a io b after → Became a io b (Some after)
     Leaves : LeadsBy (IsAbout io.peer) a b → Became a io b None
@@ -172,7 +172,7 @@ module _ {W : Type 0} (left written : W → Option (List ℕ)) (counts : W → W
 
   -- ---- one peer
 
-  -- what is done at another place is done for another peer
+  -- what is done at another slot is done for another peer
   place_for_other : (peer : ℕ) (a : AdapterState) (old : Option (PeerIo W)) (b : AdapterState) (slot : Option (PeerIo W))
       → IsSlotServed left written counts now idle_timeout a old b slot
       → ((io : PeerIo W) → old ≡ Some io → io.peer ≢ peer) → LeadsBy (IsForOther peer) a b
@@ -200,7 +200,7 @@ module _ {W : Type 0} (left written : W → Option (List ℕ)) (counts : W → W
       (place_for_other peer a io is.0 slot is.1 (none_head peer io slots none))
       (places_for_others peer is.0 slots b places is.2 (none_tail peer io slots none))
 
-  -- calls for other peers leave a line's desk but for the adapter
+  -- calls for other peers change nothing of a peer's state but the adapter
   line_stays : (io : PeerIo W) (a b : AdapterState) → LeadsBy (IsForOther io.peer) a b
       → MovesBy io.peer (GoesOnWith io.peer) (peer_state_of left written counts a io) (peer_state_of left written counts b io)
   line_stays io a b l =
@@ -222,7 +222,7 @@ module _ {W : Type 0} (left written : W → Option (List ℕ)) (counts : W → W
       = none_at other.peer slots index io (apart_first first slots other is apart) there in
       λ same. differs (sym same)
 
-  -- the peer of a place that stays
+  -- the peer of a slot that stays
   place_moves : (a : AdapterState) (old : Option (PeerIo W)) (b : AdapterState) (slot : Option (PeerIo W))
       → IsSlotServed left written counts now idle_timeout a old b slot → (io after : PeerIo W) → old ≡ Some io
       → slot ≡ Some after → HasMoved a io b after
@@ -271,7 +271,7 @@ module _ {W : Type 0} (left written : W → Option (List ℕ)) (counts : W → W
       round.places in
       sound_of old new sound r.0 (omega (arith, r.1))
 
-  -- a round moves each peer that stays
+  -- what a round transfers for each peer that stays
   pub round_moves : AreSound old → (slot : ℕ) (io after : PeerIo W) → slice_get old.slots slot ≡ Some (Some io)
       → slice_get new.slots slot ≡ Some (Some after)
       → MovesBy io.peer (GoesOnWith io.peer) (peer_state_of left written counts old.adapter io)

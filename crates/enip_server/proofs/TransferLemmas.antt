@@ -1,4 +1,4 @@
--- Moves of a peer's desk, one after the other.
+-- Transfers of a peer, one after the other.
 use Rattle.std.proofs.Common.{◌≡◌, ◌≢◌, ℕ, List, [], ◌∷◌, ◌++◌, Option, Some, None, cond, eqb, refl, sym, ap, ◌∙◌}
 use Rattle.std.proofs.Common.{append_assoc, append-nil, take, drop, take-append-drop}
 use Rattle.std.proofs.lemmas.Bool.{eq-eqb, ne_eqb}
@@ -17,7 +17,7 @@ pub all_join : {X : Type 0} → (P : X → Type 0) (xs ys : List X) → AllByRec
 all_join P [] ys p q = q
 all_join P (x ∷ xs) ys p q = (p.0, all_join P xs ys p.1 q)
 
--- what each item of a list has that has something else
+-- a property of each item of a list that follows from another one
 pub all_weaker : {X : Type 0} → (P Q : X → Type 0) → ((x : X) → P x → Q x) → (xs : List X) → AllByRecursion P xs
     → AllByRecursion Q xs
 all_weaker P Q weaker [] each = tt
@@ -44,14 +44,14 @@ sent_by_calls-append peer a (call ∷ calls) more =
     ∙ sym (append_assoc (sent_by_call peer a call) (sent_by_calls peer (after_call a call) calls)
     (sent_by_calls peer (after_calls (after_call a call) calls) more))
 
--- what was there and came goes out in two parts
+-- what was there and what was read is written in two parts
 pass_on : (before first second gone later between after : List ℕ) → before ++ first ≡ gone ++ between
     → between ++ second ≡ later ++ after → before ++ (first ++ second) ≡ (gone ++ later) ++ after
 pass_on before first second gone later between after p q =
     sym (append_assoc before first second) ∙ ap (λ xs. xs ++ second) p ∙ append_assoc gone between second
     ∙ ap (λ xs. gone ++ xs) q ∙ sym (append_assoc gone later after)
 
--- What is left of what a peer's desk had and came, by whether the adapter closed the peer.
+-- What is left of a peer's inbox and of what was read, by whether the adapter closed the peer.
 record IsRest (peer : ℕ) (calls : List Call) (received : List ℕ) (old new : PeerState) : Type 0 where
   rest : List ℕ
   taken : old.inbox ++ received ≡ taken_by_calls peer old.adapter calls ++ rest
@@ -110,7 +110,7 @@ moves_then peer calls more received gone coming going a b c m n =
       );
     }
 
--- Calls that lead from one desk of a peer to another, each of which has a property, and what they do.
+-- Calls that lead from one state of a peer to another, each with a property, and their transfers.
 pub record MovesBy (peer : ℕ) (P : Call → Type 0) (old new : PeerState) : Type 0 where
   pub calls : List Call
   pub received : List ℕ
@@ -209,11 +209,11 @@ taken_others peer a (call ∷ calls) each =
     ap (λ xs. xs ++ taken_by_calls peer (after_call a call) calls) (taken_other peer a call each.0)
     ∙ taken_others peer (after_call a call) calls each.1
 
--- The desk of another adapter.
+-- The same state with another adapter.
 abbrev pub with_adapter : PeerState → AdapterState → PeerState
 with_adapter d adapter = record d { adapter = adapter }
 
--- calls for other peers move a desk by nothing but the adapter
+-- calls for other peers change nothing but the adapter
 pub moves_other : (peer : ℕ) (d : PeerState) (adapter : AdapterState) (calls : List Call)
     → AllByRecursion (IsForOther peer) calls → adapter ≡ after_calls d.adapter calls
     → MovesBy peer (IsForOther peer) d (with_adapter d adapter)

@@ -9,7 +9,7 @@ use Rattle.enip_server.specs.declared.wire.ReadOutcome.{ReadOutcome}
 use Rattle.enip_server.specs.declared.wire.ReadOutcome.TheVariants.{Bytes, Drained, WouldBlock, End, Failed}
 use Rattle.enip_server.specs.Wires.{one_more, AreReadBy, after_read}
 
--- an answer is not out
+-- an answer is not written to its end
 pub turn_waits : (now peer : ℕ) (old new : PeerState) → IsFlushed old new → new.outbox ≢ [] → IsTurn now peer old new
 turn_waits now peer old new flushed waits = record {
   between = new;
@@ -19,7 +19,7 @@ turn_waits now peer old new flushed waits = record {
   discarded = λ out _. absurd (waits out);
 }
 
--- what comes of a closed peer is thrown away
+-- what is read of a closed peer is discarded
 pub turn_thrown : (now peer : ℕ) (old between new : PeerState) → IsFlushed old between → between.outbox ≡ []
     → between.closed ≢ None → IsDiscarded between new → IsTurn now peer old new
 turn_thrown now peer old between new flushed out closed discarded = record {
@@ -30,7 +30,7 @@ turn_thrown now peer old between new flushed out closed discarded = record {
   discarded = λ _ _. discarded;
 }
 
--- what came is fed
+-- what was read is fed
 pub turn_served : (now peer : ℕ) (old between read new : PeerState) → IsFlushed old between → between.outbox ≡ []
     → between.closed ≡ None → IsFetched now between read → AreFed now peer read new → IsTurn now peer old new
 turn_served now peer old between read new flushed out served fetched fed = record {
@@ -41,14 +41,14 @@ turn_served now peer old between read new flushed out served fetched fed = recor
   discarded = λ _ closed. absurd (closed served);
 }
 
--- all is out, and all that was read is fed
+-- all answers are written, and all that was read is fed
 pub told_fed : (d : PeerState) (turn : Turn) → d.outbox ≡ [] → d.inbox ≡ [] → IsByRead turn → FitsBuffers d turn
 told_fed d More out none is = (out, λ _. none)
 told_fed d UntilReadable out none is = (out, none)
 told_fed d UntilWritable out none is = absurd is
 told_fed d Finished out none is = tt
 
--- what a turn comes to by a read
+-- the outcome of a turn by its read
 pub by_read : (received : ReadOutcome) (end_reported : Bool) → IsByRead (turn_after received end_reported)
 by_read (Bytes size) end_reported = tt
 by_read (Drained size) false = tt
@@ -82,7 +82,7 @@ read_some Failed bytes old new given some is = absurd (some given)
 pub still_same : (old new : WireCounts) → new ≡ old → GoesOn old new
 still_same old new is = (ap (λ t. t.drained) is, ap (λ t. t.waits) is, ap (λ t. t.ends) is)
 
--- calls that had to wait for nothing, and then these
+-- calls that did not block, and then these
 pub still_after : (a b c : WireCounts) → GoesOn a b → GoesOn b c → GoesOn a c
 still_after a b c still more = (more.0 ∙ still.0, more.1 ∙ still.1, more.2 ∙ still.2)
 
@@ -93,7 +93,7 @@ cut_after closed UntilReadable a b c still cut = absurd cut
 cut_after closed UntilWritable a b c still cut = (cut.0 ∙ ap one_more still.1, cut.1 ∙ still.2)
 cut_after closed Finished a b c still cut = (cut.0 ∙ still.1, cut.1 ∙ ap one_more still.2)
 
--- the same, with a feed between, which makes no call of the wire
+-- the same, with a feed between them, which makes no call of the wire
 pub still_fed : (a b fed c : WireCounts) → GoesOn a b → fed ≡ b → GoesOn fed c → GoesOn a c
 still_fed a b fed c still same more = still_after a b c still (subst (λ t. GoesOn t c) same more)
 
@@ -123,7 +123,7 @@ told_later end_reported at_read closed UntilReadable a b c same still fits_buffe
 told_later end_reported at_read closed UntilWritable a b c same still fits_buffers = (fits_buffers.0 ∙ ap one_more still.1, fits_buffers.1 ∙ still.2)
 told_later end_reported at_read closed Finished a b c same still fits_buffers = (fits_buffers.0 ∙ still.1, fits_buffers.1 ∙ ap one_more still.2)
 
--- whether the adapter closed the peer afterwards or not
+-- whether the adapter closed the peer after it or not
 told_open : (end_reported : Bool) (closed : Option ℕ) (turn : Turn) (old new : WireCounts) → FitsCounts end_reported None turn old new
     → FitsCounts end_reported closed turn old new
 told_open end_reported closed More old new fits_buffers = (fits_buffers.0, λ not_ending _. fits_buffers.1 not_ending refl)
@@ -137,7 +137,7 @@ pub told_fetched : (end_reported at_read : Bool) (closed : Option ℕ) (turn : T
 told_fetched end_reported at_read closed turn a b c same still fits_buffers =
     told_later end_reported at_read closed turn a b c same still (told_open at_read closed turn b c fits_buffers)
 
--- and all that came is fed
+-- and all that was read is fed
 told_then : (end_reported : Bool) (closed : Option ℕ) (turn : Turn) (a b c : WireCounts) → FitsCounts end_reported closed turn a b
     → GoesOn b c → FitsCounts end_reported closed turn a c
 told_then end_reported closed More a b c fits_buffers still =
@@ -152,7 +152,7 @@ pub told_all_fed : (end_reported at_read : Bool) (closed : Option ℕ) (turn : T
 told_all_fed end_reported at_read closed turn a b c d same still fits_buffers fed =
     told_then end_reported closed turn a c d (told_fetched end_reported at_read closed turn a b c same still fits_buffers) fed
 
--- and not all that came is fed
+-- and not all that was read is fed
 pub told_cut_short : (end_reported : Bool) (closed : Option ℕ) (turn : Turn) (a b c d : WireCounts) → GoesOn a b → IsThrough b c
     → IsCutShort closed turn c d → FitsCounts end_reported closed turn a d
 told_cut_short end_reported closed More a b c d still read cut =

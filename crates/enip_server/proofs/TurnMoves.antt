@@ -1,4 +1,4 @@
--- A turn moves its peer's desk.
+-- What a turn transfers.
 use Rattle.std.proofs.Common.{◌≡◌, ◌≢◌, ℕ, List, [], ◌∷◌, ◌++◌, Option, Some, None, refl, sym, ap, subst, ◌∙◌, append-nil}
 use Rattle.std.proofs.KnownBytes.{Appends-nil, Consumes-nil}
 use Rattle.std.specs.Io.KnownBytes.{Appends, Consumes}
@@ -81,7 +81,7 @@ thrown_moves peer P old new shut t = record {
   };
 }
 
--- what is done where all is out, by whether the adapter closed the peer
+-- what is done once the outbox is empty, by whether the adapter closed the peer
 out_moves : (now peer : ℕ) (old new : PeerState) (t : IsTurn now peer old new) → t.between.outbox ≡ [] → (closed : Option ℕ)
     → t.between.closed ≡ closed → MovesBy peer (IsFeedOf now peer) t.between new
 out_moves now peer old new t out None served =
@@ -95,7 +95,7 @@ out_moves now peer old new t out (Some last) shut =
 not_out : (n : ℕ) (ns : List ℕ) → (n ∷ ns) ≢ []
 not_out n ns is = cc
 
--- what is done after what waits is written, by what of it still waits
+-- what is done after the outbox was written, by what is left of it
 rest_moves : (now peer : ℕ) (old new : PeerState) (t : IsTurn now peer old new) (outbox : List ℕ) → t.between.outbox ≡ outbox
     → MovesBy peer (IsFeedOf now peer) t.between new
 rest_moves now peer old new t [] out = out_moves now peer old new t out t.between.closed refl
@@ -108,7 +108,7 @@ turn_moves now peer old new t =
     moves_by_then peer (IsFeedOf now peer) old t.between new
     (flushed_moves peer (IsFeedOf now peer) old t.between t.flushed) (rest_moves now peer old new t t.between.outbox refl)
 
--- as the law says it
+-- as the law states it
 pub law_turns : (now peer : ℕ) (old new : PeerState) → IsTurn now peer old new → (calls : List Call) × (received : List ℕ)
     × (gone : List ℕ) × AllByRecursion (IsFeedOf now peer) calls × Transfers peer calls received gone old new
 law_turns now peer old new t =

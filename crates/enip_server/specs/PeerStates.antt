@@ -1,4 +1,4 @@
--- A peer's line as the adapter and the wire see it, and what a turn does to it.
+-- A peer's state at the adapter and on its wire, and what a turn does to it.
 use Rattle.std.specs.Prelude.{ℕ, ◌+◌, ◌-◌, ◌^◌, min, ◌≡◌, ◌≢◌, ◌≤◌, List, [], ◌∷◌, ◌++◌, length, drop}
 use Rattle.std.specs.Prelude.{Bool, true, false, Option, Some, None, ⊤}
 use Rattle.std.specs.Io.KnownBytes.{Appends, Consumes}
@@ -13,13 +13,13 @@ use Rattle.enip_server.specs.declared.wire.ReadOutcome.{ReadOutcome}
 use Rattle.enip_server.specs.declared.wire.ReadOutcome.TheVariants.{Bytes, Drained, WouldBlock, End, Failed}
 use Rattle.enip_server.specs.Wires.{one_more}
 
--- A sum of moments, which stops at the greatest.
+-- A sum of times, which saturates at the greatest time.
 abbrev pub moment_after : ℕ → ℕ → ℕ
 moment_after moment more = min (moment + more) (2 ^ 64 - 1)
 
--- The adapter, what was read of a peer and not fed, what of an answer is not out, where the adapter closed the peer the
--- moment up to which it is still read, the moment at which a byte came last, what of its wire is left to read and was
--- written, where that is known, and how the calls of its wire went.
+-- The adapter; the bytes that were read and not fed; the bytes of an answer that were not written; if the adapter
+-- closed the peer, the time up to which it is still read; when the last byte arrived; what is left to read from the
+-- wire and what was written to it, if that is known; and how the calls of the wire went.
 pub record PeerState : Type 0 where
   pub adapter : AdapterState
   pub inbox : List ℕ
@@ -30,7 +30,7 @@ pub record PeerState : Type 0 where
   pub written : Option (List ℕ)
   pub counts : WireCounts
 
--- The desk of a line.
+-- The state of a peer, by the code's fields.
 abbrev pub peer_state_of : {W : Type 0} → (W → Option (List ℕ)) → (W → Option (List ℕ)) → (W → WireCounts) → AdapterState → PeerIo W
     → PeerState
 peer_state_of left written counts adapter io = record {
@@ -44,7 +44,7 @@ peer_state_of left written counts adapter io = record {
   counts = counts io.wire;
 }
 
--- A front of what waits of an answer is written, and nothing else is done.
+-- A front of the outbox is written, and nothing else is done.
 pub record IsFlushed (old new : PeerState) : Type 0 where
   pub gone : List ℕ
   pub waits : old.outbox ≡ gone ++ new.outbox
@@ -56,12 +56,12 @@ pub record IsFlushed (old new : PeerState) : Type 0 where
   pub left : new.left ≡ old.left
   pub reads : new.counts.reads ≡ old.counts.reads
 
--- A peer that is closed at a moment is still read for a second.
+-- A peer that is closed at a time is still read for one second.
 abbrev pub closed_at : ℕ → Bool → Option ℕ
 closed_at now false = None
 closed_at now true = Some (moment_after now 1_000_000)
 
--- What was read is fed to its peer at a moment, up to the end of one frame; what answers it waits.
+-- The inbox is fed to its peer at a time, up to the end of one frame. The answer goes to the outbox.
 abbrev pub fed_once : ℕ → ℕ → PeerState → PeerState
 fed_once now peer d = record d {
   adapter = after_call d.adapter (Feeds now peer d.inbox);
@@ -70,18 +70,19 @@ fed_once now peer d = record d {
   closed = closed_at now (call_answer d.adapter (Feeds now peer d.inbox)).close;
 }
 
--- Feeds of a peer at a moment: at each of them all answers before it are out, and the adapter has not closed the peer.
+-- Feeds of a peer at a time. At each of them all answers before it are written, and the adapter has not closed the
+-- peer.
 pub data AreFed (now peer : ℕ) : PeerState → PeerState → Type 0 where
   None_fed : {d : PeerState} → AreFed now peer d d
   One_more_fed : {old d new : PeerState} → AreFed now peer old d → d.outbox ≡ [] → d.closed ≡ None
       → IsFlushed (fed_once now peer d) new → AreFed now peer old new
 
--- When a byte came last, after bytes that came at a moment.
+-- When the last byte arrived, after a read at a time.
 abbrev pub last_byte_after : ℕ → List ℕ → ℕ → ℕ
 last_byte_after now [] last_byte_at = last_byte_at
 last_byte_after now (byte ∷ bytes) last_byte_at = now
 
--- Where nothing waits to be fed one read is made, of 4,096 bytes at most; what came waits to be fed.
+-- If the inbox is empty, one read of at most 4,096 bytes is made. What it gives goes to the inbox.
 pub record IsFetched (now : ℕ) (old new : PeerState) : Type 0 where
   pub received : List ℕ
   pub few : length received ≤ 4096
@@ -96,20 +97,20 @@ pub record IsFetched (now : ℕ) (old new : PeerState) : Type 0 where
   pub reads : old.inbox ≡ [] → new.counts.reads ≡ one_more old.counts.reads
   pub no_read : old.inbox ≢ [] → new.counts.reads ≡ old.counts.reads
 
--- What waits to be fed, or came, is fed.
+-- The inbox is filled, if it is empty, and then fed.
 pub record IsServed (now peer : ℕ) (old new : PeerState) : Type 0 where
   pub between : PeerState
   pub fetched : IsFetched now old between
   pub fed : AreFed now peer between new
 
--- One read of a peer that the adapter closed is thrown away, and with it what waited to be fed.
+-- For a peer that the adapter closed: one read is made and discarded, and the inbox with it.
 pub record IsDiscarded (old new : PeerState) : Type 0 where
   pub received : List ℕ
   pub read : Consumes old.left new.left received
   pub same : new ≡ record old { inbox = []; left = new.left; counts = new.counts }
   pub reads : new.counts.reads ≡ one_more old.counts.reads
 
--- A turn: what waits of an answer is written first. While some of it waits nothing else is done.
+-- A turn. The outbox is written first; unless it is empty then, nothing else is done.
 pub record IsTurn (now peer : ℕ) (old new : PeerState) : Type 0 where
   pub between : PeerState
   pub flushed : IsFlushed old between
@@ -117,15 +118,16 @@ pub record IsTurn (now peer : ℕ) (old new : PeerState) : Type 0 where
   pub served : between.outbox ≡ [] → between.closed ≡ None → IsServed now peer between new
   pub discarded : between.outbox ≡ [] → between.closed ≢ None → IsDiscarded between new
 
--- What a turn came to: where more may have come all that was read is fed, unless the adapter closed the peer.
+-- The outcome of a turn fits the buffers. If more input may be available, all that was read is fed, unless the adapter
+-- closed the peer.
 abbrev pub FitsBuffers : PeerState → Turn → Type 0
 FitsBuffers d More = (d.outbox ≡ []) × (d.closed ≡ None → d.inbox ≡ [])
 FitsBuffers d UntilReadable = (d.outbox ≡ []) × (d.inbox ≡ [])
 FitsBuffers d UntilWritable = d.outbox ≢ []
 FitsBuffers d Finished = ⊤
 
--- What a turn comes to by a read of it, once all that came is fed. Where nothing more has come the system is waited
--- for, but not where it has reported the end of the stream: it does so once.
+-- The outcome of a turn by its read, once everything is fed. If no more input is available the turn waits for the
+-- system, unless the system has reported the end of the stream, which it does only once.
 abbrev pub turn_after : ReadOutcome → Bool → Turn
 turn_after (Bytes size) end_reported = More
 turn_after (Drained size) false = UntilReadable
@@ -134,19 +136,18 @@ turn_after WouldBlock end_reported = UntilReadable
 turn_after End end_reported = Finished
 turn_after Failed end_reported = Finished
 
--- No call of the wire had to wait, and none was at its end or failed.
+-- No call of the wire would have blocked, and none failed or met the end of the stream.
 abbrev pub IsThrough : WireCounts → WireCounts → Type 0
 IsThrough old new = (new.waits ≡ old.waits) × (new.ends ≡ old.ends)
 
--- The same, and no read said that nothing more had come.
+-- The same, and no read drained the wire.
 abbrev pub GoesOn : WireCounts → WireCounts → Type 0
 GoesOn old new = (new.drained ≡ old.drained) × (new.waits ≡ old.waits) × (new.ends ≡ old.ends)
 
--- What a turn came to, by how the calls of the wire went. Where more may have come none of them had to wait, and no
--- read said that nothing more had come, unless the end of the stream was reported or the adapter closed the peer. Where
--- the wire is waited for until it can be read, one read said that nothing more had come, and where the end of the
--- stream was reported it had to wait. Where it is waited for until it can be written, one call had to wait. Where the
--- stream is over one of them was at its end or failed.
+-- The outcome of a turn fits the counts of the wire's calls. More input may be available: no call would have blocked,
+-- and no read drained the wire, unless the end of the stream was reported or the adapter closed the peer. Until
+-- readable: one read drained the wire, and it would have blocked if the end of the stream was reported. Until writable:
+-- one call would have blocked. Finished: one call failed or met the end of the stream.
 abbrev pub FitsCounts : Bool → Option ℕ → Turn → WireCounts → WireCounts → Type 0
 FitsCounts end_reported closed More old new =
     IsThrough old new × (end_reported ≡ false → closed ≡ None → new.drained ≡ old.drained)
@@ -155,21 +156,21 @@ FitsCounts end_reported closed UntilReadable old new = (new.drained ≡ one_more
 FitsCounts end_reported closed UntilWritable old new = (new.waits ≡ one_more old.waits) × (new.ends ≡ old.ends)
 FitsCounts end_reported closed Finished old new = (new.waits ≡ old.waits) × (new.ends ≡ one_more old.ends)
 
--- A turn that ends with writes: the adapter closed the peer, an answer is not out, or a write failed.
+-- A turn that ends while writing: the adapter closed the peer, an answer is not written to its end, or a write failed.
 abbrev pub IsCutShort : Option ℕ → Turn → WireCounts → WireCounts → Type 0
 IsCutShort closed More old new = (closed ≢ None) × (new.waits ≡ old.waits) × (new.ends ≡ old.ends)
 IsCutShort closed UntilReadable old new = ⊥
 IsCutShort closed UntilWritable old new = (new.waits ≡ one_more old.waits) × (new.ends ≡ old.ends)
 IsCutShort closed Finished old new = (new.waits ≡ old.waits) × (new.ends ≡ one_more old.ends)
 
--- A turn that ends before a read is made: an answer is not out, or a write failed.
+-- A turn that ends before its read: an answer is not written to its end, or a write failed.
 abbrev pub IsWaiting : Turn → Type 0
 IsWaiting More = ⊥
 IsWaiting UntilReadable = ⊥
 IsWaiting UntilWritable = ⊤
 IsWaiting Finished = ⊤
 
--- What a turn comes to by a read.
+-- The outcomes that a read can have.
 abbrev pub IsByRead : Turn → Type 0
 IsByRead More = ⊤
 IsByRead UntilReadable = ⊤

@@ -17,18 +17,18 @@ use Rattle.enip_server.specs.declared.peer_io.Turn.TheVariants.{More, UntilReada
 use Rattle.enip_server.specs.declared.wire_counts.WireCounts.{WireCounts}
 use Rattle.enip_server.specs.PeerStates.{moment_after, peer_state_of, IsTurn, FitsBuffers, FitsCounts}
 
--- The adapter, how long a peer may be silent, and the line of each place that is taken.
+-- The adapter, for how long a peer may send nothing, and the slots.
 pub record ServerState (W : Type 0) : Type 0 where
   pub adapter : AdapterState
   pub idle_timeout : ℕ
   pub slots : List (Option (PeerIo W))
 
--- The peers, as their calls see them.
+-- The value of `Peers`.
 abbrev pub state_of : {W : Type 0} → Peers W → ServerState W
 state_of p = record { adapter = p.adapter; idle_timeout = p.idle_timeout; slots = boxed_slice_items p.slots }
 
--- The moment at which a peer is ended if nothing comes of it: when it was silent for too long, or was read for long
--- enough since the adapter closed it.
+-- The time at which a peer is ended unless a byte arrives: it was idle for too long, or the time for reading a closed
+-- peer is over.
 abbrev pub earlier_of : ℕ → Option ℕ → ℕ
 earlier_of silent None = silent
 earlier_of silent (Some last) = min last silent
@@ -36,7 +36,7 @@ earlier_of silent (Some last) = min last silent
 abbrev pub timeout_at : {W : Type 0} → ℕ → PeerIo W → ℕ
 timeout_at idle_timeout io = earlier_of (moment_after io.last_byte_at idle_timeout) io.closed
 
--- A peer has one turn: its line may be ready again where more may have come, and it goes on where its stream is not
+-- A peer takes one turn. Its wire may be ready again if more input may be available. It goes on unless its stream is
 -- over.
 abbrev pub is_more : Turn → Bool
 is_more More = true
@@ -61,15 +61,15 @@ pub record TakesTurn {W : Type 0} (left written : W → Option (List ℕ)) (coun
   pub ready : after.ready ≡ is_more turn_end
   pub over : goes_on ≡ not (is_finished turn_end)
 
--- A peer in a round: where it was silent for too long it does not go on; else it has one turn if its wire may be ready,
--- and none if not.
+-- A peer in a round. If it timed out, it does not go on. Otherwise it takes one turn if its wire may be ready, and none
+-- if not.
 pub record IsServedPeer {W : Type 0} (left written : W → Option (List ℕ)) (counts : W → WireCounts) (now idle_timeout : ℕ) (a : AdapterState)
     (io : PeerIo W) (b : AdapterState) (after : PeerIo W) (goes_on : Bool) : Type 0 where
   pub silent : timeout_at idle_timeout io ≤ now → (b ≡ a) × (after ≡ io) × (goes_on ≡ false)
   pub waits : now < timeout_at idle_timeout io → io.ready ≡ false → (b ≡ a) × (after ≡ io) × (goes_on ≡ true)
   pub ready : now < timeout_at idle_timeout io → io.ready ≡ true → TakesTurn left written counts now a io b after goes_on
 
--- A peer that goes on keeps its place; any other is ended.
+-- A peer that goes on keeps its slot. Any other is ended.
 abbrev pub IsLeft : {W : Type 0} → AdapterState → PeerIo W → Bool → AdapterState → Option (PeerIo W) → Type 0
 IsLeft a io true b slot = (b ≡ a) × (slot ≡ Some io)
 IsLeft a io false b slot = (b ≡ after_call a (Ends_peer io.peer)) × (slot ≡ None)
@@ -82,13 +82,13 @@ pub record IsServedAt {W : Type 0} (left written : W → Option (List ℕ)) (cou
   pub served : IsServedPeer left written counts now idle_timeout a io adapter after goes_on
   pub stays : IsLeft adapter after goes_on b slot
 
--- A place in a round: one that is free stays so.
+-- A slot in a round. A free slot stays free.
 abbrev pub IsSlotServed : {W : Type 0} → (W → Option (List ℕ)) → (W → Option (List ℕ)) → (W → WireCounts) → ℕ → ℕ
     → AdapterState → Option (PeerIo W) → AdapterState → Option (PeerIo W) → Type 0
 IsSlotServed left written counts now idle_timeout a None b slot = (b ≡ a) × (slot ≡ None)
 IsSlotServed left written counts now idle_timeout a (Some io) b slot = IsServedAt left written counts now idle_timeout a io b slot
 
--- The places in a round, one after the other.
+-- The slots in a round, one after the other.
 abbrev pub AreSlotsServed : {W : Type 0} → (W → Option (List ℕ)) → (W → Option (List ℕ)) → (W → WireCounts) → ℕ → ℕ
     → AdapterState → List (Option (PeerIo W)) → AdapterState → List (Option (PeerIo W)) → Type 0
 AreSlotsServed left written counts now idle_timeout a [] b [] = b ≡ a
@@ -98,13 +98,13 @@ AreSlotsServed left written counts now idle_timeout a (io ∷ slots) b (slot ∷
     (between : AdapterState) × IsSlotServed left written counts now idle_timeout a io between slot
     × AreSlotsServed left written counts now idle_timeout between slots b places
 
--- A round at a moment: the moment comes, and then each place is served.
+-- A round: the adapter is given the time, and then each slot is served.
 pub record IsRound {W : Type 0} (left written : W → Option (List ℕ)) (counts : W → WireCounts) (now : ℕ) (old new : ServerState W) : Type 0 where
   pub idle_timeout : new.idle_timeout ≡ old.idle_timeout
   pub places : AreSlotsServed left written counts now old.idle_timeout (after_call old.adapter (Ticks now)) old.slots
       new.adapter new.slots
 
--- How many peers ended in a round.
+-- The number of peers that ended in a round.
 abbrev pub has_ended : {W : Type 0} → Option (PeerIo W) → Option (PeerIo W) → Bool
 has_ended None slot = false
 has_ended (Some io) slot = is_none slot
@@ -114,7 +114,7 @@ ended_in [] places = 0
 ended_in (io ∷ slots) [] = 0
 ended_in (io ∷ slots) (slot ∷ places) = (if has_ended io slot then 1 else 0) + ended_in slots places
 
--- Peers at their beginning: each place is free.
+-- At the beginning, each slot is free.
 abbrev pub new_peers : {W : Type 0} → AdapterState → ℕ → ServerState W
 new_peers adapter idle_timeout = record {
   adapter = adapter;
@@ -122,7 +122,7 @@ new_peers adapter idle_timeout = record {
   slots = replicate (adapter.state.places - length adapter.state.peers) None;
 }
 
--- A line at the beginning of its peer, at a moment.
+-- A peer that begins now.
 abbrev pub new_peer_io : {W : Type 0} → ℕ → W → ℕ → PeerIo W
 new_peer_io peer wire now = record {
   peer = peer;
@@ -135,11 +135,11 @@ new_peer_io peer wire now = record {
   outbox = [];
 }
 
--- The first place that is free.
+-- The first free slot.
 abbrev pub first_free : {W : Type 0} → List (Option (PeerIo W)) → Option ℕ
 first_free slots = position (λ io. is_none io) slots
 
--- A peer comes: it takes the first free place. Where all places are taken, or the adapter refuses it, nothing changes.
+-- A peer is added: it takes the first free slot. If all slots are taken, or the adapter refuses it, nothing changes.
 abbrev pub IsAdded : {W : Type 0} → ℕ → W → ServerState W → ServerState W → Result ℕ Full → Type 0
 IsAdded now wire old new (Ok slot) =
     (handle : ℕ) × (first_free old.slots ≡ Some slot)
@@ -153,7 +153,7 @@ IsAdded now wire old new (Err full) =
     ⊎ (((call_answer old.adapter Begins_peer).output ≡ Refuses full)
     × (new ≡ record old { adapter = after_call old.adapter Begins_peer }))
 
--- The wire of a place may be ready, and the end of its stream may be reported with that.
+-- The wire of a slot may be ready, and the end of its stream may be reported at the same time.
 abbrev pub marked_ready_in : {W : Type 0} → Bool → PeerIo W → PeerIo W
 marked_ready_in ends io = record io { ready = true; end_reported = if ends then true else io.end_reported }
 
@@ -170,13 +170,13 @@ abbrev pub is_ready : {W : Type 0} → Option (PeerIo W) → Bool
 is_ready None = false
 is_ready (Some io) = io.ready
 
--- The earliest of a moment and the last moments of lines.
+-- The earliest of a time and the times at which peers are ended.
 abbrev pub earliest_of : {W : Type 0} → ℕ → ℕ → List (Option (PeerIo W)) → ℕ
 earliest_of idle_timeout moment [] = moment
 earliest_of idle_timeout moment (None ∷ slots) = earliest_of idle_timeout moment slots
 earliest_of idle_timeout moment (Some io ∷ slots) = earliest_of idle_timeout (min moment (timeout_at idle_timeout io)) slots
 
--- When lines are to be served again, with one place more and with some more.
+-- When peers are due again: with one slot more, and with several more.
 abbrev pub due_with : {W : Type 0} → ℕ → Due → Option (PeerIo W) → Due
 due_with idle_timeout due None = due
 due_with idle_timeout due (Some io) = record {
@@ -188,11 +188,11 @@ abbrev pub due_by : {W : Type 0} → ℕ → Due → List (Option (PeerIo W)) �
 due_by idle_timeout due [] = due
 due_by idle_timeout due (slot ∷ places) = due_by idle_timeout (due_with idle_timeout due slot) places
 
--- A moment that never comes is none.
+-- The time that never comes is none.
 abbrev pub moment_or_none : ℕ → Option ℕ
 moment_or_none moment = if moment == 2 ^ 64 - 1 then None else Some moment
 
--- The moment at which something is to be done without anyone speaking: a connection times out, or a peer is ended.
+-- The time at which a round is due although no wire is ready: a connection times out, or a peer is ended.
 abbrev pub next_moment : {W : Type 0} → ServerState W → Option ℕ
 next_moment p = moment_or_none (earliest_of p.idle_timeout
     (unwrap_or (earliest_deadline p.adapter.state.shared.manager.connections) (2 ^ 64 - 1)) p.slots)

@@ -1,11 +1,11 @@
--- Lists of calls of the peers, and the life of one peer among them.
+-- Lists of calls of `Peers`, and one peer that keeps its slot among them.
 use Rattle.std.specs.Prelude.{ℕ, ◌≡◌, Bool, List, Option, Some, Result, slice_get}
 use Rattle.enip_adapter.specs.declared.adapter.Full.{Full}
 use Rattle.enip_server.specs.declared.peer_io.PeerIo.{PeerIo}
 use Rattle.enip_server.specs.declared.wire_counts.WireCounts.{WireCounts}
 use Rattle.enip_server.specs.Rounds.{ServerState, IsRound, IsAdded, marked_ready}
 
--- One call of the peers: a peer comes, or is refused; a wire may be ready, or be at the end of its stream; a round.
+-- One call: a peer is added, or refused; a wire may be ready, or at the end of its stream; a round.
 pub data IsStep {W : Type 0} (left written : W → Option (List ℕ)) (counts : W → WireCounts) : ServerState W → ServerState W → Type 0 where
   Adds : {old new : ServerState W} (now : ℕ) (wire : W) (result : Result ℕ Full) → IsAdded now wire old new result
       → IsStep left written counts old new
@@ -19,12 +19,12 @@ pub data IsRun {W : Type 0} (left written : W → Option (List ℕ)) (counts : W
   Goes_on : {old between new : ServerState W} → IsRun left written counts old between → IsStep left written counts between new
       → IsRun left written counts old new
 
--- A place holds this line of this peer.
+-- A slot holds this peer, in this state.
 pub record HoldsSlot {W : Type 0} (slot peer : ℕ) (p : ServerState W) (io : PeerIo W) : Type 0 where
   pub there : slice_get p.slots slot ≡ Some (Some io)
   pub peer_of : io.peer ≡ peer
 
--- Calls, at each of which a place holds the same peer: with this line first, and with that one in the end.
+-- Calls, during which a slot holds the same peer: in this state first, and in that one at the end.
 pub data KeepsSlot {W : Type 0} (left written : W → Option (List ℕ)) (counts : W → WireCounts) (slot peer : ℕ)
     : ServerState W → PeerIo W → ServerState W → PeerIo W → Type 0 where
   Begins : {p : ServerState W} {io : PeerIo W} → HoldsSlot slot peer p io → KeepsSlot left written counts slot peer p io p io

@@ -1,4 +1,4 @@
--- What calls of the adapter do to one peer's desk, whoever they are for.
+-- What calls of the adapter do to the state of one peer, whoever they are for.
 use Rattle.std.specs.Prelude.{ℕ, ◌≡◌, ◌≢◌, ◌==◌, ⊤, List, [], ◌∷◌, ◌++◌, if◌then◌else◌, None}
 use Rattle.std.specs.Io.KnownBytes.{Appends, Consumes}
 use Rattle.enip_adapter.specs.Calls.{AdapterState, Call, call_answer, after_call}
@@ -20,9 +20,10 @@ abbrev pub sent_by_calls : ℕ → AdapterState → List Call → List ℕ
 sent_by_calls peer a [] = []
 sent_by_calls peer a (call ∷ calls) = sent_by_call peer a call ++ sent_by_calls peer (after_call a call) calls
 
--- Nothing is lost and nothing is mixed up: these calls were made, these bytes came of the peer's wire, and these went
--- out. What waited and came is what the calls took of this peer, and what waits now; what waited and what the calls sent
--- to it is what went out, and what waits now. Of a peer that the adapter closed nothing more is taken.
+-- No byte is lost and none is mixed up: these calls were made, these bytes were read from the peer's wire, and these
+-- were written. The inbox before and the bytes read are what the calls took of this peer, and the inbox after. The
+-- outbox before and what the calls sent to it are the bytes written, and the outbox after. Nothing more is taken of a
+-- peer that the adapter closed.
 pub record Transfers (peer : ℕ) (calls : List Call) (received gone : List ℕ) (old new : PeerState) : Type 0 where
   pub adapter : new.adapter ≡ after_calls old.adapter calls
   pub read : Consumes old.left new.left received

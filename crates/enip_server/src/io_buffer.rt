@@ -1,4 +1,4 @@
-//! Bytes that wait.
+//! A buffer for the input or the output of a peer.
 
 ghost use Rattle.std.specs.Prelude.{◌≡◌, ◌≤◌, ◌==◌, [], length, take, drop};
 ghost use Rattle.std.specs.Io.KnownBytes.{Consumes};
@@ -7,10 +7,10 @@ ghost use Rattle.enip_server.specs.Wires.{AreReadBy, after_read};
 use crate::wire::{ReadOutcome, Wire};
 use std::marker::Model;
 
-/// The most bytes that wait, and the most of a read (ours).
+/// The capacity of a buffer, and the greatest size of a read, in bytes (ours).
 pub const IO_BUFFER_SIZE: usize = 4_096;
 
-/// Bytes that wait, in the order in which they came.
+/// A buffer of bytes, in the order of the stream. Its content is `block[start..end]`.
 #[derive(Drop)]
 pub(crate) struct IoBuffer {
     start: usize,
@@ -29,7 +29,7 @@ impl Model for IoBuffer {
 }
 
 impl IoBuffer {
-    /// Nothing waits.
+    /// An empty buffer.
     pub(crate) fn new() -> IoBuffer
         ensures { result ≡ [] }
     {
@@ -40,21 +40,21 @@ impl IoBuffer {
         }
     }
 
-    /// Whether nothing waits.
+    /// Whether the buffer is empty.
     pub(crate) fn is_empty(&self) -> bool
         ensures { result ≡ (length self.now == 0) }
     {
         self.start == self.end
     }
 
-    /// The bytes that wait.
+    /// The bytes in the buffer.
     pub(crate) fn as_slice(&self) -> &[u8]
         ensures { result.now ≡ self.now }
     {
         &self.block[self.start..self.end]
     }
 
-    /// So many bytes from the front wait no longer.
+    /// Drops the first `size` bytes.
     pub(crate) fn drop_front(&mut self, size: usize)
         requires { size ≤ length self.old }
         ensures { self.new ≡ drop size self.old }
@@ -62,7 +62,7 @@ impl IoBuffer {
         self.start += size;
     }
 
-    /// Nothing waits any longer.
+    /// Empties the buffer.
     pub(crate) fn clear(&mut self)
         ensures { self.new ≡ [] }
     {
@@ -70,7 +70,7 @@ impl IoBuffer {
         self.end = 0;
     }
 
-    /// These bytes wait, and no others.
+    /// Replaces the content with these bytes.
     pub(crate) fn put(&mut self, text: &[u8])
         requires { length text.now ≤ IO_BUFFER_SIZE }
         ensures { self.new ≡ text.now }
@@ -80,7 +80,7 @@ impl IoBuffer {
         self.end = text.len();
     }
 
-    /// What one read of a wire gives waits, and nothing else.
+    /// Replaces the content with what one read of a wire gives.
     pub(crate) fn fill<W: Wire>(&mut self, wire: &mut W) -> ReadOutcome
         ensures read { Consumes (W.left wire.old) (W.left wire.new) self.new }
         ensures bytes { AreReadBy result self.new }

@@ -1,5 +1,5 @@
-//! What holds for every list of calls of the peers. Each law is the contract of a function that does nothing, over the
-//! same definitions as the contracts of the calls.
+//! Laws that hold for every list of calls of `Peers`. Each law is the contract of a function that does nothing. It is
+//! stated over the same definitions as the contracts of the calls.
 
 ghost use Rattle.std.specs.Prelude.{ℕ, List, Option};
 ghost use Rattle.std.specs.List.{AllByRecursion};
@@ -13,16 +13,16 @@ ghost use Rattle.enip_server.specs.Runs.{IsRun, KeepsSlot};
 
 use crate::wire::Wire;
 
-/// A turn makes calls of the adapter that are feeds of this peer at this moment, and loses and mixes up nothing.
+/// All adapter calls of a turn are feeds of this peer at this time. A turn loses no byte and mixes up none.
 pub fn turns_lose_nothing()
     ensures { (now peer : ℕ) (old new : PeerState) → IsTurn now peer old new → (calls : List Call) × (received : List ℕ)
         × (gone : List ℕ) × AllByRecursion (IsFeedOf now peer) calls × Transfers peer calls received gone old new }
 {}
 
-/// Whatever calls come, for any number of peers: as long as a peer holds its place, calls of the adapter were made that
-/// lead to where it is, none of which ends this peer, and of this peer nothing was lost and nothing was mixed up: what
-/// was read of its wire is what these calls took of it and what waits to be fed, and what these calls answered it is
-/// what was written to its wire and what waits to be written, in this order.
+/// Peers are served apart, whatever calls are made and for any number of peers. As long as a peer holds its slot, the
+/// adapter is in a state that calls of it lead to, none of which ends this peer, and no byte of this peer is lost or
+/// mixed up. What was read from its wire is what these calls took of it, followed by what waits to be fed. What these
+/// calls answered it is what was written to its wire, followed by what waits to be written, in this order.
 pub fn peers_are_served_apart<W: Wire>()
     ensures { (adapter : AdapterState) (idle_timeout slot peer : ℕ) (first last : ServerState W) (io after : PeerIo W) →
         IsRun W.left W.written W.counts (new_peers adapter idle_timeout) first →

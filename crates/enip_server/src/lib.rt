@@ -1,13 +1,18 @@
-//! Several peers of an adapter at once (ODVA CIP Networks Library, Volume 2), without sockets and without a clock.
+//! A server for several peers of an adapter at once (ODVA CIP Networks Library, Volume 2), without sockets and without
+//! a clock.
 //!
-//! `Peers` holds an adapter and a line for each of its places: a wire, what was read of it and not fed, and what of an
-//! answer is not out. A `Wire` never waits. `add` begins a peer, `mark_ready` says that its wire may be ready, and `round`
-//! gives each peer that may be ready one turn: what waits of an answer is written, and only when all of it is out are
-//! bytes read, at most 4,096, and fed frame by frame, each answer written before the next frame is fed.
+//! `Peers` holds an adapter and a slot for each peer: its wire, an inbox of bytes that were read and not fed, and an
+//! outbox of answer bytes that were not written. A `Wire` is a stream whose calls never block.
 //!
-//! Its calls after `Peers::new` take no memory.
+//! - `add` begins a peer on a new wire.
+//! - `mark_ready` reports that a wire may be ready.
+//! - `round` gives each peer that may be ready one turn. A turn first writes what is left of an answer. Once all of it
+//!   is written, it makes one read of at most 4,096 bytes and feeds them frame by frame. Each answer is written before
+//!   the next frame is fed.
 //!
-//! One step of a server, which calls again when the moment comes that it is answered, or the system tells of a wire:
+//! No call after `Peers::new` allocates memory.
+//!
+//! One step of a server. Call it again at the time that it returns, or when the system reports that a wire is ready:
 //!
 //! ```
 //! fn serve_ready<W: Wire + Drop>(

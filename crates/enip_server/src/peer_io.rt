@@ -1,4 +1,4 @@
-//! A peer's line, and its turn.
+//! The input and output of one peer, and its turn.
 //! Text: docs/PROGRAM.md, "`enip serve`".
 
 ghost use Rattle.std.specs.Prelude.{◌≡◌, ◌≢◌, ◌≤◌, ◌<◌, [], length, Some, None, true, false, IfSome, IfNone, IfErr, IfOk};
@@ -11,25 +11,26 @@ use crate::io_buffer::IoBuffer;
 use crate::wire::{ReadOutcome, Wire};
 use enip_adapter::{Adapter, Peer};
 
-/// How long a peer that the adapter closed is still read, in microseconds, so that its answer is not lost (ours).
+/// For how long a peer that the adapter closed is still read, in microseconds, so that its last answer is not lost
+/// (ours).
 pub const LINGER: u64 = 1_000_000;
 
-/// What a turn came to.
+/// The outcome of a turn.
 #[derive(Clone, Copy, PartialEq, Eq)]
 pub(crate) enum Turn {
-    /// More may have come.
+    /// More input may be available now.
     More,
-    /// Nothing more has come: the wire is waited for until it can be read.
+    /// All input was read: wait until the wire is readable.
     UntilReadable,
-    /// An answer is not out: the wire is waited for until it can be written.
+    /// An answer is not written to its end: wait until the wire is writable.
     UntilWritable,
-    /// The stream is at its end, or a call failed.
+    /// The stream is at its end, or a call of the wire failed.
     Finished,
 }
 
 impl Turn {
-    /// What a turn comes to by a read of it, once all that came is fed. `end_reported` says that the system has reported the
-    /// end of the stream: it does so once, so that is read on to.
+    /// The outcome of a turn once everything that it read has been fed. The system reports the end of a stream only
+    /// once, so a turn that knows of it (`end_reported`) keeps reading.
     fn after(received: ReadOutcome, end_reported: bool) -> Turn
         ensures { result ≡ turn_after received end_reported }
     {
@@ -42,27 +43,27 @@ impl Turn {
     }
 }
 
-/// A peer that holds a place: its wire, and what waits on it.
+/// A peer that holds a slot: its wire, its buffers and its timers.
 #[derive(Drop)]
 pub(crate) struct PeerIo<W> {
     pub(crate) peer: Peer,
     pub(crate) wire: W,
     /// Whether the wire may be ready.
     pub(crate) ready: bool,
-    /// Whether the system has reported the end of the stream, which it does once.
+    /// Whether the system has reported the end of the stream, which it does only once.
     pub(crate) end_reported: bool,
-    /// The moment at which a byte came last, or at which it began.
+    /// When the last byte arrived, or when the peer began.
     last_byte_at: u64,
-    /// Where the adapter closed the peer, the moment up to which it is still read.
+    /// If the adapter closed the peer: the time up to which it is still read.
     closed: Option<u64>,
-    /// What was read and not fed.
+    /// Bytes that were read and not fed.
     inbox: IoBuffer,
-    /// What of an answer is not out.
+    /// Bytes of an answer that were not written.
     outbox: IoBuffer,
 }
 
 impl<W: Wire> PeerIo<W> {
-    /// A peer's line at its beginning, at a moment.
+    /// A peer that begins now.
     pub(crate) fn new(peer: Peer, wire: W, now: u64) -> PeerIo<W>
         ensures { result ≡ record {
           peer = peer;
@@ -87,7 +88,7 @@ impl<W: Wire> PeerIo<W> {
         }
     }
 
-    /// The moment at which the peer is ended if nothing comes of it, where silence may last so long.
+    /// The time at which the peer is ended unless a byte arrives before.
     pub(crate) fn timeout_at(&self, idle_timeout: u64) -> u64
         ensures { result ≡ timeout_at idle_timeout self.now }
     {
@@ -98,8 +99,8 @@ impl<W: Wire> PeerIo<W> {
         }
     }
 
-    /// Gives the peer a turn if its wire may be ready. Answers whether it goes on: it does not where it was silent for
-    /// too long, or its stream is over.
+    /// Gives the peer a turn if its wire may be ready. Returns whether the peer goes on: not if it timed out, and not
+    /// if its stream is over.
     pub(crate) fn serve(&mut self, adapter: &mut Adapter, now: u64, idle_timeout: u64) -> bool
         ensures { IsServedPeer W.left W.written W.counts now idle_timeout adapter.old self.old adapter.new self.new result }
     {
@@ -112,7 +113,7 @@ impl<W: Wire> PeerIo<W> {
         self.take_turn(adapter, now)
     }
 
-    /// Has one turn. Answers whether the stream goes on.
+    /// Takes one turn. Returns whether the stream goes on.
     fn take_turn(&mut self, adapter: &mut Adapter, now: u64) -> bool
         ensures { TakesTurn W.left W.written W.counts now adapter.old self.old adapter.new self.new result }
     {
@@ -121,7 +122,7 @@ impl<W: Wire> PeerIo<W> {
         turn != Turn::Finished
     }
 
-    /// One turn: what waits of an answer is written, and once all of it is out a read is made and fed.
+    /// One turn: writes what is left of an answer; once all of it is written, makes one read and feeds it.
     fn turn(&mut self, adapter: &mut Adapter, now: u64) -> Turn
         ensures turn { IsTurn now self.old.peer (peer_state_of W.left W.written W.counts adapter.old self.old)
             (peer_state_of W.left W.written W.counts adapter.new self.new) }
@@ -146,7 +147,7 @@ impl<W: Wire> PeerIo<W> {
         turn
     }
 
-    /// Reads once, where nothing waits to be fed. Answers what the turn comes to once all that waits then is fed.
+    /// Makes one read if the inbox is empty. Returns the outcome of the turn once the inbox has been fed.
     fn fetch(&mut self, now: u64) -> Turn
         ensures fetched { (adapter : AdapterState) → IsFetched now (peer_state_of W.left W.written W.counts adapter self.old)
             (peer_state_of W.left W.written W.counts adapter self.new) }
@@ -168,8 +169,8 @@ impl<W: Wire> PeerIo<W> {
         Turn::after(received, self.end_reported)
     }
 
-    /// Feeds what was read, frame by frame. Answers `None` where nothing is left, and what the turn came to where an
-    /// answer is not out, or the adapter closed the peer.
+    /// Feeds the inbox, frame by frame. Returns `None` if nothing is left. Otherwise it returns the outcome of the
+    /// turn: an answer is not written to its end, or the adapter closed the peer.
     fn feed_all(&mut self, adapter: &mut Adapter, now: u64) -> Option<Turn>
         requires out { self.old.outbox ≡ [] }
         requires open { self.old.closed ≡ None }
@@ -195,7 +196,7 @@ impl<W: Wire> PeerIo<W> {
         None
     }
 
-    /// Feeds what was read up to the end of one frame. What answers it waits to be written.
+    /// Feeds the inbox up to the end of one frame, and puts the answer into the outbox.
     fn feed_once(&mut self, adapter: &mut Adapter, now: u64)
         requires out { self.old.outbox ≡ [] }
         requires open { self.old.closed ≡ None }
@@ -217,7 +218,7 @@ impl<W: Wire> PeerIo<W> {
         }
     }
 
-    /// Writes what waits of an answer. Answers `None` where all of it is out.
+    /// Writes the outbox. Returns `None` once it is empty.
     fn flush(&mut self) -> Option<Turn>
         ensures flushed { (adapter : AdapterState) → IsFlushed (peer_state_of W.left W.written W.counts adapter self.old)
             (peer_state_of W.left W.written W.counts adapter self.new) }
@@ -241,7 +242,7 @@ impl<W: Wire> PeerIo<W> {
         None
     }
 
-    /// Reads once of a peer that the adapter closed, and throws it away; what is written to it is at its end.
+    /// For a peer that the adapter closed: shuts the writing side down, makes one read and discards it.
     fn discard_input(&mut self) -> Turn
         requires out { self.old.outbox ≡ [] }
         ensures discarded { (adapter : AdapterState) → IsDiscarded (peer_state_of W.left W.written W.counts adapter self.old)

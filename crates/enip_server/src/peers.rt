@@ -1,4 +1,4 @@
-//! The peers of an adapter, and the calls that move them.
+//! The peers of an adapter, and the calls that serve them.
 //! Text: docs/PROGRAM.md, "`enip serve`".
 
 ghost use Rattle.std.specs.Prelude.{◌≡◌, ◌≤◌, length, IfOk, IfSome};
@@ -15,45 +15,54 @@ use enip_adapter::{Adapter, DiscoveryBuffer, Full, LONGEST_ANSWER};
 use std::alloc::{AllocError, Global};
 use std::boxed::BoxedSlice;
 
-/// A silence without a limit.
+/// An idle timeout that never expires.
 pub const NO_IDLE_TIMEOUT: u64 = u64::MAX;
 
-/// What a round came to.
+/// The outcome of a round.
 #[derive(Clone, Copy, Debug, PartialEq, Eq)]
 pub struct RoundEnd {
-    /// How many peers ended: those whose stream was over, and those that were silent for too long.
+    /// The number of peers that ended: their stream was over, or they timed out.
     pub ended: usize,
-    /// Whether a wire may be ready.
+    /// Whether a wire may be ready now.
     pub ready: bool,
-    /// The earliest moment at which something is to be done without anyone speaking, where there is one.
+    /// The earliest time at which a round is due although no wire is ready: a connection times out, or a peer is ended.
+    /// `None` if there is no such time.
     pub next: Option<u64>,
 }
 
-/// When lines are to be served again.
+/// When peers are due for service again.
 #[derive(Drop)]
 struct Due {
-    /// Whether a wire may be ready.
+    /// Whether a wire may be ready now.
     ready: bool,
-    /// The earliest moment at which a peer is ended if nothing comes of it.
+    /// The earliest time at which a peer is ended unless a byte arrives.
     moment: u64,
 }
 
-/// An adapter, and a line for each of its places.
+/// An adapter, and a slot for each of its peers.
+///
+/// ```
+/// let mut peers = Peers::new(alloc, adapter, NO_IDLE_TIMEOUT)?;
+/// if let Ok(slot) = peers.add(now, wire) {
+///     peers.mark_ready(slot, false);
+/// }
+/// let end = peers.round(now);
+/// ```
 #[derive(Drop)]
 pub struct Peers<W> {
     adapter: Adapter,
-    /// How long a peer may be silent, in microseconds.
+    /// For how long a peer may send nothing, in microseconds.
     idle_timeout: u64,
     slots: BoxedSlice<Option<PeerIo<W>>>,
 }
 
 impl<W: Wire + Drop> Peers<W> {
-    /// An adapter's peers, with as many places as it has free. A peer from which no byte comes for `idle_timeout`
-    /// microseconds is ended. All memory is taken here.
+    /// Makes as many slots as the adapter has free peer slots. A peer that sends no byte for `idle_timeout`
+    /// microseconds is ended. It allocates all of its memory here.
     ///
     /// # Errors
     ///
-    /// `AllocError` where memory is refused.
+    /// `AllocError` if memory is refused.
     pub fn new(alloc: Global, adapter: Adapter, idle_timeout: u64) -> Result<Peers<W>, AllocError>
         ensures { IfOk result (λ p. state_of p ≡ new_peers adapter idle_timeout) }
     {
@@ -69,19 +78,19 @@ impl<W: Wire + Drop> Peers<W> {
         })
     }
 
-    /// The first place that is free, by its index.
+    /// The index of the first free slot.
     pub fn first_free(&self) -> Option<usize>
         ensures { result ≡ first_free (state_of self.now).slots }
     {
         self.slots.iter().position(|io| io.is_none())
     }
 
-    /// A peer comes at a moment, with its wire: it takes the first free place, whose index is answered.
+    /// Begins a peer on a wire at the time `now`. It takes the first free slot, whose index is returned.
     ///
     /// # Errors
     ///
-    /// `Full::Places` where all places are taken, else `Full::Handles` where the last handle was given out. The wire is
-    /// dropped.
+    /// `Full::Places` if all slots are taken, otherwise `Full::Handles` if the last session handle was assigned. The
+    /// wire is dropped.
     pub fn add(&mut self, now: u64, wire: W) -> Result<usize, Full>
         ensures { IsAdded now wire (state_of self.old) (state_of self.new) result }
     {
@@ -93,8 +102,8 @@ impl<W: Wire + Drop> Peers<W> {
         Ok(slot)
     }
 
-    /// The wire of a place may be ready. `ends` says that the end of its stream is reported, or that it failed: it is
-    /// read on to then, since that may be reported once. Nothing is changed where the place is free.
+    /// Reports that the wire of a slot may be ready. `ends` reports that its stream has ended or failed too; the system
+    /// may report that only once, so the peer is then read up to there. Nothing changes if the slot is free.
     pub fn mark_ready(&mut self, slot: usize, ends: bool)
         ensures { state_of self.new ≡ record (state_of self.old) { slots = marked_ready ends (state_of self.old).slots slot } }
     {
@@ -109,7 +118,7 @@ impl<W: Wire + Drop> Peers<W> {
         }
     }
 
-    /// A moment comes, and each peer whose wire may be ready has one turn.
+    /// Serves one round at the time `now`: each peer whose wire may be ready has one turn.
     pub fn round(&mut self, now: u64) -> RoundEnd
         ensures round { IsRound W.left W.written W.counts now (state_of self.old) (state_of self.new) }
         ensures ended { result.ended ≡ ended_in (state_of self.old).slots (state_of self.new).slots }
@@ -129,8 +138,8 @@ impl<W: Wire + Drop> Peers<W> {
         }
     }
 
-    /// A moment comes, and each place is served. Answers how many peers ended; when the others are to be served again
-    /// is added to `due`.
+    /// Gives the adapter the time, and serves each slot. Returns the number of peers that ended. When the others are
+    /// due again is added to `due`.
     fn serve_all(&mut self, now: u64, due: &mut Due) -> usize
         ensures round { IsRound W.left W.written W.counts now (state_of self.old) (state_of self.new) }
         ensures ended { result ≡ ended_in (state_of self.old).slots (state_of self.new).slots }
@@ -146,8 +155,8 @@ impl<W: Wire + Drop> Peers<W> {
         )
     }
 
-    /// What answers a datagram, written in `room`: to exactly one ListIdentity, ListServices or ListInterfaces, and `None`
-    /// to any other. No peer, session or connection is touched.
+    /// The answer to a datagram, written into `room`. A datagram is answered if it is exactly one ListIdentity,
+    /// ListServices or ListInterfaces. `None` for any other datagram. No peer, session or connection changes.
     pub fn discover<'a>(&self, datagram: &[u8], room: &'a mut DiscoveryBuffer) -> Option<&'a [u8]>
         ensures answer { option_map (λ bytes. bytes.now) result
             ≡ discovered (state_of self.now).adapter.state.shared datagram.now }
@@ -156,14 +165,15 @@ impl<W: Wire + Drop> Peers<W> {
         self.adapter.discover(datagram, room)
     }
 
-    /// The earliest moment at which something is to be done without anyone speaking, where there is one.
+    /// The earliest time at which a round is due although no wire is ready: a connection times out, or a peer is ended.
+    /// `None` if there is no such time.
     pub fn next_moment(&self) -> Option<u64>
         ensures { result ≡ next_moment (state_of self.now) }
     {
         moment_or_none(self.earliest(self.adapter.deadline().unwrap_or(u64::MAX)))
     }
 
-    /// The earliest of a moment and those at which peers are ended if nothing comes of them.
+    /// The earliest of a time and of the times at which peers are ended unless a byte arrives.
     fn earliest(&self, moment: u64) -> u64
         ensures { result ≡ earliest_of (state_of self.now).idle_timeout moment (state_of self.now).slots }
     {
@@ -177,7 +187,7 @@ impl<W: Wire + Drop> Peers<W> {
     }
 }
 
-/// A moment, where it is not the one that never comes.
+/// `None` for the time that never comes.
 fn moment_or_none(moment: u64) -> Option<u64>
     ensures { result ≡ moment_or_none moment }
 {
@@ -187,8 +197,8 @@ fn moment_or_none(moment: u64) -> Option<u64>
     }
 }
 
-/// The places in a round, one after the other. Answers how many peers ended; when the others are to be served again is
-/// added to `due`.
+/// Serves the slots of a round, one after the other. Returns the number of peers that ended. When the others are due
+/// again is added to `due`.
 fn serve_slots<W: Wire + Drop>(
     places: &mut [Option<PeerIo<W>>],
     adapter: &mut Adapter,
@@ -208,7 +218,7 @@ fn serve_slots<W: Wire + Drop>(
     usize::from(ended) + serve_slots(others, adapter, now, idle_timeout, due)
 }
 
-/// One place in a round. Answers whether its peer ended; when it is to be served again, if not, is added to `due`.
+/// Serves one slot of a round. Returns whether its peer ended. If not, when it is due again is added to `due`.
 fn serve_slot<W: Wire + Drop>(
     slot: &mut Option<PeerIo<W>>,
     adapter: &mut Adapter,

@@ -1,19 +1,19 @@
-//! A peer's wire: its stream of TCP, by calls that never wait.
+//! The wire of a peer: a TCP stream whose calls never block.
 
 ghost use Rattle.std.specs.Prelude.{ℕ, List, Option, ◌≡◌, ◌<◌, ◌≤◌, length, take, IfSome};
 ghost use Rattle.std.specs.Io.KnownBytes.{Appends};
 ghost use Rattle.enip_server.specs.declared.wire_counts.WireCounts.{WireCounts};
 ghost use Rattle.enip_server.specs.Wires.{IsRead, size_taken, after_read, after_write};
 
-/// What a read came to.
+/// The outcome of a read.
 #[derive(Clone, Copy, Debug, PartialEq, Eq)]
 pub enum ReadOutcome {
-    /// So many bytes, one at least. More may have come.
+    /// This many bytes, at least one. More may be available.
     Bytes(usize),
-    /// So many bytes, one at least, and nothing more has come: the system reports what comes from now on. It says
-    /// nothing of an end of the stream that was reported already.
+    /// This many bytes, at least one, and no more are available: the system reports when more arrive. It may have
+    /// reported the end of the stream before; that is not covered by this.
     Drained(usize),
-    /// Nothing yet.
+    /// No byte is available yet.
     WouldBlock,
     /// The end of the stream.
     End,
@@ -21,33 +21,32 @@ pub enum ReadOutcome {
     Failed,
 }
 
-/// A stream to a peer and from it.
+/// A stream to and from a peer. No call blocks.
 pub trait Wire {
-    // The bytes that are left to read, where the wire tells them.
+    // The bytes that are left to read, if the wire knows them.
     ghost left: { Self → Option (List ℕ) };
 
-    // The bytes that were written, where the wire tells them.
+    // The bytes that were written, if the wire knows them.
     ghost written: { Self → Option (List ℕ) };
 
     // How the calls went.
     ghost counts: { Self → WireCounts };
 
-    /// Reads what has come to the front of a slice that is not empty.
+    /// Reads into the front of a slice that is not empty.
     fn read(&mut self, into: &mut [u8]) -> ReadOutcome
         requires { 0 < length into.old }
         ensures read { IsRead (left self.old) (left self.new) result into.new }
         ensures written { written self.new ≡ written self.old }
         ensures counts { counts self.new ≡ after_read result (counts self.old) };
 
-    /// Writes a front of these bytes, and answers how many: 0 where nothing goes out yet, `None` where the write
-    /// failed.
+    /// Writes a front of these bytes and returns its length: 0 if the write would block, `None` if it failed.
     fn write(&mut self, from: &[u8]) -> Option<usize>
         ensures size { IfSome result (λ n. n ≤ length from.now) }
         ensures written { Appends (written self.old) (written self.new) (take (size_taken result) from.now) }
         ensures left { left self.new ≡ left self.old }
         ensures counts { counts self.new ≡ after_write result (counts self.old) };
 
-    /// Shuts the writing side. What comes can still be read.
+    /// Shuts the writing side down. The stream can still be read.
     fn shut(&mut self)
         ensures written { written self.new ≡ written self.old }
         ensures left { left self.new ≡ left self.old }

@@ -5,9 +5,9 @@ ghost use Rattle.enip_server.specs.Wires.{after_read, after_write};
 
 use crate::wire::ReadOutcome;
 
-/// How many reads were made, after how many of them nothing more had come, and how many calls had to wait, or were at
-/// an end or failed. Whoever calls a wire can so answer that it waits or is over only where a call of the wire said so.
-/// The numbers begin again at 2^64.
+/// The number of reads; of reads after which no more bytes were available; of calls that would have blocked; and of
+/// calls that failed or met the end of the stream. With these counts a contract can state that a caller reports a wait
+/// or an end only if a call of the wire did. The numbers wrap at 2^64.
 #[derive(Clone, Copy, Debug, PartialEq, Eq)]
 pub struct WireCounts {
     reads: u64,
@@ -29,7 +29,7 @@ impl WireCounts {
         }
     }
 
-    /// A read was made.
+    /// Counts a read.
     pub fn add_read(&mut self, received: ReadOutcome)
         ensures { self.new ≡ after_read received self.old }
     {
@@ -45,7 +45,7 @@ impl WireCounts {
         }
     }
 
-    /// A write was made, which took so many bytes; `None` where it failed.
+    /// Counts a write that took this many bytes, or failed (`None`).
     pub fn add_write(&mut self, taken: Option<usize>)
         ensures { self.new ≡ after_write taken self.old }
     {

@@ -29,7 +29,7 @@ body_items-interface text long other = grind (arith, nat_tests)
 body_items-zero : (text : List ℕ) → 6 ≤ length text → number_at 0 4 text ≡ 0 → body_items_of text ≡ items_of (drop 6 text)
 body_items-zero text long none = grind (arith, nat_tests)
 
--- a text with interface 0 opens a body
+-- bytes with interface 0 begin a body
 begins_body-zero : (text : List ℕ) → AreBytes text → 6 ≤ length text → number_at 0 4 text ≡ 0 → BeginsBody text (drop 6 text)
 begins_body-zero text fits long e =
     record {
@@ -53,7 +53,7 @@ body_items-body text l fits b =
     body_items-begins_body text (items l) b.begins_body
     ∙ items_of-spells (items l) (Ok l) (AreBytes-begins_body text (items l) b.begins_body fits) (b.are_items, refl)
 
--- what a body is, or why a text is none
+-- what body these bytes are, or why they are not a body
 abbrev pub Bodies : List ℕ → Result (List Item) CpfFault → Type 0
 Bodies text (Ok l) = IsBody text l
 Bodies text (Err Short) = (length text < 6) ⊎ ((rest : List ℕ) × BeginsBody text rest × IsShort rest)
@@ -115,13 +115,13 @@ no_bytes (x ∷ xs) e = absurd (omega arith)
 is_null : (a : Item) → a.kind ≡ 0 → length a.bytes ≡ 0 → a ≡ null_address
 is_null a k n = same_item k (no_bytes a.bytes n)
 
--- no item of that type stands second
+-- the second item is not of that type
 data_of-none : (kind : ℕ) (l : List Item)
     → ((d : Item) (further : List Item) → l ≡ d ∷ further → d.kind ≡ kind → ⊥) → data_of kind l ≡ Err Data
 data_of-none kind [] none = refl
 data_of-none kind (d ∷ l) none = data_of-other kind d l (none d l refl)
 
--- no null address stands first
+-- the first item is not a null address
 rr_items-none : (l : List Item) → ((a : Item) (others : List Item) → l ≡ a ∷ others → IsNullAddress a → ⊥)
     → rr_items_of l ≡ Err Address
 rr_items-none [] none = refl
@@ -134,7 +134,7 @@ rr_items-none (a ∷ l) absent =
       ]
     ]
 
--- what a SendRRData is, or why a text is none
+-- what SendRRData these bytes are, or why they are not one
 abbrev pub RrSpells : List ℕ → Result (List ℕ) CpfFault → Type 0
 RrSpells text (Ok bytes) = IsRrBody text bytes
 RrSpells text (Err fault) = IsBodyFault IsNullAddress 0xb2 text fault
@@ -243,7 +243,7 @@ same_or_not m n =
       ]
     ]
 
--- no connected address stands first
+-- the first item is not a connected address
 unit_items-none : (l : List Item) → ((a : Item) (others : List Item) → l ≡ a ∷ others → IsConnectedAddress a → ⊥)
     → unit_items_of l ≡ Err Address
 unit_items-none [] absent = refl
@@ -256,7 +256,7 @@ unit_items-none (a ∷ l) absent =
       ]
     ]
 
--- the data of the first item are bytes of the text
+-- the data of the first item are bytes of the body
 AreBytes-first : (text : List ℕ) (a : Item) (l : List Item) → IsBody text (a ∷ l) → AreBytes text → AreBytes a.bytes
 AreBytes-first text a l b fits =
     let rest : drop 12 text ≡ a.bytes ++ flat_map item l = ap (drop 12) b.begins_body.spelled in
@@ -271,7 +271,7 @@ four_cells xs n fits =
 is_connected : (a : Item) → IsConnectedAddress a → AreBytes a.bytes → a ≡ connected_address (number_at 0 4 a.bytes)
 is_connected a c fits = same_item c.0 (four_cells a.bytes c.1 fits)
 
--- what a SendUnitData is, or why a text is none
+-- what SendUnitData these bytes are, or why they are not one
 abbrev pub UnitSpells : List ℕ → Result (ℕ × List ℕ) CpfFault → Type 0
 UnitSpells text (Ok x) = IsUnitBody text x.0 x.1
 UnitSpells text (Err fault) = IsBodyFault IsConnectedAddress 0xb1 text fault

@@ -1,4 +1,4 @@
--- Worked rows of the devices over memory.
+-- Worked examples of the devices in memory.
 use Rattle.std.proofs.Common.{◌≡◌, [], ◌∷◌, ◌++◌, take, Some, None, refl}
 use Rattle.std.specs.Prelude.{ℕ, List, Option, drop, length}
 use Rattle.enip_wire.specs.MemoryDevices.{SourceState, given_by, after_read, SinkState, taken_by, after_write}
@@ -7,7 +7,7 @@ use Rattle.enip_wire.specs.MemoryDevices.{SourceState, given_by, after_read, Sin
 abbrev ten : List ℕ
 ten = 0 ∷ 1 ∷ 2 ∷ 3 ∷ 4 ∷ 5 ∷ 6 ∷ 7 ∷ 8 ∷ 9 ∷ []
 
--- a source of ten bytes: the moments of its reads, the most that each gives, and after how many one fails
+-- a source of ten bytes: the moments of its reads, the most bytes of each, and how many succeed before one fails
 abbrev source : List ℕ → ℕ → Option ℕ → SourceState
 source moments largest failing =
     record {
@@ -18,7 +18,7 @@ source moments largest failing =
       calls = record { largest_size = largest; before_failure = failing; failures = 0 };
     }
 
--- what reads into so many bytes give, one after the other
+-- what successive reads into slices of these sizes give
 abbrev given : List ℕ → SourceState → List (Option ℕ)
 given [] s = []
 given (n ∷ ns) s = given_by s n ∷ given ns (after_read s (given_by s n))
@@ -28,16 +28,16 @@ abbrev after : List ℕ → SourceState → SourceState
 after [] s = s
 after (n ∷ ns) s = after ns (after_read s (given_by s n))
 
--- to the end, however often it is asked for
+-- reads up to the end, and at the end again
 to_the_end : given (8 ∷ 8 ∷ 8 ∷ 8 ∷ []) (source [] 100 None) ≡ Some 8 ∷ Some 2 ∷ Some 0 ∷ Some 0 ∷ []
 to_the_end = refl
 
--- the second read puts two bytes in front of what was there
+-- the second read writes two bytes over the front of the slice
 second_read : take 2 (after (8 ∷ []) (source [] 100 None)).left ++ drop 2 (take 8 ten)
     ≡ 8 ∷ 9 ∷ 2 ∷ 3 ∷ 4 ∷ 5 ∷ 6 ∷ 7 ∷ []
 second_read = refl
 
--- four reads, none of which failed, and no moment
+-- four reads, no failure, and no moment
 four_reads : after (8 ∷ 8 ∷ 8 ∷ 8 ∷ []) (source [] 100 None)
     ≡ record (source [] 100 None) { left = []; reads = 4 }
 four_reads = refl
@@ -69,7 +69,7 @@ first_failed : after (8 ∷ []) (source (7 ∷ []) 100 (Some 0))
     ≡ record (source (7 ∷ []) 100 None) { reads = 1; calls = record { largest_size = 100; before_failure = None; failures = 1 } }
 first_failed = refl
 
--- a moment a read: 0 of the first
+-- one moment for each read, 0 for the first
 abbrev timed : SourceState
 timed = source (0 ∷ 20000000 ∷ 30000000 ∷ []) 4 None
 
@@ -82,22 +82,22 @@ first_moment = refl
 second_moment : (after (8 ∷ 8 ∷ []) timed).moment ≡ 20000000
 second_moment = refl
 
--- a read into no byte gives none, so its moment is no one's
+-- a read into an empty slice gives no byte, so its moment is not used
 no_moment : (after (8 ∷ 8 ∷ 0 ∷ []) timed).moment ≡ 20000000
 no_moment = refl
 
--- the list is used up: its last moment again
+-- after the end of the list, its last moment again
 last_moment : (after (8 ∷ 8 ∷ 0 ∷ 8 ∷ []) timed).moment ≡ 30000000
 last_moment = refl
 
--- at the end nothing is read, and the moment stays
+-- at the end no byte is read, and the moment does not change
 end_moment : (after (8 ∷ 8 ∷ 0 ∷ 8 ∷ 8 ∷ []) timed).moment ≡ 30000000
 end_moment = refl
 
 five_reads : (after (8 ∷ 8 ∷ 0 ∷ 8 ∷ 8 ∷ []) timed).reads ≡ 5
 five_reads = refl
 
--- a failed read has its moment too
+-- a failed read uses up a moment too
 abbrev failing : SourceState
 failing = source (5 ∷ 6 ∷ 7 ∷ []) 1 (Some 1)
 
@@ -113,19 +113,19 @@ moment_of_failed = refl
 moment_behind : (after (1 ∷ 1 ∷ 1 ∷ []) failing).moment ≡ 7
 moment_behind = refl
 
--- a read into no byte is no end
+-- a read into an empty slice is not the end
 empty_slice : given (0 ∷ 8 ∷ []) (source [] 100 None) ≡ Some 0 ∷ Some 8 ∷ []
 empty_slice = refl
 
 two_reads : (after (0 ∷ 8 ∷ []) (source [] 100 None)).reads ≡ 2
 two_reads = refl
 
--- a sink with room for six bytes: the most that each write takes, and after how many one fails
+-- a sink of six bytes: the most bytes of each write, and how many succeed before one fails
 abbrev sink : ℕ → Option ℕ → SinkState
 sink largest failing =
     record { written = []; capacity = 6; calls = record { largest_size = largest; before_failure = failing; failures = 0 } }
 
--- how many of these bytes writes take, one after the other
+-- how many bytes successive writes of these sizes take
 abbrev taken : List (List ℕ) → SinkState → List (Option ℕ)
 taken [] s = []
 taken (bs ∷ rest) s = taken_by s (length bs) ∷ taken rest (after_write s bs (taken_by s (length bs)))
@@ -135,7 +135,7 @@ abbrev after_writes : List (List ℕ) → SinkState → SinkState
 after_writes [] s = s
 after_writes (bs ∷ rest) s = after_writes rest (after_write s bs (taken_by s (length bs)))
 
--- until it is full: then nothing fits, but of nothing all does
+-- until it is full: then only an empty write succeeds
 abbrev until_full : List (List ℕ)
 until_full = ten ∷ (4 ∷ []) ∷ drop 5 ten ∷ drop 6 ten ∷ drop 6 ten ∷ [] ∷ []
 

@@ -1,4 +1,4 @@
--- A frame at the front of a piece, where no byte is held.
+-- A frame at the front of a piece, when nothing is held.
 use Rattle.std.proofs.Common.{◌≡◌, ℕ, ◌+◌, ◌-◌, ◌<◌, ◌≤◌, min, List, [], length, take, drop, sym, ap, ◌∙◌, arith, length-take, length-drop}
 use Rattle.std.proofs.lemmas.List.{take-take, drop-take}
 use Rattle.enip_wire.specs.declared.header.Header.{Header}
@@ -14,11 +14,11 @@ use Rattle.enip_wire.proofs.RunningLemmas.{bytes_taken-short, bytes_taken-long}
 use Rattle.enip_wire.proofs.ParseFrameLemmas.{header_at-take, parse_frame-whole, kind-whole, parsed-short, parsed-long}
 use Rattle.enip_wire.proofs.ParsedLemmas.{parsed-waits}
 
--- the header that is read says where the frame ends
+-- the header decides where the frame ends
 says-length : (piece : List ℕ) (h : Header) → h ≡ header_at (take 24 piece) → number_at 2 2 piece ≡ h.length
 says-length piece h is = sym (ap (λ x. x.length) (is ∙ header_at-take piece))
 
--- Where no whole frame is at the front.
+-- No whole frame is at the front.
 
 pub none-short : (piece : List ℕ) → length piece < 24 → (f : Frame) → parsed (held_and_taken [] piece) ≡ WholeFrame f → ⊥
 none-short piece short f e =
@@ -57,7 +57,7 @@ none-part piece h long is within short f e =
     (λ full. omega (arith, full, size, same, says, short))) ∙ e in
     cc
 
--- Where one is: its bytes are those that are taken.
+-- A whole frame is at the front: its bytes are those that are taken.
 
 body-size : (piece body : List ℕ) (n : ℕ) → 24 + n ≤ length piece → body ≡ take n (drop 24 piece) → length body ≡ n
 body-size piece body n whole is =

@@ -99,7 +99,7 @@ pub number_at-append : (xs ys : List ℕ) → 4 ≤ length xs → number_at 2 2 
 number_at-append xs ys h =
     sym (number_at-take (length xs) (xs ++ ys) h) ∙ ap (λ b. number_at 2 2 b) (take-append_seam xs ys)
 
--- nothing stops before the end
+-- no proper prefix is complete
 pub not_before : (bytes : List ℕ) (m : ℕ) → m ≤ length bytes → m < end_after (number_at 2 2 bytes)
     → IsComplete (take m bytes) → ⊥
 not_before bytes m short before (inl whole) =
@@ -118,7 +118,7 @@ not_before bytes m short before (inr over) =
     = end_after-over (number_at 2 2 bytes) (omega (arith, over.over)) in
     omega arith
 
--- what begins so stops at the end
+-- with such a header the bytes are complete at the end
 pub stops_at : (bytes : List ℕ) (m : ℕ) → AreBytes bytes → 24 ≤ length bytes → m ≡ end_after (number_at 2 2 bytes)
     → m ≤ length bytes → IsComplete (take m bytes)
 stops_at bytes m fits header e short =

@@ -1,4 +1,4 @@
--- The header that stands in bytes, and the bytes that spell a header.
+-- The header that bytes spell, and the bytes that spell a header.
 use Rattle.std.proofs.Common.{◌≡◌, ℕ, ◌≤◌, List, [], ◌∷◌, ◌++◌, length, take, drop, refl, sym, ap, ◌∙◌, arith, append-nil, append_assoc, length-append}
 use Rattle.std.proofs.lemmas.List.{take-append-drop, drop-drop, drop_all}
 use Rattle.enip_wire.specs.declared.header.Header.{Header}
@@ -10,7 +10,7 @@ joined : {a a' b b' c c' d d' e e' f f' : List ℕ} → a ≡ a' → b ≡ b' �
     → a ++ b ++ c ++ d ++ e ++ f ≡ a' ++ b' ++ c' ++ d' ++ e' ++ f'
 joined p q r s t u = cc
 
--- Any 24 bytes spell the header that stands in them.
+-- Any 24 bytes spell the header that is read from them.
 pub header_spelling-header_at : (bytes : List ℕ) → 24 ≤ length bytes → AreBytes bytes
     → header_spelling (header_at bytes) ++ drop 24 bytes ≡ bytes
 header_spelling-header_at bytes long fits =
@@ -49,7 +49,7 @@ at_cells h a b c d e f g i rest ok e8 =
     (of_four h.status ok.status) refl (of_four h.options ok.options)
     )
 
--- The header that stands at the front of what a header spells is that header.
+-- The spelling of a header reads as that header.
 pub header_at-header_spelling : (h : Header) (rest : List ℕ) → IsHeader h → header_at (header_spelling h ++ rest) ≡ h
 header_at-header_spelling h rest ok = at_cells h _ _ _ _ _ _ _ _ rest ok (eight h.context ok.context)
 

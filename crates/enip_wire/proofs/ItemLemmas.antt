@@ -1,4 +1,4 @@
--- Texts that spell a list of items, and those that spell none.
+-- Bytes that spell a list of items, and bytes that spell none.
 use Rattle.std.specs.Prelude.{◌↔◌}
 use Rattle.std.proofs.Common.{◌≡◌, ℕ, zero, suc, ◌+◌, ◌-◌, ◌^◌, ◌<◌, ◌≤◌, inl, inr, List, [], ◌∷◌, ◌++◌, length, take, drop, Result, Ok, Err, refl, sym, ap, subst, ◌∙◌, arith, append_assoc, append-nil, length-append, length-take, length-drop, lit<}
 use Rattle.std.proofs.lemmas.List.{take-append-drop, drop-drop}
@@ -19,7 +19,7 @@ same_item p q = cc
 
 -- One spelling.
 
--- numbers of two bytes at the front are the same, and so is what follows
+-- equal bytes begin with the same 16-bit number, and have the same rest
 pub le_same : (m n : ℕ) (x y : List ℕ) → m < 2 ^ 16 → n < 2 ^ 16 → le 2 m ++ x ≡ le 2 n ++ y → (m ≡ n) × (x ≡ y)
 le_same m n x y p q e = (
   sym (of_two m p) ∙ ap (λ b. number_at 0 2 b) e ∙ of_two n q,
@@ -58,7 +58,7 @@ one_items_lem l m x y p q e =
     = le_same (length l) (length m) (flat_map item l ++ x) (flat_map item m ++ y) p.count q.count e in
     one_flat l m x y counts.0 p.each q.each counts.1
 
--- What stands at the front of a text.
+-- The front of the bytes.
 
 -- a whole item
 pub item-item_at : (text : List ℕ) → AreBytes text → size_at text ≤ length text
@@ -85,13 +85,13 @@ IsItem-item_at text fits =
       counted = omega (arith, length-take (number_at 2 2 text) (drop 4 text), number-two 2 text fits);
     }
 
--- the front of a text has a list of items, and what follows them
+-- the bytes begin with a list of items, and this follows
 pub record Front (n : ℕ) (text rest : List ℕ) : Type 0 where
   pub count : length (first_items n text) ≡ n
   pub each : AllByRecursion IsItem (first_items n text)
   pub spelled : text ≡ flat_map item (first_items n text) ++ rest
 
--- the text ends within n items
+-- the bytes end within n items
 pub record Within (n : ℕ) (text : List ℕ) : Type 0 where
   pub of : List Item
   pub more : List ℕ
@@ -125,7 +125,7 @@ after_step n i text next below long e =
     let less : suc (n - (i + 1)) ≡ n - i = omega arith in
     ap (after (n - (i + 1))) e ∙ sym (after-long (n - (i + 1)) text long) ∙ ap (λ k. after k text) less
 
--- bytes to go on with
+-- bytes to continue with
 zeros : ℕ → List ℕ
 zeros zero = []
 zeros (suc n) = 0 ∷ zeros n
@@ -141,7 +141,7 @@ AreBytes-zeros zero i = lit< tt
 AreBytes-zeros (suc n) zero = lit< tt
 AreBytes-zeros (suc n) (suc i) = AreBytes-zeros n i
 
--- items to go on with
+-- items to continue with
 nulls : ℕ → List Item
 nulls zero = []
 nulls (suc n) = record { kind = 0; bytes = [] } ∷ nulls n
@@ -156,7 +156,7 @@ unfolding nulls
 AreItems-nulls zero = tt
 AreItems-nulls (suc n) = (record { kind = lit< tt; counted = lit< tt }, AreItems-nulls n)
 
--- a text that goes on has its first bytes and some more in front of where a thing ends
+-- with more bytes appended, the first bytes are the same, up to where an item ends
 front_more : (text z thing rest : List ℕ) (k : ℕ) → thing ++ rest ≡ text ++ z → length thing ≡ length text + k
     → k ≤ length z → thing ≡ text ++ take k z
 front_more text z thing rest k e size short =
@@ -239,7 +239,7 @@ fronts (suc n) text fits =
 
 -- Lists of items.
 
--- what a text spells, or why it spells none
+-- what list these bytes spell, or why they spell none
 abbrev pub Spells : List ℕ → Result (List Item) CpfFault → Type 0
 Spells text (Ok l) = AreItems l × (text ≡ items l)
 Spells text (Err Short) = IsShort text
@@ -255,7 +255,7 @@ pub items_of-long : (text : List ℕ) → 2 ≤ length text
     → items_of text ≡ whole (first_items (number_at 0 2 text) (drop 2 text)) (after (number_at 0 2 text) (drop 2 text))
 items_of-long text long = grind (arith, nat_tests)
 
--- the number at the front
+-- the item count
 le-front : (text : List ℕ) → AreBytes text → 2 ≤ length text → text ≡ le 2 (number_at 0 2 text) ++ drop 2 text
 le-front text fits long =
     drop-cells 2 0 text (omega arith) ∙ ap (λ c. c ++ drop 2 text) (sym (le-number_at_2 0 text fits))
@@ -329,7 +329,7 @@ spells text fits =
           (le-front text fits long) (fronts (number_at 0 2 text) (drop 2 text) (AreBytes-drop 2 text fits)))
     ]
 
--- one list is not a proper front of another
+-- one list is not a proper prefix of another
 no_more : (l m : List Item) (x : List ℕ) → AreItems l → AreItems m → items l ++ x ≡ items m → 0 < length x → ⊥
 no_more l m x p q e some =
     let none : x ≡ [] = (one_items_lem l m x [] p q (e ∙ sym (append-nil (items m)))).1 in
@@ -348,7 +348,7 @@ short_not_trailing text s t =
     (sym (append_assoc (items t.of) t.more s.more) ∙ ap (λ x. x ++ s.more) (sym t.spelled) ∙ s.spelled)
     (omega (arith, length-append t.more s.more))
 
--- a text has one outcome
+-- reading bytes has one result
 pub same_outcome : (text : List ℕ) (r s : Result (List Item) CpfFault) → Spells text r → Spells text s → r ≡ s
 same_outcome text (Ok l) (Ok m) p q =
     ap Ok (

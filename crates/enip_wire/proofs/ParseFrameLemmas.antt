@@ -1,4 +1,4 @@
--- What a reader holds after a piece, and what is seen of it.
+-- What a reader holds after a piece, and what it shows.
 use Rattle.std.proofs.Common.{◌≡◌, ℕ, ◌+◌, ◌-◌, ◌<◌, ◌≤◌, inl, inr, List, ◌++◌, length, take, drop, sym, ap, subst, ◌∙◌, arith, length-take, length-drop}
 use Rattle.std.proofs.lemmas.List.{take-append-drop, take_at, take-take, drop-take}
 use Rattle.std.proofs.lemmas.Bool.Decides.{nat_tests}
@@ -16,7 +16,7 @@ pub same_frame : {h k : Header} {b c : List ℕ} → h ≡ k → b ≡ c
     → ◌≡◌ {A = Frame} (record { header = h; body = b }) (record { header = k; body = c })
 same_frame p q = cc
 
--- a buffer whose front was written
+-- a buffer whose front was overwritten
 pub placed : (len n size : ℕ) (items new piece rest : List ℕ) → n ≤ length piece → length new ≡ size
     → take (len + length (take n piece)) new ≡ take len items ++ take n piece
     → take (len + n) (take size (new ++ rest)) ≡ take len items ++ take n piece

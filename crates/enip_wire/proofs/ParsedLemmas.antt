@@ -1,4 +1,4 @@
--- What is seen of bytes, and at which of them no frame is spelled.
+-- What bytes parse as, and which bytes do not begin with a frame.
 use Rattle.std.proofs.Common.{◌≡◌, ℕ, ◌+◌, ◌<◌, ◌≤◌, inl, inr, List, [], ◌∷◌, ◌++◌, length, drop, sym, ap, subst, ◌∙◌}
 use Rattle.std.proofs.Common.{arith, append_assoc, length-append, length-drop}
 use Rattle.std.specs.List.{flat_map, AllByRecursion}
@@ -16,7 +16,7 @@ use Rattle.enip_wire.proofs.HeaderLemmas.{header_spelling-header_at}
 use Rattle.enip_wire.proofs.RunningLemmas.{IsRunning}
 use Rattle.enip_wire.proofs.ParseFrameLemmas.{parsed-short, parsed-long, parsed-frame}
 
--- No frame is spelled at the front.
+-- The bytes do not begin with a frame.
 abbrev pub HasNone : List ℕ → Type 0
 HasNone bytes = (f : Frame) (more : List ℕ) → IsFrame f → bytes ≡ frame f ++ more → ⊥
 
@@ -35,7 +35,7 @@ none-long bytes over f more ok e =
     let says : number_at 2 2 bytes ≡ f.header.length = ap (λ b. number_at 2 2 b) e ∙ number_at-frame f more ok in
     omega (arith, says, over.over, ok.within)
 
--- What is seen of bytes.
+-- What bytes parse as.
 pub parsed-waits : (bytes : List ℕ) → 24 ≤ length bytes → number_at 2 2 bytes ≤ 65511
     → (length bytes ≡ 24 + number_at 2 2 bytes → ⊥)
     → parsed bytes ≡ Incomplete
@@ -88,7 +88,7 @@ seen-long bytes h e =
           ]
     ]
 
--- Where a frame or a long header is seen, the bytes end where it does.
+-- Bytes that parse as a frame or a long header end where it does.
 pub parsed_frame-size : (bytes : List ℕ) → (parsed bytes ≡ Incomplete → ⊥) → 24 ≤ length bytes
     × (length bytes ≤ end_after (number_at 2 2 bytes) → length bytes ≡ end_after (number_at 2 2 bytes))
 parsed_frame-size bytes some =
@@ -110,7 +110,7 @@ each-append : (fs gs : List Frame) → AllByRecursion IsFrame fs → AllByRecurs
 each-append [] gs a b = b
 each-append (f ∷ fs) gs a b = (a.0, each-append fs gs a.1 b)
 
--- What is taken at once and what is taken later, cut together.
+-- What is taken now and what is taken later, together.
 pub then-cut : (bytes taken more left rest : List ℕ) (fs gs : List Frame) → bytes ++ taken ≡ flat_map frame fs ++ left
     → AllByRecursion IsFrame fs → Cut (left ++ more) gs rest → Cut (bytes ++ (taken ++ more)) (fs ++ gs) rest
 then-cut bytes taken more left rest fs gs first each cut = record {

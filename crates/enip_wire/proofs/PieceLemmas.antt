@@ -1,4 +1,4 @@
--- A written frame is read again; every list of pieces is read, and every stream has a cut.
+-- A frame that was written is read again, every list of pieces is read, and every stream has a cut.
 use Rattle.std.proofs.Common.{lit<, ◌≡◌, ℕ, zero, suc, ◌+◌, ◌-◌, ◌<◌, ◌≤◌, inl, inr, ◌⊎◌, min, List, [], ◌∷◌, ◌++◌, length, take, drop, refl, sym, ap, subst, ◌∙◌, arith, append-nil, length-append, length-drop}
 use Rattle.std.proofs.lemmas.Bool.{cases_lt}
 use Rattle.std.proofs.lemmas.Bool.Decides.{nat_tests}
@@ -18,7 +18,7 @@ use Rattle.enip_wire.proofs.ParseFrameLemmas.{same_frame, parsed-frame}
 use Rattle.enip_wire.proofs.TakeLemmas.{stops-header, front, Takes-short, Takes-count, IsAtMostOneFrame-end-append, IsAtMostOneFrame-after}
 use Rattle.enip_wire.proofs.StreamLemmas.{any_pieces_lem, not_empty}
 
--- what a reader that holds nothing takes of a text that begins with a whole header
+-- what a reader that holds nothing takes of bytes that begin with a whole header
 bytes_taken-nothing : (text : List ℕ) → 24 ≤ length text
     → bytes_taken [] text ≡ min (end_after (number_at 2 2 text)) (length text)
 bytes_taken-nothing text long = grind (arith, nat_tests)
@@ -43,18 +43,18 @@ parsed-written f ok =
     = drop_at (header_spelling f.header) f.body 24 (length-header_spelling f.header ok.fields.context) in
     parsed-frame (frame f) (omega arith) (omega arith) (omega arith) ∙ ap WholeFrame (same_frame same rest)
 
--- the piece is taken whole, and more is awaited
+-- the whole piece is taken, and more bytes are needed
 record Awaits (held piece : List ℕ) : Type 0 where
   takes : Takes held piece (length piece)
   waits : IsComplete (held ++ piece) → ⊥
 
--- so much of the piece makes what is held a whole frame or a too long header
+-- this many bytes of the piece complete a frame or a too long header
 record Completes (held piece : List ℕ) : Type 0 where
   number : ℕ
   takes : Takes held piece number
   stops : IsComplete (held ++ take number piece)
 
--- a piece does the one or the other
+-- a piece does one or the other
 after_header : (held piece : List ℕ) (end : ℕ) → end ≡ end_after (number_at 2 2 (held ++ piece)) → AreBytes held
     → AreBytes piece → IsAtMostOneFrame held → 24 ≤ length held + length piece → Awaits held piece ⊎ Completes held piece
 after_header held piece end is f g fresh header =
@@ -101,7 +101,7 @@ record HasReading (held : List ℕ) (pieces : List (List ℕ)) : Type 0 where
   rest : List ℕ
   reads : Reads held pieces frames rest
 
--- what a reader that can go on holds
+-- what a reader that can continue holds
 record IsRunning (held : List ℕ) : Type 0 where
   bytes : AreBytes held
   fresh : IsAtMostOneFrame held
@@ -111,12 +111,12 @@ nothing_held : IsRunning []
 nothing_held =
     record { bytes = λ i. lit< tt; fresh = record { running = λ k h. absurd (omega arith) }; running = not_empty }
 
--- what becomes whole or too long takes a byte at least
+-- at least one byte is taken to complete a frame or a too long header
 some_taken : (n : ℕ) (held piece : List ℕ) → (IsComplete held → ⊥) → IsComplete (held ++ take n piece) → 0 < n
 some_taken zero held piece running stops = absurd (running (subst IsComplete (append-nil held) stops))
 some_taken (suc n) held piece running stops = omega arith
 
--- a piece that makes what is held whole or too long, where each shorter piece has a reading
+-- a piece that completes one, if each shorter piece has a reading
 completed : (held piece : List ℕ) (pieces : List (List ℕ)) (n : ℕ) → IsRunning held → AreBytes piece
     → Takes held piece n → IsComplete (held ++ take n piece)
     → ((rest : List ℕ) → length rest < length piece → AreBytes rest → HasReading [] (rest ∷ pieces))
@@ -134,7 +134,7 @@ completed held piece pieces n going fits takes (inl whole) shorter =
 completed held piece pieces n going fits takes (inr over) shorter =
     record { frames = []; rest = held ++ piece ++ concat pieces; reads = Stayed takes over }
 
--- a piece, where each shorter piece has a reading, and so have the pieces after it
+-- a piece, if each shorter piece and the pieces after it have a reading
 with_piece : (held piece : List ℕ) (pieces : List (List ℕ)) → IsRunning held → AreBytes piece
     → ((rest : List ℕ) → length rest < length piece → AreBytes rest → HasReading [] (rest ∷ pieces))
     → ((held : List ℕ) → IsRunning held → HasReading held pieces) → HasReading held (piece ∷ pieces)
@@ -151,7 +151,7 @@ with_piece held piece pieces going fits shorter after =
       | inr done ↦ completed held piece pieces done.number going fits done.takes done.stops shorter
     ]
 
--- a piece of at most so many bytes
+-- a piece of at most this many bytes
 with_at_most : (most : ℕ) (held piece : List ℕ) (pieces : List (List ℕ)) → length piece ≤ most → IsRunning held
     → AreBytes piece → ((held : List ℕ) → IsRunning held → HasReading held pieces) → HasReading held (piece ∷ pieces)
 with_at_most zero held piece pieces bound going fits after =

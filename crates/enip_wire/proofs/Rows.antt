@@ -1,4 +1,4 @@
--- Worked rows of the definitions.
+-- Worked examples of the definitions.
 use Rattle.std.proofs.Common.{◌≡◌, [], ◌∷◌, ◌++◌, take, refl}
 use Rattle.enip_wire.specs.Headers.{header_at}
 use Rattle.enip_wire.specs.Frames.{Frame, frame}

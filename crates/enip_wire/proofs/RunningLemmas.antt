@@ -12,7 +12,7 @@ use Rattle.enip_wire.specs.Stream.Parsed.{Incomplete, WholeFrame, TooLongHeader}
 use Rattle.enip_wire.proofs.FrameLemmas.{number_at-append, number_at-take, end_after-least, end_after-within}
 use Rattle.enip_wire.proofs.ParseFrameLemmas.{parsed-short, parsed-long, parsed-frame}
 
--- more bytes must come
+-- more bytes are needed
 pub record IsRunning (held : List ℕ) : Type 0 where
   pub before : 24 ≤ length held → length held < end_after (number_at 2 2 held)
 
@@ -31,7 +31,7 @@ end-joined : (held piece : List ℕ) → 4 ≤ length held
     → end_after (number_at 2 2 (held ++ piece)) ≡ end_after (number_at 2 2 held)
 end-joined held piece h = ap end_after (number_at-append held piece h)
 
--- more than is held is needed
+-- more bytes are needed than are held
 pub end-past : (held piece : List ℕ) → IsRunning held → length held < end_after (number_at 2 2 (held ++ piece))
 end-past held piece r =
     elim (cases_lt (length held) 24) [

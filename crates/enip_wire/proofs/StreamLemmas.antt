@@ -1,4 +1,4 @@
--- One spelling, one cut, and the frames that are shown of a stream in any pieces.
+-- One spelling, one cut, and the frames that a reader shows of a stream in any pieces.
 use Rattle.std.proofs.Common.{◌≡◌, ℕ, ◌≤◌, inl, List, [], ◌∷◌, ◌++◌, length, take, drop, refl, sym, ap, subst, ◌∙◌, arith, append_assoc, append-nil, length-append}
 use Rattle.std.proofs.lemmas.List.{take-append-drop, take_at, take_all}
 use Rattle.std.specs.List.{flat_map, concat}
@@ -14,7 +14,7 @@ use Rattle.enip_wire.proofs.FrameLemmas.{number_at-frame, number_at-append}
 use Rattle.enip_wire.proofs.ParseFrameLemmas.{same_frame}
 use Rattle.enip_wire.proofs.TakeLemmas.{IsAtMostOneFrame-after, stops-header}
 
--- the header at the front of what a frame spells
+-- the header at the front of a frame's spelling
 header_in : (f : Frame) (x : List ℕ) → IsFrame f → header_at (frame f ++ x) ≡ f.header
 header_in f x ok =
     ap header_at (append_assoc (header_spelling f.header) f.body x)
@@ -52,7 +52,7 @@ one_cut_lem stream (f ∷ fs) (g ∷ gs) r q c d =
     (record { parts = first.1; each = d.each.1; no_more = d.no_more }) in
     (let p : f ≡ g = first.0 in let q' : fs ≡ gs = rest.0 in cc, rest.1)
 
--- no frame spells a front of what is held
+-- what is held does not begin with a frame
 none_held : (held : List ℕ) → IsAtMostOneFrame held → (IsComplete held → ⊥) → (f : Frame) (more : List ℕ) → IsFrame f
     → held ≡ frame f ++ more → ⊥
 none_held held fresh running f [] ok e =
@@ -65,7 +65,7 @@ none_held held fresh running f (x ∷ more) ok e =
     )
     )
 
--- no frame spells a front of what begins with a too long header
+-- what begins with a too long header does not begin with a frame
 none_long : (bytes rest : List ℕ) → IsTooLong bytes → (f : Frame) (more : List ℕ) → IsFrame f → bytes ++ rest ≡ frame f ++ more → ⊥
 none_long bytes rest over f more ok e =
     let says : number_at 2 2 bytes ≡ f.header.length

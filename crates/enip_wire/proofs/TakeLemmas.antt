@@ -13,7 +13,7 @@ pub stops-header : (bytes : List ℕ) → IsComplete bytes → 24 ≤ length byt
 stops-header bytes (inl whole) = let s : Sized bytes = Sized-whole bytes whole in s.header
 stops-header bytes (inr over) = over.header
 
--- the front of what is held joined with a piece
+-- the front of the held bytes joined with a piece
 pub front : (held piece : List ℕ) (k : ℕ) → held ++ take k piece ≡ take (length held + k) (held ++ piece)
 front held piece k = sym (take-append-add held piece k)
 
@@ -36,7 +36,7 @@ IsAtMostOneFrame-end held fits fresh header =
       | inr within ↦ within
     ]
 
--- where what is held and a piece end together, it is no sooner than the end of what is held
+-- the end of the held bytes and a piece together is not before the end of the held bytes
 pub IsAtMostOneFrame-end-append : (held piece : List ℕ) → AreBytes held → IsAtMostOneFrame held
     → length held ≤ end_after (number_at 2 2 (held ++ piece))
 IsAtMostOneFrame-end-append held piece fits fresh =
@@ -99,7 +99,7 @@ IsAtMostOneFrame-after held piece n fresh takes =
           ];
     }
 
--- where neither a whole frame nor a too long header is held, of a byte or more some are taken
+-- while neither a whole frame nor a too long header is held, some bytes of a piece that is not empty are taken
 pub some_taken : (held piece : List ℕ) (n : ℕ) → (IsComplete held → ⊥) → Takes held piece n → 0 < length piece → 0 < n
 some_taken held piece (suc n) running takes some = omega arith
 some_taken held piece zero running takes some =

@@ -1,4 +1,4 @@
--- The first two items of a text, each read once.
+-- The first two items of a list, each read once.
 use Rattle.std.proofs.Common.{◌≡◌, ℕ, zero, suc, ◌-◌, ◌<◌, ◌≤◌, inl, inr, true, nat_lt, List, [], ◌∷◌, length, drop, Some, None, Result, Ok, Err, refl, sym, ap, ◌∙◌, arith}
 use Rattle.std.proofs.lemmas.Bool.{cases_lt}
 use Rattle.std.proofs.lemmas.Bool.Decides.{nat_tests}
@@ -33,7 +33,7 @@ pub unit_two : (text : List ℕ) → unit_body_of text ≡ map_ok two_of (body_i
 unfolding unit_body_of
 unit_two text = unit_handed (body_items_of text)
 
--- What is read of a text in steps: an item, a second, and what follows them.
+-- Reading in steps: an item, a second one, and what follows them.
 
 abbrev pub ends : Two → List ℕ → Result Two CpfFault
 ends two [] = Ok two
@@ -64,7 +64,7 @@ handed : (l : List Item) (two : Two) (r : Result (List ℕ) CpfFault) → two_of
 handed l two (Ok rest) e = ended l two rest e
 handed l two (Err fault) e = refl
 
--- behind the first item
+-- after the first item
 behind : (n : ℕ) (a : Item) (text : List ℕ) → map_ok two_of (whole (a ∷ first_items n text) (after n text))
     ≡ second (suc n) (record { item = Some a; rest = text })
 behind zero a text = handed (a ∷ []) (record { first = Some a; second = None }) (Ok text) refl
@@ -107,9 +107,9 @@ in_steps (suc n) text =
           ∙ sym (ap (λ t. next_of t text >>= second (suc n)) some ∙ ap (λ r. r >>= second (suc n)) (next-long text long))
     ]
 
--- The steps as they are taken in code.
+-- The steps as the code takes them.
 
--- what a fault that is handed on shows
+-- a fault that is passed on
 pub err_seen : {A B : Type 0} (view : A → B) (r : Result A CpfFault) (fault : CpfFault) → IsErrAnd r (λ e. e ≡ fault)
     → map_ok view r ≡ Err fault
 err_seen view (Ok x) fault p = absurd p
@@ -132,7 +132,7 @@ pub second_fault : (text rest : List ℕ) (n : ℕ) (a : Next) (fault : CpfFault
 second_fault text rest n a fault long is count one bad =
     items_steps text rest n long is count ∙ ap (λ r. r >>= second n) one ∙ ap (λ r. r >>= third n a) bad
 
--- behind two items: what follows them says the rest
+-- after two items: what follows them decides
 pub behind_two : (text rest : List ℕ) (n : ℕ) (a b : Next) (r : Result (List ℕ) CpfFault) → 2 ≤ length text
     → rest ≡ drop 2 text → n ≡ number_at 0 2 text → next_of (nat_lt 0 n) rest ≡ Ok a
     → next_of (nat_lt 1 n) a.rest ≡ Ok b → r ≡ after (n - 2) b.rest

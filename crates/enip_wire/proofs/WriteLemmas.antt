@@ -13,7 +13,7 @@ use Rattle.cip_bytes.proofs.Bytes.{of_two, of_four}
 use Rattle.enip_wire.proofs.ItemLemmas.{same_item, after-long, first_items-long, items_of-long}
 use Rattle.enip_wire.proofs.BodyLemmas.{body_items-begins_body}
 
--- the texts of items, one after the other
+-- the bytes of items, one after another
 abbrev pub texts : List ItemView → List ℕ
 texts views = flat_map item (map item_of views)
 
@@ -35,13 +35,13 @@ length-texts views k d h =
     = ap length (flat_map-map item item_of (take k views)) in
     omega (arith, length-flat_map-take (λ v. item (item_of v)) views k d h)
 
--- a text whose front was written first
+-- bytes whose front was written first
 pub joined : (old front bytes mid new text : List ℕ) → mid ≡ old ++ front → new ≡ mid ++ bytes → text ≡ front ++ bytes
     → new ≡ old ++ text
 joined old front bytes mid new text e f g =
     f ∙ ap (λ xs. xs ++ bytes) e ∙ append_assoc old front bytes ∙ ap (λ xs. old ++ xs) (sym g)
 
--- there is room for the next item
+-- the next item fits
 pub room_for : (old out : List ℕ) (views : List ItemView) (k : ℕ) (d : ItemView) (spare cap : ℕ)
     → out ≡ (old ++ le 2 (length views)) ++ texts (take k views) → k < length views
     → length (texts views) ≤ spare - 2 → 2 ≤ spare → spare + length old ≡ cap
@@ -58,7 +58,7 @@ counted_at [] k d below each = absurd (omega arith)
 counted_at (v ∷ views) zero d below each = each.0.counted
 counted_at (v ∷ views) (suc k) d below each = counted_at views k d (omega arith) each.1
 
--- What is spelled is read, also where its data are any numbers.
+-- What is spelled is read, even if its data are any numbers.
 
 at_item : (i : Item) (rest : List ℕ) → IsItem i
     → (number_at 2 2 (item i ++ rest) ≡ length i.bytes) × (item_at (item i ++ rest) ≡ i) × (drop (size_at (item i ++ rest)) (item i ++ rest) ≡ rest)

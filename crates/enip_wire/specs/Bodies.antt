@@ -21,8 +21,8 @@ unconnected_data bytes = record { kind = 0xb2; bytes = bytes }
 abbrev pub connected_data : List ℕ → Item
 connected_data bytes = record { kind = 0xb1; bytes = bytes }
 
--- A text that begins as a body does, with interface 0 and any timeout, and the rest of it.
--- (Volume 2, SendRRData and SendUnitData.)
+-- The bytes begin as a body does, with interface 0 and any timeout, and then the rest. (Volume 2, SendRRData and
+-- SendUnitData.)
 pub record BeginsBody (text rest : List ℕ) : Type 0 where
   pub timeout : ℕ
   pub two_bytes : timeout < 2 ^ 16
@@ -33,21 +33,21 @@ pub record IsBody (text : List ℕ) (l : List Item) : Type 0 where
   pub are_items : AreItems l
   pub begins_body : BeginsBody text (items l)
 
--- A SendRRData with this data: the first two items are the null address and the unconnected data, and
--- further ones say nothing.
+-- A SendRRData with this data: its first two items are the null address and the unconnected data. Further items do
+-- not matter.
 pub record IsRrBody (text bytes : List ℕ) : Type 0 where
   pub further : List Item
   pub body : IsBody text (null_address ∷ unconnected_data bytes ∷ further)
 
--- A SendUnitData with this connection ID and data: the first two items are the connected address and the
--- connected data, and further ones say nothing.
+-- A SendUnitData with this connection ID and data: its first two items are the connected address and the connected
+-- data. Further items do not matter.
 pub record IsUnitBody (text : List ℕ) (id : ℕ) (bytes : List ℕ) : Type 0 where
   pub four_bytes : id < 2 ^ 32
   pub further : List Item
   pub body : IsBody text (connected_address id ∷ connected_data bytes ∷ further)
 
--- Where each fault of a body comes: `IsAddress` says which first item is the right one, and `kind` which
--- type the second item has.
+-- When each fault of a body is returned. `IsAddress` holds of the right first item, and `kind` is the type of the
+-- second.
 abbrev pub IsBodyFault : (Item → Type 0) → ℕ → List ℕ → CpfFault → Type 0
 IsBodyFault IsAddress kind text Short = (length text < 6) ⊎ ((rest : List ℕ) × BeginsBody text rest × IsShort rest)
 IsBodyFault IsAddress kind text Interface = (6 ≤ length text) × (number_at 0 4 text ≢ 0)
@@ -58,21 +58,21 @@ IsBodyFault IsAddress kind text Data =
     (a : Item) × (others : List Item) × IsAddress a × IsBody text (a ∷ others)
     × ((d : Item) (further : List Item) → others ≡ d ∷ further → d.kind ≡ kind → ⊥)
 
--- A first item that is the null address; one that is a connected address.
+-- An item that is the null address, and one that is a connected address.
 abbrev pub IsNullAddress : Item → Type 0
 IsNullAddress a = a ≡ null_address
 
 abbrev pub IsConnectedAddress : Item → Type 0
 IsConnectedAddress a = (a.kind ≡ 0xa1) × (length a.bytes ≡ 4)
 
--- A text of a SendRRData, with timeout 0, and of a SendUnitData.
+-- The bytes of a SendRRData and of a SendUnitData that are written, with timeout 0.
 abbrev pub rr_body_bytes : List ℕ → List ℕ
 rr_body_bytes bytes = le 4 0 ++ le 2 0 ++ items (null_address ∷ unconnected_data bytes ∷ [])
 
 abbrev pub unit_body_bytes : ℕ → List ℕ → List ℕ
 unit_body_bytes id bytes = le 4 0 ++ le 2 0 ++ items (connected_address id ∷ connected_data bytes ∷ [])
 
--- The rest says the same by numbers alone, for who computes with it.
+-- The rest states the same by numbers alone, to compute with.
 
 -- The items of a body.
 abbrev pub body_items_of : List ℕ → Result (List Item) CpfFault
@@ -81,7 +81,7 @@ body_items_of text =
     then Err Short
     else if number_at 0 4 text == 0 then items_of (drop 6 text) else Err Interface
 
--- The data of the item behind the address.
+-- The data of the item after the address.
 abbrev pub data_of : ℕ → List Item → Result (List ℕ) CpfFault
 data_of kind [] = Err Data
 data_of kind (d ∷ further) = if d.kind == kind then Ok d.bytes else Err Data
@@ -100,7 +100,7 @@ unit_items_of (a ∷ others) =
     then map_ok (with_id (number_at 0 4 a.bytes)) (data_of 0xb1 others)
     else Err Address
 
--- The same of the first two items alone, since further ones say nothing.
+-- The same for the first two items alone, as further ones do not matter.
 abbrev pub data_in : ℕ → Option Item → Result (List ℕ) CpfFault
 data_in kind None = Err Data
 data_in kind (Some d) = if d.kind == kind then Ok d.bytes else Err Data
@@ -122,14 +122,14 @@ unit_in (Some a) second =
 abbrev pub unit_two_of : Two → Result (ℕ × List ℕ) CpfFault
 unit_two_of two = unit_in two.first two.second
 
--- The data of a SendRRData, or its fault; the connection ID and the data of a SendUnitData, or its fault.
+-- The data of a SendRRData, or its fault. The connection ID and the data of a SendUnitData, or its fault.
 unfoldable pub rr_body_of : List ℕ → Result (List ℕ) CpfFault
 rr_body_of text = body_items_of text >>= rr_items_of
 
 unfoldable pub unit_body_of : List ℕ → Result (ℕ × List ℕ) CpfFault
 unit_body_of text = body_items_of text >>= unit_items_of
 
--- A SendRRData with eight bytes of data; one with a byte behind its items; one that is cut short.
+-- A SendRRData with eight bytes of data, one with a byte after its items, and one that is cut short.
 rr_row : rr_body_of
     (0 ∷ 0 ∷ 0 ∷ 0 ∷ 0 ∷ 0 ∷ 2 ∷ 0 ∷ 0 ∷ 0 ∷ 0 ∷ 0 ∷ 0xb2 ∷ 0 ∷ 8 ∷ 0
     ∷ 0x0e ∷ 3 ∷ 0x20 ∷ 1 ∷ 0x24 ∷ 1 ∷ 0x30 ∷ 1 ∷ [])

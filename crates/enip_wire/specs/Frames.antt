@@ -3,8 +3,7 @@ use Rattle.enip_wire.specs.declared.header.Header.{Header}
 use Rattle.cip_bytes.specs.Numbers.{number_at}
 use Rattle.enip_wire.specs.Headers.{header_spelling, IsHeader}
 
--- A message of the encapsulation: a header, and the data that follow it.
--- (Volume 2, encapsulation message.)
+-- A message of the encapsulation: a header and the data that follow it. (Volume 2, encapsulation message.)
 pub record Frame : Type 0 where
   pub header : Header
   pub body : List ℕ
@@ -13,8 +12,8 @@ pub record Frame : Type 0 where
 abbrev pub frame : Frame → List ℕ
 frame f = header_spelling f.header ++ f.body
 
--- There are as many bytes of data as the header says, and at most 65,511: header and data are at
--- most 65,535. (Volume 2, encapsulation header, length.)
+-- The data have as many bytes as the header says, at most 65,511. So header and data are at most 65,535 bytes.
+-- (Volume 2, encapsulation header, length.)
 pub record IsFrame (f : Frame) : Type 0 where
   pub fields : IsHeader f.header
   pub counted : length f.body ≡ f.header.length
@@ -26,16 +25,15 @@ pub record IsWhole (bytes : List ℕ) : Type 0 where
   pub is_frame : IsFrame of
   pub spelled : bytes ≡ frame of
 
--- A header whose length is over what a frame may have.
+-- A header whose length is more than a frame may have.
 pub record IsTooLong (bytes : List ℕ) : Type 0 where
   pub header : 24 ≤ length bytes
   pub over : 65511 < number_at 2 2 bytes
 
--- No byte more is needed to know what these bytes are.
+-- These bytes are a whole frame or a header that is too long: no further byte is needed to know which.
 abbrev pub IsComplete : List ℕ → Type 0
 IsComplete bytes = IsWhole bytes ⊎ IsTooLong bytes
 
--- Where what begins with a header of this length ends: after the header where the length is too long,
--- else after the data.
+-- Where a frame with a header of this length ends: after its data, or after the header if the length is too long.
 abbrev pub end_after : ℕ → ℕ
 end_after n = if nat_lt 65511 n then 24 else 24 + n

@@ -7,7 +7,7 @@ abbrev pub header_spelling : Header → List ℕ
 header_spelling h =
     le 2 h.command ++ le 2 h.length ++ le 4 h.session ++ le 4 h.status ++ h.context ++ le 4 h.options
 
--- The header that stands in 24 bytes: each field at its place.
+-- The header that 24 bytes spell: each field at its offset.
 abbrev pub header_at : List ℕ → Header
 header_at bytes =
     record {
@@ -19,7 +19,7 @@ header_at bytes =
       options = number_at 20 4 bytes;
     }
 
--- Each field has the size that its place on the wire has.
+-- Each field fits its size on the wire.
 pub record IsHeader (h : Header) : Type 0 where
   pub command : h.command < 2 ^ 16
   pub data_length : h.length < 2 ^ 16

@@ -14,25 +14,25 @@ pub record Item : Type 0 where
   pub kind : ℕ
   pub bytes : List ℕ
 
--- The bytes of an item: the type, how many bytes of data there are, and these.
+-- The bytes of an item: type, length, data.
 abbrev pub item : Item → List ℕ
 item i = le 2 i.kind ++ le 2 (length i.bytes) ++ i.bytes
 
--- The bytes of a list of items: how many there are, and each. (Volume 2, common packet format.)
+-- The bytes of a list of items: the item count, then each item. (Volume 2, common packet format.)
 abbrev pub items : List Item → List ℕ
 items l = le 2 (length l) ++ flat_map item l
 
--- The type and the number of bytes have two bytes each on the wire.
+-- The type and the length have two bytes each on the wire.
 pub record IsItem (i : Item) : Type 0 where
   pub kind : i.kind < 2 ^ 16
   pub counted : length i.bytes < 2 ^ 16
 
--- So has the number of items.
+-- So has the item count.
 pub record AreItems (l : List Item) : Type 0 where
   pub count : length l < 2 ^ 16
   pub each : AllByRecursion IsItem l
 
--- The text is cut short: with at least one byte more it would spell a list of items.
+-- The bytes are cut short: with at least one byte more they would spell a list of items.
 pub record IsShort (text : List ℕ) : Type 0 where
   pub of : List Item
   pub more : List ℕ
@@ -40,7 +40,7 @@ pub record IsShort (text : List ℕ) : Type 0 where
   pub some : 0 < length more
   pub spelled : text ++ more ≡ items of
 
--- The text goes on: behind a list of items there is at least one byte.
+-- The bytes go on: at least one byte follows a list of items.
 pub record IsTrailing (text : List ℕ) : Type 0 where
   pub of : List Item
   pub more : List ℕ
@@ -48,17 +48,17 @@ pub record IsTrailing (text : List ℕ) : Type 0 where
   pub some : 0 < length more
   pub spelled : text ≡ items of ++ more
 
--- The item that a view lends.
+-- An item of the code, as one of the specification.
 abbrev pub item_of : ItemView → Item
 item_of view = record { kind = view.kind; bytes = view.bytes.now }
 
--- an item is stored as the pair of its fields
+-- An item is stored as the pair of its fields.
 abbrev pub item_code : Coded Item
 item_code =
     code_by (ℕ × List ℕ) (coded× coded_ℕ (coded_list coded_ℕ)) (λ i. (i.kind, i.bytes))
     (λ p. record { kind = p.0; bytes = p.1 }) (λ _. refl)
 
--- The number of a fault, by which it is printed.
+-- The number of a fault, as printed.
 abbrev pub cpf_fault_number : CpfFault → ℕ
 cpf_fault_number Short = 1
 cpf_fault_number Trailing = 2
@@ -66,41 +66,41 @@ cpf_fault_number Interface = 3
 cpf_fault_number Address = 4
 cpf_fault_number Data = 5
 
--- The rest says the same by numbers alone, for who computes with it.
+-- The rest states the same by numbers alone, to compute with.
 
--- The item at the front of a text, and how many bytes it has.
+-- The item at the front of the bytes, and its size.
 abbrev pub item_at : List ℕ → Item
 item_at text = record { kind = number_at 0 2 text; bytes = take (number_at 2 2 text) (drop 4 text) }
 
 abbrev pub size_at : List ℕ → ℕ
 size_at text = 4 + number_at 2 2 text
 
--- The first n items of a text, as far as they are whole.
+-- The first n items, as far as they are whole.
 abbrev pub first_items : ℕ → List ℕ → List Item
 first_items zero text = []
 first_items (suc n) text =
     if nat_lt (length text) (size_at text) then [] else item_at text ∷ first_items n (drop (size_at text) text)
 
--- What follows the first n items of a text.
+-- The bytes after the first n items.
 abbrev pub after : ℕ → List ℕ → Result (List ℕ) CpfFault
 after zero text = Ok text
 after (suc n) text =
     if nat_lt (length text) (size_at text) then Err Short else after n (drop (size_at text) text)
 
--- The items, where nothing follows them.
+-- The items, if nothing follows them.
 abbrev pub whole : List Item → Result (List ℕ) CpfFault → Result (List Item) CpfFault
 whole l (Ok []) = Ok l
 whole l (Ok (b ∷ rest)) = Err Trailing
 whole l (Err fault) = Err fault
 
--- The list that a text spells, or why it spells none.
+-- Reads a list of items, all of the bytes.
 abbrev pub items_of : List ℕ → Result (List Item) CpfFault
 items_of text =
     if nat_lt (length text) 2
     then Err Short
     else whole (first_items (number_at 0 2 text) (drop 2 text)) (after (number_at 0 2 text) (drop 2 text))
 
--- The first two items of a list, where it has so many.
+-- The first two items of a list, as far as there are so many.
 pub record Two : Type 0 where
   pub first : Option Item
   pub second : Option Item
@@ -110,11 +110,11 @@ two_of [] = record { first = None; second = None }
 two_of (a ∷ []) = record { first = Some a; second = None }
 two_of (a ∷ (b ∷ further)) = record { first = Some a; second = Some b }
 
--- The items that a pair lends.
+-- A pair of the code, as one of the specification.
 abbrev pub two_in : Pair → Two
 two_in pair = record { first = option_map item_of pair.first; second = option_map item_of pair.second }
 
--- The item at the front of a text, if it is to have one, and what follows it.
+-- The next item, if there should be one, and the rest.
 pub record Next : Type 0 where
   pub item : Option Item
   pub rest : List ℕ

@@ -2,30 +2,30 @@ use Rattle.std.specs.Prelude.{if◌then◌else◌, ◌==◌, ◌&&◌, nat_lt, �
 use Rattle.std.specs.Prelude.{drop, slice_index, Option, Some, None}
 use Rattle.enip_wire.specs.declared.device.call_behavior.CallBehavior.{CallBehavior}
 
--- How many bytes a call over memory moves of `most`, by how many calls come before the one that is to fail: none at
--- all in that one.
+-- How many of at most `most` bytes a call moves, if this many calls succeed before one fails. The failing call
+-- moves none.
 abbrev pub size_before : Option ℕ → ℕ → Option ℕ
 size_before (Some zero) most = None
 size_before (Some (suc calls)) most = Some most
 size_before None most = Some most
 
--- How many calls come before the one that is to fail, once a call was made.
+-- How many calls succeed before one fails, after one more call.
 abbrev pub calls_left : Option ℕ → Option ℕ
 calls_left (Some zero) = None
 calls_left (Some (suc calls)) = Some calls
 calls_left None = None
 
--- How many bytes a call moves of those that are there, or that it fails.
+-- How many of the available bytes a call moves, or None if it fails.
 abbrev pub size_of : CallBehavior → ℕ → Option ℕ
 size_of c there = size_before c.before_failure (min there c.largest_size)
 
--- The calls that are left once one was answered so.
+-- The behavior of later calls, after a call with this result.
 abbrev pub after_call : CallBehavior → Option ℕ → CallBehavior
 after_call c None = record c { before_failure = calls_left c.before_failure; failures = c.failures + 1 }
 after_call c (Some n) = record c { before_failure = calls_left c.before_failure }
 
--- A source over memory: the bytes that are left, the moments of the reads from the first on, the moment of the last
--- read that gave a byte, how many reads there were, and how it answers its calls.
+-- A source in memory: the bytes that are left, the moments of the reads, the moment of the last read that gave a
+-- byte, how many reads were made, and how it answers its calls.
 pub record SourceState : Type 0 where
   pub left : List ℕ
   pub moments : List ℕ
@@ -33,16 +33,16 @@ pub record SourceState : Type 0 where
   pub reads : ℕ
   pub calls : CallBehavior
 
--- The moment of a read, by how many reads came before it: the last of the list again where the list is used up, and 0
--- where it is empty.
+-- The moment of the read after `before` others. After the end of the list its last moment is used again. The moment
+-- is 0 if the list is empty.
 abbrev pub moment_at : List ℕ → ℕ → ℕ
 moment_at moments before = slice_index moments (min before (length moments - 1))
 
--- How many bytes a read into so many gives, or that it fails.
+-- How many bytes a read into a slice of this size gives, or None if it fails.
 abbrev pub given_by : SourceState → ℕ → Option ℕ
 given_by s size = size_of s.calls (min size (length s.left))
 
--- A source after a read that gave so many bytes, or failed.
+-- A source after a read that gave this many bytes, or failed.
 abbrev pub after_read : SourceState → Option ℕ → SourceState
 after_read s None = record s { reads = s.reads + 1; calls = after_call s.calls None }
 after_read s (Some n) =
@@ -53,17 +53,17 @@ after_read s (Some n) =
       calls = after_call s.calls (Some n);
     }
 
--- A sink over memory: the bytes that were written, for how many more there is room, and how it answers its calls.
+-- A sink in memory: the bytes that were written, how many more fit, and how it answers its calls.
 pub record SinkState : Type 0 where
   pub written : List ℕ
   pub capacity : ℕ
   pub calls : CallBehavior
 
--- How many bytes a write of so many takes, or that it fails: it does where it is full.
+-- How many bytes a write of a slice of this size takes, or None if it fails. A write to a full sink fails.
 abbrev pub taken_by : SinkState → ℕ → Option ℕ
 taken_by s size = if (s.capacity == 0) && nat_lt 0 size then None else size_of s.calls (min size s.capacity)
 
--- A sink after a write that took so many of these bytes, or failed.
+-- A sink after a write that took this many of the bytes, or failed.
 abbrev pub after_write : SinkState → List ℕ → Option ℕ → SinkState
 after_write s from None = record s { calls = after_call s.calls None }
 after_write s from (Some n) =

@@ -9,50 +9,50 @@ use Rattle.cip_bytes.specs.Numbers.{number_at}
 use Rattle.enip_wire.specs.Headers.{header_at}
 use Rattle.enip_wire.specs.Frames.{Frame, frame, IsFrame, IsTooLong, IsComplete, end_after}
 
--- The frames of a stream, and the rest at whose front no frame is spelled. It speaks of the whole
--- stream, and of no buffer and no piece. (Volume 2, encapsulation over TCP.)
+-- A stream is these frames, one after another, and a rest that does not begin with a frame. This speaks of the
+-- whole stream, not of a buffer or pieces. (Volume 2, encapsulation over TCP.)
 pub record Cut (stream : List ℕ) (frames : List Frame) (rest : List ℕ) : Type 0 where
   pub parts : stream ≡ flat_map frame frames ++ rest
   pub each : AllByRecursion IsFrame frames
   pub no_more : (f : Frame) (more : List ℕ) → IsFrame f → rest ≡ frame f ++ more → ⊥
 
--- No shorter front of these bytes is a whole frame or a too long header.
+-- No shorter prefix of these bytes is a whole frame or a too long header.
 pub record IsAtMostOneFrame (held : List ℕ) : Type 0 where
   pub running : (k : ℕ) → k < length held → IsComplete (take k held) → ⊥
 
--- n is the least number of bytes of the piece that makes what is held a whole frame or a too long
--- header; the whole piece, if there is none.
+-- n is the least number of bytes of the piece that completes a frame or a too long header. If there is none, n is
+-- the whole piece.
 pub record Takes (held piece : List ℕ) (n : ℕ) : Type 0 where
   pub within : n ≤ length piece
   pub least : (k : ℕ) → k < n → IsComplete (held ++ take k piece) → ⊥
   pub ends : IsComplete (held ++ take n piece) ⊎ (n ≡ length piece)
 
--- The frame that a view lends.
+-- A frame of the code, as one of the specification.
 abbrev pub frame_of : FrameView → Frame
 frame_of view = record { header = view.header; body = view.body.now }
 
--- What is shown of the bytes that are held: a whole frame, a too long header, or neither.
+-- What a reader shows of the bytes that it holds: a whole frame, a too long header, or neither.
 abbrev pub Shows : List ℕ → Held → Type 0
 Shows held More = IsComplete held → ⊥
 Shows held (Whole view) = IsFrame (frame_of view) × (held ≡ frame (frame_of view))
 Shows held (TooLong header) = IsTooLong held × (header ≡ header_at held)
 
--- The rest says the same by numbers alone, for who computes with it.
+-- The rest states the same by numbers alone, to compute with.
 
--- How many bytes of a piece Takes.
+-- How many bytes of a piece are taken.
 abbrev pub bytes_taken : List ℕ → List ℕ → ℕ
 bytes_taken held piece =
     if nat_lt (length held + length piece) 24
     then length piece
     else min (end_after (number_at 2 2 (held ++ piece)) - length held) (length piece)
 
--- What bytes are, on the way to the end of a frame.
+-- What bytes parse as.
 pub data Parsed : Type 0 where
   Incomplete : Parsed
   WholeFrame : Frame → Parsed
   TooLongHeader : Header → Parsed
 
--- What these bytes are.
+-- Parses bytes as a frame.
 abbrev pub parsed : List ℕ → Parsed
 parsed bytes =
     if nat_lt (length bytes) 24
@@ -63,35 +63,35 @@ parsed bytes =
     then WholeFrame (record { header = header_at bytes; body = drop 24 bytes })
     else Incomplete
 
--- What a reader shows, as a sight.
+-- What a reader shows, in the same form.
 abbrev pub parsed_frame : Held → Parsed
 parsed_frame More = Incomplete
 parsed_frame (Whole view) = WholeFrame (frame_of view)
 parsed_frame (TooLong header) = TooLongHeader header
 
--- What is held of these bytes after a sight of them: all, but nothing of a frame that came whole while no
--- byte was held, since it is lent from where it came.
+-- What a reader holds of these bytes after it showed them: all of them, but nothing of a frame that was whole in
+-- the piece, as that is lent from the piece.
 abbrev pub held_after_parse : List ℕ → List ℕ → Parsed → List ℕ
 held_after_parse held bytes Incomplete = bytes
 held_after_parse held bytes (TooLongHeader h) = bytes
 held_after_parse [] bytes (WholeFrame f) = []
 held_after_parse (x ∷ xs) bytes (WholeFrame f) = bytes
 
--- What is held joined with what is taken of a piece.
+-- The bytes that are held, and then those that are taken of a piece.
 abbrev pub held_and_taken : List ℕ → List ℕ → List ℕ
 held_and_taken held piece = held ++ take (bytes_taken held piece) piece
 
--- n bytes are taken of a piece where none is held, and a reader has room for them.
+-- n bytes are taken of a piece if nothing is held, and they fit into a reader.
 pub record IsTakenFirst (piece : List ℕ) (n : ℕ) : Type 0 where
   pub takes : Takes [] piece n
   pub number : n ≡ bytes_taken [] piece
   pub bound : n ≤ 65535
 
--- What a reader of these bytes holds after a piece that may be read in place.
+-- What a reader of these bytes holds after `next` with a piece.
 abbrev pub held_after_next : List ℕ → List ℕ → List ℕ
 held_after_next held piece = held_after_parse held (held_and_taken held piece) (parsed (held_and_taken held piece))
 
--- What is held of these bytes once a frame that was shown is cleared.
+-- What is held of these bytes after a frame that was shown is cleared.
 abbrev pub cleared : Parsed → List ℕ → List ℕ
 cleared Incomplete bytes = bytes
 cleared (WholeFrame f) bytes = []

@@ -1,4 +1,4 @@
-//! The two bodies that are made of items, read. (Volume 2, common packet format.)
+//! Reads the bodies of SendRRData and SendUnitData. (Volume 2, common packet format.)
 //!
 //! ```text
 //!  body    [ interface | timeout ][ items ]
@@ -18,7 +18,7 @@ ghost use Rattle.std.specs.Option.{option_map};
 use crate::item_list::{CpfFault, ItemView, Pair, first_two};
 use byteorder::{ByteOrder, LittleEndian};
 
-/// The types of items. (Volume 2, common packet format.)
+/// The item types. (Volume 2, common packet format.)
 const NULL_ADDRESS: u16 = 0x00;
 
 const CONNECTED_ADDRESS: u16 = 0xa1;
@@ -27,25 +27,24 @@ const CONNECTED_DATA: u16 = 0xb1;
 
 const UNCONNECTED_DATA: u16 = 0xb2;
 
-/// How many bytes a body's interface has, and with its timeout, in front of the items.
+/// The size of a body's interface handle in bytes. With the timeout it comes before the items.
 const INTERFACE: usize = 4;
 
 pub(crate) const BODY_HEAD: usize = INTERFACE + 2;
 
-/// How many bytes the connection ID of a connected address has.
+/// The size of the connection ID in a connected address item, in bytes.
 pub(crate) const CONNECTION_ID: usize = 4;
 
-/// The data of a SendRRData, which are lent: interface 0, any timeout, then items, of which the first is
-/// the null address and the second the unconnected data. Further items are ignored.
-/// (Volume 2, SendRRData.)
+/// Reads the body of a SendRRData and lends its data. The body is interface 0, any timeout, and items. The first
+/// item is the null address and the second the unconnected data. Further items are ignored. (Volume 2, SendRRData.)
 ///
 /// # Errors
 ///
-/// The first of these: `Short` for the first six bytes, `Interface`, `Short` for the items, `Trailing`,
+/// The first of these: `Short` if there are fewer than six bytes, `Interface`, `Short` for the items, `Trailing`,
 /// `Address`, `Data`.
 #[inline(always)]
 pub fn rr_body(text: &[u8]) -> Result<&[u8], CpfFault>
-    // What is read is spelled so, and what is spelled so is read.
+    // Data are read if and only if the body spells them.
     ensures spelled { (bytes : List ℕ) → (map_ok (λ lent. lent.now) result ≡ Ok bytes) ↔ IsRrBody text.now bytes }
     ensures faulty { (fault : CpfFault) →
         (map_ok (λ lent. lent.now) result ≡ Err fault) ↔ IsBodyFault IsNullAddress 0xb2 text.now fault }
@@ -54,7 +53,7 @@ pub fn rr_body(text: &[u8]) -> Result<&[u8], CpfFault>
     read_rr_body(text)
 }
 
-/// The data of a SendRRData.
+/// Reads the body of a SendRRData: the computation.
 #[tactic(auto, using(crate::proofs::TwoLemmas::rr_two))]
 #[inline(always)]
 fn read_rr_body(text: &[u8]) -> Result<&[u8], CpfFault>
@@ -62,7 +61,7 @@ fn read_rr_body(text: &[u8]) -> Result<&[u8], CpfFault>
 {
     let items = body_items(text)?;
     match items.first {
-        // The null address has no data (common packet format, address items).
+        // A null address item has no data.
         Some(ItemView { kind, bytes }) if kind == NULL_ADDRESS && bytes.is_empty() => {
             data(items.second, UNCONNECTED_DATA)
         }
@@ -70,8 +69,8 @@ fn read_rr_body(text: &[u8]) -> Result<&[u8], CpfFault>
     }
 }
 
-/// The connection ID and the data of a SendUnitData, which are lent: interface 0, any timeout, then items, of
-/// which the first is a connected address and the second the connected data. Further items are ignored.
+/// Reads the body of a SendUnitData and lends its connection ID and data. The body is interface 0, any timeout, and
+/// items. The first item is a connected address and the second the connected data. Further items are ignored.
 /// (Volume 2, SendUnitData.)
 ///
 /// # Errors
@@ -79,7 +78,7 @@ fn read_rr_body(text: &[u8]) -> Result<&[u8], CpfFault>
 /// As `rr_body`.
 #[inline(always)]
 pub fn unit_body(text: &[u8]) -> Result<(u32, &[u8]), CpfFault>
-    // What is read is spelled so, and what is spelled so is read.
+    // An ID and data are read if and only if the body spells them.
     ensures spelled { (id : ℕ) (bytes : List ℕ) →
         (map_ok {B = ℕ × List ℕ} (λ found. (found.0, found.1.now)) result ≡ Ok (id, bytes))
         ↔ IsUnitBody text.now id bytes }
@@ -91,7 +90,7 @@ pub fn unit_body(text: &[u8]) -> Result<(u32, &[u8]), CpfFault>
     read_unit_body(text)
 }
 
-/// The connection ID and the data of a SendUnitData.
+/// Reads the body of a SendUnitData: the computation.
 #[tactic(auto, using(crate::proofs::TwoLemmas::unit_two))]
 #[inline(always)]
 fn read_unit_body(text: &[u8]) -> Result<(u32, &[u8]), CpfFault>
@@ -99,7 +98,7 @@ fn read_unit_body(text: &[u8]) -> Result<(u32, &[u8]), CpfFault>
 {
     let items = body_items(text)?;
     match items.first {
-        // The connected address is a connection ID (common packet format, address items).
+        // A connected address item is a connection ID.
         Some(ItemView { kind, bytes })
             if kind == CONNECTED_ADDRESS && bytes.len() == CONNECTION_ID => {
             let id = LittleEndian::read_u32(bytes);
@@ -109,7 +108,7 @@ fn read_unit_body(text: &[u8]) -> Result<(u32, &[u8]), CpfFault>
     }
 }
 
-/// The first two items of a body.
+/// Reads the first two items of a body.
 #[inline(always)]
 fn body_items(text: &[u8]) -> Result<Pair<'_>, CpfFault>
     ensures { map_ok two_in result ≡ map_ok two_of (body_items_of text.now) }
@@ -117,14 +116,14 @@ fn body_items(text: &[u8]) -> Result<Pair<'_>, CpfFault>
     if text.len() < BODY_HEAD {
         return Err(CpfFault::Short);
     }
-    // The interface is 0, that of CIP; the timeout behind it is any (SendRRData and SendUnitData).
+    // Interface 0 is CIP. The timeout after it may have any value.
     if LittleEndian::read_u32(&text[..INTERFACE]) != 0 {
         return Err(CpfFault::Interface);
     }
     first_two(&text[BODY_HEAD..])
 }
 
-/// The data of an item, which is to have this type.
+/// The data of an item, which must have this type.
 #[inline(always)]
 fn data(item: Option<ItemView<'_>>, kind: u16) -> Result<&[u8], CpfFault>
     ensures { map_ok (λ lent. lent.now) result ≡ data_in kind (option_map item_of item.entry) }

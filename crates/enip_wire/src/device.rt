@@ -1,7 +1,8 @@
-//! Devices: where bytes come from and where they go, told by a contract and not by what they are.
+//! Devices: where bytes come from and where they go. A contract describes them, and not a type.
 //!
-//! A device counts its reads and its failures, so that whoever calls it can answer a fault only where it failed. Its
-//! bytes are told where they are known: those of [`MemorySource`] and [`MemorySink`] are, those of a socket are not.
+//! A device counts its reads and its failures. So a caller can prove that it reports a fault only if the device
+//! failed. A contract speaks of a device's bytes if they are known: those of [`MemorySource`] and [`MemorySink`]
+//! are, those of a socket are not.
 
 mod call_behavior;
 mod memory_sink;
@@ -15,17 +16,22 @@ pub use memory_sink::MemorySink;
 pub use memory_source::MemorySource;
 use thiserror::Error;
 
-/// A call of a device failed.
+/// A call to a device failed.
 #[derive(Clone, Copy, Debug, PartialEq, Eq, Drop, Error)]
 #[error("the device failed")]
 pub struct Failed;
 
 /// Where bytes come from.
+///
+/// ```
+/// let mut source = MemorySource::new(bytes, &[0]).with_largest_size(10);
+/// let count = source.read(buffer)?; // at most 10 bytes; 0 is the end
+/// ```
 pub trait Source {
-    // The bytes that are left to read, where the source tells them.
+    // The bytes that are left to read, if they are known.
     ghost left: { Self → Option (List ℕ) };
 
-    // The microsecond at which the last read that gave a byte returned, as the source names it.
+    // When the last read that gave a byte returned, in microseconds of the source's clock.
     ghost moment: { Self → ℕ };
 
     // How many reads were made, and how many calls failed.
@@ -33,11 +39,11 @@ pub trait Source {
 
     ghost failures: { Self → ℕ };
 
-    /// Reads bytes to the front of a slice, and answers how many. For a slice that is not empty 0 is the end.
+    /// Reads bytes to the front of a slice and returns how many. If the slice is not empty, 0 is the end.
     ///
     /// # Errors
     ///
-    /// `Failed` where the device failed. No byte was read then.
+    /// `Failed` if the device failed. Then no byte was read.
     fn read(&mut self, into: &mut [u8]) -> Result<usize, Failed>
         requires reads_left { reads self.old < u64.MAX }
         requires failures_left { failures self.old < u64.MAX }
@@ -47,7 +53,8 @@ pub trait Source {
         ensures reads { reads self.new ≡ reads self.old + 1 }
         ensures failures { failures self.new ≡ failures self.old + failures_in result };
 
-    /// The microsecond at which the last read that gave a byte returned, as the source names it; 0 before the first.
+    /// When the last read that gave a byte returned, in microseconds of the source's clock. 0 before the first such
+    /// read.
     fn moment(&self) -> u64
         ensures { result ≡ moment self.now };
 
@@ -61,18 +68,24 @@ pub trait Source {
 }
 
 /// Where bytes go.
+///
+/// ```
+/// let mut sink = MemorySink::new(buffer);
+/// write_all(&mut sink, frame)?;
+/// assert_eq!(rt; sink.written(), frame);
+/// ```
 pub trait Sink {
-    // The bytes that were written, where the sink tells them.
+    // The bytes that were written, if they are known.
     ghost written: { Self → Option (List ℕ) };
 
     // How many calls failed.
     ghost failures: { Self → ℕ };
 
-    /// Writes bytes from the front of a slice, and answers how many: at least one, where the slice is not empty.
+    /// Writes bytes from the front of a slice and returns how many: at least one, if the slice is not empty.
     ///
     /// # Errors
     ///
-    /// `Failed` where the device failed. No byte was written then.
+    /// `Failed` if the device failed. Then no byte was written.
     fn write(&mut self, from: &[u8]) -> Result<usize, Failed>
         requires { failures self.old < u64.MAX }
         ensures count { IfOk result (λ n. n ≤ length from.now) }
@@ -85,11 +98,11 @@ pub trait Sink {
         ensures { result ≡ failures self.now };
 }
 
-/// Writes all the bytes of a slice, by as many writes as that takes.
+/// Writes all the bytes of a slice, in as many writes as needed.
 ///
 /// # Errors
 ///
-/// `Failed` where a write failed. A front of the bytes was written then, and not all of them.
+/// `Failed` if a write failed. Then a proper prefix of the bytes was written.
 pub fn write_all<W: Sink>(sink: &mut W, text: &[u8]) -> Result<(), Failed>
     requires { W.failures sink.old < u64.MAX }
     ensures bytes { MatchResult result

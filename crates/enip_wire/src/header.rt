@@ -6,34 +6,38 @@ ghost use Rattle.enip_wire.specs.Headers.{header_spelling, header_at, IsHeader};
 
 use byteorder::{ByteOrder, LittleEndian};
 
-/// The header of an encapsulation message, 24 bytes on the wire, each number least byte first.
-/// (Volume 2, encapsulation header.)
+/// The header of an encapsulation message: 24 bytes on the wire, little-endian. (Volume 2, encapsulation header.)
 ///
 /// ```text
 ///  [ command | length | session | status | context | options ]
 ///       2        2         4        4         8         4
 /// ```
+///
+/// ```
+/// let header = Header { command: 0x0065, length: 4, session: 0, status: 0, context: [0; 8], options: 0 };
+/// assert_eq!(rt; Header::read(&header.write()), header);
+/// ```
 #[derive(Clone, Copy, Debug, PartialEq, Eq)]
 pub struct Header {
-    /// What is asked or answered, by its number of 16 bits.
+    /// The command, 16 bits.
     pub command: u16,
-    /// How many bytes of data follow the header, 16 bits: at most 65,511.
+    /// How many bytes of data follow the header, 16 bits. At most 65,511.
     pub length: u16,
     /// The session handle, 32 bits.
     pub session: u32,
-    /// 0 for success, else why the request was refused, 32 bits.
+    /// The status, 32 bits: 0 for success, otherwise why the request was refused.
     pub status: u32,
-    /// Eight bytes of the sender's choice, which a reply repeats.
+    /// Eight bytes that the sender chooses and a reply repeats.
     pub context: [u8; 8],
-    /// 0, 32 bits; a message with other options is discarded.
+    /// The options, 32 bits: 0. A message with other options is discarded.
     pub options: u32,
 }
 
 impl Header {
-    /// How many bytes a header has.
+    /// The size of a header in bytes.
     pub const SIZE: usize = 24;
 
-    /// Reads the header that these bytes spell: any 24 bytes spell one, and no other.
+    /// Reads the header that these bytes spell. Any 24 bytes spell exactly one.
     pub fn read(bytes: &[u8; Header::SIZE]) -> Header
         ensures value { result ≡ header_at bytes.now }
         ensures spelled { header_spelling result ≡ bytes.now }

@@ -1,4 +1,4 @@
-//! The items of a packet, read one after the other. (Volume 2, common packet format.)
+//! Reads the items of a packet. (Volume 2, common packet format.)
 //!
 //! ```text
 //!  items   [ count ][ type | length | data ][ type | length | data ] ..
@@ -19,29 +19,29 @@ use byteorder::{ByteOrder, LittleEndian};
 use std::marker::Model;
 use thiserror::Error;
 
-/// How many bytes the number of items has, in front of the first.
+/// The size of the item count in bytes. It comes before the first item.
 pub(crate) const COUNT: usize = 2;
 
-/// How many bytes an item has in front of its data: its type and its length.
+/// The size of an item's head in bytes: its type and its length. It comes before the item's data.
 pub(crate) const ITEM_HEAD: usize = 4;
 
-/// Why a text is no list of items, or no body: the first of these that is met, from 1 on.
-/// (Volume 2, common packet format.)
+/// Why bytes are not a list of items, or not a body: the first of these that holds. (Volume 2, common packet
+/// format.)
 #[derive(Clone, Copy, Debug, PartialEq, Eq, Drop, Error)]
 pub enum CpfFault {
-    /// The text ends within an item, or before the items.
-    #[error("the text ends within an item")]
+    /// The bytes end within an item, or before the items.
+    #[error("the packet ends within an item")]
     Short = 1,
     /// Bytes follow the last item.
     #[error("bytes follow the last item")]
     Trailing = 2,
-    /// The interface is not 0.
+    /// The interface handle is not 0.
     #[error("the interface is not 0")]
     Interface = 3,
-    /// There is no first item, or it is not the address of this body.
+    /// There is no first item, or it is not the address item of this body.
     #[error("the first item is not the address")]
     Address = 4,
-    /// There is no second item, or it is not the data of this body.
+    /// There is no second item, or it is not the data item of this body.
     #[error("the second item is not the data")]
     Data = 5,
 }
@@ -49,7 +49,7 @@ pub enum CpfFault {
 impl CpfFault {
     ghost use Rattle.enip_wire.specs.Items.{cpf_fault_number};
 
-    /// The number of the fault, by which it is printed.
+    /// The fault's number, as printed.
     pub fn number(self) -> u8
         ensures { result ≡ cpf_fault_number self }
     {
@@ -57,25 +57,32 @@ impl CpfFault {
     }
 }
 
-/// An item, lent: its type and its data.
+/// An item, lent from the bytes that spell it.
 #[derive(Clone, Copy, Debug)]
 pub struct ItemView<'a> {
-    /// What the data are, by the type's number of 16 bits.
+    /// The item type, 16 bits.
     pub kind: u16,
-    /// The data, at most 65,535 bytes.
+    /// The item's data, at most 65,535 bytes.
     pub bytes: &'a [u8],
 }
 
-/// The first two items of a text, lent, where it has so many.
+/// The first two items of a list, as far as there are so many.
 #[derive(Clone, Copy)]
 pub(crate) struct Pair<'a> {
     /// The first item.
     pub(crate) first: Option<ItemView<'a>>,
-    /// The second.
+    /// The second item.
     pub(crate) second: Option<ItemView<'a>>,
 }
 
-/// The items of a text, one after the other.
+/// An iterator over the items of a list.
+///
+/// ```
+/// let mut size = 0;
+/// for item in cpf_items(packet)? {
+///     size += item.bytes.len();
+/// }
+/// ```
 #[derive(Debug, Drop)]
 pub struct Items<'a> {
     left: u16,
@@ -113,14 +120,14 @@ impl<'a> Iterator for Items<'a> {
     }
 }
 
-/// The items that the text spells, the whole of it. They are lent. (Volume 2, common packet format.)
+/// Reads all of the bytes as a list of items, and lends them. (Volume 2, common packet format.)
 ///
 /// # Errors
 ///
-/// `Short` where the text ends within an item or the count, `Trailing` where bytes follow the last item.
+/// `Short` if the bytes end within an item or the count, `Trailing` if bytes follow the last item.
 #[inline(always)]
 pub fn cpf_items(text: &[u8]) -> Result<Items<'_>, CpfFault>
-    // What is read is spelled so, and what is spelled so is read.
+    // Items are read if and only if the bytes spell them.
     ensures spelled { (l : List Item) → (result ≡ Ok l) ↔ (AreItems l × (text.now ≡ items l)) }
     ensures short { (result ≡ Err CpfFault.Short) ↔ IsShort text.now }
     ensures trailing { (result ≡ Err CpfFault.Trailing) ↔ IsTrailing text.now }
@@ -129,7 +136,7 @@ pub fn cpf_items(text: &[u8]) -> Result<Items<'_>, CpfFault>
     read_items(text)
 }
 
-/// The items of the whole text.
+/// Reads all of the bytes as a list of items: the computation.
 #[inline(always)]
 fn read_items(text: &[u8]) -> Result<Items<'_>, CpfFault>
     ensures { result ≡ items_of text.now }
@@ -140,7 +147,7 @@ fn read_items(text: &[u8]) -> Result<Items<'_>, CpfFault>
     let left = LittleEndian::read_u16(&text[..COUNT]);
     let text = &text[COUNT..];
     let rest = after_items(left, text)?;
-    // Nothing follows the last item (common packet format).
+    // Nothing may follow the last item.
     if rest.is_empty() {
         Ok(Items { left, text })
     } else {
@@ -148,7 +155,7 @@ fn read_items(text: &[u8]) -> Result<Items<'_>, CpfFault>
     }
 }
 
-/// The first two items of the whole text, each read once, with the faults of `cpf_items`.
+/// Reads the first two items of a list, each once. The faults are those of `cpf_items`.
 #[inline(always)]
 pub(crate) fn first_two(text: &[u8]) -> Result<Pair<'_>, CpfFault>
     ensures { map_ok two_in result ≡ map_ok two_of (items_of text.now) }
@@ -159,14 +166,14 @@ pub(crate) fn first_two(text: &[u8]) -> Result<Pair<'_>, CpfFault>
     let count = LittleEndian::read_u16(count);
     let (first, text) = next_item(0 < count, text)?;
     let (second, text) = next_item(1 < count, text)?;
-    // Nothing follows the last item (common packet format).
+    // Nothing may follow the last item.
     match after_items(count.saturating_sub(2), text)? {
         [] => Ok(Pair { first, second }),
         _ => Err(CpfFault::Trailing),
     }
 }
 
-/// The item at the front of a text, if it is to have one, and what follows it.
+/// Reads the next item, if there should be one. Returns it with the rest.
 #[inline(always)]
 fn next_item(is_there: bool, text: &[u8]) -> Result<(Option<ItemView<'_>>, &[u8]), CpfFault>
     ensures { map_ok (λ found. record { item = option_map item_of found.0; rest = found.1.now }) result
@@ -181,7 +188,7 @@ fn next_item(is_there: bool, text: &[u8]) -> Result<(Option<ItemView<'_>>, &[u8]
     }
 }
 
-/// The item at the front of a text and what follows it, where the item is whole.
+/// Reads the item at the front, if it is whole. Returns it with the rest.
 #[inline(always)]
 fn first_item(text: &[u8]) -> Option<(ItemView<'_>, &[u8])>
     ensures { MatchOption result (length text.now < size_at text.now)
@@ -194,7 +201,7 @@ fn first_item(text: &[u8]) -> Option<(ItemView<'_>, &[u8])>
     let kind = LittleEndian::read_u16(&text[..2]);
     let length = usize::from(LittleEndian::read_u16(&text[2..ITEM_HEAD]));
     let rest = &text[ITEM_HEAD..];
-    // The data lie in the text whole, else the item is cut short (common packet format).
+    // All the data must be there, otherwise the item is cut short.
     if rest.len() < length {
         return None;
     }
@@ -205,7 +212,7 @@ fn first_item(text: &[u8]) -> Option<(ItemView<'_>, &[u8])>
     Some((item, &rest[length..]))
 }
 
-/// What follows so many items at the front of a text.
+/// The bytes after the first `count` items.
 #[inline(always)]
 fn after_items(count: u16, text: &[u8]) -> Result<&[u8], CpfFault>
     ensures { map_ok (λ rest. rest.now) result ≡ after count text.now }

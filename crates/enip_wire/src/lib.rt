@@ -1,17 +1,21 @@
-//! EtherNet/IP's encapsulation (ODVA CIP Networks Library, Volume 2): the header, frames from a stream in any
-//! pieces, and the items of a packet.
+//! EtherNet/IP encapsulation (ODVA CIP Networks Library, Volume 2): the header, frames from a stream in any pieces,
+//! and the items of a packet.
 //!
-//! [`FrameReader`] gathers one frame at a time from the pieces of a stream, and [`parse_frame`] tells whether bytes are one;
-//! [`Header`] is the 24 bytes in front of a frame's data. [`cpf_items`], [`rr_body`] and [`unit_body`] read such data
-//! and lend what they find; [`write_items`], [`write_rr_body`] and [`write_unit_body`] append them, [`rr_body_head`] and
-//! [`unit_body_head`] give what stands in front of their data. [`Source`] and [`Sink`] are where bytes come from and go to,
-//! [`MemorySource`] and [`MemorySink`] those over memory.
+//! [`FrameReader`] gathers one frame at a time from the pieces of a stream. [`parse_frame`] parses bytes as a
+//! frame. [`Header`] is the 24 bytes before a frame's data.
 //!
-//! Each reader answers exactly the value that the bytes spell, or the first fault. Each writer appends exactly one
-//! spelling to a buffer of fixed capacity, or changes nothing. Only `FrameReader::new` takes memory.
+//! [`cpf_items`], [`rr_body`] and [`unit_body`] read a frame's data and lend what they find. [`write_items`],
+//! [`write_rr_body`] and [`write_unit_body`] append them to a buffer. [`rr_body_head`] and [`unit_body_head`]
+//! return what comes before the data of a body.
 //!
-//! The three readers of items say what they read and which fault comes where; the body of each is a private
-//! function `read_..`, whose one clause is the equation that the public clauses follow from.
+//! [`Source`] and [`Sink`] are where bytes come from and go to. [`MemorySource`] and [`MemorySink`] are those in
+//! memory.
+//!
+//! Each reader returns exactly the value that the bytes spell, or the first fault. Each writer appends exactly one
+//! spelling to a buffer of fixed capacity, or changes nothing. Only `FrameReader::new` allocates.
+//!
+//! The contracts of the three readers of items say what they read and when each fault is returned. The body of each
+//! reader is a private function `read_..`, whose one clause is the equation that the public clauses follow from.
 #![tactic(auto)]
 
 mod body;

@@ -1,4 +1,4 @@
-//! Frames from a stream, in whatever pieces it comes. (Volume 2, encapsulation over TCP.)
+//! Frames from a stream, however it is cut into pieces. (Volume 2, encapsulation over TCP.)
 //!
 //! ```text
 //!  stream   [ header | data ][ header | data ][ head
@@ -23,14 +23,14 @@ use std::alloc::{AllocError, Global};
 use std::boxed::BoxedSlice;
 use std::marker::Model;
 
-/// The longest data of a frame, in bytes: header and data are at most 65,535.
-/// (Volume 2, encapsulation header, length.)
+/// The most data of a frame, in bytes. Header and data are at most 65,535 bytes. (Volume 2, encapsulation header,
+/// length.)
 pub const LONGEST_BODY: u16 = 65_511;
 
-/// The longest frame, in bytes.
+/// The size of the longest frame, in bytes.
 const LONGEST_FRAME: usize = Header::SIZE + LONGEST_BODY as usize;
 
-/// A whole frame, lent: its header, and the `header.length` bytes that follow it.
+/// A whole frame, lent: its header and the `header.length` bytes after it.
 #[derive(Clone, Copy, Debug)]
 pub struct FrameView<'a> {
     /// The header.
@@ -40,20 +40,38 @@ pub struct FrameView<'a> {
 }
 
 /// What a reader holds.
+///
+/// ```
+/// match reader.state() {
+///     Held::More => {} // push the next piece
+///     Held::Frame(frame) => serve(frame),
+///     Held::TooLong(header) => refuse(header),
+/// }
+/// ```
 #[derive(Clone, Copy, Debug)]
 pub enum Held<'a> {
-    /// Not yet a whole frame.
+    /// Less than a whole frame.
     More,
     /// One whole frame.
     Frame(FrameView<'a>),
-    /// A header whose length is over 65,511. No byte is taken past it.
+    /// A header whose length is over 65,511. No byte after it is taken.
     TooLong(Header),
 }
 
 /// Gathers one frame at a time from the pieces of a stream.
+///
+/// ```
+/// let mut reader = FrameReader::new(alloc)?;
+/// let taken = reader.push(piece); // up to the end of one frame
+/// if let Held::Frame(frame) = reader.state() {
+///     serve(frame);
+///     reader.clear();
+/// }
+/// let rest = &piece[taken..]; // push it next
+/// ```
 #[derive(Drop)]
 pub struct FrameReader {
-    // as long from `new` on: a boxed slice does not grow
+    // `new` allocates it at its full length. A boxed slice does not grow.
     buffer: BoxedSlice<u8>,
     len: usize,
 }
@@ -74,11 +92,11 @@ impl Model for FrameReader {
 impl FrameReader {
     ghost use Rattle.enip_wire.specs.contracts.reader.FrameReader.{the_row};
 
-    /// A reader that holds no byte. Its 65,535 bytes are reserved here: no later call allocates.
+    /// A reader that holds no byte. It reserves its 65,535 bytes here. No later call allocates.
     ///
     /// # Errors
     ///
-    /// `AllocError` where the memory is refused.
+    /// `AllocError` if memory is refused.
     pub fn new(alloc: Global) -> Result<FrameReader, AllocError>
         ensures { IfOk result (λ r. r ≡ []) }
     {
@@ -89,8 +107,8 @@ impl FrameReader {
         })
     }
 
-    /// Takes bytes of the piece up to the end of one frame, or of a header that is too long, and
-    /// answers how many. While a whole frame or a too long header is held it takes none.
+    /// Takes bytes of the piece, up to the end of one frame or of a header that is too long. Returns how many it
+    /// took. It takes none while it holds a whole frame or such a header.
     pub fn push(&mut self, piece: &[u8]) -> usize
         ensures taken { Takes self.old piece.now result }
         ensures number { result ≡ bytes_taken self.old piece.now }
@@ -104,7 +122,7 @@ impl FrameReader {
         taken
     }
 
-    /// What is held.
+    /// What the reader holds.
     pub fn state(&self) -> Held<'_>
         ensures shown { Shows self.now result }
         ensures kind { parsed_frame result ≡ parsed self.now }
@@ -113,12 +131,12 @@ impl FrameReader {
         parse_frame(&self.buffer[..self.len])
     }
 
-    /// Takes the bytes of the piece that `push` takes, and shows what `state` then shows.
+    /// Takes the bytes that `push` takes, and returns what `state` then returns.
     ///
-    /// Where no byte is held and the piece begins with a whole frame, that frame is lent from the piece itself, and
-    /// no byte is held afterwards. Else what was taken is held until `clear`, as after `push`.
+    /// If the reader holds nothing and the piece begins with a whole frame, it lends the frame from the piece and
+    /// holds nothing afterwards. Otherwise it holds what it took until `clear`, as after `push`.
     ///
-    /// Who calls `clear` after each frame holds the same bytes as with `push`, `state` and `clear`.
+    /// A caller that calls `clear` after each frame leaves the reader as it would with `push`, `state` and `clear`.
     #[inline(always)]
     pub fn next<'a>(&'a mut self, piece: &'a [u8]) -> (usize, Held<'a>)
         ensures* after { sem 𝓛 (Rests the_row self.entry (λ last. last ≡ held_after_next self.old piece.now)) }
@@ -137,7 +155,7 @@ impl FrameReader {
         (taken, self.state())
     }
 
-    /// The bytes that are held, lent.
+    /// The bytes that the reader holds.
     pub fn bytes(&self) -> &[u8]
         ensures lent { result.now ≡ self.now }
         ensures bound { length self.now ≤ 65535 }
@@ -145,7 +163,7 @@ impl FrameReader {
         &self.buffer[..self.len]
     }
 
-    /// Drops what is held.
+    /// Drops what the reader holds.
     pub fn clear(&mut self)
         ensures { self.new ≡ [] }
     {
@@ -153,7 +171,7 @@ impl FrameReader {
     }
 }
 
-/// The frame at the front of a piece, lent, where the piece has all of it.
+/// The frame at the front of a piece, if all of it is there.
 #[inline(always)]
 fn first_frame(piece: &[u8]) -> Option<FrameView<'_>>
     ensures none { IfNone result ((f : Frame) → parsed (held_and_taken [] piece.now) ≡ WholeFrame f → ⊥) }
@@ -164,7 +182,7 @@ fn first_frame(piece: &[u8]) -> Option<FrameView<'_>>
 {
     let (head, rest) = piece.split_first_chunk::<{ Header::SIZE }>()?;
     let header = Header::read(head);
-    // A length over 65,511 can begin no frame (encapsulation header).
+    // No frame has a length over 65,511.
     if header.length > LONGEST_BODY {
         return None;
     }
@@ -178,7 +196,7 @@ fn first_frame(piece: &[u8]) -> Option<FrameView<'_>>
     })
 }
 
-/// How many bytes of a piece a reader takes that holds these.
+/// How many bytes of a piece a reader takes that holds these bytes.
 fn taken_size(held: &[u8], piece: &[u8]) -> usize
     requires { IsAtMostOneFrame held.now }
     ensures takes { Takes held.now piece.now result }
@@ -188,12 +206,12 @@ fn taken_size(held: &[u8], piece: &[u8]) -> usize
     if held.len() < Header::SIZE && piece.len() < Header::SIZE - held.len() {
         return piece.len();
     }
-    // No byte is taken past a whole frame, nor past a header that can begin none (a peer's stream).
+    // No byte is taken after a whole frame, or after a header that begins no frame.
     let end = end_after(length_in(held, piece));
     end.saturating_sub(held.len()).min(piece.len())
 }
 
-/// Copies a text into a buffer, behind its first bytes.
+/// Copies bytes into a buffer, after its first `len` bytes.
 fn copy_behind(buffer: &mut [u8], len: usize, text: &[u8])
     requires { len + length text.now ≤ length buffer.old }
     ensures { take (len + length text.now) buffer.new ≡ take len buffer.old ++ text.now }
@@ -201,12 +219,12 @@ fn copy_behind(buffer: &mut [u8], len: usize, text: &[u8])
     buffer[len..len + text.len()].copy_from_slice(text);
 }
 
-/// Where what begins with a header of this length ends.
+/// Where a frame with a header of this length ends, or the header alone if it is too long.
 #[inline(always)]
 fn end_after(length: u16) -> usize
     ensures { result ≡ end_after_length length }
 {
-    // A length over 65,511 can begin no frame (encapsulation header).
+    // No frame has a length over 65,511.
     if length > LONGEST_BODY {
         Header::SIZE
     } else {
@@ -214,7 +232,7 @@ fn end_after(length: u16) -> usize
     }
 }
 
-/// The length in the header that these bytes begin, the first joined with the second.
+/// The length field of the header at the front of `held` joined with `piece`.
 #[inline(always)]
 fn length_in(held: &[u8], piece: &[u8]) -> u16
     requires { 24 ≤ length held.now + length piece.now }
@@ -223,7 +241,7 @@ fn length_in(held: &[u8], piece: &[u8]) -> u16
     LittleEndian::read_u16(&[byte_in(held, piece, 2), byte_in(held, piece, 3)])
 }
 
-/// One byte of two texts that stand one after the other.
+/// The byte at this index in `held` joined with `piece`.
 #[inline(always)]
 fn byte_in(held: &[u8], piece: &[u8], index: usize) -> u8
     requires { index < length held.now + length piece.now }
@@ -236,7 +254,7 @@ fn byte_in(held: &[u8], piece: &[u8], index: usize) -> u8
     }
 }
 
-/// What these bytes are: one whole frame, a header whose length is too long, or neither.
+/// Parses bytes: one whole frame, a header whose length is too long, or neither.
 #[inline(never)]
 pub fn parse_frame(bytes: &[u8]) -> Held<'_>
     ensures shown { Shows bytes.now result }
@@ -246,7 +264,7 @@ pub fn parse_frame(bytes: &[u8]) -> Held<'_>
         return Held::More;
     };
     let header = Header::read(head);
-    // A length over 65,511 can begin no frame (encapsulation header).
+    // No frame has a length over 65,511.
     if header.length > LONGEST_BODY {
         Held::TooLong(header)
     } else if body.len() == header.length as usize {

@@ -1,4 +1,4 @@
-//! Items and bodies, appended to a buffer. (Volume 2, common packet format.)
+//! Appends items and bodies to a buffer. (Volume 2, common packet format.)
 
 ghost use Rattle.std.specs.Prelude.{ℕ, ◌≡◌, ◌↔◌, ◌≤◌, ◌<◌, ◌+◌, ◌^◌, ◌++◌, length, map, List, IsOk, OnOk, OnErr, IsTrue};
 ghost use Rattle.std.specs.List.{flat_map};
@@ -11,7 +11,7 @@ use crate::item_list::{COUNT, ITEM_HEAD, ItemView};
 use arrayvec::ArrayVec;
 use cip_bytes::{Full, append, append_u16};
 
-/// How many bytes of a body that is written stand in front of its data.
+/// How many bytes of a body that is written come before its data.
 const RR_BODY_HEAD: usize = BODY_HEAD + COUNT + ITEM_HEAD + ITEM_HEAD;
 
 const UNIT_BODY_HEAD: usize = RR_BODY_HEAD + CONNECTION_ID;
@@ -20,7 +20,7 @@ const UNIT_BODY_HEAD: usize = RR_BODY_HEAD + CONNECTION_ID;
 ///
 /// # Errors
 ///
-/// `Full` where the text doesn't fit, and then nothing is written.
+/// `Full` if they do not fit. Then nothing is written.
 pub fn write_items<const N: usize>(
     out: &mut ArrayVec<u8, N>,
     list: &[ItemView<'_>],
@@ -46,7 +46,7 @@ pub fn write_items<const N: usize>(
 ///
 /// # Errors
 ///
-/// `Full` where the text doesn't fit, and then nothing is written.
+/// `Full` if it does not fit. Then nothing is written.
 pub fn write_rr_body<const N: usize>(out: &mut ArrayVec<u8, N>, data: &[u8]) -> Result<(), Full>
     requires { length «data».now < 2 ^ 16 }
     ensures fits { IsOk result ↔ (array_vec_len out.old + length (rr_body_bytes «data».now) ≤ N) }
@@ -62,12 +62,12 @@ pub fn write_rr_body<const N: usize>(out: &mut ArrayVec<u8, N>, data: &[u8]) -> 
     Ok(())
 }
 
-/// Appends the body of a SendUnitData: interface 0, timeout 0, the connected address with the connection ID,
-/// and the connected data. (Volume 2, SendUnitData.)
+/// Appends the body of a SendUnitData: interface 0, timeout 0, the connected address with the connection ID, and
+/// the connected data. (Volume 2, SendUnitData.)
 ///
 /// # Errors
 ///
-/// `Full` where the text doesn't fit, and then nothing is written.
+/// `Full` if it does not fit. Then nothing is written.
 pub fn write_unit_body<const N: usize>(
     out: &mut ArrayVec<u8, N>,
     id: u32,
@@ -87,8 +87,8 @@ pub fn write_unit_body<const N: usize>(
     Ok(())
 }
 
-/// The body of a SendRRData up to its data, of which there are so many bytes: interface 0, timeout 0, two items, the
-/// null address, and the type and length of the unconnected data. (Volume 2, SendRRData.)
+/// The body of a SendRRData up to its `size` bytes of data: interface 0, timeout 0, two items, the null address,
+/// and the type and length of the unconnected data. (Volume 2, SendRRData.)
 #[inline(always)]
 pub fn rr_body_head(size: u16) -> [u8; RR_BODY_HEAD]
     ensures { (bytes : List ℕ) → length bytes ≡ size → rr_body_bytes bytes ≡ result ++ bytes }
@@ -97,9 +97,8 @@ pub fn rr_body_head(size: u16) -> [u8; RR_BODY_HEAD]
     [0, 0, 0, 0, 0, 0, 2, 0, 0, 0, 0, 0, 0xb2, 0, low, high]
 }
 
-/// The body of a SendUnitData up to its data, of which there are so many bytes: interface 0, timeout 0, two items, the
-/// connected address with the connection ID, and the type and length of the connected data.
-/// (Volume 2, SendUnitData.)
+/// The body of a SendUnitData up to its `size` bytes of data: interface 0, timeout 0, two items, the connected
+/// address with the connection ID, and the type and length of the connected data. (Volume 2, SendUnitData.)
 #[inline(always)]
 pub fn unit_body_head(id: u32, size: u16) -> [u8; UNIT_BODY_HEAD]
     ensures { (bytes : List ℕ) → length bytes ≡ size → unit_body_bytes id bytes ≡ result ++ bytes }
@@ -111,7 +110,7 @@ pub fn unit_body_head(id: u32, size: u16) -> [u8; UNIT_BODY_HEAD]
     ]
 }
 
-/// Whether there is room for the items.
+/// Whether the items fit into this capacity.
 fn items_fit(mut capacity: usize, list: &[ItemView<'_>]) -> bool
     ensures { IsTrue result ↔ (length (flat_map item_text (map item_of list.now)) ≤ capacity) }
 {
@@ -124,7 +123,7 @@ fn items_fit(mut capacity: usize, list: &[ItemView<'_>]) -> bool
     true
 }
 
-/// Appends an item, for which there is room.
+/// Appends an item. It must fit.
 fn append_item<const N: usize>(out: &mut ArrayVec<u8, N>, kind: u16, bytes: &[u8])
     requires capacity { array_vec_len out.old + 4 + length bytes.now ≤ N }
     requires counted { length bytes.now < 2 ^ 16 }

@@ -1,4 +1,4 @@
-//! Sessions with all that needs room, where growths of memory are refused.
+//! Sessions of an adapter in which an allocation is refused.
 
 use crate::same::check_same;
 use cip_objects::Objects;
@@ -12,7 +12,7 @@ use test_fixtures::adapter::{
     serves, value,
 };
 
-/// An adapter over the first objects, made again over the others where a growth of it is refused.
+/// An adapter over `objects`. If an allocation is refused, it is made again over `again`.
 pub(crate) fn of_either(alloc: Global, objects: Objects, again: Objects) -> Result<Adapter, Fail> {
     match Adapter::new(alloc, objects, LISTEN, LIMITS) {
         Ok(adapter) => Ok(adapter),
@@ -20,12 +20,12 @@ pub(crate) fn of_either(alloc: Global, objects: Objects, again: Objects) -> Resu
     }
 }
 
-/// What an adapter answers to a piece.
+/// The answer of an adapter to a piece.
 pub(crate) fn answer<'a>(adapter: &'a mut Adapter, peer: &Peer, piece: &[u8]) -> Option<&'a [u8]> {
     feed(adapter, peer, piece).answer
 }
 
-/// A piece has this answer.
+/// Asserts that a piece gets this answer.
 pub(crate) fn check_answer<A: Abort>(
     rt: &A,
     adapter: &mut Adapter,
@@ -36,12 +36,12 @@ pub(crate) fn check_answer<A: Abort>(
     check_same(rt, answer(adapter, peer, piece), wanted);
 }
 
-/// A piece has an answer.
+/// Asserts that a piece gets an answer.
 pub(crate) fn check_answered<A: Abort>(rt: &A, adapter: &mut Adapter, peer: &Peer, piece: &[u8]) {
     check_same(rt, answer(adapter, peer, piece).is_some(), true);
 }
 
-/// A session is registered, over devices in memory.
+/// Registers a session over a reader and a writer in memory.
 fn check_registered<A: Abort>(rt: &A, adapter: &mut Adapter, peer: &Peer) {
     let mut reader = MemorySource::new(REGISTER, &[]);
     let mut bytes = [0; 64];
@@ -58,20 +58,20 @@ fn check_registered<A: Abort>(rt: &A, adapter: &mut Adapter, peer: &Peer) {
     check_same(rt, is_served, true);
 }
 
-/// A request in two pieces, and its repeat in one.
+/// Feeds a request in two pieces, and its repeat in one.
 fn check_requests<A: Abort>(rt: &A, adapter: &mut Adapter, peer: &Peer) {
     check_answer(rt, adapter, peer, &ADD[..30], None);
     check_answer(rt, adapter, peer, &ADD[30..], Some(ADDED));
     check_answer(rt, adapter, peer, ADD, Some(ADDED));
 }
 
-/// A header that is too long closes.
+/// Asserts that a header with too great a length closes the peer.
 fn check_closed<A: Abort>(rt: &A, adapter: &mut Adapter, peer: &Peer) {
     let fed = feed(adapter, peer, LONG);
     check_same(rt, (fed.answer, fed.close), (Some(REFUSED), true));
 }
 
-/// The connection is over, and then the session.
+/// Lets the connection time out, and then ends the session.
 fn check_end<A: Abort>(rt: &A, adapter: &mut Adapter, peer: Peer) {
     adapter.tick(20_000_000);
     check_same(rt, free(adapter), (8, 16));
@@ -80,9 +80,9 @@ fn check_end<A: Abort>(rt: &A, adapter: &mut Adapter, peer: Peer) {
     check_same(rt, free(adapter), (9, 16));
 }
 
-/// A peer, frames in pieces, a connection, kept bytes and answers.
+/// A session that uses all buffers: a peer, frames in pieces, a connection, a kept reply and answers.
 fn check_session<A: Abort>(rt: &A, adapter: &mut Adapter) -> Result<(), Fail> {
-    let peer = adapter.begin().ok().ok_or("a place is free")?;
+    let peer = adapter.begin().ok().ok_or("a slot is free")?;
     check_registered(rt, adapter, &peer);
     check_answered(rt, adapter, &peer, OPEN);
     check_same(rt, free(adapter), (8, 15));
@@ -92,9 +92,8 @@ fn check_session<A: Abort>(rt: &A, adapter: &mut Adapter) -> Result<(), Fail> {
     Ok(())
 }
 
-/// A session with all that needs room: a peer, frames in pieces, a connection, kept bytes and answers. `new` takes all
-/// memory, so this ends well whichever growth after the objects is refused, each in turn by
-/// `tests/memory`.
+/// `new` allocates all memory, so this passes whichever allocation after the objects is refused. `tests/memory`
+/// refuses each in turn.
 #[test]
 fn only_new_takes_memory(rt: HostRuntime) -> Result<(), Fail> {
     let objects = demo(rt.alloc())?;

@@ -1,5 +1,5 @@
-//! A client and an adapter back to back: sessions with each service of the objects, without a connection and on one.
-//! `tests/memory` counts the growths of one round and of a thousand.
+//! A client and an adapter back to back: sessions that use each service of the objects, with and without a
+//! connection. `tests/memory` counts the allocations of one round and of a thousand.
 
 use crate::client_memory::check_heard;
 use crate::same::check_same;
@@ -11,7 +11,7 @@ use std::test::Fail;
 use test_fixtures::adapter::{adapter_with_peer, feed};
 use test_fixtures::client::made;
 
-/// Each service of the objects, and its reply.
+/// A request for each service of the objects, and its reply.
 const SERVICES: &[(&[u8], &[u8])] = &[
     // Get_Attributes_All and Get_Attribute_List of Identity
     (
@@ -47,7 +47,7 @@ const SERVICES: &[(&[u8], &[u8])] = &[
     (b"\x33\x02\x20\x64\x24\x01", b"\xb3\0\0\0\x64\0\0\0"),
 ];
 
-/// What a client does.
+/// What the client sends.
 #[derive(Clone, Copy)]
 enum Sent<'a> {
     Registers,
@@ -58,7 +58,7 @@ enum Sent<'a> {
     Closes,
 }
 
-/// Its frame.
+/// The frame.
 fn lent<'a>(client: &'a mut Client, sent: Sent<'_>) -> Option<&'a [u8]> {
     match sent {
         Sent::Registers => client.register().ok(),
@@ -70,12 +70,12 @@ fn lent<'a>(client: &'a mut Client, sent: Sent<'_>) -> Option<&'a [u8]> {
     }
 }
 
-/// What the adapter answers to a frame of the client.
+/// The adapter's answer to a frame of the client.
 fn pass<'a>(adapter: &'a mut Adapter, peer: &Peer, frame: &[u8]) -> Option<&'a [u8]> {
     feed(adapter, peer, frame).answer
 }
 
-/// What the adapter answers to what the client sends.
+/// The client sends this; the result is the adapter's answer.
 fn answered<'a>(
     adapter: &'a mut Adapter,
     peer: &Peer,
@@ -86,7 +86,7 @@ fn answered<'a>(
     Ok(pass(adapter, peer, frame).ok_or("an answer")?)
 }
 
-/// A client and the adapter that it is a peer of.
+/// A client, and the adapter of which it is a peer.
 #[derive(Drop)]
 struct Ends {
     adapter: Adapter,
@@ -94,7 +94,7 @@ struct Ends {
     client: Client,
 }
 
-/// The client sends this, and hears that of the adapter's answer.
+/// The client sends this, and receives the adapter's answer, which must be `heard`.
 fn exchange<A: Abort>(
     rt: &A,
     ends: &mut Ends,
@@ -106,13 +106,13 @@ fn exchange<A: Abort>(
     Ok(())
 }
 
-/// The client sends this, and what is answered is lost.
+/// The client sends this, and the answer is lost.
 fn loses(ends: &mut Ends, sent: Sent<'_>) -> Result<(), Fail> {
     let _ = answered(&mut ends.adapter, &ends.peer, &mut ends.client, sent)?;
     Ok(())
 }
 
-/// A request on the connection is answered, or the answer is lost and the request sent again.
+/// Sends a request on the connection. If `lost` is set, the answer is lost and the request is sent again.
 fn submits<A: Abort>(
     rt: &A,
     ends: &mut Ends,
@@ -129,7 +129,7 @@ fn submits<A: Abort>(
     }
 }
 
-/// The session ends, and the adapter closes.
+/// Ends the session, and asserts that the adapter closes.
 fn check_left<A: Abort>(rt: &A, ends: &mut Ends) -> Result<(), Fail> {
     let left = ends.client.unregister().ok().ok_or("a frame")?;
     let fed = feed(&mut ends.adapter, &ends.peer, left);
@@ -137,7 +137,7 @@ fn check_left<A: Abort>(rt: &A, ends: &mut Ends) -> Result<(), Fail> {
     Ok(())
 }
 
-/// The ends, of which nothing was sent.
+/// Both ends before the first frame.
 fn both_ends(alloc: Global) -> Result<Ends, Fail> {
     let (adapter, peer) = adapter_with_peer(alloc)?;
     let client = made(alloc)?;
@@ -148,7 +148,7 @@ fn both_ends(alloc: Global) -> Result<Ends, Fail> {
     })
 }
 
-/// Each service is asked for without a connection.
+/// Requests each service without a connection.
 fn ask_each<A: Abort>(rt: &A, ends: &mut Ends) -> Result<(), Fail> {
     for (request, reply) in SERVICES {
         exchange(rt, ends, Sent::Asks(request), Heard::Reply(reply))?;
@@ -156,7 +156,7 @@ fn ask_each<A: Abort>(rt: &A, ends: &mut Ends) -> Result<(), Fail> {
     Ok(())
 }
 
-/// The same in so many rounds.
+/// The same, `rounds` times.
 fn ask_all<A: Abort>(rt: &A, ends: &mut Ends, rounds: usize) -> Result<(), Fail> {
     for _ in 0..rounds {
         ask_each(rt, ends)?;
@@ -164,7 +164,7 @@ fn ask_all<A: Abort>(rt: &A, ends: &mut Ends, rounds: usize) -> Result<(), Fail>
     Ok(())
 }
 
-/// Each service is asked for on the connection, and the answer to each is lost or is not.
+/// Requests each service on the connection. If `lost` is set, each first answer is lost.
 fn submit_each<A: Abort>(rt: &A, ends: &mut Ends, lost: bool) -> Result<(), Fail> {
     for (request, reply) in SERVICES {
         submits(rt, ends, request, reply, lost)?;
@@ -172,7 +172,7 @@ fn submit_each<A: Abort>(rt: &A, ends: &mut Ends, lost: bool) -> Result<(), Fail
     Ok(())
 }
 
-/// The same in so many rounds, with lost answers in each other one.
+/// The same, `rounds` times, with lost answers in every other round.
 fn submit_all<A: Abort>(rt: &A, ends: &mut Ends, rounds: usize) -> Result<(), Fail> {
     for round in 0..rounds {
         submit_each(rt, ends, round % 2 == 1)?;
@@ -180,7 +180,7 @@ fn submit_all<A: Abort>(rt: &A, ends: &mut Ends, rounds: usize) -> Result<(), Fa
     Ok(())
 }
 
-/// A session in which each service is asked for so often without a connection, and then on one, also with a lost answer.
+/// A session that requests each service without a connection, and then on one, with and without lost answers.
 fn session<A: Abort>(rt: &A, ends: &mut Ends, rounds: usize) -> Result<(), Fail> {
     exchange(rt, ends, Sent::Registers, Heard::Registered)?;
     ask_all(rt, ends, rounds)?;
@@ -190,14 +190,14 @@ fn session<A: Abort>(rt: &A, ends: &mut Ends, rounds: usize) -> Result<(), Fail>
     check_left(rt, ends)
 }
 
-/// After a session the connection's place is free.
+/// Asserts that the slot of the connection is free after a session.
 fn check_session<A: Abort>(rt: &A, ends: &mut Ends, rounds: usize) -> Result<(), Fail> {
     session(rt, ends, rounds)?;
     check_same(rt, ends.adapter.free(), (8, 16));
     Ok(())
 }
 
-/// The same of new ends.
+/// The same with new ends.
 fn check_rounds<A: Abort>(rt: &A, alloc: Global, rounds: usize) -> Result<(), Fail> {
     let mut ends = both_ends(alloc)?;
     check_session(rt, &mut ends, rounds)
@@ -208,7 +208,7 @@ fn one_round(rt: HostRuntime) -> Result<(), Fail> {
     check_rounds(&rt, rt.alloc(), 1)
 }
 
-/// No request takes memory: this has as many growths as one round.
+/// No request allocates memory: this has as many allocations as one round.
 #[test]
 fn a_thousand_rounds(rt: HostRuntime) -> Result<(), Fail> {
     check_rounds(&rt, rt.alloc(), 1_000)

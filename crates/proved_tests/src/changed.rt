@@ -1,4 +1,4 @@
-//! Replies that are changed in one byte, at a client that awaits them.
+//! Replies with one byte changed, at a client that awaits them.
 
 use crate::same::check_same;
 use enip_client::{Client, Heard, Hearing};
@@ -9,13 +9,13 @@ use test_fixtures::client::{
     ADDED, CLOSED, GOT, OPENED, REGISTERED, StartState, client_at, hear, with_bytes,
 };
 
-/// Of a changed reply some is taken. Whether it is ignored.
+/// Asserts that some of a changed reply is taken. Returns whether it is ignored.
 fn is_ignored<A: Abort>(rt: &A, hearing: Hearing<'_>, length: usize) -> bool {
     check_same(rt, 0 < hearing.taken && hearing.taken <= length, true);
     hearing.heard == Heard::Nothing
 }
 
-/// A changed reply: the call returns, and what lasts lasts. Whether a text that is ignored leaves the client as it was.
+/// Feeds a changed reply: the call returns, and a fault lasts. Returns whether the client ignored the reply.
 fn stays<A: Abort>(rt: &A, client: &mut Client, changed: &[u8]) -> bool {
     let ignored = is_ignored(rt, hear(client, changed), changed.len());
     let Some(fault) = client.fault() else {
@@ -25,7 +25,7 @@ fn stays<A: Abort>(rt: &A, client: &mut Client, changed: &[u8]) -> bool {
     false
 }
 
-/// The same of a reply with one byte changed.
+/// The same, with this byte of the reply changed.
 fn stays_changed<A: Abort>(
     rt: &A,
     alloc: Global,
@@ -37,8 +37,8 @@ fn stays_changed<A: Abort>(
     Ok(stays(rt, client, &changed))
 }
 
-/// A reply with one byte changed. A text that is ignored leaves the client as it was, which then hears the next; one
-/// whose length is changed may not be a whole frame.
+/// Feeds a reply with one byte changed. If the client ignores it, its state is unchanged, and it gets the next reply.
+/// A new client replaces it otherwise, and if the length is changed, since the bytes may not be a whole frame then.
 fn check_changed<A: Abort>(
     rt: &A,
     alloc: Global,
@@ -54,7 +54,7 @@ fn check_changed<A: Abort>(
     Ok(())
 }
 
-/// Each byte of a reply replaced by each of the 255 others. The answer is how many texts there were.
+/// Replaces each byte of a reply by each of the 255 others. Returns the number of changed replies.
 fn check_each<A: Abort>(
     rt: &A,
     alloc: Global,
@@ -73,7 +73,7 @@ fn check_each<A: Abort>(
     Ok(texts)
 }
 
-/// The same at a client that stands so.
+/// The same at a client in this state.
 fn changed_bytes<A: Abort>(
     rt: &A,
     alloc: Global,
@@ -84,7 +84,7 @@ fn changed_bytes<A: Abort>(
     check_each(rt, alloc, &mut client, start, reply)
 }
 
-/// There are so many of these texts.
+/// Asserts the number of changed replies.
 fn check_changes<A: Abort>(
     rt: &A,
     alloc: Global,

@@ -1,4 +1,4 @@
-//! A client's session with all that needs room, where growths of memory are refused.
+//! Sessions of a client in which an allocation is refused.
 
 use crate::same::check_same;
 use enip_client::{Client, ClientFault, Heard};
@@ -10,7 +10,7 @@ use test_fixtures::client::{
     UNREGISTER, WANTS, hear, made,
 };
 
-/// A client, made again where a growth of it is refused.
+/// A client. If an allocation is refused, it is made again.
 fn made_again<A: Abort>(rt: &A, alloc: Global) -> Result<Client, Fail> {
     match Client::new(alloc, &WANTS) {
         Ok(client) => Ok(client),
@@ -21,12 +21,12 @@ fn made_again<A: Abort>(rt: &A, alloc: Global) -> Result<Client, Fail> {
     }
 }
 
-/// What a client hears of a piece.
+/// Asserts what a client hears in a piece.
 pub(crate) fn check_heard<A: Abort>(rt: &A, client: &mut Client, piece: &[u8], heard: Heard<'_>) {
     check_same(rt, hear(client, piece).heard, heard);
 }
 
-/// A session and its connection are opened; the reply that opens it comes in two pieces.
+/// Registers a session and opens a connection. The reply to the open comes in two pieces.
 fn check_opening<A: Abort>(rt: &A, client: &mut Client) {
     check_same(rt, client.register(), Ok(REGISTER));
     check_heard(rt, client, REGISTERED, Heard::Registered);
@@ -35,7 +35,7 @@ fn check_opening<A: Abort>(rt: &A, client: &mut Client) {
     check_heard(rt, client, &OPENED[30..], Heard::Opened);
 }
 
-/// A request is sent twice, and all is closed.
+/// Sends a request twice, and then closes the connection and the session.
 fn check_request<A: Abort>(rt: &A, client: &mut Client) {
     check_same(rt, client.submit(ADD), Ok(ADD_SENT));
     check_same(rt, client.resend(), Some(ADD_SENT));
@@ -45,7 +45,7 @@ fn check_request<A: Abort>(rt: &A, client: &mut Client) {
     check_same(rt, client.unregister(), Ok(UNREGISTER));
 }
 
-/// `new` takes all memory, so this ends well whichever growth is refused, each in turn by `tests/memory`.
+/// `new` allocates all memory, so this passes whichever allocation is refused. `tests/memory` refuses each in turn.
 #[test]
 fn only_new_takes_memory(rt: HostRuntime) -> Result<(), Fail> {
     let mut client = made_again(&rt, rt.alloc())?;

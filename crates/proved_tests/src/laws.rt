@@ -1,5 +1,5 @@
-//! The laws of a class 3 connection, of the Connection Manager and of the bench, at the objects; and a router that keeps
-//! no more than the one law of the trait, at a target.
+//! The laws of a class 3 connection, of the Connection Manager and of the bench hold for the objects of a device.
+//! Also a target with a router that keeps only the law of the trait.
 
 ghost use Rattle.std.specs.Prelude.{ℕ, List, ◌≡◌, [], ◌∷◌, slice_index};
 
@@ -49,7 +49,7 @@ fn the_laws_of_the_bench() {
     enip_bench::laws::ends_just_opened();
 }
 
-/// A router whose replies have no head: one byte, the first of the request before.
+/// A router whose reply is one byte: the first byte of the previous request.
 #[derive(Drop)]
 struct Last {
     byte: u8,
@@ -69,13 +69,13 @@ impl Router for Last {
     ghost too_large = { λ s max_size request h e. absurd (cc) };
 }
 
-/// The one byte of the reply that a target keeps.
+/// Asserts the one byte of the reply that a target keeps.
 fn check_kept<A: Abort>(rt: &A, target: &Target, reply: u8) {
     let kept = target.kept().map(|kept| kept.reply);
     check_same(rt, kept, Some([reply].as_slice()));
 }
 
-/// Items, what the target does with each, the byte of the reply that it keeps then, and the router's byte.
+/// Items; what the target does with each; then the byte of its kept reply, and the router's byte.
 const ITEMS: &[(&[u8], Received, u8, u8)] = &[
     (&[1, 0, 5, 0], Received::Executed, 9, 5),
     (&[1, 0, 7, 0], Received::Repeated, 9, 5),
@@ -91,7 +91,7 @@ fn check_items<A: Abort>(rt: &A, target: &mut Target, router: &mut Last) {
     }
 }
 
-/// What a target executes, repeats and drops of such a router's requests, and what it keeps.
+/// What a target with such a router executes, repeats and drops, and which reply it keeps.
 #[test]
 fn a_target_over_a_router_without_form(rt: HostRuntime) {
     let mut router = Last { byte: 9 };

@@ -1,6 +1,8 @@
-//! Tests that are proved before they run: that the laws hold at the objects; sessions in which `tests/memory` refuses each
-//! growth, or counts them, which needs the built program; and runs that are too long for a build with checks. The others
-//! are in `unproved_tests`.
+//! Tests that are proved before they run. The other tests of the libraries are in `unproved_tests`.
+//!
+//! - Laws hold for the objects of a device.
+//! - Sessions in which `tests/memory` refuses or counts each allocation. It needs the built program.
+//! - Runs that are too long for a build with checks.
 #![tactic(auto)]
 
 #[cfg(test)]

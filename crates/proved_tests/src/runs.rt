@@ -7,7 +7,7 @@ use std::process::Abort;
 use std::test::Fail;
 use test_fixtures::bench::{ADD_1, EXACTLY_ONCE, REPLY_OF_12, Row, all_done, bench, counter, look};
 
-/// Adds the events of these rows to a list.
+/// Appends the events of these rows to a list.
 fn add_events(
     alloc: Global,
     events: &mut Vec<Event>,
@@ -19,14 +19,14 @@ fn add_events(
     Ok(())
 }
 
-/// Does the events of these rows in one call.
+/// Runs the events of these rows in one call.
 fn run_rows(alloc: Global, bench: &mut Bench, rows: &[(Row, Step<'_>)]) -> Result<(), Fail> {
     let mut events = Vec::new(alloc);
     add_events(alloc, &mut events, rows)?;
     run(bench, events.as_slice())
 }
 
-/// Does these events in one call.
+/// Runs these events in one call.
 fn run(bench: &mut Bench, events: &[Event]) -> Result<(), Fail> {
     match all_done(bench, events) {
         Ok(()) => Ok(()),
@@ -34,7 +34,7 @@ fn run(bench: &mut Bench, events: &[Event]) -> Result<(), Fail> {
     }
 }
 
-/// What has to be seen after a run.
+/// The expected state after a run.
 struct Wanted<'a> {
     value: u32,
     additions: u32,
@@ -44,14 +44,14 @@ struct Wanted<'a> {
     last_reply: &'a [u8],
 }
 
-/// The counter's value and its additions.
+/// Asserts the counter's value and its number of additions.
 fn check_counter<A: Abort>(rt: &A, bench: &Bench, wanted: &Wanted<'_>) -> Result<(), Fail> {
     check_same(rt, counter(bench, 1)?, wanted.value);
     check_same(rt, counter(bench, 3)?, wanted.additions);
     Ok(())
 }
 
-/// The reply that was accepted last.
+/// Asserts the last accepted reply.
 fn check_last<A: Abort>(rt: &A, last: &Accepted, wanted: &Wanted<'_>) {
     check_same(rt, last.number, wanted.last_number);
     check_same(rt, last.reply.as_slice(), wanted.last_reply);
@@ -67,7 +67,7 @@ fn check_seen<A: Abort>(rt: &A, bench: &Bench, wanted: &Wanted<'_>) -> Result<()
     Ok(())
 }
 
-/// After the rows of exactly once: 5 and 7 were added once each.
+/// After `EXACTLY_ONCE`: 5 and 7 were added once each.
 const ONCE: Wanted<'static> = Wanted {
     value: 12,
     additions: 2,
@@ -77,7 +77,7 @@ const ONCE: Wanted<'static> = Wanted {
     last_reply: REPLY_OF_12,
 };
 
-/// A request that is sent twice: both reach the adapter, and both replies the client.
+/// Sends a request twice. Both copies reach the adapter, and both replies reach the client.
 fn add_twice(alloc: Global, bench: &mut Bench, number: usize) -> Result<(), Fail> {
     let submit = Row::Submit(ADD_1).event(alloc)?;
     let first = number.saturating_mul(2);
@@ -93,7 +93,7 @@ fn add_twice(alloc: Global, bench: &mut Bench, number: usize) -> Result<(), Fail
     run(bench, &events)
 }
 
-/// So many requests; the reply of each is accepted once.
+/// Sends `count` requests. The reply to each is accepted once.
 fn add_many(alloc: Global, bench: &mut Bench, count: usize) -> Result<(), Fail> {
     for number in 0..count {
         add_twice(alloc, bench, number)?;
@@ -114,14 +114,14 @@ const MANY: Wanted<'static> = Wanted {
     last_reply: b"\xb2\0\0\0\x70\x11\x01\0",
 };
 
-/// What is done at a bench.
+/// A run at a bench.
 #[derive(Clone, Copy)]
 enum Work {
     ExactlyOnce,
     ManyRequests,
 }
 
-/// Does it, and sees what came of it.
+/// Runs it and checks the result.
 fn check_run<A: Abort>(rt: &A, alloc: Global, bench: &mut Bench, work: Work) -> Result<(), Fail> {
     match work {
         Work::ExactlyOnce => {
@@ -135,7 +135,7 @@ fn check_run<A: Abort>(rt: &A, alloc: Global, bench: &mut Bench, work: Work) -> 
     }
 }
 
-/// The same at a new bench, whose counter has this limit.
+/// The same at a new bench, with this limit of the counter.
 fn check_bench<A: Abort>(rt: &A, alloc: Global, limit: u32, work: Work) -> Result<(), Fail> {
     let mut bench = bench(alloc, limit)?;
     check_run(rt, alloc, &mut bench, work)
@@ -147,7 +147,7 @@ fn exactly_once_in_one_run(rt: HostRuntime) -> Result<(), Fail> {
     check_bench(&rt, rt.alloc(), 100, Work::ExactlyOnce)
 }
 
-/// Past a wrap of the count: each request is sent twice, executed once, and its reply accepted once.
+/// The count wraps: each request is sent twice and executed once, and its reply is accepted once.
 #[test]
 fn seventy_thousand_requests(rt: HostRuntime) -> Result<(), Fail> {
     check_bench(&rt, rt.alloc(), 1_000_000, Work::ManyRequests)

@@ -1,7 +1,6 @@
-//! The objects of the demo configuration at an adapter, frames for it, and calls of it.
+//! An adapter with the demo configuration, frames for it, and calls of it.
 //!
-//! The calls stand each in a function of its own, so that the proof of a list of them carries no state from one to the
-//! next.
+//! Each call is in a function of its own, so the proof of a list of calls carries no state from one to the next.
 
 use cip_objects::{AssemblyConfig, Config, CounterConfig, Objects};
 use enip_adapter::{Adapter, Fed, LONGEST_READ, Limits, Listen, Peer, ServeFault, Served, serve};
@@ -9,33 +8,33 @@ use enip_wire::{MemorySink, MemorySource, Sink, Source};
 use std::alloc::Global;
 use std::test::Fail;
 
-/// A RegisterSession, and its answer to the first peer.
+/// A RegisterSession, and the answer to the first peer.
 pub const REGISTER: &[u8] =
     b"\x65\0\x04\0\0\0\0\0\0\0\0\0\x01\x02\x03\x04\x05\x06\x07\x08\0\0\0\0\x01\0\0\0";
 
 pub const REGISTERED: &[u8] =
     b"\x65\0\x04\0\x01\0\0\0\0\0\0\0\x01\x02\x03\x04\x05\x06\x07\x08\0\0\0\0\x01\0\0\0";
 
-/// A Forward_Open in session 1: T->O ID 0x11223344, both RPIs 2,000,000 microseconds, multiplier 0, so that the
-/// connection ends 8,000,000 microseconds after the last item.
+/// A Forward_Open in session 1: T->O ID 0x11223344, both RPIs 2,000,000 microseconds, multiplier 0. So the connection
+/// times out 8,000,000 microseconds after the last item.
 pub const OPEN: &[u8] = b"\x6f\0\x3e\0\x01\0\0\0\0\0\0\0\x01\x02\x03\x04\x05\x06\x07\x08\0\0\0\0\
     \0\0\0\0\0\0\x02\0\0\0\0\0\xb2\0\x2e\0\
     \x54\x02\x20\x06\x24\x01\x0a\x0e\0\0\0\0\x44\x33\x22\x11\x01\0\x42\0\x78\x56\x34\x12\0\0\0\0\
     \x80\x84\x1e\0\xf4\x43\x80\x84\x1e\0\xf4\x43\xa3\x02\x20\x02\x24\x01";
 
-/// Count 1 with the counter's Add of 5 on connection 1, and its answer.
+/// The counter's Add of 5 with count 1 on connection 1, and the answer.
 pub const ADD: &[u8] = b"\x70\0\x20\0\x01\0\0\0\0\0\0\0\x01\x02\x03\x04\x05\x06\x07\x08\0\0\0\0\
     \0\0\0\0\0\0\x02\0\xa1\0\x04\0\x01\0\0\0\xb1\0\x0c\0\x01\0\x32\x02\x20\x64\x24\x01\x05\0\0\0";
 
 pub const ADDED: &[u8] = b"\x70\0\x1e\0\x01\0\0\0\0\0\0\0\x01\x02\x03\x04\x05\x06\x07\x08\0\0\0\0\
     \0\0\0\0\0\0\x02\0\xa1\0\x04\0\x44\x33\x22\x11\xb1\0\x0a\0\x01\0\xb2\0\0\0\x05\0\0\0";
 
-/// The header of a NOP whose length is 65,512, and its answer.
+/// The header of a NOP whose length is 65,512, and the answer.
 pub const LONG: &[u8] = b"\0\0\xe8\xff\0\0\0\0\0\0\0\0\x01\x02\x03\x04\x05\x06\x07\x08\0\0\0\0";
 
 pub const REFUSED: &[u8] = b"\0\0\0\0\0\0\0\0\x65\0\0\0\x01\x02\x03\x04\x05\x06\x07\x08\0\0\0\0";
 
-/// Where the adapters of these tests listen, and what they have room for.
+/// The address and the limits of the adapters.
 pub const LISTEN: Listen = Listen {
     address: [127, 0, 0, 1],
     port: 44_818,
@@ -91,24 +90,24 @@ pub fn demo(alloc: Global) -> Result<Objects, Fail> {
     )
 }
 
-/// An adapter over the objects of the demo configuration, whose first session is 1.
+/// An adapter with the demo configuration. Its first session is 1.
 pub fn new_adapter(alloc: Global) -> Result<Adapter, Fail> {
     Ok(Adapter::new(alloc, demo(alloc)?, LISTEN, LIMITS)?)
 }
 
-/// The same, and its first peer.
+/// The same with its first peer.
 pub fn adapter_with_peer(alloc: Global) -> Result<(Adapter, Peer), Fail> {
     let mut adapter = new_adapter(alloc)?;
-    let peer = adapter.begin().ok().ok_or("a place is free")?;
+    let peer = adapter.begin().ok().ok_or("a slot is free")?;
     Ok((adapter, peer))
 }
 
-/// Feeds a piece at moment 0. Its contract says nothing, so that whoever calls it carries no state on.
+/// Feeds a piece at time 0.
 pub fn feed<'a>(adapter: &'a mut Adapter, peer: &Peer, piece: &[u8]) -> Fed<'a> {
     adapter.feed(0, peer, piece)
 }
 
-/// The same adapter and peer, and connection 1 is opened at moment 0.
+/// The same adapter and peer, with connection 1 opened at time 0.
 pub fn demo_with_connection(alloc: Global) -> Result<(Adapter, Peer), Fail> {
     let (mut adapter, peer) = adapter_with_peer(alloc)?;
     let _ = feed(&mut adapter, &peer, REGISTER);
@@ -116,7 +115,7 @@ pub fn demo_with_connection(alloc: Global) -> Result<(Adapter, Peer), Fail> {
     Ok((adapter, peer))
 }
 
-/// The counter's value.
+/// The lowest byte of the counter's value.
 pub fn value(adapter: &Adapter) -> Result<u8, Fail> {
     let value = adapter
         .objects()
@@ -125,7 +124,7 @@ pub fn value(adapter: &Adapter) -> Result<u8, Fail> {
     Ok(*value.as_slice().first().ok_or("it has bytes")?)
 }
 
-/// Serves a peer once. Whether it came to this, and all that was written so far is this.
+/// Serves a peer once. Returns whether the result is `expected`, and all that was written so far is `written`.
 pub fn serves(
     adapter: &mut Adapter,
     peer: &Peer,
@@ -140,12 +139,12 @@ pub fn serves(
     {
         return false;
     }
-    // What the buffer holds before counts for nothing.
+    // the previous contents of the buffer do not matter
     let mut buffer = [0xee; LONGEST_READ];
     serve(adapter, peer, reader, writer, &mut buffer) == expected && writer.written() == written
 }
 
-/// How many places are free, of peers and of connections.
+/// How many slots are free, for peers and for connections.
 pub fn free(adapter: &Adapter) -> (u16, u16) {
     adapter.free()
 }

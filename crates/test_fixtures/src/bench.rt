@@ -1,4 +1,4 @@
-//! A bench of the demo configuration, and lists of events for it. (Volume 1, transport class 3.)
+//! A bench with the demo configuration, and lists of events for it. (Volume 1, transport class 3.)
 
 use cip_class3::Refused;
 use cip_objects::{AssemblyConfig, Config, CounterConfig, Objects};
@@ -8,7 +8,7 @@ use enip_client::{Client, Wants};
 use std::alloc::{AllocError, Global};
 use std::test::Fail;
 
-/// Adds 5 or 7 to the counter, and what is replied where it stood at 0 or 5.
+/// Requests that add 5 and 7 to the counter, and their replies if its value was 0 and 5.
 pub const ADD_5: &[u8] = b"\x32\x02\x20\x64\x24\x01\x05\0\0\0";
 
 pub const ADD_7: &[u8] = b"\x32\x02\x20\x64\x24\x01\x07\0\0\0";
@@ -17,10 +17,10 @@ pub const REPLY_OF_5: &[u8] = b"\xb2\0\0\0\x05\0\0\0";
 
 pub const REPLY_OF_12: &[u8] = b"\xb2\0\0\0\x0c\0\0\0";
 
-/// Adds 1.
+/// A request that adds 1.
 pub const ADD_1: &[u8] = b"\x32\x02\x20\x64\x24\x01\x01\0\0\0";
 
-/// Clears the counter.
+/// A request that clears the counter.
 pub const CLEAR: &[u8] = b"\x33\x02\x20\x64\x24\x01";
 
 pub const WANTS: Wants = Wants {
@@ -47,7 +47,7 @@ pub const LIMITS: Limits = Limits {
     first_id: 1,
 };
 
-/// The demo configuration, whose counter has this limit.
+/// The demo configuration, with this limit of the counter.
 pub fn config(alloc: Global, limit: u32) -> Result<Config, Fail> {
     let mut assemblies = Vec::new(alloc);
     assemblies.push(AssemblyConfig {
@@ -70,7 +70,7 @@ pub fn config(alloc: Global, limit: u32) -> Result<Config, Fail> {
     })
 }
 
-/// Its objects.
+/// The objects of that configuration.
 pub fn demo(alloc: Global, limit: u32) -> Result<Objects, Fail> {
     Ok(
         Objects::new(alloc, &config(alloc, limit)?)
@@ -79,7 +79,7 @@ pub fn demo(alloc: Global, limit: u32) -> Result<Objects, Fail> {
     )
 }
 
-/// A bench of the demo configuration, whose counter has this limit.
+/// A bench with that configuration.
 pub fn bench(alloc: Global, limit: u32) -> Result<Bench, Fail> {
     let adapter = Adapter::new(alloc, demo(alloc, limit)?, LISTEN, LIMITS)?;
     let Ok(client) = Client::new(alloc, &WANTS) else {
@@ -92,22 +92,22 @@ pub fn bench(alloc: Global, limit: u32) -> Result<Bench, Fail> {
     )
 }
 
-/// What is seen. Its contract says nothing, nor do those of the next two, so that whoever calls them carries no state on.
+/// What is seen. This and the next two functions have no contract, so the proof of a test carries no state on.
 pub fn look(bench: &Bench) -> Seen<'_> {
     bench.seen()
 }
 
-/// Does an event.
+/// Runs an event.
 pub fn done<'a>(bench: &'a mut Bench, event: &Event) -> Result<Step<'a>, AllocError> {
     bench.step(event)
 }
 
-/// Does these events in one call.
+/// Runs these events in one call.
 pub fn all_done(bench: &mut Bench, events: &[Event]) -> Result<(), (usize, AllocError)> {
     bench.run(events)
 }
 
-/// An attribute of the counter: 1 its value, 3 its additions.
+/// An attribute of the counter: 1 is its value, 3 its number of additions.
 pub fn counter(bench: &Bench, attribute: u16) -> Result<u32, Fail> {
     let bytes = look(bench)
         .objects
@@ -117,7 +117,7 @@ pub fn counter(bench: &Bench, attribute: u16) -> Result<u32, Fail> {
     Ok(u32::from_le_bytes(bytes))
 }
 
-/// An event, whose request is lent.
+/// An event with a borrowed request.
 #[derive(Clone, Copy)]
 pub enum Row {
     Submit(&'static [u8]),
@@ -143,18 +143,18 @@ impl Row {
     }
 }
 
-/// Does the events of these rows, and compares what is told of each.
+/// Runs the events of these rows, and compares each step.
 pub fn compare(alloc: Global, bench: &mut Bench, rows: &[(Row, Step<'_>)]) -> Result<(), Fail> {
     for (row, step) in rows {
         let event = row.event(alloc)?;
         if done(bench, &event)? != *step {
-            return Err(Fail::from("another step is told"));
+            return Err(Fail::from("another step is reported"));
         }
     }
     Ok(())
 }
 
-/// A reply that is lost, a request that is sent again, and one more.
+/// A request that arrives twice, and a second request. A late reply is ignored.
 pub const EXACTLY_ONCE: [(Row, Step); 9] = [
     (Row::Submit(ADD_5), Step::Sent(0, 0)),
     (Row::Reach(0), Step::Reached(Some(0))),

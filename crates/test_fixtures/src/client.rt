@@ -1,10 +1,10 @@
-//! Frames that a client sends and hears, and clients that stand somewhere between them. (Volume 2, encapsulation.)
+//! Frames that a client sends and receives, and clients in each state. (Volume 2, encapsulation.)
 
 use enip_client::{Client, Hearing, Wants};
 use std::alloc::Global;
 use std::test::Fail;
 
-/// What the programs ask of a connection.
+/// The connection that the program opens.
 pub const WANTS: Wants = Wants {
     originator_vendor: 66,
     originator_serial: 305_419_896,
@@ -17,12 +17,12 @@ pub const WANTS: Wants = Wants {
     first_count: 1,
 };
 
-/// The first frame, context 1, and its reply: session 1.
+/// A RegisterSession with context 1, and its reply: session 1.
 pub const REGISTER: &[u8] = b"\x65\0\x04\0\0\0\0\0\0\0\0\0\x01\0\0\0\0\0\0\0\0\0\0\0\x01\0\0\0";
 
 pub const REGISTERED: &[u8] = b"\x65\0\x04\0\x01\0\0\0\0\0\0\0\x01\0\0\0\0\0\0\0\0\0\0\0\x01\0\0\0";
 
-/// The Forward_Open of session 1, context 2, and its reply: O->T ID 1.
+/// A Forward_Open in session 1 with context 2, and its reply: O->T ID 1.
 pub const OPEN: &[u8] = b"\x6f\0\x3e\0\x01\0\0\0\0\0\0\0\x02\0\0\0\0\0\0\0\0\0\0\0\
     \0\0\0\0\0\0\x02\0\0\0\0\0\xb2\0\x2e\0\
     \x54\x02\x20\x06\x24\x01\x0a\x0e\0\0\0\0\x44\x33\x22\x11\x01\0\x42\0\x78\x56\x34\x12\0\0\0\0\
@@ -32,7 +32,7 @@ pub const OPENED: &[u8] = b"\x6f\0\x2e\0\x01\0\0\0\0\0\0\0\x02\0\0\0\0\0\0\0\0\0
     \0\0\0\0\0\0\x02\0\0\0\0\0\xb2\0\x1e\0\xd4\0\0\0\x01\0\0\0\x44\x33\x22\x11\
     \x01\0\x42\0\x78\x56\x34\x12\x80\x84\x1e\0\x80\x84\x1e\0\0\0";
 
-/// The counter's Add of 5, its frame on connection 1 with count 1, and the reply.
+/// The counter's Add of 5, its frame on connection 1 with count 1, and the frame of the reply.
 pub const ADD: &[u8] = b"\x32\x02\x20\x64\x24\x01\x05\0\0\0";
 
 pub const ADD_SENT: &[u8] = b"\x70\0\x20\0\x01\0\0\0\0\0\0\0\0\0\0\0\0\0\0\0\0\0\0\0\
@@ -41,7 +41,7 @@ pub const ADD_SENT: &[u8] = b"\x70\0\x20\0\x01\0\0\0\0\0\0\0\0\0\0\0\0\0\0\0\0\0
 pub const ADDED: &[u8] = b"\x70\0\x1e\0\x01\0\0\0\0\0\0\0\0\0\0\0\0\0\0\0\0\0\0\0\
     \0\0\0\0\0\0\x02\0\xa1\0\x04\0\x44\x33\x22\x11\xb1\0\x0a\0\x01\0\xb2\0\0\0\x05\0\0\0";
 
-/// The Forward_Close of session 1, context 3, and its reply.
+/// A Forward_Close in session 1 with context 3, and its reply.
 pub const CLOSE: &[u8] = b"\x6f\0\x26\0\x01\0\0\0\0\0\0\0\x03\0\0\0\0\0\0\0\0\0\0\0\
     \0\0\0\0\0\0\x02\0\0\0\0\0\xb2\0\x16\0\
     \x4e\x02\x20\x06\x24\x01\x0a\x0e\x01\0\x42\0\x78\x56\x34\x12\x02\0\x20\x02\x24\x01";
@@ -49,7 +49,7 @@ pub const CLOSE: &[u8] = b"\x6f\0\x26\0\x01\0\0\0\0\0\0\0\x03\0\0\0\0\0\0\0\0\0\
 pub const CLOSED: &[u8] = b"\x6f\0\x1e\0\x01\0\0\0\0\0\0\0\x03\0\0\0\0\0\0\0\0\0\0\0\
     \0\0\0\0\0\0\x02\0\0\0\0\0\xb2\0\x0e\0\xce\0\0\0\x01\0\x42\0\x78\x56\x34\x12\0\0";
 
-/// The vendor's get, its frame in session 1 with context 2, and the reply.
+/// A request for the vendor, its frame in session 1 with context 2, and the frame of the reply.
 pub const GET: &[u8] = b"\x0e\x03\x20\x01\x24\x01\x30\x01";
 
 pub const GET_SENT: &[u8] = b"\x6f\0\x18\0\x01\0\0\0\0\0\0\0\x02\0\0\0\0\0\0\0\0\0\0\0\
@@ -58,18 +58,18 @@ pub const GET_SENT: &[u8] = b"\x6f\0\x18\0\x01\0\0\0\0\0\0\0\x02\0\0\0\0\0\0\0\0
 pub const GOT: &[u8] = b"\x6f\0\x16\0\x01\0\0\0\0\0\0\0\x02\0\0\0\0\0\0\0\0\0\0\0\
     \0\0\0\0\0\0\x02\0\0\0\0\0\xb2\0\x06\0\x8e\0\0\0\x34\x12";
 
-/// The UnRegisterSession of session 1, which has no context.
+/// An UnRegisterSession in session 1, which has no context.
 pub const UNREGISTER: &[u8] = b"\x66\0\0\0\x01\0\0\0\0\0\0\0\0\0\0\0\0\0\0\0\0\0\0\0";
 
-/// The Add of 5 with count 2.
+/// The frame of the Add with count 2.
 pub const ADD_SENT_NEXT: &[u8] = b"\x70\0\x20\0\x01\0\0\0\0\0\0\0\0\0\0\0\0\0\0\0\0\0\0\0\
     \0\0\0\0\0\0\x02\0\xa1\0\x04\0\x01\0\0\0\xb1\0\x0c\0\x02\0\x32\x02\x20\x64\x24\x01\x05\0\0\0";
 
-/// The vendor's get with context 3.
+/// The frame of the request for the vendor with context 3.
 pub const GET_SENT_THIRD: &[u8] = b"\x6f\0\x18\0\x01\0\0\0\0\0\0\0\x03\0\0\0\0\0\0\0\0\0\0\0\
     \0\0\0\0\0\0\x02\0\0\0\0\0\xb2\0\x08\0\x0e\x03\x20\x01\x24\x01\x30\x01";
 
-/// What the requests are replied.
+/// The replies to the Add and to the request for the vendor.
 pub const REPLY_OF_5: &[u8] = b"\xb2\0\0\0\x05\0\0\0";
 
 pub const VENDOR: &[u8] = b"\x8e\0\0\0\x34\x12";
@@ -78,7 +78,7 @@ pub fn made(alloc: Global) -> Result<Client, Fail> {
     Ok(Client::new(alloc, &WANTS).ok().ok_or("the client is made")?)
 }
 
-/// A client whose session is 1.
+/// A client with session 1.
 pub fn registered(alloc: Global) -> Result<Client, Fail> {
     let mut client = made(alloc)?;
     let _ = client.register();
@@ -86,7 +86,7 @@ pub fn registered(alloc: Global) -> Result<Client, Fail> {
     Ok(client)
 }
 
-/// The same, with connection 1 open.
+/// The same with connection 1 open.
 pub fn opened(alloc: Global) -> Result<Client, Fail> {
     let mut client = registered(alloc)?;
     let _ = client.open();
@@ -94,12 +94,12 @@ pub fn opened(alloc: Global) -> Result<Client, Fail> {
     Ok(client)
 }
 
-/// Has a client hear a piece. Its contract says nothing, so that whoever calls it carries no state on.
+/// Feeds a piece to a client.
 pub fn hear<'a>(client: &'a mut Client, piece: &'a [u8]) -> Hearing<'a> {
     client.feed(piece)
 }
 
-/// The texts, one behind the other.
+/// The texts, joined.
 pub fn joined(alloc: Global, texts: &[&[u8]]) -> Result<Vec<u8>, Fail> {
     let mut bytes = Vec::new(alloc);
     for text in texts {
@@ -108,7 +108,7 @@ pub fn joined(alloc: Global, texts: &[&[u8]]) -> Result<Vec<u8>, Fail> {
     Ok(bytes)
 }
 
-/// The bytes with others at some places.
+/// The bytes, with some of them replaced.
 pub fn with_bytes(alloc: Global, bytes: &[u8], changes: &[(usize, u8)]) -> Result<Vec<u8>, Fail> {
     let mut changed = Vec::from_slice(alloc, bytes)?;
     for (place, byte) in changes {
@@ -119,7 +119,7 @@ pub fn with_bytes(alloc: Global, bytes: &[u8], changes: &[(usize, u8)]) -> Resul
     Ok(changed)
 }
 
-/// What a client has done: nothing, registered, or opened its connection. Or which reply it awaits.
+/// What a client has done, or which reply it awaits.
 #[derive(Clone, Copy, Debug)]
 pub enum StartState {
     New,
@@ -133,7 +133,7 @@ pub enum StartState {
     AwaitsItemAndEnd,
 }
 
-/// Asks for what is awaited.
+/// Sends the request whose reply this state awaits.
 fn asks(client: &mut Client, start: StartState) -> bool {
     match start {
         StartState::New | StartState::Registered | StartState::Opened => true,
@@ -146,7 +146,7 @@ fn asks(client: &mut Client, start: StartState) -> bool {
     }
 }
 
-/// A client that stands so.
+/// A client in this state.
 pub fn client_at(alloc: Global, start: StartState) -> Result<Client, Fail> {
     let mut client = match start {
         StartState::New | StartState::AwaitsSession => made(alloc)?,

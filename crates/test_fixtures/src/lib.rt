@@ -1,7 +1,7 @@
-//! What the tests of the adapter, the client and the bench begin with: frames, an adapter and a bench of the demo, and a
-//! client that stands somewhere between its frames.
+//! Fixtures for the tests of the adapter, the client and the bench: frames, an adapter and a bench with the demo
+//! configuration, and clients in each state.
 //!
-//! The contracts say nothing, so that whoever calls carries no state on.
+//! The functions that make calls have no contract, so the proof of a test carries no state from one call to the next.
 #![tactic(auto)]
 
 pub mod adapter;

@@ -1,4 +1,4 @@
-//! Tests of `enip_adapter`: what its device does, devices that fail, moments, and datagrams.
+//! Tests of `enip_adapter`: writes of the device, readers and writers that fail, deadlines, and datagrams.
 
 mod caller;
 mod deadline;

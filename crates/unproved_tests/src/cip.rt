@@ -1,5 +1,5 @@
-//! Tests of the crates `cip_bytes` to `cip_manager`: results and lengths that no command prints, steps of a search, and
-//! very long runs.
+//! Tests of the crates from `cip_bytes` to `cip_manager`: results and lengths that no command prints, steps of a
+//! search, and very long runs.
 
 mod bytes;
 mod class3_changed;

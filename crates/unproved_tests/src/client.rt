@@ -1,4 +1,4 @@
-//! Tests of `enip_client`: calls in any order, openings of each size, and devices that fail.
+//! Tests of `enip_client`: calls in any order, openings of each size, and readers and writers that fail.
 
 mod asking;
 mod caller;

@@ -1,4 +1,5 @@
-//! Tests of `enip_commands` and `enip_config` together: readers and writers that fail, and a client beside an adapter.
+//! Tests of `enip_commands`, `enip_replay` and `enip_config` together: readers and writers that fail, and a client next
+//! to an adapter.
 
 mod answering;
 mod asking;

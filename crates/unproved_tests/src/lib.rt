@@ -1,8 +1,8 @@
-//! Tests of the libraries: what the program `enip` can't show, as devices that fail, growths that are refused, steps of a
-//! search and very long runs. What it shows stands in `tests/rows`.
+//! Tests of the libraries for what the program `enip` cannot show: readers and writers that fail, steps of a search,
+//! and very long runs. What the program can show is tested by `tests/rows`.
 //!
-//! They are run with checks and not proved (`tests/tried`): a proof of a test says that it is safe and returns, which no
-//! promise stands on. Those that have to be proved are in `proved_tests`.
+//! They are run with checks and are not proved (`tests/tried`): a proof would only say that a test is safe and
+//! returns, and no promise depends on that. Tests that need a proof are in `proved_tests`.
 #![tactic(auto)]
 
 #[cfg(test)]

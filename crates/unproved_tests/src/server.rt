@@ -1,4 +1,4 @@
-//! Several peers at once, over wires that follow a script.
+//! Tests of `enip_server`: several peers at once, over scripted wires.
 
 mod caller;
 mod turns;

@@ -1,5 +1,5 @@
-//! Values of the elementary data types, as words, bytes and text. (Volume 1, data type encoding: two's complement, IEEE 754
-//! singles, the least byte first.)
+//! Values of the elementary data types as arguments, bytes and printed text. (Volume 1, data type encoding: two's
+//! complement, IEEE 754 single precision, least byte first.)
 
 use cip_values::{
     ElementaryType, Value, ValueFault, ValueType, ValuesText, read_values, write_values,
@@ -8,7 +8,7 @@ use std::alloc::Global;
 use std::process::Abort;
 use std::test::Fail;
 
-/// A type, the words of values, their bytes, and the text of those where it isn't the words.
+/// A type, values as arguments, their bytes, and the printed text.
 type Row = (
     &'static str,
     &'static [&'static str],
@@ -20,7 +20,7 @@ fn type_of(name: &str) -> Result<ValueType, Fail> {
     Ok(ValueType::from_name(name).ok_or("no type")?)
 }
 
-/// Asserts what bytes are read as, and printed.
+/// Asserts what is printed for bytes.
 fn check_read(
     rt: &impl Abort,
     alloc: Global,
@@ -40,7 +40,7 @@ fn check_read(
     Ok(())
 }
 
-/// Asserts which bytes words are written as, and that those are printed as the words, or the text.
+/// Asserts the bytes of the arguments, and what is printed for these bytes.
 fn check(rt: &impl Abort, alloc: Global, row: Row) -> Result<(), Fail> {
     let (name, words, bytes, text) = row;
     let written = write_values(alloc, type_of(name)?, words)?;
@@ -170,13 +170,13 @@ fn rows(rt: HostRuntime) -> Result<(), Fail> {
     Ok(())
 }
 
-/// What is printed of one value is read as it again; a NaN's sign and payload are not printed.
+/// The sign and the payload of a NaN are not printed.
 #[test]
 fn other_nan(rt: HostRuntime) -> Result<(), Fail> {
     check_read(&rt, rt.alloc(), "REAL", &[1, 0, 0x80, 0xff], "NaN")
 }
 
-/// Every byte of a text, alone and in a list, is read again from what is printed of it.
+/// A text with any byte, alone and in a list, is read back from what is printed for it.
 #[test]
 fn every_byte_of_a_text(rt: HostRuntime) -> Result<(), Fail> {
     for byte in 0..=255u8 {
@@ -193,163 +193,167 @@ fn every_byte_of_a_text(rt: HostRuntime) -> Result<(), Fail> {
     Ok(())
 }
 
-/// A type, words, and why they are refused.
+/// A type, arguments, and why they are refused.
 type Refused = (&'static str, &'static [&'static str], &'static str);
 
 static REFUSED: [Refused; 50] = [
-    ("BOOL", &["2"], "2 is no BOOL"),
-    ("BOOL", &["TRUE"], "TRUE is no BOOL"),
+    ("BOOL", &["2"], "2 is not of type BOOL"),
+    ("BOOL", &["TRUE"], "TRUE is not of type BOOL"),
     (
         "SINT",
         &["-129"],
-        "-129 is out of the range of SINT, -128 to 127",
+        "-129 is out of range for SINT (-128 to 127)",
     ),
     (
         "SINT",
         &["128"],
-        "128 is out of the range of SINT, -128 to 127",
+        "128 is out of range for SINT (-128 to 127)",
     ),
     (
         "INT",
         &["-32769"],
-        "-32769 is out of the range of INT, -32768 to 32767",
+        "-32769 is out of range for INT (-32768 to 32767)",
     ),
     (
         "INT",
         &["32768"],
-        "32768 is out of the range of INT, -32768 to 32767",
+        "32768 is out of range for INT (-32768 to 32767)",
     ),
     (
         "DINT",
         &["-2147483649"],
-        "-2147483649 is out of the range of DINT, -2147483648 to 2147483647",
+        "-2147483649 is out of range for DINT (-2147483648 to 2147483647)",
     ),
     (
         "DINT",
         &["2147483648"],
-        "2147483648 is out of the range of DINT, -2147483648 to 2147483647",
+        "2147483648 is out of range for DINT (-2147483648 to 2147483647)",
     ),
     (
         "LINT",
         &["-9223372036854775809"],
-        "-9223372036854775809 is out of the range of LINT, -9223372036854775808 to 9223372036854775807",
+        "-9223372036854775809 is out of range for LINT (-9223372036854775808 to 9223372036854775807)",
     ),
     (
         "LINT",
         &["9223372036854775808"],
-        "9223372036854775808 is out of the range of LINT, -9223372036854775808 to 9223372036854775807",
+        "9223372036854775808 is out of range for LINT (-9223372036854775808 to 9223372036854775807)",
     ),
-    (
-        "USINT",
-        &["-1"],
-        "-1 is out of the range of USINT, 0 to 255",
-    ),
+    ("USINT", &["-1"], "-1 is out of range for USINT (0 to 255)"),
     (
         "USINT",
         &["300"],
-        "300 is out of the range of USINT, 0 to 255",
+        "300 is out of range for USINT (0 to 255)",
     ),
     (
         "USINT",
         &["256"],
-        "256 is out of the range of USINT, 0 to 255",
+        "256 is out of range for USINT (0 to 255)",
     ),
     (
         "UINT",
         &["65536"],
-        "65536 is out of the range of UINT, 0 to 65535",
+        "65536 is out of range for UINT (0 to 65535)",
     ),
     (
         "UDINT",
         &["4294967296"],
-        "4294967296 is out of the range of UDINT, 0 to 4294967295",
+        "4294967296 is out of range for UDINT (0 to 4294967295)",
     ),
     (
         "ULINT",
         &["18446744073709551616"],
-        "18446744073709551616 is out of the range of ULINT, 0 to 18446744073709551615",
+        "18446744073709551616 is out of range for ULINT (0 to 18446744073709551615)",
     ),
     (
         "ULINT",
         &["999999999999999999999999999999999999999999999999"],
-        "999999999999999999999999999999999999999999999999 is out of the range of ULINT, 0 to 18446744073709551615",
+        "999999999999999999999999999999999999999999999999 is out of range for ULINT (0 to 18446744073709551615)",
     ),
     (
         "ULINT",
         &["-999999999999999999999999999999999999999999999999"],
-        "-999999999999999999999999999999999999999999999999 is out of the range of ULINT, 0 to 18446744073709551615",
+        "-999999999999999999999999999999999999999999999999 is out of range for ULINT (0 to 18446744073709551615)",
     ),
     (
         "BYTE",
         &["0x100"],
-        "0x100 is out of the range of BYTE, 0x00 to 0xff",
+        "0x100 is out of range for BYTE (0x00 to 0xff)",
     ),
     (
         "BYTE",
         &["256"],
-        "256 is out of the range of BYTE, 0x00 to 0xff",
+        "256 is out of range for BYTE (0x00 to 0xff)",
     ),
     (
         "WORD",
         &["0x10000"],
-        "0x10000 is out of the range of WORD, 0x0000 to 0xffff",
+        "0x10000 is out of range for WORD (0x0000 to 0xffff)",
     ),
     (
         "DWORD",
         &["0x100000000"],
-        "0x100000000 is out of the range of DWORD, 0x00000000 to 0xffffffff",
+        "0x100000000 is out of range for DWORD (0x00000000 to 0xffffffff)",
     ),
     (
         "LWORD",
         &["0x10000000000000000"],
-        "0x10000000000000000 is out of the range of LWORD, 0x0000000000000000 to 0xffffffffffffffff",
+        "0x10000000000000000 is out of range for LWORD (0x0000000000000000 to 0xffffffffffffffff)",
     ),
     (
         "LWORD",
         &["-1"],
-        "-1 is out of the range of LWORD, 0x0000000000000000 to 0xffffffffffffffff",
+        "-1 is out of range for LWORD (0x0000000000000000 to 0xffffffffffffffff)",
     ),
     (
         "REAL",
         &["1e39"],
-        "1e39 is out of the range of REAL, -3.4028235e38 to 3.4028235e38",
+        "1e39 is out of range for REAL (-3.4028235e38 to 3.4028235e38)",
     ),
     (
         "REAL",
         &["-1e39"],
-        "-1e39 is out of the range of REAL, -3.4028235e38 to 3.4028235e38",
+        "-1e39 is out of range for REAL (-3.4028235e38 to 3.4028235e38)",
     ),
-    ("UINT", &[""], " is no UINT"),
-    ("UINT", &["-"], "- is no UINT"),
-    ("UINT", &["+1"], "+1 is no UINT"),
-    ("UINT", &["--1"], "--1 is no UINT"),
-    ("UINT", &["1x"], "1x is no UINT"),
-    ("UINT", &[" 1"], " 1 is no UINT"),
-    ("UINT", &["0x01"], "0x01 is no UINT"),
-    ("UINT", &["1.0"], "1.0 is no UINT"),
+    ("UINT", &[""], " is not of type UINT"),
+    ("UINT", &["-"], "- is not of type UINT"),
+    ("UINT", &["+1"], "+1 is not of type UINT"),
+    ("UINT", &["--1"], "--1 is not of type UINT"),
+    ("UINT", &["1x"], "1x is not of type UINT"),
+    ("UINT", &[" 1"], " 1 is not of type UINT"),
+    ("UINT", &["0x01"], "0x01 is not of type UINT"),
+    ("UINT", &["1.0"], "1.0 is not of type UINT"),
     (
         "UINT",
         &["999999999999999999999999999999999999999999999999x"],
-        "999999999999999999999999999999999999999999999999x is no UINT",
+        "999999999999999999999999999999999999999999999999x is not of type UINT",
     ),
-    ("WORD", &["0x"], "0x is no WORD"),
-    ("WORD", &["0x+1"], "0x+1 is no WORD"),
-    ("WORD", &["0x-1"], "0x-1 is no WORD"),
-    ("WORD", &["-0x1"], "-0x1 is no WORD"),
-    ("WORD", &["0X01"], "0X01 is no WORD"),
-    ("WORD", &["0x1g"], "0x1g is no WORD"),
-    ("WORD", &["ff"], "ff is no WORD"),
-    ("REAL", &["1,5"], "1,5 is no REAL"),
-    ("REAL", &[""], " is no REAL"),
-    ("SHORT_STRING", &["\\n"], "\\n is no SHORT_STRING"),
-    ("SHORT_STRING", &["\\x0"], "\\x0 is no SHORT_STRING"),
-    ("SHORT_STRING", &["\\x0g"], "\\x0g is no SHORT_STRING"),
-    ("UINT", &[], "UINT takes one value, and not 0"),
-    ("UINT", &["1", "513"], "UINT takes one value, and not 2"),
+    ("WORD", &["0x"], "0x is not of type WORD"),
+    ("WORD", &["0x+1"], "0x+1 is not of type WORD"),
+    ("WORD", &["0x-1"], "0x-1 is not of type WORD"),
+    ("WORD", &["-0x1"], "-0x1 is not of type WORD"),
+    ("WORD", &["0X01"], "0X01 is not of type WORD"),
+    ("WORD", &["0x1g"], "0x1g is not of type WORD"),
+    ("WORD", &["ff"], "ff is not of type WORD"),
+    ("REAL", &["1,5"], "1,5 is not of type REAL"),
+    ("REAL", &[""], " is not of type REAL"),
+    ("SHORT_STRING", &["\\n"], "\\n is not of type SHORT_STRING"),
+    (
+        "SHORT_STRING",
+        &["\\x0"],
+        "\\x0 is not of type SHORT_STRING",
+    ),
+    (
+        "SHORT_STRING",
+        &["\\x0g"],
+        "\\x0g is not of type SHORT_STRING",
+    ),
+    ("UINT", &[], "UINT takes one value, not 0"),
+    ("UINT", &["1", "513"], "UINT takes one value, not 2"),
     (
         "UINT[]",
         &["1", "65536"],
-        "65536 is out of the range of UINT, 0 to 65535",
+        "65536 is out of range for UINT (0 to 65535)",
     ),
 ];
 
@@ -369,7 +373,7 @@ fn refused_words(rt: HostRuntime) -> Result<(), Fail> {
     Ok(())
 }
 
-/// A text of 255 bytes is written, one of 256 is refused.
+/// A text of 255 bytes is encoded, and one of 256 is refused.
 #[test]
 fn longest_text(rt: HostRuntime) -> Result<(), Fail> {
     let short_string = type_of("SHORT_STRING")?;
@@ -389,7 +393,7 @@ fn longest_text(rt: HostRuntime) -> Result<(), Fail> {
     Ok(())
 }
 
-/// A type, bytes, and why they are no values.
+/// A type, bytes, and why they are not values of the type.
 type Broken = (
     &'static str,
     &'static [u8],
@@ -402,7 +406,7 @@ static BROKEN: [Broken; 14] = [
         "BOOL",
         &[2],
         ValueFault::NotBool(2),
-        "2 is no BOOL, which is 0 or 1",
+        "2 is not a BOOL (0 or 1)",
     ),
     (
         "BOOL",
@@ -414,7 +418,7 @@ static BROKEN: [Broken; 14] = [
         "BOOL[]",
         &[1, 0xff],
         ValueFault::NotBool(255),
-        "255 is no BOOL, which is 0 or 1",
+        "255 is not a BOOL (0 or 1)",
     ),
     (
         "SINT",
@@ -501,7 +505,7 @@ fn refused_bytes(rt: HostRuntime) -> Result<(), Fail> {
     Ok(())
 }
 
-/// The names of the types, and what is none.
+/// The names of the types, and some that are not.
 #[test]
 fn names(rt: HostRuntime) -> Result<(), Fail> {
     let names = [
@@ -539,7 +543,7 @@ fn names(rt: HostRuntime) -> Result<(), Fail> {
     Ok(())
 }
 
-/// The values that bytes are read as.
+/// The values that are read from bytes.
 #[test]
 fn values_read(rt: HostRuntime) -> Result<(), Fail> {
     let signed = read_values(rt.alloc(), type_of("INT[]")?, &[0xfe, 0xff, 1, 2])?;

@@ -1,4 +1,4 @@
-//! Tests of `enip_wire`: devices that fail, fields of a header, and calls of a reader one by one.
+//! Tests of `enip_wire`: sinks that fail, fields of a header, bodies, and calls of a frame reader one by one.
 
 mod devices;
 mod header;

@@ -1,4 +1,4 @@
-//! Discovery over UDP: datagrams that ask what the adapter is. (Volume 2, encapsulation over UDP.)
+//! Discovery over UDP: datagrams that ask who the device is. (Volume 2, encapsulation over UDP.)
 //! Text: docs/PROTOCOL.md, "Datagrams".
 
 ghost use Rattle.std.specs.Prelude.{◌≡◌, ◌≤◌, length, if◌then◌else◌, Some, None, IfSome};
@@ -13,7 +13,7 @@ use cip_bytes::protocol::Command;
 use cip_objects::ReplyBuf;
 use enip_wire::{FrameView, Held, parse_frame};
 
-/// The room that the answer to a datagram needs. What it held before counts for nothing.
+/// A buffer for the answer to one datagram. Its old content is never used.
 #[derive(Drop)]
 pub struct DiscoveryBuffer {
     reply: ReplyBuf,
@@ -21,7 +21,7 @@ pub struct DiscoveryBuffer {
 }
 
 impl DiscoveryBuffer {
-    /// A blank one. It takes no memory, here or later.
+    /// A blank buffer. It allocates no memory, neither here nor later.
     pub fn new() -> DiscoveryBuffer {
         DiscoveryBuffer {
             reply: ReplyBuf::new(),
@@ -29,12 +29,12 @@ impl DiscoveryBuffer {
         }
     }
 
-    /// What answers a datagram, written here.
+    /// Writes the answer to a datagram into this buffer, and lends it. `None` if the datagram is dropped.
     pub(crate) fn discover(&mut self, shared: &Shared, datagram: &[u8]) -> Option<&[u8]>
         ensures answer { option_map (λ bytes. bytes.now) result ≡ discovered shared.now datagram.now }
         ensures fits { IfSome result (λ bytes. length bytes.now ≤ LONGEST_ANSWER) }
     {
-        // A datagram is one frame and not a byte more (ours).
+        // A datagram is exactly one frame (ours).
         let Held::Frame(frame) = parse_frame(datagram) else {
             return None;
         };
@@ -45,18 +45,18 @@ impl DiscoveryBuffer {
         }
     }
 
-    /// Writes what answers a frame that came in a datagram. Answers whether anything does.
+    /// Writes the answer to a frame that arrived in a datagram. Returns whether there is one.
     #[tactic(auto, unfolding(crate::specs::Commands::command_served))]
     fn write_answer(&mut self, shared: &Shared, frame: FrameView<'_>) -> bool
         ensures { (if result then Some self.new.answer.items else None)
             ≡ frame_discovered shared.now (frame_of frame.entry) }
     {
         let asked = frame.header;
-        // As over TCP: options or a status that are not 0 are discarded.
+        // Options or a status other than 0: dropped, as over TCP.
         if asked.options != 0 || asked.status != 0 {
             return false;
         }
-        // An answer has data: two devices never answer each other (ours).
+        // An answer always has data, so two devices never answer each other (ours).
         if asked.length != 0 {
             return false;
         }
@@ -66,7 +66,7 @@ impl DiscoveryBuffer {
                 list_identity(shared, asked, &mut self.reply, &mut self.answer);
             }
             Some(Command::ListInterfaces) => list_interfaces(asked, &mut self.answer),
-            // A datagram begins no session and reaches no object (ours).
+            // A datagram registers no session and reaches no object (ours).
             _ => return false,
         }
         true

@@ -17,10 +17,11 @@ use cip_bytes::protocol::{EncapsulationStatus, LARGEST_CONNECTION_SIZE, SEQUENCE
 use cip_manager::KeptAnswer;
 use enip_wire::{FrameView, Header, unit_body, unit_body_head};
 
-/// The bytes in front of the reply in an item that answers: the front of the packet, and the count.
+/// The number of bytes before the reply in an item that is sent back: the head of the packet, and the sequence count.
 const ITEM_FRONT: usize = PACKET_HEAD + SEQUENCE_COUNT_SIZE;
 
-/// SendUnitData: no answer to another session, to a packet that is none, and where no connection answers (ours).
+/// SendUnitData. There is no answer if the session is not this peer's registered one, if the data are not a packet, or
+/// if no connection takes the item (ours).
 #[inline(always)]
 pub(super) fn send_unit_data(
     shared: &mut Shared,
@@ -42,7 +43,7 @@ pub(super) fn send_unit_data(
     }
 }
 
-/// Hands an item to the connection of a session with this O->T ID, and writes what answers it.
+/// Passes an item to the session's connection with this O->T ID, and writes its answer.
 #[inline(always)]
 fn send_item(
     shared: &mut Shared,
@@ -70,7 +71,7 @@ fn send_item(
     }
 }
 
-/// Writes a whole SendUnitData that answers, with the T->O connection ID, and the count and reply that are held.
+/// Writes a whole SendUnitData with the T->O connection ID, and the sequence count and the reply that the target holds.
 #[inline(always)]
 fn write_unit_reply(asked: &Header, kept: KeptAnswer<'_>, answer: &mut AnswerFrame)
     requires { length kept.reply.now + SEQUENCE_COUNT_SIZE ≤ LARGEST_CONNECTION_SIZE }
@@ -89,8 +90,8 @@ fn write_unit_reply(asked: &Header, kept: KeptAnswer<'_>, answer: &mut AnswerFra
     );
 }
 
-/// The body of a SendUnitData up to the reply in its item, which with its count has so many bytes: the front of the
-/// packet, and the count.
+/// The body of a SendUnitData up to the reply in its item: the head of the packet, and the sequence count. `size` is
+/// the number of bytes of count and reply.
 #[inline(always)]
 fn item_front(id: u32, sequence_count: u16, size: u16) -> [u8; ITEM_FRONT]
     ensures { (reply : List ℕ) → length reply + SEQUENCE_COUNT_SIZE ≡ size →

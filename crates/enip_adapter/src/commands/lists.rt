@@ -1,4 +1,4 @@
-//! ListServices, ListIdentity and ListInterfaces: answered with or without a session, whatever their data are.
+//! ListServices, ListIdentity and ListInterfaces: answered with or without a session, and whatever their data.
 //! Text: docs/PROTOCOL.md, "A peer".
 
 ghost use Rattle.std.specs.Prelude.{◌≡◌, ◌≤◌, ◌+◌, ◌++◌, length};
@@ -19,38 +19,39 @@ use cip_bytes::protocol::{EncapsulationStatus, IDENTITY};
 use cip_objects::{Objects, ReplyBuf};
 use enip_wire::Header;
 
-/// The attributes that ListIdentity shows: vendor, device type, product code, revision, status, serial number, product
+/// The attributes in a ListIdentity reply: vendor, device type, product code, revision, status, serial number, product
 /// name, state.
 static ATTRIBUTES: [u16; 8] = [1, 2, 3, 4, 5, 6, 7, 8];
 
-/// The bytes in front of an identity item: count 2, type 2, length 2.
+/// The number of bytes before an identity item: item count 2, type 2, length 2.
 const IDENTITY_HEAD: usize = 6;
 
-/// The bytes of the protocol version 2 and of a socket address 16.
+/// The number of bytes of the protocol version, 2, and of a socket address, 16.
 const SOCKET_SIZE: usize = 18;
 
-/// The address family of the internet.
+/// The address family AF_INET.
 const INTERNET_FAMILY: u16 = 2;
 
-/// The type of an identity item.
+/// The type code of an identity item.
 const IDENTITY_ITEM: u16 = 0x000c;
 
-/// The most bytes of an attribute of the Identity object: a name of 32 bytes and its length.
+/// The greatest size of an attribute of the Identity object, in bytes: a name of 32 bytes and its length.
 const LONGEST_ATTRIBUTE: usize = 33;
 
-/// The most bytes of an identity item: version and socket address, and eight attributes.
+/// The greatest size of an identity item, in bytes: version, socket address and eight attributes.
 const ITEM_SIZE: usize = SOCKET_SIZE + 8 * LONGEST_ATTRIBUTE;
 
 /// An identity item, without its type and length.
 type Item = ArrayVec<u8, ITEM_SIZE>;
 
-/// The data of ListServices: one item of type 0x0100 and 20 bytes, version 1, capability flag 0x0020, a name.
+/// The data of a ListServices reply: one item of type 0x0100 and 20 bytes, with version 1, capability flags 0x0020 and
+/// a name.
 const SERVICES: [u8; 26] = *b"\x01\x00\x00\x01\x14\x00\x01\x00\x20\x00Communications\x00\x00";
 
-/// The data of ListInterfaces: no item.
+/// The data of a ListInterfaces reply: no items.
 const INTERFACES: [u8; 2] = [0, 0];
 
-/// ListServices.
+/// Answers a ListServices.
 #[inline(always)]
 pub(super) fn list_services(asked: Header, answer: &mut AnswerFrame)
     ensures { answer.new.items ≡ reply asked asked.session Success services_text }
@@ -65,7 +66,7 @@ pub(super) fn list_services(asked: Header, answer: &mut AnswerFrame)
     );
 }
 
-/// ListInterfaces.
+/// Answers a ListInterfaces.
 #[inline(always)]
 pub(super) fn list_interfaces(asked: Header, answer: &mut AnswerFrame)
     ensures { answer.new.items ≡ reply asked asked.session Success interfaces_text }
@@ -80,9 +81,9 @@ pub(super) fn list_interfaces(asked: Header, answer: &mut AnswerFrame)
     );
 }
 
-/// ListIdentity: protocol version 1, the socket address, and the attributes of the Identity object.
+/// Answers a ListIdentity: protocol version 1, the socket address, and the attributes of the Identity object.
 ///
-/// Each attribute is read in `value`, whose old content is dropped.
+/// `value` is scratch space for one attribute at a time; its old content is dropped.
 #[inline(always)]
 pub(super) fn list_identity(
     shared: &Shared,
@@ -116,7 +117,7 @@ fn write_identity(asked: Header, item: &[u8], answer: &mut AnswerFrame)
     );
 }
 
-/// The count of items, 1, and the type and the length of an identity item.
+/// The item count, 1, and the type and length of an identity item.
 fn item_head(size: u16) -> [u8; IDENTITY_HEAD]
     ensures { result ≡ le 2 1 ++ (le 2 0x000c ++ le 2 size) }
 {
@@ -127,7 +128,7 @@ fn item_head(size: u16) -> [u8; IDENTITY_HEAD]
     head
 }
 
-/// Appends the protocol version and the socket address, most significant byte first.
+/// Appends the protocol version and the socket address, which is big-endian.
 fn append_socket(listen: Listen, item: &mut Item)
     requires { array_vec_len item.old ≡ 0 }
     ensures text { item.new.items ≡ le 2 1 ++ socket_address listen }
@@ -153,7 +154,7 @@ fn append_identity(objects: &Objects, value: &mut ReplyBuf, item: &mut Item)
     }
 }
 
-/// Appends an attribute of the Identity object, if there is one of this number.
+/// Appends one attribute of the Identity object, if it exists.
 fn append_attribute(objects: &Objects, attribute: u16, value: &mut ReplyBuf, item: &mut Item)
     requires { array_vec_len item.old + LONGEST_ATTRIBUTE ≤ ITEM_SIZE }
     ensures text { item.new.items ≡ item.old.items ++ bytes_at objects.now IDENTITY 1 attribute }

@@ -21,17 +21,17 @@ use cip_message::{Path, RequestView, read_path};
 use cip_objects::{ReplyBuf, Router};
 use enip_wire::{FrameView, Header, rr_body, rr_body_head};
 
-/// Where a request goes.
+/// Who answers a request.
 #[derive(Clone, Copy)]
 enum Route<'a> {
-    /// To the Connection Manager: a service, and its data.
+    /// The Connection Manager: a service of its own, and its data.
     Manager(ManagerService, &'a [u8]),
-    /// To the objects.
+    /// The objects.
     Objects,
 }
 
 impl<'a> Route<'a> {
-    /// Where these bytes go as a request.
+    /// The route of a request with these bytes.
     #[inline(always)]
     fn of(request: &'a [u8]) -> Route<'a>
         ensures { route_in result ≡ route_of request.now }
@@ -48,7 +48,7 @@ impl<'a> Route<'a> {
     }
 }
 
-/// Whether these bytes spell the path of the Connection Manager's one instance.
+/// Whether these bytes are a path to instance 1 of the Connection Manager.
 #[inline(never)]
 fn is_to_manager(path: &[u8]) -> bool
     ensures { result ≡ is_path_of_manager (path_of path.now) }
@@ -59,7 +59,7 @@ fn is_to_manager(path: &[u8]) -> bool
     }
 }
 
-/// Whether a path is that of the Connection Manager's one instance.
+/// Whether a path leads to instance 1 of the Connection Manager.
 fn is_manager(path: Path) -> bool
     ensures { result ≡ is_manager path }
 {
@@ -78,11 +78,11 @@ pub(super) fn send_rr_data(
     ensures shared { shared.new ≡ (send_rr_data shared.old session (frame_of frame.entry)).shared }
     ensures answer { Sends answer.new.items ≡ (send_rr_data shared.old session (frame_of frame.entry)).reaction.answer }
 {
-    // this peer's registered session: 0x0064 (SendRRData)
+    // Not this peer's registered session: 0x0064.
     if !session.is_registered_as(frame.header.session) {
         return refuse(frame.header, EncapsulationStatus::InvalidSession, answer);
     }
-    // a packet with a request of two bytes at least: 0x0003 (SendRRData)
+    // Not a packet, or a request of fewer than 2 bytes: 0x0003.
     match rr_body(frame.body) {
         Ok(request) if request.len() >= 2 => {
             dispatch(shared, session, request, reply);
@@ -92,7 +92,7 @@ pub(super) fn send_rr_data(
     }
 }
 
-/// Hands a request to the Connection Manager or to the objects, and leaves the reply in `reply`.
+/// Passes a request to the Connection Manager or to the objects, and leaves the reply in `reply`.
 #[inline(always)]
 fn dispatch(shared: &mut Shared, session: Session, request: &[u8], reply: &mut ReplyBuf)
     requires { 2 ≤ length request.now }
@@ -118,7 +118,7 @@ fn dispatch(shared: &mut Shared, session: Session, request: &[u8], reply: &mut R
     }
 }
 
-/// Writes a whole reply to a SendRRData, with the reply of the router as its data item.
+/// Writes a whole reply to a SendRRData, with the router's reply as its data item.
 #[inline(always)]
 fn write_rr_reply(asked: &Header, router_reply: &[u8], answer: &mut AnswerFrame)
     requires { length router_reply.now ≤ UNCONNECTED_LIMIT }

@@ -14,13 +14,13 @@ use byteorder::{ByteOrder, LittleEndian};
 use cip_bytes::protocol::EncapsulationStatus;
 use enip_wire::{FrameView, Header};
 
-/// The bytes of version and flags.
+/// The number of bytes of protocol version and option flags.
 const REGISTER_DATA: usize = 4;
 
-/// The protocol version that is served.
+/// The supported protocol version.
 const PROTOCOL_VERSION: u16 = 1;
 
-/// RegisterSession: its data are the version 2 and the flags 2.
+/// RegisterSession. Its data are the protocol version, 2 bytes, and the option flags, 2 bytes.
 #[inline(always)]
 pub(super) fn register_session(
     session: &mut Session,
@@ -33,15 +33,15 @@ pub(super) fn register_session(
     ensures answer { Sends answer.new.items ≡ (register_session session.old (frame_of frame.entry)).answer }
 {
     let asked = frame.header;
-    // four bytes of data: 0x0065 (RegisterSession)
+    // Not 4 bytes of data: 0x0065.
     if frame.body.len() != REGISTER_DATA {
         return refuse(asked, EncapsulationStatus::InvalidLength, answer);
     }
-    // one session a peer: 0x0001 (RegisterSession, ours)
+    // The peer has registered a session already: 0x0001, and that session stays registered (ours).
     if session.registered {
         return refuse(asked, EncapsulationStatus::UnsupportedCommand, answer);
     }
-    // version 1: 0x0069, with the version that is served (RegisterSession)
+    // Not version 1: 0x0069, with the supported version.
     if LittleEndian::read_u16(&frame.body[0..2]) != PROTOCOL_VERSION {
         return answer_version(
             asked,
@@ -50,7 +50,7 @@ pub(super) fn register_session(
             answer,
         );
     }
-    // no flags: 0x0003 (RegisterSession, ours)
+    // Flags other than 0: 0x0003 (ours).
     if LittleEndian::read_u16(&frame.body[2..4]) != 0 {
         return refuse(asked, EncapsulationStatus::PoorlyFormedData, answer);
     }
@@ -58,7 +58,7 @@ pub(super) fn register_session(
     answer_version(asked, session.handle, EncapsulationStatus::Success, answer)
 }
 
-/// Answers with the version and flags that are served.
+/// Answers with the supported version and flags.
 fn answer_version(
     asked: Header,
     session: u32,
@@ -76,7 +76,7 @@ impl Session {
     ghost use Rattle.std.specs.Prelude.{◌≡◌};
     ghost use Rattle.enip_adapter.specs.Replies.{is_registered_as};
 
-    /// Whether a frame with this session field comes from this session, and it is registered.
+    /// Whether the session is registered and a frame with this session field belongs to it.
     pub(super) fn is_registered_as(self, handle: u32) -> bool
         ensures { result ≡ is_registered_as self handle }
     {
@@ -84,7 +84,7 @@ impl Session {
     }
 }
 
-/// UnRegisterSession: no answer.
+/// UnRegisterSession. It has no answer.
 pub(super) fn unregister_session(session: Session, header: Header) -> Reaction
     ensures { result ≡ record {
       reply = Reply.NoReply (if is_registered_as session header.session then NoReplyReason.Unregistered
@@ -92,7 +92,7 @@ pub(super) fn unregister_session(session: Session, header: Header) -> Reaction
       close = is_registered_as session header.session;
     } }
 {
-    // another session than this peer's registered one is dropped (UnRegisterSession; ours)
+    // Not this peer's registered session: dropped (ours).
     if !session.is_registered_as(header.session) {
         return Reaction::no_reply(NoReplyReason::AnotherSession);
     }

@@ -1,4 +1,4 @@
-//! What a device is.
+//! The object of an identity.
 
 ghost use Rattle.std.specs.Prelude.{◌≡◌, IfOk, string_bytes};
 ghost use Rattle.enip_client.specs.Identity.{identity_in};
@@ -11,14 +11,18 @@ use enip_client::IdentityView;
 use serde_json::{Map, Value, put};
 use std::alloc::{AllocError, Global};
 
-/// The line of a device: what it says of itself.
+/// The line of an identity: what the device reports about itself.
+///
+/// # Errors
+///
+/// `AllocError` if memory is refused.
 pub fn identity_line(alloc: Global, identity: &IdentityView<'_>) -> Result<String, AllocError>
     ensures { IfOk result (λ line. string_bytes line ≡ compact_text (identity_data (identity_in identity.now))) }
 {
     identity_object(alloc, identity)?.to_string(alloc)
 }
 
-/// What a device says of itself, as an object.
+/// The object of an identity.
 fn identity_object(alloc: Global, identity: &IdentityView<'_>) -> Result<Value, AllocError>
     ensures { IfOk result (λ object. view object ≡ identity_data (identity_in identity.now)) }
 {
@@ -49,7 +53,7 @@ fn identity_object(alloc: Global, identity: &IdentityView<'_>) -> Result<Value, 
     Ok(Value::Object(members))
 }
 
-/// An address as it is written, without a port.
+/// An address in dotted decimal, without a port.
 fn host_of(alloc: Global, address: [u8; 4]) -> Result<String, AllocError>
     ensures { IfOk result (λ host. string_bytes host ≡ host_text address) }
 {

@@ -1,11 +1,15 @@
-//! Texts of devices, whose characters have a byte each (ISO 8859-1).
+//! Text from devices, which has one byte per character (ISO 8859-1).
 
 ghost use Rattle.std.specs.Prelude.{◌≡◌, IfOk, string_bytes};
 ghost use Rattle.enip_commands.specs.Json.{latin};
 
 use std::alloc::{AllocError, Global};
 
-/// The text of these characters.
+/// The characters of `bytes` as UTF-8.
+///
+/// # Errors
+///
+/// `AllocError` if memory is refused.
 pub(crate) fn latin_text(alloc: Global, bytes: &[u8]) -> Result<String, AllocError>
     ensures { IfOk result (λ text. string_bytes text ≡ latin bytes.now) }
 {

@@ -1,4 +1,4 @@
-//! What a device replied.
+//! The objects of replies and refusals.
 
 ghost use Rattle.std.specs.Prelude.{◌≡◌, ◌++◌, IfOk, codes, decimal, map, string_bytes};
 ghost use Rattle.cip_values.specs.Values.{value_in};
@@ -11,7 +11,11 @@ use cip_values::{Value, ValueType};
 use serde_json::{Value as Json, json};
 use std::alloc::{AllocError, Global};
 
-/// The line of a reply whose data are told as digits.
+/// The line of a successful reply: its data in hexadecimal.
+///
+/// # Errors
+///
+/// `AllocError` if memory is refused.
 pub fn data_line(alloc: Global, bytes: &[u8]) -> Result<String, AllocError>
     ensures { IfOk result (λ line. string_bytes line ≡ compact_text (data_told bytes.now)) }
 {
@@ -25,7 +29,11 @@ fn data_object(alloc: Global, bytes: &[u8]) -> Result<Json, AllocError>
     json!(in alloc; {"data": &digits, "status": 0u8})
 }
 
-/// The line of a reply whose data are these values of a type.
+/// The line of a successful reply: its data in hexadecimal, and as values of a type.
+///
+/// # Errors
+///
+/// `AllocError` if memory is refused.
 pub fn values_line(
     alloc: Global,
     bytes: &[u8],
@@ -52,6 +60,10 @@ fn values_object(
 }
 
 /// The line of a refusal: the general status, and the first additional word or 0.
+///
+/// # Errors
+///
+/// `AllocError` if memory is refused.
 pub fn refusal_line(alloc: Global, status: u8, extended: u16) -> Result<String, AllocError>
     ensures { IfOk result (λ line. string_bytes line ≡ compact_text (refusal_json status extended)) }
 {
@@ -64,7 +76,11 @@ fn refusal_object(alloc: Global, status: u8, extended: u16) -> Result<Json, Allo
     json!(in alloc; {"extended": extended, "status": status})
 }
 
-/// The line of a reply that came at a moment, in microseconds: an object of the moment and of the reply's own.
+/// The line of a reply with the time at which it came, in microseconds. `line` is the object of the reply.
+///
+/// # Errors
+///
+/// `AllocError` if memory is refused.
 pub fn timed_line(alloc: Global, moment: u64, line: &str) -> Result<String, AllocError>
     ensures { IfOk result (λ timed. string_bytes timed
         ≡ codes "{\"microseconds\":" ++ decimal moment ++ codes ",\"reply\":" ++ line.now ++ codes "}") }

@@ -1,8 +1,8 @@
-//! A value of an elementary type.
+//! Values of elementary types as JSON.
 
 ghost use Rattle.std.specs.Prelude.{◌≡◌, IfOk, map};
 ghost use Rattle.cip_values.specs.Values.{value_in};
-ghost use Rattle.enip_commands.specs.Json.{IsTold, AreJsonOf};
+ghost use Rattle.enip_commands.specs.Json.{IsJsonOf, AreJsonOf};
 ghost use Rattle.serde_json.specs.Data.{depth};
 ghost use Rattle.serde_json.specs.View.{view};
 
@@ -11,7 +11,11 @@ use cip_values::{ElementaryType, Value, ValueType, ValuesText};
 use serde_json::Value as Json;
 use std::alloc::{AllocError, Global};
 
-/// The values, one after the other.
+/// The array of the values, in their order.
+///
+/// # Errors
+///
+/// `AllocError` if memory is refused.
 pub(crate) fn list_of(alloc: Global, values: &[Value<'_>]) -> Result<Json, AllocError>
     ensures { IfOk result (λ list. AreJsonOf (map value_in values.now) (view list)) }
 {
@@ -22,9 +26,9 @@ pub(crate) fn list_of(alloc: Global, values: &[Value<'_>]) -> Result<Json, Alloc
     Ok(Json::Array(list))
 }
 
-/// A value: a BOOL is `true` or `false`, an integer or a bit string a number, a text a text.
+/// A value: a BOOL is `true` or `false`, an integer or a bit string is a number, and a text is a string.
 fn json_of(alloc: Global, value: Value<'_>) -> Result<Json, AllocError>
-    ensures { IfOk result (λ json. IsTold (value_in value.entry) (view json)) }
+    ensures { IfOk result (λ json. IsJsonOf (value_in value.entry) (view json)) }
 {
     match value {
         Value::Bool(truth) => Ok(Json::Bool(truth)),
@@ -35,7 +39,7 @@ fn json_of(alloc: Global, value: Value<'_>) -> Result<Json, AllocError>
     }
 }
 
-/// A REAL: the number of its text, or that text where JSON has no such number, as of `inf` and `NaN`.
+/// A REAL: the number that its text spells. `inf` and `NaN` are not JSON numbers, so these are strings.
 fn real_of(alloc: Global, value: Value<'_>) -> Result<Json, AllocError>
     ensures { IfOk result (λ json. depth (view json) ≡ 0) }
 {

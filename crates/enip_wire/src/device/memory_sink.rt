@@ -1,4 +1,4 @@
-//! A sink over memory.
+//! A sink in memory.
 
 ghost use Rattle.std.specs.Prelude.{◌≡◌, ◌+◌, ◌<◌, ◌≤◌, [], length, Some, IfOk};
 ghost use Rattle.std.specs.Result.{result_ok};
@@ -9,7 +9,7 @@ use super::call_behavior::CallBehavior;
 use super::{Failed, Sink};
 use std::marker::Model;
 
-/// A sink over memory: it writes into a slice, and fails where that is full.
+/// A sink in memory. It writes into a slice, and fails once the slice is full.
 #[derive(Debug, Drop)]
 pub struct MemorySink<'a> {
     into: &'a mut [u8],
@@ -29,7 +29,7 @@ impl<'a> Model for MemorySink<'a> {
 }
 
 impl<'a> MemorySink<'a> {
-    /// A sink into this slice, from its front on.
+    /// A sink that writes to the front of this slice.
     pub fn new(into: &'a mut [u8]) -> MemorySink<'a>
         ensures { result ≡ record { written = []; capacity = length into.old; calls = CallBehavior.UNBOUNDED } }
     {
@@ -40,7 +40,7 @@ impl<'a> MemorySink<'a> {
         }
     }
 
-    /// The same sink, each of whose writes takes at most so many bytes.
+    /// The same sink, but each write takes at most `size` bytes.
     pub fn with_largest_size(mut self, size: usize) -> MemorySink<'a>
         requires { 0 < size }
         ensures { result ≡ record self.entry { calls = record self.entry.calls { largest_size = size } } }
@@ -49,7 +49,7 @@ impl<'a> MemorySink<'a> {
         self
     }
 
-    /// The same sink, whose write after so many more fails, and none after it but where the slice is full.
+    /// The same sink, but the write after `calls` more fails. Later writes fail only if the slice is full.
     pub fn with_failure_after(mut self, calls: u64) -> MemorySink<'a>
         ensures { result ≡ record self.entry { calls = record self.entry.calls { before_failure = Some calls } } }
     {
@@ -75,11 +75,11 @@ impl Sink for MemorySink<'_> {
 
     ghost failures = { λ s. s.calls.failures };
 
-    /// Writes as the trait says. It takes as many bytes as there is room for, up to the largest size.
+    /// Writes as the trait says. It takes as many bytes as fit, up to the largest size.
     ///
     /// # Errors
     ///
-    /// `Failed` in the call that is to fail, and for a byte or more where the slice is full.
+    /// `Failed` in the call that is to fail, and if the slice is full and there is something to write.
     fn write(&mut self, from: &[u8]) -> Result<usize, Failed>
         requires { self.old.calls.failures < u64.MAX }
         ensures count { IfOk result (λ n. n ≤ length from.now) }
@@ -92,7 +92,7 @@ impl Sink for MemorySink<'_> {
         let count = self
             .calls
             .next_size(from.len().min(self.into.len() - self.len))?;
-        // A full slice takes nothing of what there is to write (ours).
+        // A write to a full slice fails (our choice).
         if count == 0 && !from.is_empty() {
             self.calls.failures += 1;
             return Err(Failed);

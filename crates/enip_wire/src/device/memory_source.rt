@@ -1,4 +1,4 @@
-//! A source over memory.
+//! A source in memory.
 
 ghost use Rattle.std.specs.Prelude.{◌≡◌, ◌+◌, ◌<◌, ◌≤◌, ◌++◌, length, take, drop, Some, IfOk};
 ghost use Rattle.std.specs.Result.{result_ok};
@@ -10,7 +10,7 @@ use super::call_behavior::CallBehavior;
 use super::{Failed, Source};
 use std::marker::Model;
 
-/// A source over memory: a slice to read, and the moments of the reads.
+/// A source in memory: a slice to read, and a moment for each read.
 #[derive(Debug, Drop)]
 pub struct MemorySource<'a> {
     left: &'a [u8],
@@ -38,8 +38,8 @@ impl<'a> Model for MemorySource<'a> {
 }
 
 impl<'a> MemorySource<'a> {
-    /// A source of these bytes. Each read has a moment of the list, in its order: the last again where the list is
-    /// used up, and 0 where it is empty.
+    /// A source of these bytes. Each read has the next moment of the list. After the last one, the last moment is
+    /// used again. The moment is 0 if the list is empty.
     pub fn new(bytes: &'a [u8], moments: &'a [u64]) -> MemorySource<'a>
         ensures { result ≡ record {
           left = bytes.now;
@@ -58,7 +58,7 @@ impl<'a> MemorySource<'a> {
         }
     }
 
-    /// The same source, each of whose reads gives at most so many bytes.
+    /// The same source, but each read gives at most `size` bytes.
     pub fn with_largest_size(mut self, size: usize) -> MemorySource<'a>
         requires { 0 < size }
         ensures { result ≡ record self.entry { calls = record self.entry.calls { largest_size = size } } }
@@ -67,7 +67,7 @@ impl<'a> MemorySource<'a> {
         self
     }
 
-    /// The same source, whose read after so many more fails, and none after it.
+    /// The same source, but the read after `calls` more fails, and none after it.
     pub fn with_failure_after(mut self, calls: u64) -> MemorySource<'a>
         ensures { result ≡ record self.entry { calls = record self.entry.calls { before_failure = Some calls } } }
     {
@@ -90,11 +90,12 @@ impl Source for MemorySource<'_> {
 
     ghost failures = { λ s. s.calls.failures };
 
-    /// Reads as the trait says. It gives as many bytes as the slice holds, up to the largest size and to the end.
+    /// Reads as the trait says. It gives as many bytes as the slice takes and the source has, up to the largest
+    /// size.
     ///
     /// # Errors
     ///
-    /// `Failed` in the call that is to fail. The slice is unchanged then.
+    /// `Failed` in the call that is to fail. Then the slice is unchanged.
     fn read(&mut self, into: &mut [u8]) -> Result<usize, Failed>
         requires reads_left { self.old.reads < u64.MAX }
         requires failures_left { self.old.calls.failures < u64.MAX }
@@ -131,7 +132,7 @@ impl Source for MemorySource<'_> {
     }
 }
 
-/// The moment of the read that comes after so many.
+/// The moment of the read after `before` others.
 fn moment_of(moments: &[u64], before: u64) -> u64
     ensures { result ≡ moment_at moments.now before }
 {

@@ -1,11 +1,11 @@
-//! The caller that the first page of `enip_adapter` shows, and what it writes. `tests/rules` compares the two texts.
+//! The example in the documentation of `enip_adapter`, and what it writes. `tests/rules` compares the two texts.
 
 use enip_adapter::Adapter;
 use std::alloc::{AllocError, Global};
 use std::test::Fail;
 use test_fixtures::adapter::{ADD, ADDED, LONG, OPEN, REFUSED, REGISTER, REGISTERED, new_adapter};
 
-/// Serves one peer, whose bytes come in pieces of any size, each at its moment, and writes what goes back.
+/// Serves one peer. Its bytes come in pieces of any size, each with a time. The answers are appended to `written`.
 fn serve_pieces(
     adapter: &mut Adapter,
     pieces: &[(u64, &[u8])],
@@ -31,7 +31,7 @@ fn serve_pieces(
     Ok(())
 }
 
-/// Bytes, one text behind the other.
+/// The texts, joined.
 fn joined(alloc: Global, texts: &[&[u8]]) -> Result<Vec<u8>, Fail> {
     let mut bytes = Vec::new(alloc);
     for text in texts {
@@ -55,7 +55,7 @@ fn its_answers_are_written(rt: HostRuntime) -> Result<(), Fail> {
     let mut written = Vec::new(alloc);
     serve_pieces(&mut adapter, &pieces, &mut written)?;
     assert_eq!(rt; &written[..28], REGISTERED);
-    // the answer to the opening lies between, 70 bytes
+    // between them is the answer to the opening, 70 bytes
     assert_eq!(rt;
         &written[98..],
         joined(alloc, &[ADDED, REFUSED])?.as_slice()

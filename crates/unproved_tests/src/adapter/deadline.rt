@@ -1,4 +1,4 @@
-//! The adapter's earliest deadline.
+//! The earliest deadline of an adapter.
 
 use enip_adapter::{Adapter, Peer};
 use std::alloc::Global;
@@ -11,13 +11,13 @@ pub(super) const CLOSE: &[u8] =
     \0\0\0\0\0\0\x02\0\0\0\0\0\xb2\0\x16\0\
     \x4e\x02\x20\x06\x24\x01\x0a\x0e\x01\0\x42\0\x78\x56\x34\x12\x02\0\x20\x02\x24\x01";
 
-/// Where a frame has the lowest byte of its session handle.
+/// The offset of the lowest byte of the session handle in a frame.
 const SESSION_AT: usize = 4;
 
-/// Where an opening has the lowest byte of its connection serial.
+/// The offset of the lowest byte of the connection serial in an opening.
 const SERIAL_AT: usize = 56;
 
-/// An opening by another session, of another connection.
+/// An opening of another connection by another session.
 pub(super) fn opening(alloc: Global, session: u8, serial: u8) -> Result<Vec<u8>, Fail> {
     let mut frame = Vec::from_slice(alloc, OPEN)?;
     frame[SESSION_AT] = session;
@@ -25,13 +25,13 @@ pub(super) fn opening(alloc: Global, session: u8, serial: u8) -> Result<Vec<u8>,
     Ok(frame)
 }
 
-/// The earliest deadline once a frame came at a moment.
+/// The earliest deadline after a frame at this time.
 fn after(adapter: &mut Adapter, now: u64, peer: &Peer, frame: &[u8]) -> Option<u64> {
     let _ = adapter.feed(now, peer, frame);
     adapter.deadline()
 }
 
-/// The earliest deadline once a moment came.
+/// The earliest deadline after a tick at this time.
 fn at(adapter: &mut Adapter, now: u64) -> Option<u64> {
     adapter.tick(now);
     adapter.deadline()
@@ -42,7 +42,7 @@ fn of_one_connection(rt: HostRuntime) -> Result<(), Fail> {
     let (mut adapter, peer) = adapter_with_peer(rt.alloc())?;
     assert_eq!(rt; adapter.deadline(), None);
     assert_eq!(rt; after(&mut adapter, 0, &peer, REGISTER), None);
-    // Ten seconds at least from the opening, and eight from the last item.
+    // ten seconds from the opening, and eight from the last item
     assert_eq!(rt;
         after(&mut adapter, 1_000_000, &peer, OPEN),
         Some(11_000_000)
@@ -59,7 +59,7 @@ fn of_one_connection(rt: HostRuntime) -> Result<(), Fail> {
 #[test]
 fn of_two_connections(rt: HostRuntime) -> Result<(), Fail> {
     let (mut adapter, peer) = demo_with_connection(rt.alloc())?;
-    let other = adapter.begin().ok().ok_or("a place is free")?;
+    let other = adapter.begin().ok().ok_or("a slot is free")?;
     assert_eq!(rt;
         after(&mut adapter, 1_000_000, &other, REGISTER),
         Some(10_000_000)
@@ -69,7 +69,7 @@ fn of_two_connections(rt: HostRuntime) -> Result<(), Fail> {
         after(&mut adapter, 1_000_000, &other, opening.as_slice()),
         Some(10_000_000)
     );
-    // An item puts off the first one's end, so that the second one's is the earliest.
+    // an item moves the first deadline, so the second one is the earliest
     assert_eq!(rt;
         after(&mut adapter, 9_000_000, &peer, ADD),
         Some(11_000_000)

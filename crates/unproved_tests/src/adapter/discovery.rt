@@ -1,4 +1,4 @@
-//! Datagrams: which are answered, and which are dropped.
+//! Which datagrams are answered and which are dropped.
 
 use enip_adapter::{Adapter, DiscoveryBuffer};
 use std::alloc::Global;
@@ -6,7 +6,7 @@ use std::process::Abort;
 use std::test::Fail;
 use test_fixtures::adapter::{REGISTER, REGISTERED, adapter_with_peer, feed, free};
 
-/// Datagrams that are answered, and their answers.
+/// Datagrams with their answers.
 static ANSWERED: [(&[u8], &[u8]); 4] = [
     // ListIdentity
     (
@@ -26,7 +26,7 @@ static ANSWERED: [(&[u8], &[u8]); 4] = [
         b"\x64\0\0\0\0\0\0\0\0\0\0\0\x01\x02\x03\x04\x05\x06\x07\x08\0\0\0\0",
         b"\x64\0\x02\0\0\0\0\0\0\0\0\0\x01\x02\x03\x04\x05\x06\x07\x08\0\0\0\0\0\0",
     ),
-    // with a session, which is repeated
+    // with a session, which the answer repeats
     (
         b"\x64\0\0\0\x07\0\0\0\0\0\0\0\x11\x12\x13\x14\x15\x16\x17\x18\0\0\0\0",
         b"\x64\0\x02\0\x07\0\0\0\0\0\0\0\x11\x12\x13\x14\x15\x16\x17\x18\0\0\0\0\0\0",
@@ -39,17 +39,17 @@ static DROPPED: [&[u8]; 19] = [
     b"\x63",
     // a byte of the header is missing
     b"\x63\0\0\0\0\0\0\0\0\0\0\0\x01\x02\x03\x04\x05\x06\x07\x08\0\0\0",
-    // a frame and a byte
+    // a frame and one more byte
     b"\x63\0\0\0\0\0\0\0\0\0\0\0\x01\x02\x03\x04\x05\x06\x07\x08\0\0\0\0\0",
     // two frames
     b"\x63\0\0\0\0\0\0\0\0\0\0\0\x01\x02\x03\x04\x05\x06\x07\x08\0\0\0\0\
     \x63\0\0\0\0\0\0\0\0\0\0\0\x01\x02\x03\x04\x05\x06\x07\x08\0\0\0\0",
     // a byte of the data is missing
     b"\x63\0\x04\0\0\0\0\0\0\0\0\0\x01\x02\x03\x04\x05\x06\x07\x08\0\0\0\0\x01\x02\x03",
-    // options, in the first byte and in the last
+    // options in the first byte, and in the last
     b"\x63\0\0\0\0\0\0\0\0\0\0\0\x01\x02\x03\x04\x05\x06\x07\x08\x01\0\0\0",
     b"\x04\0\0\0\0\0\0\0\0\0\0\0\x01\x02\x03\x04\x05\x06\x07\x08\0\0\0\x01",
-    // a status, in the first byte and in the last
+    // a status in the first byte, and in the last
     b"\x64\0\0\0\0\0\0\0\x01\0\0\0\x01\x02\x03\x04\x05\x06\x07\x08\0\0\0\0",
     b"\x63\0\0\0\0\0\0\0\0\0\0\x01\x01\x02\x03\x04\x05\x06\x07\x08\0\0\0\0",
     // NOP
@@ -62,7 +62,7 @@ static DROPPED: [&[u8]; 19] = [
     \0\0\0\0\0\0\x02\0\0\0\0\0\xb2\0\x08\0\x0e\x03\x20\x01\x24\x01\x30\x01",
     // SendUnitData
     b"\x70\0\0\0\x01\0\0\0\0\0\0\0\x01\x02\x03\x04\x05\x06\x07\x08\0\0\0\0",
-    // no commands
+    // not commands
     b"\x01\0\0\0\0\0\0\0\0\0\0\0\x01\x02\x03\x04\x05\x06\x07\x08\0\0\0\0",
     b"\0\x63\0\0\0\0\0\0\0\0\0\0\x01\x02\x03\x04\x05\x06\x07\x08\0\0\0\0",
     b"\x63\x01\0\0\0\0\0\0\0\0\0\0\x01\x02\x03\x04\x05\x06\x07\x08\0\0\0\0",
@@ -70,7 +70,7 @@ static DROPPED: [&[u8]; 19] = [
     b"\x63\0\xe8\xff\0\0\0\0\0\0\0\0\x01\x02\x03\x04\x05\x06\x07\x08\0\0\0\0",
 ];
 
-/// A ListInterfaces with so many bytes of data.
+/// A ListInterfaces with this many bytes of data.
 fn with_data(alloc: Global, size: u16) -> Result<Vec<u8>, Fail> {
     let mut datagram = Vec::from_slice(alloc, b"\x64\0")?;
     datagram.extend_from_slice(&size.to_le_bytes())?;
@@ -79,7 +79,7 @@ fn with_data(alloc: Global, size: u16) -> Result<Vec<u8>, Fail> {
     Ok(datagram)
 }
 
-/// A datagram is dropped, also by a room that has held an answer.
+/// Asserts that a datagram is dropped, also if the buffer held an answer before.
 fn check_dropped<A: Abort>(rt: &A, adapter: &Adapter, room: &mut DiscoveryBuffer, datagram: &[u8]) {
     let answered = ANSWERED[0];
     assert_eq!(rt; adapter.discover(answered.0, room), Some(answered.1));
@@ -104,13 +104,13 @@ fn other_datagrams_are_dropped(rt: HostRuntime) -> Result<(), Fail> {
     for datagram in &DROPPED {
         check_dropped(&rt, &adapter, &mut room, datagram);
     }
-    // No place is taken, no session began, and the next one has the next handle.
+    // no slot is taken, no session is registered, and the next peer has the next handle
     assert_eq!(rt; free(&adapter), (8, 16));
     assert_eq!(rt;
         feed(&mut adapter, &peer, REGISTER).answer,
         Some(REGISTERED)
     );
-    let next = adapter.begin().ok().ok_or("a place is free")?;
+    let next = adapter.begin().ok().ok_or("a slot is free")?;
     assert_eq!(rt; next.handle(), 2);
     Ok(())
 }
@@ -123,7 +123,7 @@ fn a_list_with_data_is_no_request(rt: HostRuntime) -> Result<(), Fail> {
         let datagram = with_data(rt.alloc(), size)?;
         check_dropped(&rt, &adapter, &mut room, datagram.as_slice());
     }
-    // An answer is a frame with the same command: two devices do not answer each other.
+    // an answer is a frame with the same command, but two devices do not answer each other
     for (_, answer) in &ANSWERED {
         check_dropped(&rt, &adapter, &mut room, answer);
     }

@@ -9,7 +9,7 @@ use test_fixtures::adapter::{LONG, REGISTER, demo_with_connection};
 /// An UnRegisterSession of session 1.
 const UNREGISTER: &[u8] = b"\x66\0\0\0\x01\0\0\0\0\0\0\0\x01\x02\x03\x04\x05\x06\x07\x08\0\0\0\0";
 
-/// An adapter whose first peer has opened connection 1, as it was looked at.
+/// An adapter whose first peer has opened connection 1, and a look at its connections.
 fn looked_at(alloc: Global) -> Result<(Adapter, Peer, Endings), Fail> {
     let (adapter, peer) = demo_with_connection(alloc)?;
     let mut endings = Endings::new();
@@ -17,7 +17,7 @@ fn looked_at(alloc: Global) -> Result<(Adapter, Peer, Endings), Fail> {
     Ok((adapter, peer, endings))
 }
 
-/// Whether a look tells that these have ended: of each its ID, its session and why.
+/// Whether a look reports that exactly these connections have ended: ID, session and reason.
 fn ends_are(endings: &mut Endings, adapter: &Adapter, wanted: &[(u32, u32, EndReason)]) -> bool {
     endings.update(adapter);
     let ended = endings.ended();
@@ -36,7 +36,7 @@ fn timed_out(rt: HostRuntime) -> Result<(), Fail> {
     assert!(rt; ends_are(&mut endings, &adapter, &[]));
     adapter.tick(10_000_000);
     assert!(rt; ends_are(&mut endings, &adapter, &[(1, 1, EndReason::TimedOut)]));
-    // It is told once.
+    // it is reported once
     assert!(rt; ends_are(&mut endings, &adapter, &[]));
     Ok(())
 }
@@ -52,7 +52,7 @@ fn closed(rt: HostRuntime) -> Result<(), Fail> {
 
 #[test]
 fn session_ended(rt: HostRuntime) -> Result<(), Fail> {
-    // By UnRegisterSession, and by a header that is too long: both close the peer.
+    // UnRegisterSession, and a header with too great a length: both close the peer
     for frame in [UNREGISTER, LONG] {
         let (mut adapter, peer, mut endings) = looked_at(rt.alloc())?;
         let _ = adapter.feed(1, &peer, frame);
@@ -75,14 +75,14 @@ fn peer_ended(rt: HostRuntime) -> Result<(), Fail> {
 #[test]
 fn several(rt: HostRuntime) -> Result<(), Fail> {
     let (mut adapter, first, mut endings) = looked_at(rt.alloc())?;
-    let other = adapter.begin().ok().ok_or("a place is free")?;
+    let other = adapter.begin().ok().ok_or("a slot is free")?;
     let _ = adapter.feed(1, &other, REGISTER);
     for serial in [2, 3] {
         let opening = opening(rt.alloc(), 2, serial)?;
         let _ = adapter.feed(1_000_000, &other, opening.as_slice());
         assert!(rt; ends_are(&mut endings, &adapter, &[]));
     }
-    // Of two sessions each has its own, in the order of opening; the first one's time is over first.
+    // each session has its own, in the order of opening; the first one times out first
     adapter.tick(10_000_000);
     assert!(rt; ends_are(&mut endings, &adapter, &[(1, 1, EndReason::TimedOut)]));
     adapter.end(first);

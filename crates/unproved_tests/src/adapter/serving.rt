@@ -1,4 +1,4 @@
-//! Worked rows over devices in memory, and devices that fail.
+//! Serving over readers and writers in memory, some of which fail.
 
 use enip_adapter::{Adapter, Peer, ServeFault, Served};
 use enip_wire::{MemorySink, MemorySource, Sink, Source};
@@ -10,10 +10,10 @@ use test_fixtures::adapter::{
     free, serves, value,
 };
 
-/// What is told, in the order of the calls, each with all that was written by then.
+/// The result of each call, with all that was written by then.
 type Told<'a> = &'a [(Result<Served, ServeFault>, &'a [u8])];
 
-/// Serves so often, and compares each call.
+/// Serves once for each row, and compares the result.
 fn check_served<A: Abort>(
     rt: &A,
     adapter: &mut Adapter,
@@ -27,12 +27,12 @@ fn check_served<A: Abort>(
     }
 }
 
-/// How many reads there were, and how many of them failed.
+/// Asserts the number of reads, and how many of them failed.
 fn check_reads<A: Abort>(rt: &A, reader: &MemorySource<'_>, reads: u64, failures: u64) {
     assert_eq!(rt; (reader.reads(), reader.failures()), (reads, failures));
 }
 
-/// How many reads there were, and how many writes failed.
+/// Asserts the number of reads, and how many writes failed.
 fn check_calls<A: Abort>(
     rt: &A,
     reader: &MemorySource<'_>,
@@ -43,7 +43,7 @@ fn check_calls<A: Abort>(
     assert_eq!(rt; (reader.reads(), writer.failures()), (reads, failures));
 }
 
-/// Two texts, one behind the other.
+/// Two texts, joined.
 fn joined(alloc: Global, front: &[u8], back: &[u8]) -> Result<Vec<u8>, Fail> {
     let mut bytes = Vec::from_slice(alloc, front)?;
     bytes.extend_from_slice(back)?;
@@ -80,7 +80,7 @@ fn each_read_has_its_moment(rt: HostRuntime) -> Result<(), Fail> {
     let mut reader = MemorySource::new(input.as_slice(), &moments).with_largest_size(56);
     let mut bytes = [0; 128];
     let mut writer = MemorySink::new(&mut bytes);
-    // At the second read the connection is over, so its item has no answer.
+    // by the second read the connection has timed out, so the item gets no answer
     let expected: [(Result<Served, ServeFault>, &[u8]); 2] = [
         (Ok(Served::More), ADDED),
         (Ok(Served::More), ADDED),
@@ -97,7 +97,7 @@ fn each_read_has_its_moment(rt: HostRuntime) -> Result<(), Fail> {
     Ok(())
 }
 
-/// An addition by a writer that does not fail.
+/// Serves an addition with a writer that does not fail.
 fn check_addition<A: Abort>(rt: &A, adapter: &mut Adapter, peer: &Peer, answer: &[u8]) {
     let mut reader = MemorySource::new(ADD, &[]);
     let mut bytes = [0; 128];
@@ -106,8 +106,8 @@ fn check_addition<A: Abort>(rt: &A, adapter: &mut Adapter, peer: &Peer, answer: 
     assert!(rt; serves(adapter, peer, &mut reader, &mut writer, expected, answer));
 }
 
-/// Serves a RegisterSession and an opening that come in one read, by a writer that takes 10 bytes a call and fails
-/// after so many calls; then an addition by one that does not fail.
+/// Serves a RegisterSession and an opening that come in one read, with a writer that takes 10 bytes per call and
+/// fails after `calls` calls. Then serves an addition with a writer that does not fail.
 fn serve_with_failure_after(
     rt: &impl Abort,
     alloc: Global,
@@ -140,14 +140,14 @@ fn serve_with_failure_after(
 
 #[test]
 fn the_writer_fails(rt: HostRuntime) -> Result<(), Fail> {
-    // The fourth call is the first of the second answer, whose opening stands.
+    // the fourth call is the first of the second answer; the connection is open all the same
     serve_with_failure_after(&rt, rt.alloc(), 3, REGISTERED, ADDED)?;
-    // The second call is in the midst of the first answer, and what comes after that frame is not fed.
+    // the second call is in the middle of the first answer, and the rest of the read is not fed
     serve_with_failure_after(&rt, rt.alloc(), 1, &REGISTERED[..10], b"")?;
     Ok(())
 }
 
-/// The addition is served by this writer, and the counter has its value then.
+/// Serves the addition with this writer, and asserts the counter's value.
 fn check_added<A: Abort>(
     rt: &A,
     adapter: &mut Adapter,
@@ -198,7 +198,7 @@ fn the_reader_fails(rt: HostRuntime) -> Result<(), Fail> {
         &expected,
     );
     check_reads(&rt, &reader, 2, 1);
-    // What came before it is not lost.
+    // what was read before is not lost
     let expected: [(Result<Served, ServeFault>, &[u8]); 1] = [(Ok(Served::More), REGISTERED)];
     check_served(
         &rt,
@@ -211,7 +211,7 @@ fn the_reader_fails(rt: HostRuntime) -> Result<(), Fail> {
     Ok(())
 }
 
-/// A peer that is not held is not read.
+/// Asserts that nothing is read from a peer that the adapter does not have.
 fn check_not_held<A: Abort>(
     rt: &A,
     adapter: &mut Adapter,
@@ -224,7 +224,7 @@ fn check_not_held<A: Abort>(
     check_reads(rt, &reader, 0, 0);
 }
 
-/// A peer that has ended is not held.
+/// The same for a peer that has ended.
 fn check_ended<A: Abort>(rt: &A, adapter: &mut Adapter, peer: Peer, writer: &mut MemorySink<'_>) {
     adapter.end(peer);
     check_not_held(rt, adapter, &peer, writer);
@@ -237,8 +237,8 @@ fn a_closed_peer_is_not_read(rt: HostRuntime) -> Result<(), Fail> {
     let mut reader = MemorySource::new(input.as_slice(), &[]);
     let mut bytes = [0; 64];
     let mut writer = MemorySink::new(&mut bytes);
-    // The answer is written before the peer closes, and the rest of the read is not fed. A peer that is closed is not
-    // read, nor is one that is not held.
+    // the answer is written before the peer closes, and the rest of the read is not fed; nothing more is read from a
+    // peer that is closed or has ended
     for _ in 0..2 {
         let expected = Ok(Served::Closed);
         assert!(rt;

@@ -6,7 +6,7 @@ use enip_client::{Client, Wants};
 use std::test::Fail;
 use test_fixtures::bench::{LIMITS, LISTEN, WANTS, demo};
 
-/// What the adapter refuses to open: an interval of 0.
+/// A connection that the adapter refuses: its packet interval is 0.
 const NO_INTERVAL: Wants = Wants { rpi: 0, ..WANTS };
 
 #[test]

@@ -12,14 +12,14 @@ use test_fixtures::bench::{
     CLEAR, EXACTLY_ONCE, LIMITS, LISTEN, WANTS, compare, config, counter, done, look,
 };
 
-/// What the client asks of its connection: both sizes are the greatest.
+/// A connection with the greatest size in both directions.
 const LARGE: Wants = Wants {
     o_to_t_size: 4_002,
     t_to_o_size: 4_002,
     ..WANTS
 };
 
-/// A bench of the demo configuration and of assembly 101, which has 3,900 bytes.
+/// A bench with the demo configuration, and assembly 101 of 3,900 bytes.
 fn large_bench(alloc: Global) -> Result<Bench, Fail> {
     let mut config = config(alloc, 100)?;
     config.assemblies.push(AssemblyConfig {
@@ -40,7 +40,7 @@ fn large_bench(alloc: Global) -> Result<Bench, Fail> {
     Ok(bench)
 }
 
-/// What is seen after these rows: 5 and 7 were added once each.
+/// Asserts what is seen after `EXACTLY_ONCE`: 5 and 7 were added once each.
 fn check_exactly_once<A: Abort>(rt: &A, bench: &Bench) -> Result<(), Fail> {
     assert_eq!(rt; counter(bench, 1)?, 12);
     assert_eq!(rt; counter(bench, 3)?, 2);
@@ -57,7 +57,7 @@ fn exactly_once_on_a_large_connection(rt: HostRuntime) -> Result<(), Fail> {
     check_exactly_once(&rt, &bench)
 }
 
-/// Some bytes, and then one byte again and again.
+/// Some bytes, filled up with one byte to this length.
 fn filled(alloc: Global, front: &[u8], byte: u8, length: usize) -> Result<Vec<u8>, Fail> {
     let mut bytes = Vec::from_slice(alloc, front)?;
     for _ in front.len()..length {
@@ -66,12 +66,12 @@ fn filled(alloc: Global, front: &[u8], byte: u8, length: usize) -> Result<Vec<u8
     Ok(bytes)
 }
 
-/// Does an event, and compares what is told of it.
+/// Runs an event and compares the step.
 fn does(bench: &mut Bench, event: Event, step: Step<'_>) -> Result<(), Fail> {
     if done(bench, &event)? == step {
         Ok(())
     } else {
-        Err(Fail::from("another step is told"))
+        Err(Fail::from("another step is reported"))
     }
 }
 
@@ -86,13 +86,13 @@ fn replies(bench: &mut Bench, number: usize, request: Vec<u8>, reply: &[u8]) -> 
     does(bench, Event::Back(number), Step::Accepted(reply))
 }
 
-/// A Get_Attribute_List of 21 attributes that there are not, and of the size and the data of the assembly.
+/// A Get_Attribute_List of 21 attributes that do not exist, and of the size and the data of the assembly.
 const LIST: &[u8] = b"\x03\x02\x20\x04\x24\x65\x17\0\
     \x63\0\x63\0\x63\0\x63\0\x63\0\x63\0\x63\0\x63\0\x63\0\x63\0\x63\0\
     \x63\0\x63\0\x63\0\x63\0\x63\0\x63\0\x63\0\x63\0\x63\0\x63\0\
     \x01\0\x03\0";
 
-/// What it is replied, up to the data.
+/// Its reply up to the data.
 const LISTED: &[u8] = b"\x83\0\x0a\0\x17\0\
     \x63\0\x14\0\x63\0\x14\0\x63\0\x14\0\x63\0\x14\0\x63\0\x14\0\x63\0\x14\0\x63\0\x14\0\
     \x63\0\x14\0\x63\0\x14\0\x63\0\x14\0\x63\0\x14\0\x63\0\x14\0\x63\0\x14\0\x63\0\x14\0\
@@ -102,13 +102,13 @@ const LISTED: &[u8] = b"\x83\0\x0a\0\x17\0\
 /// Sets the 3,900 bytes of the assembly.
 const SET: &[u8] = b"\x10\x03\x20\x04\x24\x65\x30\x03";
 
-/// The data are set.
+/// Sets the data.
 fn set_all(alloc: Global, bench: &mut Bench) -> Result<(), Fail> {
     let set = filled(alloc, SET, 0xa5, 3_908)?;
     replies(bench, 0, set, b"\x90\0\0\0")
 }
 
-/// The longest reply has the 3,900 bytes and 22 attributes more.
+/// The longest reply has the 3,900 bytes and 22 other attributes.
 fn list_all(alloc: Global, bench: &mut Bench) -> Result<(), Fail> {
     let listed = filled(alloc, LISTED, 0xa5, 4_000)?;
     replies(bench, 1, Vec::from_slice(alloc, LIST)?, &listed)
@@ -120,7 +120,7 @@ fn submit_longest(alloc: Global, bench: &mut Bench) -> Result<(), Fail> {
     replies(bench, 2, longest, b"\xb3\0\x15\0")
 }
 
-/// One byte more than the longest request is refused.
+/// A request with one byte more is refused.
 fn submit_longer(alloc: Global, bench: &mut Bench) -> Result<(), Fail> {
     let longer = filled(alloc, CLEAR, 0, 4_001)?;
     does(

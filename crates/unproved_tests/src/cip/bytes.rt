@@ -1,4 +1,4 @@
-//! Numbers at the end of a buffer.
+//! Numbers appended to a buffer.
 
 use arrayvec::ArrayVec;
 use cip_bytes::{append, append_u8, append_u16, append_u32};

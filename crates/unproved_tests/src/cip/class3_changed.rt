@@ -1,5 +1,5 @@
-//! Items that are changed in a byte, cut or filled up, at a target that holds the item as it was. (Volume 1, transport
-//! class 3: the count alone tells a repeat.)
+//! Items with a byte changed, cut or filled up, at a target that has executed the original. (Volume 1, transport
+//! class 3: the sequence count alone decides whether an item is a repeat.)
 
 use super::counting::objects;
 use cip_class3::{KeptReply, Received, Target};
@@ -7,7 +7,7 @@ use std::alloc::Global;
 use std::process::Abort;
 use std::test::Fail;
 
-/// The count 0x0102 and an addition of 1, and the reply to it.
+/// An addition of 1 with count 0x0102, and its reply.
 const ITEM: [u8; 12] = [
     0x02, 0x01, 0x32, 0x02, 0x20, 0x64, 0x24, 0x01, 0x01, 0x00, 0x00, 0x00,
 ];
@@ -17,8 +17,8 @@ const FIRST: KeptReply<'static> = KeptReply {
     reply: &[0xb2, 0x00, 0x00, 0x00, 0x01, 0x00, 0x00, 0x00],
 };
 
-/// Asserts what a target of 500 bytes each way does with an item where it holds `ITEM`: what it keeps then, and how many
-/// additions were executed.
+/// Asserts what a target of 500 bytes each way does with an item after `ITEM`, which reply it keeps then, and how
+/// many additions were executed.
 fn check(
     rt: &impl Abort,
     alloc: Global,
@@ -38,7 +38,7 @@ fn check(
     Ok(())
 }
 
-/// A changed count is another request, and is executed; any other changed byte is a repeat.
+/// An item with a changed count is another request, which is executed. With any other byte changed it is a repeat.
 #[test]
 fn each_changed_byte(rt: HostRuntime) -> Result<(), Fail> {
     for place in 0..ITEM.len() {
@@ -60,7 +60,7 @@ fn each_changed_byte(rt: HostRuntime) -> Result<(), Fail> {
     Ok(())
 }
 
-/// An item of 4 to 500 bytes is a repeat, also where it was cut or filled up; any other is dropped.
+/// An item of 4 to 500 bytes is a repeat, also if it was cut or filled up. Any other is dropped.
 #[test]
 fn each_size(rt: HostRuntime) -> Result<(), Fail> {
     let mut block = [0; 502];
@@ -76,7 +76,7 @@ fn each_size(rt: HostRuntime) -> Result<(), Fail> {
     Ok(())
 }
 
-/// Another count in the longest item is executed, and refused by the objects: the reply is kept all the same.
+/// The longest item, with another count, is executed. The objects refuse it, and the reply is kept all the same.
 #[test]
 fn the_longest_with_another_count(rt: HostRuntime) -> Result<(), Fail> {
     let mut block = [0; 500];

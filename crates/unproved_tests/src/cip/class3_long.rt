@@ -7,7 +7,7 @@ use std::alloc::Global;
 use std::process::Abort;
 use std::test::Fail;
 
-/// The ends of a connection, whose first count is 60,000, and the objects behind it.
+/// Both ends of a connection with first count 60,000, and the objects of the target.
 #[derive(Drop)]
 struct Ends {
     originator: Originator,
@@ -24,7 +24,7 @@ fn make_ends(alloc: Global) -> Result<Ends, Fail> {
 }
 
 impl Ends {
-    /// Submits a request, and sends it again: the n-th is executed once, and its reply accepted once.
+    /// Submits the n-th request and sends it twice. It is executed once, and its reply is accepted once.
     fn check(&mut self, rt: &impl Abort, n: u32) -> Result<(), Fail> {
         let item = self.originator.submit(&ADD_ONE)?;
         self.target.receive(&mut self.objects, item);
@@ -56,7 +56,7 @@ fn each_of_many_requests_is_executed_once(rt: HostRuntime) -> Result<(), Fail> {
     Ok(())
 }
 
-/// So many requests are submitted and given up.
+/// Submits `count` requests, and gives up each.
 fn abandon(rt: &impl Abort, originator: &mut Originator, count: u32) {
     for n in 0..count {
         let taken = originator.submit(&ADD_ONE).is_ok();
@@ -64,7 +64,7 @@ fn abandon(rt: &impl Abort, originator: &mut Originator, count: u32) {
     }
 }
 
-/// No request is taken, whatever it is.
+/// Asserts that every request is refused, since too many were given up.
 fn check_bound(rt: &impl Abort, originator: &mut Originator) {
     assert!(rt; originator.submit(&ADD_ONE).err() == Some(Refused::TooManyAbandoned));
     assert!(rt; originator.submit(&[0x32]).err() == Some(Refused::TooManyAbandoned));
@@ -74,11 +74,11 @@ fn check_bound(rt: &impl Abort, originator: &mut Originator) {
 fn requests_are_taken_up_to_the_bound(rt: HostRuntime) -> Result<(), Fail> {
     let mut originator = Originator::new(rt.alloc(), 1, 500, 500)?;
     abandon(&rt, &mut originator, 65_534);
-    // The 65,535th waits, with a count of its own: while it does, the bound is named first.
+    // the 65,535th has a count of its own; while it waits, the bound is the first reason to refuse another
     let item = originator.submit(&ADD_ONE)?;
     assert!(rt; item.starts_with(&[0xff, 0xff, 0x32]));
     check_bound(&rt, &mut originator);
-    // Its reply is accepted, and another 65,535 are taken.
+    // its reply is accepted, and another 65,535 requests can be submitted
     let came = originator.receive(b"\xff\xff\xb2\0\0\0");
     assert!(rt; matches!(came, Came::Accepted(_)));
     abandon(&rt, &mut originator, 65_535);
@@ -87,7 +87,7 @@ fn requests_are_taken_up_to_the_bound(rt: HostRuntime) -> Result<(), Fail> {
     Ok(())
 }
 
-/// An item with this count is dealt with so, and its count and the reply with this value are kept.
+/// Asserts what the target does with an item with this count. It keeps the count and the reply with this value.
 fn check_item(
     rt: &impl Abort,
     target: &mut Target,
@@ -110,7 +110,8 @@ fn check_item(
     assert!(rt; target.kept() == Some(wanted));
 }
 
-/// Count 7 is executed, all between are lost, and the request so many later is executed too, but for the 65,536th.
+/// Count 7 is executed and the next requests are lost. The request that is `later` counts later is executed too,
+/// unless it is the 65,536th.
 #[test]
 fn one_more_than_the_bound_would_get_the_old_reply(rt: HostRuntime) -> Result<(), Fail> {
     let mut objects = objects(rt.alloc())?;

@@ -5,39 +5,39 @@ use cip_class3::{Came, Originator, Refused, Stage};
 use std::process::Abort;
 use std::test::Fail;
 
-/// Each request is refused for the reason that stands behind it.
+/// Asserts that each request is refused for its reason.
 fn check_refusals(rt: &impl Abort, originator: &mut Originator, rows: &[(&[u8], Refused)]) {
     for (request, why) in rows {
         assert!(rt; originator.submit(request).err() == Some(*why));
     }
 }
 
-/// A request is sent whole, in an item that begins so.
+/// Asserts that a request is sent whole, in an item with this beginning.
 fn check_sent(rt: &impl Abort, originator: &mut Originator, request: &[u8], front: &[u8; 3]) {
     let sent = originator.submit(request).unwrap_or(&[]);
     assert!(rt; sent.starts_with(front));
     assert_eq!(rt; sent.len() - 2, request.len());
 }
 
-/// An item has the reply to the request that waited.
+/// Asserts that the item has the reply to the pending request.
 fn check_accepted(rt: &impl Abort, originator: &mut Originator, item: &[u8]) {
     let came = originator.receive(item);
     assert!(rt; matches!(came, Came::Accepted(_)));
 }
 
-/// The last request was given up, and none waits.
+/// Asserts that the last request was given up, and none is pending.
 fn check_given_up(rt: &impl Abort, originator: &mut Originator) {
     assert!(rt; originator.stage() == Stage::GivenUp);
     assert!(rt; originator.resend().is_none());
     assert!(rt; !originator.give_up());
 }
 
-/// No refused request takes a count, and count 0 comes after 65,535.
+/// A refused request uses no count, and count 0 follows 65,535.
 #[test]
 fn requests_are_refused_by_the_first_check_that_fails(rt: HostRuntime) -> Result<(), Fail> {
     let mut originator = Originator::new(rt.alloc(), 0xffff, 500, 500)?;
     let long = [0x0e; 499];
-    // A service with bit 7 is that of a reply.
+    // a service with bit 7 set is that of a reply
     let idle: [(&[u8], Refused); 3] = [
         (&long, Refused::TooLong),
         (&[0x32], Refused::NoRequest),
@@ -54,7 +54,7 @@ fn requests_are_refused_by_the_first_check_that_fails(rt: HostRuntime) -> Result
     Ok(())
 }
 
-/// The reply to a request that was given up is ignored, that to the one after it is accepted.
+/// The reply to a request that was given up is ignored. The reply to the next one is accepted.
 #[test]
 fn a_request_is_taken_after_giving_up(rt: HostRuntime) -> Result<(), Fail> {
     let mut originator = Originator::new(rt.alloc(), 0, 500, 500)?;
@@ -86,7 +86,7 @@ fn refusals_have_their_numbers(rt: HostRuntime) {
     }
 }
 
-/// Items that do not answer count 1 of service 0x32 where 12 bytes are the T->O size: five bytes, thirteen, another
+/// Items that do not answer service 0x32 with count 1 at a T->O size of 12 bytes: five bytes, thirteen bytes, another
 /// count, and another service.
 static IGNORED: [&[u8]; 4] = [
     b"\x01\0\xb2\0\0",
@@ -109,12 +109,12 @@ fn one_reply_is_accepted(rt: HostRuntime) -> Result<(), Fail> {
     let reply = *b"\x01\0\xb2\0\0\0\x05\0\0\0";
     assert!(rt; originator.receive(&reply) == Came::Accepted(&reply[2..]));
     assert!(rt; originator.stage() == Stage::Idle);
-    // A late double.
+    // a late duplicate
     assert!(rt; originator.receive(&reply) == Came::Ignored);
     Ok(())
 }
 
-/// Sizes of 4,002 bytes: the longest request is sent, and one byte more is refused.
+/// With sizes of 4,002 bytes, the longest request is sent, and one with a byte more is refused.
 #[test]
 fn the_greatest_sizes(rt: HostRuntime) -> Result<(), Fail> {
     let mut originator = Originator::new(rt.alloc(), 65_535, 4_002, 4_002)?;

@@ -1,13 +1,13 @@
-//! Objects whose counter tells how many requests were executed.
+//! Objects whose counter shows how many requests were executed.
 
 use cip_objects::{Config, CounterConfig, Objects};
 use std::alloc::Global;
 use std::test::Fail;
 
-/// Service 0x32 at class 0x64, instance 1, with the number 1: the reply to the n-th of them has the number n.
+/// Service 0x32 of class 0x64, instance 1, with the number 1. The reply to the n-th has the number n.
 pub const ADD_ONE: [u8; 10] = [0x32, 0x02, 0x20, 0x64, 0x24, 0x01, 0x01, 0x00, 0x00, 0x00];
 
-/// Objects of a device with no assembly, whose counter has no limit below the greatest number.
+/// Objects without an assembly. The limit of the counter is the greatest number.
 pub fn objects(alloc: Global) -> Result<Objects, Fail> {
     let config = Config {
         vendor: 0x1234,

@@ -1,4 +1,4 @@
-//! The earliest of several deadlines, also where a moment goes back.
+//! The earliest of several deadlines, also if a time is earlier than the one before.
 
 use super::counting::objects;
 use super::manager_openings::{DEVICE, check_id, is_answered, open};
@@ -7,12 +7,12 @@ use cip_objects::Objects;
 use std::process::Abort;
 use std::test::Fail;
 
-/// A call of the manager, at a moment.
+/// A call of the manager, with its time.
 #[derive(Clone, Copy)]
 enum Call {
     /// An item on the connection with an ID, which is answered.
     Receive(u64, u32),
-    /// The time-outs.
+    /// Ends the connections that have timed out.
     Expire(u64),
 }
 
@@ -25,7 +25,7 @@ fn make(rt: &impl Abort, manager: &mut Manager, objects: &mut Objects, call: Cal
     }
 }
 
-/// Opens three connections, whose deadlines are at 10, 11 and 12 seconds.
+/// Opens three connections with deadlines at 10, 11 and 12 seconds.
 fn open_three(rt: &impl Abort, manager: &mut Manager) {
     for (now, serial) in [(0, 1u16), (1_000_000, 2), (2_000_000, 3)] {
         let reply = open(manager, now, 1, serial);
@@ -33,14 +33,14 @@ fn open_three(rt: &impl Abort, manager: &mut Manager) {
     }
 }
 
-/// Calls, and how many of 16 places are free after each, and which deadline is the earliest then.
+/// Calls, with the number of free slots of 16 and the earliest deadline after each.
 static CALLS: [(Call, u16, Option<u64>); 11] = [
-    // An item moves the earliest deadline, that of the first connection, from 10 to 17 seconds.
+    // an item moves the earliest deadline, that of the first connection, from 10 to 17 seconds
     (Call::Receive(9_000_000, 1), 13, Some(11_000_000)),
     (Call::Expire(10_000_000), 13, Some(11_000_000)),
     (Call::Expire(10_999_999), 13, Some(11_000_000)),
     (Call::Expire(11_000_000), 14, Some(12_000_000)),
-    // An item at an earlier moment moves it back, from 17 to 11.5 seconds, before that of the third.
+    // an item at an earlier time moves it back, from 17 to 11.5 seconds, before that of the third
     (Call::Receive(3_500_000, 1), 14, Some(11_500_000)),
     (Call::Expire(11_499_999), 14, Some(11_500_000)),
     (Call::Expire(11_500_000), 15, Some(12_000_000)),

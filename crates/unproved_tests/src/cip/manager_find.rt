@@ -10,10 +10,10 @@ use std::alloc::AllocError;
 use std::process::Abort;
 use std::test::Fail;
 
-/// How many connections can be open.
+/// The number of connections that can be open.
 const PLACES: u16 = 64;
 
-/// Whether the manager finds the ID, in at most so many steps.
+/// Whether the manager finds the ID. Asserts that it takes at most `most` steps.
 fn is_found(rt: &impl Abort, manager: &Manager, id: u32, most: u64) -> bool {
     let mut steps = Steps::default();
     let found = manager.find(id, &mut steps);
@@ -48,7 +48,7 @@ fn an_id_is_found_in_six_steps(rt: HostRuntime) -> Result<(), Fail> {
     Ok(())
 }
 
-/// A connection of the plain list.
+/// A connection in the plain list.
 #[derive(Clone, Copy)]
 struct Open {
     id: u32,
@@ -57,7 +57,7 @@ struct Open {
     deadline: u64,
 }
 
-/// A manager, and a plain list of what is to be open.
+/// A manager, and a plain list of the connections that must be open.
 #[derive(Drop)]
 struct Beside {
     manager: Manager,
@@ -120,7 +120,7 @@ impl Beside {
         self.list.retain(|open| now < open.deadline);
     }
 
-    /// An item on a connection, where the session has it, moves its deadline.
+    /// An item on a connection of this session moves its deadline.
     fn receive(&mut self, rt: &impl Abort, session: u32, id: u32) {
         let answered = is_answered(&mut self.manager, &mut self.objects, self.now, session, id);
         let mut is_open = false;
@@ -140,7 +140,7 @@ impl Beside {
         assert!(rt; usize::from(self.manager.free()) + self.list.len() == usize::from(PLACES));
     }
 
-    /// A call that is drawn from the seed, with its numbers.
+    /// Makes a call that the seed determines.
     fn call(&mut self, rt: &impl Abort, seed: &mut u64) -> Result<(), AllocError> {
         let kind = drawn(seed, 8);
         let session = drawn(seed, 2);
@@ -157,7 +157,7 @@ impl Beside {
     }
 }
 
-/// The next number that is drawn from the seed, below a bound.
+/// The next pseudorandom number below a bound.
 fn drawn(seed: &mut u64, bound: u32) -> u32
     requires { 0 < bound }
     ensures { result < bound }
@@ -181,7 +181,7 @@ fn a_thousand_calls_beside_a_plain_list(rt: HostRuntime) -> Result<(), Fail> {
     for _ in 0..1000 {
         beside.call(&rt, &mut seed)?;
     }
-    // So many were opened that places came again.
+    // so many were opened that slots were used again
     assert!(rt; beside.next_id > 100);
     Ok(())
 }

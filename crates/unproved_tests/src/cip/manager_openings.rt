@@ -15,7 +15,7 @@ pub const DEVICE: Device = Device {
     minor: 5,
 };
 
-/// An item under count 1: Get_Attributes_All of Identity.
+/// An item with count 1: Get_Attributes_All of Identity.
 const ITEM: [u8; 8] = [0x01, 0x00, 0x01, 0x02, 0x20, 0x01, 0x24, 0x01];
 
 /// The reply to a Forward_Open with this connection serial: T->O ID 0x11223344, vendor 0x42, originator serial
@@ -30,7 +30,7 @@ pub fn open(manager: &mut Manager, now: u64, session: u32, serial: u16) -> Reply
     reply
 }
 
-/// The reply to a Forward_Close of it.
+/// The reply to a Forward_Close of that connection.
 pub fn close(manager: &mut Manager, session: u32, serial: u16) -> ReplyBuf {
     let mut data = *b"\x0a\x0e\0\0\x42\0\x78\x56\x34\x12\x02\0\x20\x02\x24\x01";
     data[2..4].copy_from_slice(&serial.to_le_bytes());
@@ -39,7 +39,7 @@ pub fn close(manager: &mut Manager, session: u32, serial: u16) -> ReplyBuf {
     reply
 }
 
-/// The reply opens a connection, whose O->T ID is this.
+/// Asserts that the reply opens a connection with this O->T ID.
 pub fn check_id(rt: &impl Abort, reply: &ReplyBuf, id: u32) {
     let [a, b, c, d] = id.to_le_bytes();
     assert!(rt;
@@ -50,7 +50,7 @@ pub fn check_id(rt: &impl Abort, reply: &ReplyBuf, id: u32) {
     assert!(rt; reply.len() == 30);
 }
 
-/// Whether an item on the connection that a session has with this ID is answered.
+/// Whether an item of a session on the connection with this ID is answered.
 pub fn is_answered(
     manager: &mut Manager,
     objects: &mut Objects,

@@ -1,4 +1,4 @@
-//! What is written, what has no whole words, and fields that no command prints.
+//! Encoding, odd lengths, and fields that no command prints.
 
 ghost use Rattle.std.specs.Prelude.{◌≡◌};
 
@@ -34,7 +34,7 @@ const EVERY_PART: Path = Path {
 /// The path of the Connection Manager.
 const MANAGER: [u8; 4] = [0x20, 2, 0x24, 1];
 
-/// A path in a request has whole words, so these are not found there.
+/// Paths with an odd number of bytes. A request cannot have one, since its path size is in words.
 #[test]
 fn odd_paths(rt: HostRuntime) {
     let rows: [(&[u8], PathFault); 3] = [
@@ -99,7 +99,7 @@ fn reply_written(rt: HostRuntime) {
     assert_eq!(rt; write_reply(&mut out, 0x54, 1, &[], &[]), Err(Full));
 }
 
-/// What has bit 7 clear is shown as a request, so this fault is not.
+/// `enip show` never prints this fault, since it takes a message with bit 7 clear for a request.
 #[test]
 fn no_reply(rt: HostRuntime) {
     assert!(rt; matches!(ReplyView::read(&[0x0e, 0, 0, 0]), Err(ReplyFault::NotReply)));
@@ -135,7 +135,7 @@ fn keys_written(rt: HostRuntime) {
     }
 }
 
-/// A key in a request has whole words.
+/// A key with an odd number of bytes. A request cannot have one.
 #[test]
 fn odd_key(rt: HostRuntime) {
     assert_eq!(rt; read_key(&[0x34, 4, 0, 0, 0, 0, 0, 0, 0]), None);
@@ -177,7 +177,7 @@ fn open_with<P>(o_to_t_parameters: P, t_to_o_parameters: P, path: &[u8]) -> Open
     }
 }
 
-/// The fields of an open that the device does not look at.
+/// The fields of an open that the device ignores.
 #[test]
 fn open_read(rt: HostRuntime) -> Result<(), Fail> {
     let open = OpenRequest::read(&OPEN).ok().ok_or("no open request")?;
@@ -212,7 +212,7 @@ fn large_open_read(rt: HostRuntime) -> Result<(), Fail> {
     Ok(())
 }
 
-/// The same of a close.
+/// The fields of a close that the device ignores.
 #[test]
 fn close_read(rt: HostRuntime) -> Result<(), Fail> {
     let close = CloseRequest::read(&CLOSE).ok().ok_or("no close request")?;
@@ -267,7 +267,8 @@ fn close_written(rt: HostRuntime) {
     assert_eq!(rt; out.as_slice(), CLOSE.as_slice());
 }
 
-/// Type and size of parameters, by their bits 30 and 29, and 15 to 0; of another type the device shows no size.
+/// Connection type and size, in bits 30 and 29, and in bits 15 to 0. The device does not show the size of other
+/// types.
 #[test]
 fn large_parameters(rt: HostRuntime) {
     let rows = [

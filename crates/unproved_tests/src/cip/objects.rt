@@ -4,7 +4,7 @@ use cip_objects::{Config, ConfigFault, CounterConfig, Objects};
 use std::alloc::Global;
 use std::test::Fail;
 
-/// A device with the name "Demo", and no assembly.
+/// A device with the name "Demo" and no assembly.
 fn demo(alloc: Global) -> Result<Config, Fail> {
     Ok(Config {
         vendor: 0x1234,

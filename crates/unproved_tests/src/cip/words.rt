@@ -1,5 +1,5 @@
-//! The words of commands, services and statuses, which no contract tells. (Volume 2, encapsulation; Volume 1, Connection
-//! Manager, general and extended status codes.)
+//! The names of commands, services and statuses, which have no contract. (Volume 2, encapsulation; Volume 1,
+//! Connection Manager, general and extended status codes.)
 
 use arrayvec::ArrayString;
 use cip_bytes::protocol::{

@@ -1,4 +1,4 @@
-//! Exchanges over devices that fail, in writes of one byte, and with requests that no command makes.
+//! Exchanges over readers and writers that fail, in writes of one byte, and with requests that no command makes.
 
 ghost use Rattle.std.specs.Prelude.{None};
 
@@ -14,7 +14,7 @@ use test_fixtures::client::{
     REPLY_OF_5, StartState, UNREGISTER, VENDOR, client_at, joined, made,
 };
 
-/// A reader at its end, with the reads that it has counted.
+/// A reader at its end, with a count of its reads.
 #[derive(Drop)]
 struct Counted {
     reads: u64,
@@ -47,8 +47,8 @@ impl Source for Counted {
     }
 }
 
-/// An exchange over memory: where the client stands, what comes, how many bytes a read or a write has and after how many
-/// it fails, what is asked, what is told, and how many bytes of the frames are sent.
+/// An exchange over memory: the state of the client, the frames that come, the greatest size of a read or a write and
+/// after how many it fails, the request, the result, and how many bytes of the frames are sent.
 struct Exchange<'a> {
     name: &'static str,
     start: StartState,
@@ -65,9 +65,9 @@ struct Exchange<'a> {
     count: usize,
 }
 
-/// An exchange in which no device fails.
+/// An exchange in which nothing fails.
 const WELL: Exchange<'static> = Exchange {
-    name: "no device fails",
+    name: "nothing fails",
     start: StartState::New,
     heard: &[REGISTERED, GOT],
     largest_read: 4_096,
@@ -82,7 +82,7 @@ const WELL: Exchange<'static> = Exchange {
     count: 100,
 };
 
-/// A request with bit 7 of its service.
+/// A request whose service has bit 7 set.
 const NO_REQUEST: &[u8] = b"\xb2\x02\x20\x64\x24\x01";
 
 static EXCHANGES: [Exchange<'static>; 10] = [
@@ -175,13 +175,13 @@ static EXCHANGES: [Exchange<'static>; 10] = [
     },
 ];
 
-/// What the exchange replies and sends.
+/// Asserts the reply, and what was sent.
 fn check_texts<A: Abort>(rt: &A, row: &Exchange<'_>, reply: &[u8], written: &[u8], sent: &[u8]) {
     assert_eq!(rt; reply, row.reply, "{}", row.name);
     assert_eq!(rt; Some(written), sent.get(..row.count), "{}", row.name);
 }
 
-/// Asks over any devices. Its contract says nothing, so that whoever calls it carries no state on.
+/// Sends the request of a row over any reader and writer.
 fn asked<A: Abort, R: Source, W: Sink>(
     rt: &A,
     client: &mut Client,
@@ -194,7 +194,7 @@ fn asked<A: Abort, R: Source, W: Sink>(
     ask(client, reader, writer, row.request, row.connected, reply)
 }
 
-/// The exchange tells, replies and sends what the row says.
+/// Makes the exchange of a row, and asserts its result, its reply and what was sent.
 fn check_devices<A: Abort>(
     rt: &A,
     client: &mut Client,

@@ -1,4 +1,4 @@
-//! The caller that the first page of `enip_client` shows, at a device. `tests/rules` compares the two texts.
+//! The example in the documentation of `enip_client`, with a device. `tests/rules` compares the two texts.
 
 use enip_adapter::{Adapter, Peer};
 use enip_client::{Client, ClientFault, Heard, Hearing};
@@ -6,7 +6,7 @@ use std::test::Fail;
 use test_fixtures::adapter::adapter_with_peer;
 use test_fixtures::client::made;
 
-/// The other end of the stream: a device, and what it has sent.
+/// The other end of the stream: a device, and the bytes that it has sent.
 #[derive(Drop)]
 struct Device {
     adapter: Adapter,
@@ -23,7 +23,7 @@ impl Device {
         }
     }
 
-    /// Gives what was sent, to the front of this room.
+    /// Copies what was sent into the buffer.
     fn receive(&mut self, room: &mut [u8]) -> usize {
         let size = self.sent.len().min(room.len());
         room[..size].copy_from_slice(&self.sent[..size]);
@@ -32,7 +32,7 @@ impl Device {
     }
 }
 
-/// Registers a session, asks for the vendor (class 1, instance 1, attribute 1), and unregisters.
+/// Registers a session, requests the vendor (class 1, instance 1, attribute 1), and unregisters.
 fn ask_vendor(client: &mut Client, device: &mut Device) -> Result<Option<u16>, ClientFault> {
     let mut vendor = None;
     let mut room = [0; 600];

@@ -1,4 +1,4 @@
-//! Calls of a client in orders that no command makes, and what it answers.
+//! Calls of a client in orders that no command makes, and their results.
 
 use cip_class3::{Refused, Stage};
 use enip_client::{Client, ClientFault, Heard, Hearing, SubmitFault};
@@ -10,7 +10,7 @@ use test_fixtures::client::{
     REGISTER, REGISTERED, REPLY_OF_5, StartState, UNREGISTER, client_at, hear, opened, with_bytes,
 };
 
-/// A call, and what it answers.
+/// A call and its result.
 #[derive(Clone, Copy)]
 enum Step<'a> {
     Register(Result<&'a [u8], ClientFault>),
@@ -21,15 +21,15 @@ enum Step<'a> {
     GiveUp(bool),
     Close(Result<&'a [u8], ClientFault>),
     Unregister(Result<&'a [u8], ClientFault>),
-    /// What is heard of a piece.
+    /// Feeds a piece, of which this is heard.
     Feed(&'a [u8], Heard<'a>),
-    /// How many bytes of a piece are taken, and what is heard of it.
+    /// The same, and this many bytes are taken.
     Take(&'a [u8], usize, Heard<'a>),
     Stage(Option<Stage>),
     Fault(Option<ClientFault>),
 }
 
-/// Makes the call of a list, and compares what it answers.
+/// Makes a call, and compares its result.
 fn check_step<A: Abort>(rt: &A, client: &mut Client, name: &str, position: usize, step: Step<'_>) {
     match step {
         Step::Register(expected) => assert_eq!(rt;
@@ -50,7 +50,7 @@ fn check_step<A: Abort>(rt: &A, client: &mut Client, name: &str, position: usize
     }
 }
 
-/// The same of a request.
+/// The same for a request.
 fn check_request<A: Abort>(
     rt: &A,
     client: &mut Client,
@@ -71,7 +71,7 @@ fn check_request<A: Abort>(
     }
 }
 
-/// What was heard of a piece, and how many bytes of it were taken.
+/// Asserts what was heard of a piece, and how many bytes were taken.
 fn check_heard<A: Abort>(
     rt: &A,
     name: &str,
@@ -85,7 +85,7 @@ fn check_heard<A: Abort>(
     assert_eq!(rt; hearing.heard, expected, "{name}, {position}");
 }
 
-/// The same of a piece that is heard.
+/// The same for `Feed` and `Take`.
 fn check_hearing<A: Abort>(
     rt: &A,
     client: &mut Client,
@@ -101,7 +101,7 @@ fn check_hearing<A: Abort>(
     check_heard(rt, name, position, hear(client, piece), taken, expected);
 }
 
-/// Makes these calls in turn, and compares what each answers.
+/// Makes these calls in turn, and compares their results.
 fn check<A: Abort>(rt: &A, client: &mut Client, name: &str, steps: &[Step<'_>]) {
     for (position, step) in steps.iter().enumerate() {
         check_step(rt, client, name, position, *step);
@@ -128,7 +128,7 @@ const WHOLE: [Step<'static>; 17] = [
     Step::Fault(None),
 ];
 
-/// Before the session there is nothing else.
+/// Without a session, only `register` is possible.
 const NOT_REGISTERED: [Step<'static>; 7] = [
     Step::Open(Err(ClientFault::State)),
     Step::Ask(&[], Err(ClientFault::State)),
@@ -139,7 +139,7 @@ const NOT_REGISTERED: [Step<'static>; 7] = [
     Step::GiveUp(false),
 ];
 
-/// Nor while its reply is awaited.
+/// While the session is awaited, nothing is possible.
 const REGISTERS_ONCE: [Step<'static>; 11] = [
     Step::Open(Err(ClientFault::State)),
     Step::Ask(&[], Err(ClientFault::State)),
@@ -154,7 +154,7 @@ const REGISTERS_ONCE: [Step<'static>; 11] = [
     Step::Fault(None),
 ];
 
-/// While a reply is awaited the connection goes on, and nothing else does.
+/// While a reply is awaited, only requests on the connection are possible.
 const WHILE_AWAITED: [Step<'static>; 8] = [
     Step::Open(Err(ClientFault::State)),
     Step::Ask(GET, Ok(GET_SENT_THIRD)),
@@ -178,13 +178,13 @@ const AFTER_THE_END: [Step<'static>; 8] = [
     Step::Unregister(Err(ClientFault::State)),
 ];
 
-/// Unconnected requests have 2 bytes at least, and no bit 7.
+/// An unconnected request has at least 2 bytes, and bit 7 of the first one is clear.
 const NO_REQUESTS: [Step<'static>; 2] = [
     Step::Ask(b"\x0e", Err(ClientFault::Request)),
     Step::Ask(b"\x80\0", Err(ClientFault::Request)),
 ];
 
-/// A late reply is not accepted after giving up, and the next request has the next count.
+/// After giving up, a late reply is not accepted, and the next request has the next count.
 const GIVING_UP: [Step<'static>; 12] = [
     Step::GiveUp(false),
     Step::Submit(ADD, Ok(ADD_SENT)),
@@ -200,11 +200,11 @@ const GIVING_UP: [Step<'static>; 12] = [
     Step::Close(Ok(CLOSE)),
 ];
 
-/// General status 0x01 with extended status 0x0113, in the reply to an open.
+/// A reply to an open with general status 0x01 and extended status 0x0113.
 const REFUSED: &[u8] = b"\x6f\0\x20\0\x01\0\0\0\0\0\0\0\x02\0\0\0\0\0\0\0\0\0\0\0\
     \0\0\0\0\0\0\x02\0\0\0\0\0\xb2\0\x10\0\xd4\0\x01\x01\x13\x01\x01\0\x42\0\x78\x56\x34\x12\0\0";
 
-/// The open once more, with context 3, and a reply with no additional word.
+/// The open again with context 3, and a reply without an additional word.
 const OPEN_AGAIN: &[u8] = b"\x6f\0\x3e\0\x01\0\0\0\0\0\0\0\x03\0\0\0\0\0\0\0\0\0\0\0\
     \0\0\0\0\0\0\x02\0\0\0\0\0\xb2\0\x2e\0\
     \x54\x02\x20\x06\x24\x01\x0a\x0e\0\0\0\0\x44\x33\x22\x11\x01\0\x42\0\x78\x56\x34\x12\0\0\0\0\
@@ -213,7 +213,7 @@ const OPEN_AGAIN: &[u8] = b"\x6f\0\x3e\0\x01\0\0\0\0\0\0\0\x03\0\0\0\0\0\0\0\0\0
 const REFUSED_AGAIN: &[u8] = b"\x6f\0\x14\0\x01\0\0\0\0\0\0\0\x03\0\0\0\0\0\0\0\0\0\0\0\
     \0\0\0\0\0\0\x02\0\0\0\0\0\xb2\0\x04\0\xd4\0\x08\0";
 
-/// An open that is refused can be asked for again; the frames count on.
+/// After a refused open, the client can open again. The contexts go on.
 const REFUSED_OPEN: [Step<'static>; 5] = [
     Step::Open(Ok(OPEN)),
     Step::Feed(REFUSED, Heard::Refused(1, 0x0113)),
@@ -225,7 +225,7 @@ const REFUSED_OPEN: [Step<'static>; 5] = [
 const CLOSE_REFUSED: &[u8] = b"\x6f\0\x20\0\x01\0\0\0\0\0\0\0\x03\0\0\0\0\0\0\0\0\0\0\0\
     \0\0\0\0\0\0\x02\0\0\0\0\0\xb2\0\x10\0\xce\0\x01\x01\x07\x01\x01\0\x42\0\x78\x56\x34\x12\0\0";
 
-/// A close that is refused: the connection is over all the same.
+/// After a refused close, the connection is closed all the same.
 const REFUSED_CLOSE: [Step<'static>; 4] = [
     Step::Close(Ok(CLOSE)),
     Step::Feed(CLOSE_REFUSED, Heard::Refused(1, 0x0107)),
@@ -233,7 +233,7 @@ const REFUSED_CLOSE: [Step<'static>; 4] = [
     Step::Submit(ADD, Err(SubmitFault::Client(ClientFault::State))),
 ];
 
-/// Where a client stands, and calls that follow.
+/// The state of a client, and the calls that follow.
 struct Calls<'a> {
     name: &'static str,
     start: StartState,
@@ -303,7 +303,7 @@ const AT_THE_BOUND: [Step<'static>; 3] = [
     Step::Close(Ok(CLOSE)),
 ];
 
-/// 65,535 requests that were given up, and one more is refused. The connection still closes.
+/// After 65,535 requests that were given up, another is refused. The connection can still be closed.
 #[test]
 fn giving_up_to_the_bound(rt: HostRuntime) -> Result<(), Fail> {
     let mut client = opened(rt.alloc())?;
@@ -315,16 +315,16 @@ fn giving_up_to_the_bound(rt: HostRuntime) -> Result<(), Fail> {
     Ok(())
 }
 
-/// 5 bytes of data in place of 4.
+/// A RegisterSession reply with 5 bytes of data instead of 4.
 const LONGER_REGISTERED: &[u8] =
     b"\x65\0\x05\0\x01\0\0\0\0\0\0\0\x01\0\0\0\0\0\0\0\0\0\0\0\x01\0\0\0\0";
 
-/// An open that succeeded with 25 bytes of data in place of 26: one less of frame, item and text.
+/// A success reply to an open with 25 bytes of data instead of 26. The lengths of frame and item agree.
 const SHORTER_OPENED: &[u8] = b"\x6f\0\x2d\0\x01\0\0\0\0\0\0\0\x02\0\0\0\0\0\0\0\0\0\0\0\
     \0\0\0\0\0\0\x02\0\0\0\0\0\xb2\0\x1d\0\xd4\0\0\0\x01\0\0\0\x44\x33\x22\x11\
     \x01\0\x42\0\x78\x56\x34\x12\x80\x84\x1e\0\x80\x84\x1e\0\0";
 
-/// Where a client stands, a frame that comes then with other bytes at some places, and the fault that lasts.
+/// The state of a client, the frame that comes, with some bytes replaced, and the fault that lasts.
 struct IsBodyFault<'a> {
     start: StartState,
     frame: &'a [u8],
@@ -333,7 +333,7 @@ struct IsBodyFault<'a> {
 }
 
 static FAULTY: [IsBodyFault<'static>; 9] = [
-    // a status in each reply that is awaited
+    // a status, in each reply that can be awaited
     IsBodyFault {
         start: StartState::AwaitsSession,
         frame: REGISTERED,
@@ -358,14 +358,14 @@ static FAULTY: [IsBodyFault<'static>; 9] = [
         changes: &[(8, 1)],
         fault: ClientFault::Status(1),
     },
-    // a header whose length is over 65,511
+    // a header with a length over 65,511
     IsBodyFault {
         start: StartState::Opened,
         frame: UNREGISTER,
         changes: &[(2, 0xe8), (3, 0xff)],
         fault: ClientFault::TooLong,
     },
-    // another shape
+    // malformed
     IsBodyFault {
         start: StartState::AwaitsSession,
         frame: LONGER_REGISTERED,
@@ -392,7 +392,7 @@ static FAULTY: [IsBodyFault<'static>; 9] = [
     },
 ];
 
-/// What is answered where a fault lasts: the same, whatever the call, and no byte is taken.
+/// Asserts that a fault lasts: every call returns it, and no byte is taken.
 fn lasts<A: Abort>(rt: &A, client: &mut Client, fault: ClientFault) {
     let steps = [
         Step::Fault(Some(fault)),
@@ -410,7 +410,7 @@ fn lasts<A: Abort>(rt: &A, client: &mut Client, fault: ClientFault) {
     check(rt, client, "a fault lasts", &steps);
 }
 
-/// The frame has the fault, which lasts. Of a header that is too long 24 bytes are taken.
+/// Asserts that the frame causes the fault, which lasts. All bytes of the frame are taken.
 fn check_faulty<A: Abort>(rt: &A, alloc: Global, row: &IsBodyFault<'_>) -> Result<(), Fail> {
     let changed = with_bytes(alloc, row.frame, row.changes)?;
     let mut client = client_at(alloc, row.start)?;

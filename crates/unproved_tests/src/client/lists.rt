@@ -1,4 +1,4 @@
-//! Lists that a device gives of itself: each field, each refusal, and exchanges over devices that fail.
+//! The lists of a device: each field, each refusal, and exchanges over readers and writers that fail.
 
 ghost use Rattle.std.specs.Prelude.{None};
 
@@ -16,7 +16,7 @@ const LIST_IDENTITY: &[u8] = b"\x63\0\0\0\0\0\0\0\0\0\0\0\0\0\0\0\0\0\0\0\0\0\0\
 
 const LIST_SERVICES: &[u8] = b"\x04\0\0\0\0\0\0\0\0\0\0\0\0\0\0\0\0\0\0\0\0\0\0\0";
 
-/// What one device says, in each field another value.
+/// An identity with a different value in each field.
 const PRESS: IdentityView<'static> = IdentityView {
     version: 1,
     family: 2,
@@ -33,7 +33,7 @@ const PRESS: IdentityView<'static> = IdentityView {
     state: 3,
 };
 
-/// Its item, and its answer.
+/// Its item and its answer.
 const PRESS_ITEM: &[u8] = b"\x0c\0\x27\0\x01\0\0\x02\xaf\x12\xc0\xa8\x01\x14\0\0\0\0\0\0\0\0\
     \x34\x12\x2b\0\x06\x05\x07\x08\x30\x09\x04\x03\x02\x01\x05Press\x03";
 
@@ -47,7 +47,7 @@ const COMMUNICATIONS: ServiceView<'static> = ServiceView {
     name: b"Communications",
 };
 
-/// An answer: its command, status and context, the bytes of its data, and what is read.
+/// An answer: command, status, context and data, and what is read from it.
 struct Answer<'a> {
     name: &'static str,
     command: ListCommand,
@@ -82,7 +82,7 @@ const SERVICES: Answer<'static> = Answer {
     ..IDENTITY
 };
 
-/// What is read of ListIdentity.
+/// Answers to ListIdentity.
 static IDENTITIES: [Answer<'static>; 6] = [
     IDENTITY,
     Answer {
@@ -134,7 +134,7 @@ static IDENTITIES: [Answer<'static>; 6] = [
     },
 ];
 
-/// What is read of ListServices.
+/// Answers to ListServices.
 static SERVICES_READ: [Answer<'static>; 5] = [
     SERVICES,
     Answer {
@@ -175,7 +175,7 @@ static SERVICES_READ: [Answer<'static>; 5] = [
     },
 ];
 
-/// What is refused.
+/// Answers that are refused.
 static REFUSED: [Answer<'static>; 20] = [
     Answer {
         name: "the state is missing",
@@ -330,7 +330,7 @@ fn bytes_of(alloc: Global, answer: &Answer<'_>) -> Result<Vec<u8>, Fail> {
     Ok(bytes)
 }
 
-/// These entries are read, one after the other, and then none.
+/// Asserts that exactly these entries are read.
 fn check_entries<A: Abort>(
     rt: &A,
     name: &str,
@@ -372,7 +372,7 @@ fn answers_of_another_shape(rt: HostRuntime) -> Result<(), Fail> {
     Ok(())
 }
 
-/// Each front of an answer is none, nor is an answer and a byte.
+/// A truncated answer is malformed, and so is an answer with a byte more.
 #[test]
 fn bytes_that_are_not_one_frame(rt: HostRuntime) -> Result<(), Fail> {
     for size in 0..PRESS_ANSWER.len() {
@@ -404,7 +404,7 @@ fn requests_in_place_of_what_was_there(rt: HostRuntime) {
     assert_eq!(rt; sent_for(ListCommand::Services).as_slice(), LIST_SERVICES);
 }
 
-/// A reader at its end, with the reads that it has counted.
+/// A reader at its end, with a count of its reads.
 #[derive(Drop)]
 struct Counted {
     reads: u64,
@@ -437,8 +437,9 @@ impl Source for Counted {
     }
 }
 
-/// An exchange over memory: what comes, how many bytes a read has and after how many it fails, after how many writes of
-/// 10 bytes the writer fails, what is told, how many bytes of the request are sent, and how many reads are made.
+/// An exchange over memory: the bytes that come, the greatest size of a read and after how many it fails, after how
+/// many writes of 10 bytes the writer fails, the result, how many bytes of the request are sent, and how many reads
+/// are made.
 struct Exchange<'a> {
     name: &'static str,
     heard: &'a [u8],
@@ -451,7 +452,7 @@ struct Exchange<'a> {
 }
 
 const WELL: Exchange<'static> = Exchange {
-    name: "no device fails",
+    name: "nothing fails",
     heard: PRESS_ANSWER,
     largest_read: 4_096,
     reads: u64::MAX,
@@ -516,14 +517,14 @@ static EXCHANGES: [Exchange<'static>; 10] = [
         ..WELL
     },
     Exchange {
-        name: "the first frame is no answer",
+        name: "the first frame is not an answer",
         heard: b"\x65\0\0\0\0\0\0\0\0\0\0\0\0\0\0\0\0\0\0\0\0\0\0\0\x63\0\x02\0",
         expected: Err(AskFault::Client(ClientFault::Malformed)),
         ..WELL
     },
 ];
 
-/// Asks over any devices. Its contract says nothing, so that whoever calls it carries no state on.
+/// Asks for the list over any reader and writer.
 fn asked<A: Abort, R: Source, W: Sink>(
     rt: &A,
     frames: &mut FrameReader,
@@ -539,7 +540,7 @@ fn check_exchange<A: Abort>(rt: &A, alloc: Global, row: &Exchange<'_>) -> Result
     assert!(rt; 0 < row.largest_read);
     let mut room = [0; 400];
     let mut frames = FrameReader::new(alloc)?;
-    // what a reader held before is dropped
+    // what the frame reader held before is dropped
     frames.push(b"\x65\0\x04\0");
     let mut reader = MemorySource::new(row.heard, &[])
         .with_largest_size(row.largest_read)

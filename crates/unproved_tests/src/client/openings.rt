@@ -1,4 +1,4 @@
-//! Which opening a client sends by the sizes that it wants, and what it makes of the answers to a large one.
+//! Which opening a client sends for which sizes, and how it takes the answers to a large one.
 
 use enip_client::{Client, ClientFault, Heard, Wants};
 use std::alloc::Global;
@@ -6,8 +6,8 @@ use std::process::Abort;
 use std::test::Fail;
 use test_fixtures::client::{REGISTERED, WANTS, hear, joined};
 
-/// The sizes from originator to target and from target to originator, and how the opening says them behind the three
-/// numbers that name the connection: service, and the bytes from the multiplier to the transport.
+/// The O->T and T->O sizes, and the opening that has them: its service, and its bytes from the multiplier to the
+/// transport.
 static SIZES: [(u16, u16, u8, &[u8]); 6] = [
     (
         4,
@@ -47,20 +47,21 @@ static SIZES: [(u16, u16, u8, &[u8]); 6] = [
     ),
 ];
 
-/// What stands between the service of an opening and its multiplier.
+/// The bytes of an opening between its service and its multiplier.
 const NAMED: &[u8] =
     b"\x02\x20\x06\x24\x01\x0a\x0e\0\0\0\0\x44\x33\x22\x11\x01\0\x42\0\x78\x56\x34\x12";
 
-/// The path of the message router, in words and bytes.
+/// The path of the message router, with its size in words.
 const ROUTER: &[u8] = b"\x02\x20\x02\x24\x01";
 
-/// What stands around the lengths of a SendRRData frame of session 1 and context 2, and in front of its message.
+/// The bytes of a SendRRData frame in session 1 with context 2, before and after the first length, up to the second
+/// one.
 const COMMAND: &[u8] = b"\x6f\0";
 
 const BEHIND_LENGTH: &[u8] = b"\x01\0\0\0\0\0\0\0\x02\0\0\0\0\0\0\0\0\0\0\0\
     \0\0\0\0\0\0\x02\0\0\0\0\0\xb2\0";
 
-/// The frame with this message.
+/// A frame with this message.
 fn frame(alloc: Global, message: &[u8]) -> Result<Vec<u8>, Fail> {
     let length = u16::try_from(message.len()).ok().ok_or("a message")?;
     let whole = length.saturating_add(16).to_le_bytes();
@@ -74,7 +75,7 @@ fn frame(alloc: Global, message: &[u8]) -> Result<Vec<u8>, Fail> {
     joined(alloc, &texts)
 }
 
-/// The frame with the opening of this service and these parameters.
+/// A frame with the opening with this service and these parameters.
 fn opening(alloc: Global, service: u8, parameters: &[u8]) -> Result<Vec<u8>, Fail> {
     let texts: [&[u8]; 4] = [&[service], NAMED, parameters, ROUTER];
     let message = joined(alloc, &texts)?;
@@ -113,8 +114,8 @@ fn openings_by_size(rt: HostRuntime) -> Result<(), Fail> {
     Ok(())
 }
 
-/// Opened by 0xdb with 26 bytes, refused with 8, which is told and not tried again, refused with an extended status;
-/// and no reply to a large opening is one to a small opening, or one that is too short.
+/// Answers to a large opening: success; status 8, which is reported, and the client does not try again; an extended
+/// status. The reply to a small opening is malformed, and so is one that is too short.
 static ANSWERS: [(&[u8], Heard<'static>, Option<ClientFault>); 5] = [
     (
         b"\xdb\0\0\0\x01\0\0\0\x44\x33\x22\x11\x01\0\x42\0\x78\x56\x34\x12\x80\x84\x1e\0\x80\x84\x1e\0\0\0",

@@ -1,4 +1,4 @@
-//! `answer` over readers and writers that fail or cut, and over long lines.
+//! `answer` over readers and writers that fail or return pieces, and over long lines.
 
 use super::demo::demo_adapter;
 use super::streams::{
@@ -10,12 +10,12 @@ use std::cell::Cell;
 use std::io::{Read, Write};
 use std::test::Fail;
 
-/// RegisterSession, and its answer.
+/// A RegisterSession and its answer.
 const REGISTER: &str = "1 6500 0400 00000000 00000000 0102030405060708 00000000 01000000\n";
 
 const REGISTERED: &str = "1 65000400010000000000000001020304050607080000000001000000\n";
 
-/// Runs `answer` with the demo device, and says why it ended early, if it did.
+/// Runs `answer` with the demo device. Returns why it ended early, if it did.
 fn ending<R: Read + Drop, W: Write + Drop>(
     alloc: Global,
     input: R,
@@ -25,7 +25,7 @@ fn ending<R: Read + Drop, W: Write + Drop>(
     Ok(answer(alloc, adapter, input, output).err())
 }
 
-/// The same over a text, and what was printed.
+/// The same over a text. Also returns what was printed.
 fn run(alloc: Global, input: &str) -> Result<(Option<ProgramFault>, Vec<u8>), Fail> {
     let mut output = Vec::new(alloc);
     let ended = ending(alloc, input.as_bytes(), &mut output)?;
@@ -99,7 +99,7 @@ fn twenty_frames_in_a_line(rt: HostRuntime) -> Result<(), Fail> {
     let mut input = String::from_str(alloc, "1 ")?;
     let mut output = String::new(alloc);
     for number in 0..20u8 {
-        // A command that no adapter has is answered with status 1.
+        // an unknown command is answered with status 1
         let frame = format!(in alloc; "67000000 05000000 00000000 {number:016x} 00000000")?;
         input.push_str(frame.as_str())?;
         let answered = format!(in alloc; "1 670000000500000001000000{number:016x}00000000\n")?;
@@ -113,7 +113,7 @@ fn twenty_frames_in_a_line(rt: HostRuntime) -> Result<(), Fail> {
 
 #[test]
 fn megabytes_of_long_lines(rt: HostRuntime) -> Result<(), Fail> {
-    // The longest NOP, over two chunks of input, between lines that are answered, and a refused line at the end.
+    // the longest NOP, which takes two chunks of input, between lines that are answered; a refused line is the last
     let mut input = String::from_str(rt.alloc(), REGISTER)?;
     let mut nop = String::from_str(
         rt.alloc(),
@@ -142,7 +142,7 @@ fn lines_over_several_reads(rt: HostRuntime) -> Result<(), Fail> {
     let end = "01000000";
     let front = "1 6500 0400 00000000 00000000 0102030405060708 00000000 ";
     let rows: [(&[&str], &str, Option<ProgramFault>); 6] = [
-        // The end of a line stands in the next read, or is cut itself.
+        // the line ending is in the next read, or is itself cut
         (&[front, end, "\n"], REGISTERED, None),
         (&[front, end, "\r", "\n"], REGISTERED, None),
         (
@@ -150,7 +150,7 @@ fn lines_over_several_reads(rt: HostRuntime) -> Result<(), Fail> {
             REGISTERED,
             Some(ProgramFault::Line(3, LineFault::Piece)),
         ),
-        // The last line has no end.
+        // the last line has no ending
         (&[front, end], REGISTERED, None),
         (
             &["end 1\n", "\n", "en", "d 1x"],
@@ -197,7 +197,7 @@ fn answers_leave_before_more_is_read(rt: HostRuntime) -> Result<(), Fail> {
 #[test]
 fn output_that_does_not_leave(rt: HostRuntime) -> Result<(), Fail> {
     let rows = [
-        // The flush before the second read fails, or the last one; the latter also before a line is refused.
+        // the flush before the second read fails, or the last one; the last one also fails after a refused line
         (REGISTER, 0),
         (REGISTER, 1),
         ("1 0g\n", 0),

@@ -23,7 +23,7 @@ fn push_all(answers: &mut Vec<u8>, texts: &[&[u8]]) -> Result<(), Fail> {
     Ok(())
 }
 
-/// What stands around the numbers of a SendRRData: its length, its context, and the count of its reply.
+/// The fixed bytes of a SendRRData, around its length, its context, and the length of its reply.
 const REPLY_COMMAND: &[u8] = b"\x6f\0";
 
 const REPLY_SESSION: &[u8] = b"\0\x01\0\0\0\0\0\0\0";
@@ -45,7 +45,7 @@ fn push_reply(answers: &mut Vec<u8>, context: u8, reply: &[u8]) -> Result<(), Fa
     push_all(answers, &texts)
 }
 
-/// What stands around the numbers of a SendUnitData: its length, and the count of its item.
+/// The fixed bytes of a SendUnitData, around its length and the length of its item.
 const ITEM_COMMAND: &[u8] = b"\x70\0";
 
 const ITEM_PACKET: &[u8] =
@@ -59,7 +59,7 @@ fn push_item(answers: &mut Vec<u8>, item: &[u8]) -> Result<(), Fail> {
     push_all(answers, &texts)
 }
 
-/// The answers, one behind the other.
+/// The answers, joined.
 fn bytes_of(alloc: Global, answers: &[Answer<'_>]) -> Result<Vec<u8>, Fail> {
     let mut bytes = Vec::new(alloc);
     for answer in answers {
@@ -72,7 +72,7 @@ fn bytes_of(alloc: Global, answers: &[Answer<'_>]) -> Result<Vec<u8>, Fail> {
     Ok(bytes)
 }
 
-/// Asks over any devices. Its contract says nothing, so that whoever calls it carries no state on.
+/// Runs `ask_over` over any reader and writer.
 fn asked_over<R: Source, W: Sink, O: Write + Drop>(
     alloc: Global,
     reader: &mut R,
@@ -87,7 +87,7 @@ fn asked_over<R: Source, W: Sink, O: Write + Drop>(
     Ok(ask_over(alloc, reader, writer, request, connected, DIGITS, output))
 }
 
-/// The same of a question, and its exit status.
+/// The same for a row. Returns the exit status.
 fn run<R: Source, W: Sink>(
     alloc: Global,
     question: &DeviceRequest<'_>,
@@ -107,7 +107,7 @@ fn run<R: Source, W: Sink>(
     Ok(report_outcome(told, errors))
 }
 
-/// What was printed and sent.
+/// Asserts what was printed and sent.
 fn check_texts<A: Abort>(
     rt: &A,
     alloc: Global,
@@ -126,7 +126,7 @@ fn check_texts<A: Abort>(
     Ok(())
 }
 
-/// Asks over memory, of a device that gives at most 7 bytes a read.
+/// Runs a row over memory. A read returns at most 7 bytes.
 fn check_asked<A: Abort>(rt: &A, alloc: Global, row: &Asked<'_>) -> Result<(), Fail> {
     let answers = bytes_of(alloc, row.answers)?;
     let mut taken = vec![in alloc; 0u8; row.room]?;
@@ -199,7 +199,7 @@ fn data_that_are_no_digits(rt: HostRuntime) -> Result<(), Fail> {
     Ok(())
 }
 
-/// The digits of so many bytes 0.
+/// The hexadecimal digits of this many zero bytes.
 fn zeros(alloc: Global, count: usize) -> Result<String, Fail> {
     let mut digits = String::new(alloc);
     for _ in 0..count {
@@ -208,7 +208,8 @@ fn zeros(alloc: Global, count: usize) -> Result<String, Fail> {
     Ok(digits)
 }
 
-/// A device registers a session and opens a connection where one is asked for, and answers no more.
+/// The answers of a device that registers a session, opens a connection if `connected` is set, and then answers no
+/// more.
 fn first_answers(connected: bool) -> &'static [Answer<'static>] {
     if connected {
         &[Answer::Bytes(REGISTERED), Answer::Reply(2, OPENED)]
@@ -217,7 +218,7 @@ fn first_answers(connected: bool) -> &'static [Answer<'static>] {
     }
 }
 
-/// It is asked with so many digits of data.
+/// Sends it a request with these digits of data.
 fn check_length<'a, A: Abort>(
     rt: &A,
     alloc: Global,
@@ -249,7 +250,7 @@ fn requests_that_are_too_long(rt: HostRuntime) -> Result<(), Fail> {
     Ok(())
 }
 
-/// The vendor's get over this device, printed here: the status is 5, and `device` is told.
+/// Requests the vendor with a reader or an output that fails. Asserts exit status 5 and `device`.
 fn check_device_fails<A: Abort, R: Source, O: Write + Drop>(
     rt: &A,
     alloc: Global,
@@ -289,7 +290,7 @@ fn a_reply_that_can_not_be_printed(rt: HostRuntime) -> Result<(), Fail> {
     Ok(())
 }
 
-/// The longest and the shortest spelling of a path, and capital digits.
+/// The longest and the shortest encoding of a path, and capital digits.
 #[test]
 fn requests_of_words(rt: HostRuntime) -> Result<(), Fail> {
     let largest = DeviceRequest {

@@ -1,4 +1,4 @@
-//! The number of places for peers, of which `enip answer` has names for nine.
+//! The greatest number of peers. `enip answer` has names for only nine.
 
 use enip_config::Configuration;
 use std::test::Fail;

@@ -8,7 +8,7 @@ use enip_config::adapter_from;
 use std::alloc::Global;
 use std::test::Fail;
 
-/// Its configuration.
+/// Its configuration file.
 pub(crate) const DEMO: &str = "vendor = 4660
 device_type = 43
 product_code = 7
@@ -26,7 +26,7 @@ settable = true
 members = [1, 2, 1]
 ";
 
-/// Its adapter, of which no peer has begun.
+/// A new adapter for it.
 pub(crate) fn demo_adapter(alloc: Global) -> Result<Adapter, Fail>
     ensures { IfOk result IsNewAdapter }
 {

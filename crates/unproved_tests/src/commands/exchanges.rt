@@ -1,9 +1,9 @@
-//! What a device is asked by `enip get`, `set` and `call`, what it answers, and what comes of it.
+//! Exchanges of `enip get`, `set` and `call`: what is sent, what the device answers, and what is printed.
 
 use cip_message::Path;
 use enip_commands::DeviceRequest;
 
-/// RegisterSession with context 1, its answer, and UnRegisterSession, which has no context.
+/// A RegisterSession with context 1, its answer, and an UnRegisterSession, which has no context.
 pub(super) const REGISTER: &[u8] =
     b"\x65\0\x04\0\0\0\0\0\0\0\0\0\x01\0\0\0\0\0\0\0\0\0\0\0\x01\0\0\0";
 
@@ -12,11 +12,11 @@ pub(super) const REGISTERED: &[u8] =
 
 pub(super) const UNREGISTER: &[u8] = b"\x66\0\0\0\x01\0\0\0\0\0\0\0\0\0\0\0\0\0\0\0\0\0\0\0";
 
-/// The vendor's get, context 2.
+/// A request for the vendor with context 2.
 pub(super) const GET_SENT: &[u8] = b"\x6f\0\x18\0\x01\0\0\0\0\0\0\0\x02\0\0\0\0\0\0\0\0\0\0\0\
     \0\0\0\0\0\0\x02\0\0\0\0\0\xb2\0\x08\0\x0e\x03\x20\x01\x24\x01\x30\x01";
 
-/// Forward_Open, context 2, and the router's reply to it: O->T ID 1.
+/// A Forward_Open with context 2, and the router reply: O->T ID 1.
 pub(super) const OPEN: &[u8] = b"\x6f\0\x3e\0\x01\0\0\0\0\0\0\0\x02\0\0\0\0\0\0\0\0\0\0\0\
     \0\0\0\0\0\0\x02\0\0\0\0\0\xb2\0\x2e\0\
     \x54\x02\x20\x06\x24\x01\x0a\x0e\0\0\0\0\x44\x33\x22\x11\x01\0\x42\0\x78\x56\x34\x12\0\0\0\0\
@@ -29,7 +29,7 @@ pub(super) const OPENED: &[u8] = b"\xd4\0\0\0\x01\0\0\0\x44\x33\x22\x11\
 pub(super) const ADD_SENT: &[u8] = b"\x70\0\x20\0\x01\0\0\0\0\0\0\0\0\0\0\0\0\0\0\0\0\0\0\0\
     \0\0\0\0\0\0\x02\0\xa1\0\x04\0\x01\0\0\0\xb1\0\x0c\0\x01\0\x32\x02\x20\x64\x24\x01\x05\0\0\0";
 
-/// Forward_Close, context 3, and the router's reply to it.
+/// A Forward_Close with context 3, and the router reply.
 pub(super) const CLOSE: &[u8] = b"\x6f\0\x26\0\x01\0\0\0\0\0\0\0\x03\0\0\0\0\0\0\0\0\0\0\0\
     \0\0\0\0\0\0\x02\0\0\0\0\0\xb2\0\x16\0\
     \x4e\x02\x20\x06\x24\x01\x0a\x0e\x01\0\x42\0\x78\x56\x34\x12\x02\0\x20\x02\x24\x01";
@@ -58,8 +58,8 @@ pub(super) const ADD: DeviceRequest<'static> = DeviceRequest {
     digits: "05 000000",
 };
 
-/// What a device answers: these bytes, a SendRRData of session 1 with a context and a reply of the router, or a
-/// SendUnitData of session 1, T->O ID 0x11223344, with a count and a reply.
+/// What a device answers: these bytes; a SendRRData in session 1 with this context and router reply; or a
+/// SendUnitData in session 1 with T->O ID 0x11223344 and this item, a count and a router reply.
 #[derive(Clone, Copy)]
 pub(super) enum Answer<'a> {
     Bytes(&'a [u8]),
@@ -67,8 +67,8 @@ pub(super) enum Answer<'a> {
     Item(&'a [u8]),
 }
 
-/// What is asked of a device, what it answers, how many bytes it takes, and what comes of it; what is sent is not
-/// looked at where it is `None`.
+/// A request, what the device answers, how many bytes it takes, and the result. If `sent` is `None`, what is sent is
+/// not checked.
 #[derive(Clone, Copy)]
 pub(super) struct Asked<'a> {
     pub(super) name: &'static str,
@@ -82,7 +82,7 @@ pub(super) struct Asked<'a> {
     pub(super) sent: Option<&'a [&'a [u8]]>,
 }
 
-/// The vendor's get without a connection, which is answered.
+/// A request for the vendor without a connection.
 pub(super) const GET: Asked<'static> = Asked {
     name: "the frames of a get",
     question: VENDOR,
@@ -98,7 +98,7 @@ pub(super) const GET: Asked<'static> = Asked {
     sent: Some(&[REGISTER, GET_SENT, UNREGISTER]),
 };
 
-/// The counter's Add on a connection, which is answered.
+/// The counter's Add on a connection.
 pub(super) const CALL: Asked<'static> = Asked {
     name: "the value after an addition",
     question: ADD,
@@ -241,7 +241,7 @@ pub(super) static ITEMS: [Asked<'static>; 5] = [
     },
 ];
 
-/// Connections that are refused at their opening or at their close.
+/// Connections whose open or close is refused.
 pub(super) static REFUSED: [Asked<'static>; 3] = [
     Asked {
         name: "there is one with these numbers",
@@ -257,7 +257,7 @@ pub(super) static REFUSED: [Asked<'static>; 3] = [
         ..CALL
     },
     Asked {
-        name: "there is no place",
+        name: "there is no free slot",
         answers: &[
             Answer::Bytes(REGISTERED),
             Answer::Reply(2, b"\xd4\0\x08\0"),
@@ -305,7 +305,7 @@ pub(super) static FAILING: [Asked<'static>; 8] = [
         ..CALL
     },
     Asked {
-        name: "the input ends in place of the reply",
+        name: "the input ends instead of the reply",
         answers: &[Answer::Bytes(REGISTERED)],
         status: 5,
         output: "",
@@ -364,11 +364,11 @@ pub(super) static FAILING: [Asked<'static>; 8] = [
     },
 ];
 
-/// Data that are no digits: nothing is sent.
+/// Data that are not hexadecimal: nothing is sent.
 pub(super) const NO_DIGITS: [&str; 4] = ["0g", "012", "0x01", "-"];
 
-/// So many bytes of data, with and without a connection: a request has at most 504 bytes, on a connection at most 498,
-/// and 6 of them stand before the data.
+/// Numbers of bytes of data, with and without a connection. A request has at most 504 bytes, or 498 on a connection;
+/// 6 of them precede the data.
 pub(super) const LENGTHS: [(usize, bool, u8, &str); 4] = [
     (498, false, 5, "device\n"),
     (499, false, 7, "fault 7\n"),

@@ -7,15 +7,14 @@ use enip_replay::{ReplayFailure, draw_replay};
 use std::alloc::Global;
 use std::test::Fail;
 
-/// What is printed at the end where nothing was done.
+/// What is printed at the end if nothing was executed.
 const UNTOUCHED: &str = "counter 0 100 0\nassembly 100 00000000\nclient idle\n";
 
 /// The first line.
-const HEAD: &str =
-    "            client                                 wire                               adapter\n";
+const HEAD: &str = "          client                    wire                    adapter\n";
 
 /// The last line.
-const SAME: &str = "both worlds show the same: what a world without counts or kept replies shows\n";
+const SAME: &str = "same result as in a world without sequence counts or kept replies\n";
 
 /// Draws a script with the demo device.
 fn drawn(alloc: Global, script: &str) -> Result<String, Fail> {
@@ -34,13 +33,13 @@ fn a_lost_reply_and_a_repeat(rt: HostRuntime) -> Result<(), Fail> {
         "submit 32022064240105000000\nreach 0\nresend\nreach 1\nback 1\n",
     )?;
     let lines = [
-        "submit   0     |--- 1: 32022064240105000000 ----->   0                                    |",
-        "               |                                     0  --- 1: 32022064240105000000 ----->|  executes 0",
-        "               |                                     0  x-- 1: b200000005000000 ----------|",
-        "resend   0     |--- 1: 32022064240105000000 ----->   1                                    |",
-        "               |                                     1  --- 1: 32022064240105000000 ----->|  kept reply of 0",
-        "               |                                     1  <-- 1: b200000005000000 ----------|",
-        "accepts  0     |<-- 1: b200000005000000 ----------   1                                    |",
+        "submit  0    |-1: 3202206424.. ---->   0                       |",
+        "             |                         0 -1: 3202206424.. ---->| executes 0",
+        "             |                         0 x-1: b200000005.. ----|",
+        "resend  0    |-1: 3202206424.. ---->   1                       |",
+        "             |                         1 -1: 3202206424.. ---->| repeat of 0",
+        "             |                         1 <-1: b200000005.. ----|",
+        "accepts 0    |<-1: b200000005.. ----   1                       |",
         "counter 5 100 1",
         "assembly 100 00000000",
         "client idle",
@@ -60,27 +59,27 @@ fn what_moves_no_frame(rt: HostRuntime) -> Result<(), Fail> {
     let rows = [
         (
             "resend",
-            "               | resend none                                                              |\n",
+            "             | resend none                                     |\n",
         ),
         (
             "submit 32",
-            "               | submit refused 3                                                         |\n",
+            "             | submit refused 3                                |\n",
         ),
         (
             "reach 0",
-            "               |                                         reach 0 impossible               |\n",
+            "             |                            reach 0 impossible   |\n",
         ),
         (
             "back 7",
-            "               | back 7 impossible                                                        |\n",
+            "             | back 7 impossible                               |\n",
         ),
         (
             "giveup",
-            "               | giveup                                                                   |\n",
+            "             | giveup                                          |\n",
         ),
         (
             "shut",
-            "               |                                         shut                             |\n",
+            "             |                            shut                 |\n",
         ),
     ];
     for (script, line) in rows {
@@ -98,11 +97,11 @@ fn what_is_lost_or_ignored(rt: HostRuntime) -> Result<(), Fail> {
         "submit 0e03200124013001\ngiveup\nsubmit 3202206424010700000000000000\nshut\nreach 1\n",
     )?;
     let lines = [
-        "submit   0     |--- 1: 0e03200124013001 ---------x   0                                    |",
-        "               | giveup                                                                   |",
-        "submit   1     |--- 2: 320220642401070000.. ----->   1                                    |",
-        "               |                                         shut                             |",
-        "               |                                     1  --- 2: 320220642401070000.. ----->|  no connection",
+        "submit  0    |-1: 0e03200124.. ----x   0                       |",
+        "             | giveup                                          |",
+        "submit  1    |-2: 3202206424.. ---->   1                       |",
+        "             |                            shut                 |",
+        "             |                         1 -2: 3202206424.. ---->| no connection",
     ];
     let mut drawn = text.as_str().lines().skip(1);
     for line in lines {
@@ -120,8 +119,7 @@ fn a_line_that_is_refused(rt: HostRuntime) -> Result<(), Fail> {
         ended,
         Err(ReplayFailure::Program(ProgramFault::Line(2, LineFault::Reach)))
     );
-    let line =
-        "               | giveup                                                                   |\n";
+    let line = "             | giveup                                          |\n";
     let want = format!(in rt.alloc(); "{HEAD}{line}")?;
     assert_eq!(rt; written.as_slice(), want.as_bytes());
     Ok(())

@@ -9,10 +9,10 @@ use std::alloc::Global;
 use std::io::Write;
 use std::test::Fail;
 
-/// What is printed at the end where nothing was done.
+/// What is printed at the end if nothing was executed.
 const UNTOUCHED: &str = "counter 0 100 0\nassembly 100 00000000\nclient idle\n";
 
-/// Runs a script of one line with the demo device, and says why it ended early, if it did.
+/// Runs a script of one line with the demo device. Returns why it ended early, if it did.
 fn ending<W: Write + Drop>(alloc: Global, output: W) -> Result<Option<ReplayFailure>, Fail> {
     let adapter = demo_adapter(alloc)?;
     Ok(replay(alloc, adapter, b"resend\n", output).err())
@@ -39,7 +39,7 @@ fn a_writer_that_fails(rt: HostRuntime) -> Result<(), Fail> {
 
 #[test]
 fn output_that_does_not_leave(rt: HostRuntime) -> Result<(), Fail> {
-    // The flush after the lines were read, the one before the end, or the one behind it.
+    // the flush after the lines were read, the one before the final state, or the one after it
     for flushes in [0, 1, 2] {
         let output = FullWriter { flushes };
         let ended = ending(rt.alloc(), output)?;

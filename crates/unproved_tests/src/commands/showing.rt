@@ -1,12 +1,29 @@
 //! `show` over readers and writers that fail, and long messages.
 
 use super::streams::{BrokenReader, BrokenWriter, CountingWriter, FullWriter, WatchingReader};
-use enip_commands::show;
+use enip_commands::show_frames;
 use std::alloc::Global;
 use std::cell::Cell;
+use std::io::{Read, Write};
 use std::test::Fail;
 
-/// Runs `show` over a text, and gives the exit status, the output and what went to the errors.
+/// Runs `show_frames`, and prints the fault on `errors`. Returns the exit status of the program.
+fn show<R: Read + Drop, W: Write + Drop>(
+    alloc: Global,
+    input: R,
+    output: W,
+    errors: &mut Vec<u8>,
+) -> u8 {
+    match show_frames(alloc, input, output) {
+        Ok(()) => 0,
+        Err(fault) => {
+            let _ = writeln!(errors, "{fault}");
+            fault.exit_status()
+        }
+    }
+}
+
+/// Runs `show` over a text. Returns the exit status, the output and the errors.
 fn run(alloc: Global, input: &str) -> Result<(u8, Vec<u8>, Vec<u8>), Fail> {
     let mut output = Vec::new(alloc);
     let mut errors = Vec::new(alloc);
@@ -14,7 +31,7 @@ fn run(alloc: Global, input: &str) -> Result<(u8, Vec<u8>, Vec<u8>), Fail> {
     Ok((status, output, errors))
 }
 
-/// A request for the vendor, and the lines that show it.
+/// A request for the vendor, and the lines that are printed for it.
 const REQUEST: &str =
     "6f0018000100000000000000010203040506070800000000000000000000020000000000b20008000e03200124013001\n";
 
@@ -54,7 +71,7 @@ fn a_writer_that_fails(rt: HostRuntime) -> Result<(), Fail> {
     Ok(())
 }
 
-/// A text so many times.
+/// A text, repeated.
 fn repeated(alloc: Global, text: &str, count: usize) -> Result<String, Fail> {
     let mut all = String::new(alloc);
     for _ in 0..count {
@@ -67,7 +84,7 @@ fn repeated(alloc: Global, text: &str, count: usize) -> Result<String, Fail> {
 fn long_messages(rt: HostRuntime) -> Result<(), Fail> {
     let alloc = rt.alloc();
     let contents = repeated(alloc, "00a5ff5a", 125)?;
-    // An assembly of 500 bytes is set without a connection, and read on one.
+    // an assembly of 500 bytes is written without a connection, and read on one
     let input = format!(in alloc;
         "6f00 0c02 01000000 00000000 0102030405060708 00000000 00000000 0000 0200 0000 0000 b200 fc01 1003 2004 2464 3003 {contents}
 7000 0e02 01000000 00000000 0102030405060708 00000000 00000000 0000 0200 a100 0400 44332211 b100 fa01 0201 8e000000 {contents}
@@ -109,7 +126,7 @@ fn fields_leave_before_more_is_read(rt: HostRuntime) -> Result<(), Fail> {
 
 #[test]
 fn output_that_does_not_leave(rt: HostRuntime) -> Result<(), Fail> {
-    // The flush before the second read fails, or the last one.
+    // the flush before the second read fails, or the last one
     for flushes in 0..2 {
         let mut errors = Vec::new(rt.alloc());
         let output = FullWriter { flushes };

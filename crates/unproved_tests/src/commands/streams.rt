@@ -1,9 +1,9 @@
-//! Readers and writers that fail in mid-stream, give pieces or count.
+//! Readers and writers that fail in mid-stream, return pieces, or count.
 
 use std::cell::Cell;
 use std::io::{self, Read, Write};
 
-/// A reader that gives a text once, and then fails.
+/// A reader that returns a text once, and then fails.
 pub(crate) struct BrokenReader<'a> {
     pub(crate) text: Option<&'a [u8]>,
 }
@@ -52,7 +52,7 @@ impl Write for BrokenWriter<'_> {
     }
 }
 
-/// A reader that gives its pieces one at a time.
+/// A reader that returns its pieces one at a time.
 pub(crate) struct PieceReader<'a> {
     pub(crate) pieces: &'a [&'a [u8]],
 }
@@ -74,7 +74,7 @@ impl Read for PieceReader<'_> {
     }
 }
 
-/// A reader that gives a text once, and at its second read looks at how many bytes were written meanwhile.
+/// A reader that returns a text once, and at the second read notes how many bytes have been written.
 pub(crate) struct WatchingReader<'t, 'a> {
     pub(crate) text: Option<&'t [u8]>,
     pub(crate) written: &'a Cell<usize>,
@@ -128,7 +128,7 @@ impl Write for CountingWriter<'_> {
     }
 }
 
-/// A writer that takes every byte, and can't make them go out from a flush on, counted down to 0.
+/// A writer that takes every byte, but whose flush fails after `flushes` flushes.
 pub(crate) struct FullWriter {
     pub(crate) flushes: usize,
 }

@@ -1,5 +1,4 @@
-//! The caller that the first page of `enip_server` shows, over wires that follow a script. `tests/rules` compares the two
-//! texts.
+//! The example in the documentation of `enip_server`, over scripted wires. `tests/rules` compares the two texts.
 
 use super::wires::{Call, ScriptedWire};
 use enip_server::{NO_IDLE_TIMEOUT, Peers, Wire};
@@ -7,7 +6,8 @@ use std::cell::Cell;
 use std::test::Fail;
 use test_fixtures::adapter::{REGISTER, REGISTERED, new_adapter};
 
-/// One step of a server: who came, whose wire may be ready, a round; and when the next step is due.
+/// One step of a server: adds an accepted wire, marks the wires that may be ready, and runs a round. Returns when the
+/// next step is due.
 fn serve_ready<W: Wire + Drop>(
     peers: &mut Peers<W>,
     now: u64,

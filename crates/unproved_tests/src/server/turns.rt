@@ -14,12 +14,12 @@ const OPENED: &[u8] = b"\x6f\0\x2e\0\x01\0\0\0\0\0\0\0\x01\x02\x03\x04\x05\x06\x
     \0\0\0\0\0\0\x02\0\0\0\0\0\xb2\0\x1e\0\xd4\0\0\0\x01\0\0\0\x44\x33\x22\x11\x01\0\x42\0\x78\x56\x34\x12\
     \x80\x84\x1e\0\x80\x84\x1e\0\0\0";
 
-/// Peers of a demo device, of which none may be silent for longer.
+/// The peers of a demo device, with this idle timeout.
 fn peers<'a>(alloc: Global, idle_timeout: u64) -> Result<Peers<ScriptedWire<'a>>, Fail> {
     Ok(Peers::new(alloc, new_adapter(alloc)?, idle_timeout)?)
 }
 
-/// Texts, one behind the other.
+/// The texts, joined.
 fn joined(alloc: Global, texts: &[&[u8]]) -> Result<Vec<u8>, Fail> {
     let mut bytes = Vec::new(alloc);
     for text in texts {
@@ -28,11 +28,11 @@ fn joined(alloc: Global, texts: &[&[u8]]) -> Result<Vec<u8>, Fail> {
     Ok(bytes)
 }
 
-/// What a round is in a row: its moment, whether the wire is woken before it, how many calls were made by its end, and how
-/// many peers ended in it.
+/// A round: its time, whether the wire is marked ready before it, how many calls were made by its end, and how many
+/// peers ended in it.
 type Round = (u64, bool, usize, usize);
 
-/// Runs one peer, which comes at moment 0, by these rounds.
+/// Runs one peer, which is added at time 0, in these rounds.
 fn run<A: Abort>(
     rt: &A,
     alloc: Global,
@@ -67,7 +67,7 @@ fn an_answer_goes_out_before_more_is_read(rt: HostRuntime) -> Result<(), Fail> {
         Call::Takes(&REGISTERED[25..], 3),
         Call::Later,
     ];
-    // A peer that is not woken has no turn.
+    // a peer that is not ready has no turn
     let rounds = [
         (0, false, 3, 0),
         (1, false, 3, 0),
@@ -116,7 +116,7 @@ fn what_was_read_is_fed_at_the_moment_of_its_round(rt: HostRuntime) -> Result<()
         Call::Gives(ADD),
         Call::Later,
     ];
-    // 8,000,000 microseconds after its last item the connection is over, and one on it has no answer.
+    // the connection times out 8,000,000 microseconds after its last item, and a later item gets no answer
     let rounds = [
         (0, false, 4, 0),
         (7_999_999, false, 6, 0),
@@ -138,7 +138,7 @@ fn a_read_that_took_all_is_the_last_until_more_is_reported(rt: HostRuntime) -> R
         Call::Takes(ADDED, 54),
         Call::Later,
     ];
-    // Where an answer is not out something may have come by the time it is.
+    // while an answer waits to be written, more may come, so the peer is read again afterwards
     let rounds = [
         (0, false, 3, 0),
         (1, false, 3, 0),
@@ -147,7 +147,7 @@ fn a_read_that_took_all_is_the_last_until_more_is_reported(rt: HostRuntime) -> R
         (4, true, 7, 0),
     ];
     run(&rt, rt.alloc(), NO_IDLE_TIMEOUT, &calls, &rounds)?;
-    // A peer that the adapter closed is shut all the same.
+    // a peer that the adapter closed is shut all the same
     let calls = [
         Call::GivesAll(LONG),
         Call::Takes(REFUSED, 24),
@@ -204,7 +204,7 @@ fn a_peer_that_the_adapter_closed_is_read_for_a_second(rt: HostRuntime) -> Resul
         (7 + LINGER, true, 8, 1),
     ];
     run(&rt, rt.alloc(), NO_IDLE_TIMEOUT, &calls, &rounds)?;
-    // One that leaves is ended at once.
+    // a peer that closes its connection is ended at once
     let calls = [
         Call::Gives(LONG),
         Call::Takes(REFUSED, 24),

@@ -1,40 +1,40 @@
-//! A wire that follows a script: each call must be the next one that it tells.
+//! A scripted wire: each call must be the next one of the script.
 
 use enip_server::{ReadOutcome, Wire, WireCounts};
 use std::cell::Cell;
 
-/// A call of a wire, and what it answers.
+/// A call of a wire, with its result.
 #[derive(Clone, Copy, Debug)]
 pub(super) enum Call<'a> {
-    /// A read gives these bytes, and more may have come.
+    /// A read returns these bytes, and more may be available.
     Gives(&'a [u8]),
-    /// A read gives these bytes, and nothing more has come.
+    /// A read returns these bytes, and no more are available.
     GivesAll(&'a [u8]),
-    /// A read gives nothing yet.
+    /// A read would block.
     Later,
-    /// A read is at the end.
+    /// A read returns the end of the stream.
     Ends,
     /// A read fails.
     Fails,
-    /// Just these bytes are written, of which so many are taken.
+    /// Exactly these bytes are written, and this many of them are taken.
     Takes(&'a [u8], usize),
-    /// Just these bytes are written, and the write fails.
+    /// Exactly these bytes are written, and the write fails.
     Refuses(&'a [u8]),
     /// The writing side is shut.
     Shuts,
 }
 
-/// A wire that follows a script.
+/// A scripted wire.
 #[derive(Drop)]
 pub(super) struct ScriptedWire<'a> {
     calls: &'a [Call<'a>],
-    /// How many calls were made, `usize::MAX` from one on that was not the next.
+    /// How many calls were made, or `usize::MAX` after a call that is not the next one.
     made: &'a Cell<usize>,
     counts: WireCounts,
 }
 
 impl<'a> ScriptedWire<'a> {
-    /// A wire of these calls, which counts them.
+    /// A wire with these calls, which are counted in `made`.
     pub(super) fn new(calls: &'a [Call<'a>], made: &'a Cell<usize>) -> ScriptedWire<'a> {
         ScriptedWire {
             calls,

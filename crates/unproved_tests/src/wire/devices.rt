@@ -1,5 +1,5 @@
-//! Writing all bytes to a device that takes some or fails, and what a caller learns of any device. What a device over
-//! memory gives and takes is computed in `proofs/DeviceRows.antt` of `enip_wire`.
+//! `write_all` to a sink that takes some bytes or fails, and what a caller knows about any source and sink. What
+//! `MemorySource` and `MemorySink` do is computed in `proofs/DeviceRows.antt` of `enip_wire`.
 
 ghost use Rattle.std.specs.Prelude.{ℕ, List, ◌≡◌, ◌<◌, ◌+◌, length, IfOk};
 ghost use Rattle.std.specs.Io.KnownBytes.{Appends, Consumes};
@@ -13,21 +13,21 @@ use std::test::*;
 /// Ten bytes to read.
 const BYTES: [u8; 10] = [0, 1, 2, 3, 4, 5, 6, 7, 8, 9];
 
-/// Writes a front of the room, and compares the whole room then.
+/// Writes to the beginning of a buffer, and compares the whole buffer afterwards.
 fn check_room<A: Abort>(rt: &A, room: &mut [u8], front: &[u8], wanted: &[u8]) {
     let mut sink = MemorySink::new(room);
     assert_eq!(rt; sink.write(front), Ok(front.len()));
     assert_eq!(rt; &*room, wanted);
 }
 
-/// The slice behind a sink: what lies behind the bytes that were written is as it was.
+/// A sink leaves the rest of its buffer as it is.
 #[test]
 fn the_rest_of_the_slice_stays(rt: HostRuntime) {
     let mut room = [0xff; 6];
     check_room(&rt, &mut room, &BYTES[..4], &[0, 1, 2, 3, 0xff, 0xff]);
 }
 
-/// A text that is written, what is told, what the sink has then, and how many of its writes have failed.
+/// A text that is written, the result, what the sink has afterwards, and how many of its writes have failed.
 #[derive(Clone, Copy)]
 struct Text<'a> {
     text: &'a [u8],
@@ -36,7 +36,8 @@ struct Text<'a> {
     failures: u64,
 }
 
-/// A sink: its room, the most that a write takes, and after how many one fails; and texts that are written to it.
+/// A sink, and the texts that are written to it. The sink has a capacity, a greatest size of a write, and a number of
+/// writes after which one fails.
 struct Written<'a> {
     room: usize,
     largest: usize,
@@ -45,7 +46,7 @@ struct Written<'a> {
 }
 
 static WRITTEN: [Written<'static>; 3] = [
-    // All is written, and then nothing.
+    // all is written, and then an empty text
     Written {
         room: 10,
         largest: 3,
@@ -65,7 +66,7 @@ static WRITTEN: [Written<'static>; 3] = [
             },
         ],
     },
-    // A front is written: the third write fails, or the room ends.
+    // a part is written: the third write fails, or the capacity is used up
     Written {
         room: 10,
         largest: 3,
@@ -117,7 +118,7 @@ fn texts_are_written(rt: HostRuntime) {
     }
 }
 
-/// Reads once, and writes what was read: what a caller of any source and any sink knows.
+/// Reads once and writes what was read. The contract is what a caller of any source and any sink knows.
 fn pass_on<R: Source, W: Sink>(reader: &mut R, writer: &mut W) -> Result<usize, Failed>
     requires reads { R.reads reader.old < u64.MAX }
     requires read_failures { R.failures reader.old < u64.MAX }
@@ -135,7 +136,8 @@ fn pass_on<R: Source, W: Sink>(reader: &mut R, writer: &mut W) -> Result<usize, 
     Ok(count)
 }
 
-/// A source over any reader, with a moment for each read: it tells what the reader tells, as of a socket nothing.
+/// A source over any reader, with a time for each read. What is known about its bytes is what is known about the
+/// reader's; for a socket that is nothing.
 #[derive(Drop)]
 struct Over<R> {
     reader: R,
@@ -182,7 +184,7 @@ impl<R: Read> Source for Over<R> {
     }
 }
 
-/// Passes on what one read gives, and compares what is told and all that was written so far.
+/// Passes on the bytes of one read. Compares their number and all that was written so far.
 fn check_passed<A: Abort>(
     rt: &A,
     source: &mut Over<&[u8]>,

@@ -1,9 +1,9 @@
-//! The header as 24 bytes; an answer of the program has no options and few statuses.
+//! The header as 24 bytes. The answers of the program have no options and few statuses, so they do not show this.
 
 use enip_wire::Header;
 use std::test::*;
 
-/// No two bytes are the same, so a field that is written at another place, in another width or in another order shows.
+/// No two bytes are the same, so a field at a wrong offset, of a wrong width or in a wrong order is found.
 #[test]
 fn each_field_at_its_place(rt: HostRuntime) {
     let header = Header {

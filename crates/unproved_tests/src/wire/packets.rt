@@ -1,4 +1,4 @@
-//! Items and bodies that are written.
+//! Encoding of items and bodies.
 
 use arrayvec::ArrayVec;
 use enip_wire::{
@@ -8,32 +8,32 @@ use enip_wire::{
 use std::process::Abort;
 use std::test::*;
 
-/// A SendRRData with the request of the vendor.
+/// The body of a SendRRData with a request for the vendor.
 const ROW: [u8; 24] = [
-    // Interface, timeout, and two items.
+    // interface, timeout, and two items
     0x00, 0x00, 0x00, 0x00, 0x00, 0x00, 0x02, 0x00,
-    // The null address, and eight bytes of unconnected data.
+    // the null address, and eight bytes of unconnected data
     0x00, 0x00, 0x00, 0x00, 0xb2, 0x00, 0x08, 0x00,
-    // Get_Attribute_Single of attribute 1 of Identity.
+    // Get_Attribute_Single of attribute 1 of Identity
     0x0e, 0x03, 0x20, 0x01, 0x24, 0x01, 0x30, 0x01,
 ];
 
-/// A SendUnitData on connection 0x01020304.
+/// The body of a SendUnitData on connection 0x01020304.
 const UNIT: [u8; 22] = [
-    // Interface, timeout, and two items.
+    // interface, timeout, and two items
     0x00, 0x00, 0x00, 0x00, 0x00, 0x00, 0x02, 0x00,
-    // The connected address.
+    // the connected address
     0xa1, 0x00, 0x04, 0x00, 0x04, 0x03, 0x02, 0x01,
-    // Two bytes of connected data.
+    // two bytes of connected data
     0xb1, 0x00, 0x02, 0x00, 0x07, 0x09,
 ];
 
-/// Two items: two bytes of type 12, and none of type 0x8000.
+/// Two items: two bytes of type 12, and no bytes of type 0x8000.
 const TEXT: [u8; 12] = [
     0x02, 0x00, 0x0c, 0x00, 0x02, 0x00, 0x01, 0x02, 0x00, 0x80, 0x00, 0x00,
 ];
 
-/// Writes the body of a SendRRData, and compares what is told.
+/// Writes the body of a SendRRData, and compares the result.
 fn check_rr_body<A: Abort>(
     rt: &A,
     out: &mut ArrayVec<u8, 24>,
@@ -44,7 +44,7 @@ fn check_rr_body<A: Abort>(
     assert_eq!(rt; write_rr_body(out, data), expected);
 }
 
-/// The same of a SendUnitData.
+/// The same for a SendUnitData.
 fn check_unit_body<A: Abort>(
     rt: &A,
     out: &mut ArrayVec<u8, 22>,
@@ -56,7 +56,7 @@ fn check_unit_body<A: Abort>(
     assert_eq!(rt; write_unit_body(out, id, data), expected);
 }
 
-/// What was written, and what is read of it.
+/// Asserts what was written, and what is read from it.
 fn check_rr_text<A: Abort>(rt: &A, got: &[u8], text: &[u8], data: &[u8]) {
     assert_eq!(rt; got, text);
     assert_eq!(rt; rr_body(got), Ok(data));
@@ -67,7 +67,7 @@ fn check_unit_text<A: Abort>(rt: &A, got: &[u8], text: &[u8], id: u32, data: &[u
     assert_eq!(rt; unit_body(got), Ok((id, data)));
 }
 
-/// Each body fills its room, and then no other has any.
+/// Each body fills its buffer, and then no other fits.
 #[test]
 fn bodies_are_written(rt: HostRuntime) {
     let mut out: ArrayVec<u8, 24> = ArrayVec::new();
@@ -82,7 +82,7 @@ fn bodies_are_written(rt: HostRuntime) {
     }
 }
 
-/// Writes two items, and compares what is told.
+/// Writes two items, and compares the result.
 fn check_items<A: Abort>(
     rt: &A,
     out: &mut ArrayVec<u8, 13>,
@@ -102,7 +102,7 @@ fn check_item<A: Abort>(rt: &A, items: &mut Items<'_>, kind: u16, bytes: &[u8]) 
     assert_eq!(rt; (item.kind, item.bytes), (kind, bytes));
 }
 
-/// What was written, and the items that are read of it.
+/// Asserts what was written, and the items that are read from it.
 fn check_items_text<A: Abort>(rt: &A, got: &[u8], text: &[u8], list: &[ItemView<'_>]) {
     assert_eq!(rt; got, text);
     let mut items = cpf_items(got).expect(rt, "items");
@@ -112,7 +112,7 @@ fn check_items_text<A: Abort>(rt: &A, got: &[u8], text: &[u8], list: &[ItemView<
     assert!(rt; items.next().is_none());
 }
 
-/// The items fill their room but for a byte, and then not even the count of none has any.
+/// The items fill their buffer but for one byte, and then not even an empty list fits.
 #[test]
 fn items_are_written(rt: HostRuntime) {
     let list = [

@@ -1,4 +1,4 @@
-//! How many bytes of a piece are taken, and what is lent.
+//! How many bytes of a piece a frame reader takes, and what it lends.
 
 ghost use Rattle.std.specs.Prelude.{◌≡◌, ◌<◌, ◌≤◌, length};
 ghost use Rattle.enip_wire.specs.Stream.{bytes_taken, parsed, held_and_taken, cleared};
@@ -11,20 +11,20 @@ use std::test::*;
 const REGISTER: &[u8] = b"\x65\0\x04\0\0\0\0\0\0\0\0\0\x01\x02\x03\x04\x05\x06\x07\x08\0\0\0\0\
     \x01\0\0\0";
 
-/// A NOP with two bytes of data, of session 7.
+/// A NOP in session 7 with two bytes of data.
 const NOP: &[u8] = b"\0\0\x02\0\x07\0\0\0\0\0\0\0\x09\x09\x09\x09\x09\x09\x09\x09\0\0\0\0\
     \xaa\xbb";
 
-/// The RegisterSession, and behind it the NOP.
+/// The RegisterSession followed by the NOP.
 const TWO_FRAMES: &[u8] = b"\x65\0\x04\0\0\0\0\0\0\0\0\0\x01\x02\x03\x04\x05\x06\x07\x08\0\0\0\0\
     \x01\0\0\0\
     \0\0\x02\0\x07\0\0\0\0\0\0\0\x09\x09\x09\x09\x09\x09\x09\x09\0\0\0\0\
     \xaa\xbb";
 
-/// A header with a length of 65,512, and two bytes behind it.
+/// A header with a length of 65,512, followed by two bytes.
 const TOO_LONG: &[u8] = b"\0\0\xe8\xff\0\0\0\0\0\0\0\0\0\0\0\0\0\0\0\0\0\0\0\0\0\0";
 
-/// What a reader shows.
+/// What a reader holds or lends.
 #[derive(Clone, Copy, Debug, PartialEq, Eq)]
 enum Shown {
     More,
@@ -35,7 +35,7 @@ enum Shown {
     Other,
 }
 
-/// Which of the frames above it is.
+/// Which of the frames above this is.
 fn frame_shown(frame: FrameView<'_>) -> Shown {
     let register = Header {
         command: 0x65,
@@ -62,7 +62,7 @@ fn frame_shown(frame: FrameView<'_>) -> Shown {
     }
 }
 
-/// Which of all these it is.
+/// Which of these states this is.
 fn shown_by(held: Held<'_>) -> Shown {
     match held {
         Held::More => Shown::More,
@@ -75,14 +75,14 @@ fn shown_by(held: Held<'_>) -> Shown {
 /// A call of a reader.
 #[derive(Clone, Copy)]
 enum Call<'a> {
-    /// A piece, and how many bytes of it are taken.
+    /// `push` of a piece, and how many bytes are taken.
     Push(&'a [u8], usize),
-    /// The same, and what is lent of it.
+    /// `next` of a piece, how many bytes are taken, and what is lent.
     Next(&'a [u8], usize, Shown),
     Clear,
 }
 
-/// A call, and what is held after it.
+/// A call, and what the reader holds after it.
 type Step<'a> = (Call<'a>, Shown);
 
 fn check_call<A: Abort>(rt: &A, reader: &mut FrameReader, name: &str, call: Call<'_>) {
@@ -103,7 +103,7 @@ fn check<A: Abort>(rt: &A, reader: &mut FrameReader, name: &str, steps: &[Step<'
     }
 }
 
-/// Nothing is taken past a frame until it is cleared.
+/// Nothing is taken after a frame until it is cleared.
 const PUSHED: [Step<'static>; 4] = [
     (Call::Push(TWO_FRAMES, 28), Shown::Register),
     (Call::Push(NOP, 0), Shown::Register),
@@ -111,14 +111,14 @@ const PUSHED: [Step<'static>; 4] = [
     (Call::Push(NOP, 26), Shown::Nop),
 ];
 
-/// A whole frame is read in place: it is not held, and to clear what holds nothing does no harm.
+/// A whole frame is read in place: it is not held. Clearing a reader that holds nothing is harmless.
 const IN_PLACE: [Step<'static>; 3] = [
     (Call::Next(TWO_FRAMES, 28, Shown::Register), Shown::More),
     (Call::Clear, Shown::More),
     (Call::Next(NOP, 26, Shown::Nop), Shown::More),
 ];
 
-/// No byte is taken past a header that is too long.
+/// No byte is taken after a header with too great a length.
 const PUSHED_TOO_LONG: [Step<'static>; 4] = [
     (Call::Push(TOO_LONG, 24), Shown::TooLong),
     (Call::Push(b"\0\0", 0), Shown::TooLong),
@@ -126,7 +126,7 @@ const PUSHED_TOO_LONG: [Step<'static>; 4] = [
     (Call::Push(REGISTER, 28), Shown::Register),
 ];
 
-/// Such a header is held, since nothing is read in its place.
+/// Such a header is held, since it is not read in place.
 const HELD_TOO_LONG: [Step<'static>; 4] = [
     (Call::Next(TOO_LONG, 24, Shown::TooLong), Shown::TooLong),
     (Call::Next(REGISTER, 0, Shown::TooLong), Shown::TooLong),
@@ -170,7 +170,7 @@ fn a_cut_frame_is_held_until_clear(rt: HostRuntime) -> Result<(), Fail> {
     Ok(())
 }
 
-/// A reader and what its caller counts beside it.
+/// A reader, with a count that its caller keeps.
 #[derive(Drop)]
 struct Counting {
     reader: FrameReader,
@@ -178,7 +178,7 @@ struct Counting {
 }
 
 impl Counting {
-    /// Counts the frame that a piece completes, if it does, and answers how many bytes were taken.
+    /// Counts a frame if the piece completes one. Returns how many bytes were taken.
     fn feed(&mut self, piece: &[u8]) -> usize
         requires { self.old.shown < 255 }
         ensures number { result ≡ bytes_taken self.old.reader piece.now }
@@ -190,7 +190,7 @@ impl Counting {
         match held {
             Held::More | Held::TooLong(_) => {}
             Held::Frame(frame) => {
-                // The frame is lent while the caller's other fields change.
+                // the frame is borrowed while another field changes
                 self.shown += 1;
                 prove!(frame.body.len() <= 65_511);
                 self.reader.clear();

@@ -4,7 +4,7 @@ use Rattle.enip_c.proofs.ClientLemmas.{done_kept}
 use Rattle.enip_c.proofs.client.enip_core_client_open.Goals as goal
 
 pub returns-clause-done : goal.returns-clause-done
-returns-clause-done c = λ room.
+returns-clause-done c = λ buffer.
     done_kept
     open_outcome
     c.args.kept.now.value
@@ -14,8 +14,8 @@ returns-clause-done c = λ room.
     c.open_connection-status.result
     c.args.count.now
     c.open_connection-status.new.count
-    c.args.room.now
-    c.open_connection-status.new.room
+    c.args.buffer.now
+    c.open_connection-status.new.buffer
     (search rules)
     (search rules)
     c.open_connection-status.ensures

@@ -1,8 +1,25 @@
-use Rattle.enip_cmd.proofs.StatusLemmas.{replay_ends}
+use Rattle.std.proofs.Common.{ℕ, List, subst, sym, ◌∙◌}
+use Rattle.enip_config.specs.declared.fault.ConfigurationRefusal.{ConfigurationRefusal}
+use Rattle.enip_config.specs.Documents.{IsRefused}
+use Rattle.enip_config.specs.Configured.{IsAccepted}
+use Rattle.enip_cmd.specs.Statuses.{IsOpeningRefused}
+use Rattle.enip_cmd.proofs.StatusLemmas.{status_of_replay_fault, replay_line_refused, replay_configuration_refused, replay_setup}
 use Rattle.enip_cmd.proofs.replay.draw.Goals as goal
 
-pub returns-in_err-draw_replay-clause-refused : goal.returns-in_err-draw_replay-clause-refused
-returns-in_err-draw_replay-clause-refused g c =
-    replay_ends c.args.config.now c.in_ok-adapter.adapter c.in_err-draw_replay.field-0.0 c.from_residual-in_err-draw_replay.result
-    c.from_residual-in_err-draw_replay.ensures c.in_ok-adapter.ensures.made c.in_ok-adapter.ensures.accepted
-    (rw c.in_err-draw_replay.was at c.draw_replay.ensures)
+pub returns-in-Err-clause-status : goal.returns-in-Err-clause-status
+returns-in-Err-clause-status g c = rw c.exit_status.ensures (status_of_replay_fault _ c.in-Err.fault c.in-Err.ensures.refused)
+
+pub returns-in-Err-clause-line : goal.returns-in-Err-clause-line
+returns-in-Err-clause-line g c four =
+    subst (λ (text : List ℕ). IsAccepted text) c.as_bytes.ensures.value
+    (replay_line_refused _ c.in-Err.fault c.in-Err.ensures.refused (sym c.exit_status.ensures ∙ four))
+
+pub returns-in-Err-clause-refused : goal.returns-in-Err-clause-refused
+returns-in-Err-clause-refused g c three =
+    subst (λ (text : List ℕ). (refusal : ConfigurationRefusal) × IsRefused text refusal) c.as_bytes.ensures.value
+    (replay_configuration_refused _ c.in-Err.fault c.in-Err.ensures.refused (sym c.exit_status.ensures ∙ three))
+
+pub returns-in-Err-clause-setup : goal.returns-in-Err-clause-setup
+returns-in-Err-clause-setup g c six =
+    subst (λ (text : List ℕ). IsOpeningRefused text) c.as_bytes.ensures.value
+    (replay_setup _ c.in-Err.fault c.in-Err.ensures.refused (sym c.exit_status.ensures ∙ six))

@@ -1,20 +1,25 @@
-use Rattle.std.proofs.Common.{ℕ, List, subst}
+use Rattle.std.proofs.Common.{ℕ, List, subst, sym, ◌∙◌}
 use Rattle.enip_config.specs.declared.fault.ConfigurationRefusal.{ConfigurationRefusal}
 use Rattle.enip_config.specs.Documents.{IsRefused}
-use Rattle.enip_cmd.specs.Statuses.{IsOpeningRefused}
 use Rattle.enip_config.specs.Configured.{IsAccepted}
+use Rattle.enip_cmd.specs.Statuses.{IsOpeningRefused}
+use Rattle.enip_cmd.proofs.StatusLemmas.{status_of_replay_fault, replay_line_refused, replay_configuration_refused, replay_setup}
 use Rattle.enip_cmd.proofs.replay.replay.Goals as goal
 
-pub returns-clause-accepted : goal.returns-clause-accepted
-returns-clause-accepted g c done_ =
-    subst (λ (text : List ℕ). IsAccepted text) c.as_bytes.ensures.value (c.replay_bytes.ensures.accepted done_)
+pub returns-in-Err-clause-status : goal.returns-in-Err-clause-status
+returns-in-Err-clause-status g c = rw c.exit_status.ensures (status_of_replay_fault _ c.in-Err.fault c.in-Err.ensures.refused)
 
-pub returns-clause-line : goal.returns-clause-line
-returns-clause-line g c four = subst (λ (text : List ℕ). IsAccepted text) c.as_bytes.ensures.value (c.replay_bytes.ensures.line four)
+pub returns-in-Err-clause-line : goal.returns-in-Err-clause-line
+returns-in-Err-clause-line g c four =
+    subst (λ (text : List ℕ). IsAccepted text) c.as_bytes.ensures.value
+    (replay_line_refused _ c.in-Err.fault c.in-Err.ensures.refused (sym c.exit_status.ensures ∙ four))
 
-pub returns-clause-refused : goal.returns-clause-refused
-returns-clause-refused g c three =
-    subst (λ (text : List ℕ). (refusal : ConfigurationRefusal) × IsRefused text refusal) c.as_bytes.ensures.value (c.replay_bytes.ensures.refused three)
+pub returns-in-Err-clause-refused : goal.returns-in-Err-clause-refused
+returns-in-Err-clause-refused g c three =
+    subst (λ (text : List ℕ). (refusal : ConfigurationRefusal) × IsRefused text refusal) c.as_bytes.ensures.value
+    (replay_configuration_refused _ c.in-Err.fault c.in-Err.ensures.refused (sym c.exit_status.ensures ∙ three))
 
-pub returns-clause-setup : goal.returns-clause-setup
-returns-clause-setup g c six = subst (λ (text : List ℕ). IsOpeningRefused text) c.as_bytes.ensures.value (c.replay_bytes.ensures.setup six)
+pub returns-in-Err-clause-setup : goal.returns-in-Err-clause-setup
+returns-in-Err-clause-setup g c six =
+    subst (λ (text : List ℕ). IsOpeningRefused text) c.as_bytes.ensures.value
+    (replay_setup _ c.in-Err.fault c.in-Err.ensures.refused (sym c.exit_status.ensures ∙ six))

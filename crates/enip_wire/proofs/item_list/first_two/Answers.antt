@@ -5,7 +5,7 @@ use Rattle.enip_wire.specs.Items.{two_in, after}
 use Rattle.enip_wire.proofs.TwoLemmas.{err_seen, first_fault, second_fault, behind_two, ends-empty, ends-more}
 use Rattle.enip_wire.proofs.item_list.first_two.Goals as goal
 
--- the number that is read stands at the front of the text
+-- the number that is read is at the front of the bytes
 counted : (text count : List ℕ) (n : ℕ) → count ≡ take 2 text → n ≡ number_at 0 2 count → n ≡ number_at 0 2 text
 counted text count n front is = is ∙ ap (λ b. number_at 0 2 b) front ∙ little_from-take 0 2 2 text (omega arith)
 

@@ -3,7 +3,7 @@ use Rattle.cip_manager.specs.Table.{AreBelow}
 use Rattle.cip_manager.proofs.TableLemmas.{AreBelow-received}
 use Rattle.cip_manager.proofs.manager.Manager.connected.Goals as goal
 
--- the IDs stay below the next one
+-- the IDs are still below the next one
 pub invariant_of-self : goal.invariant_of-self
 invariant_of-self g c = record {
   first = c.self.invariant.first;

@@ -6,7 +6,7 @@ use Rattle.cip_manager.specs.Table.{is_in}
 use Rattle.cip_manager.proofs.WalkLemmas.{IsKeptFrom, IsKeptFrom-kept, IsKeptFrom-removed, IsKeptFrom-done}
 use Rattle.cip_manager.proofs.table.Table.end.Goals as goal
 
--- a connection of the group is taken out
+-- a connection of the group is removed
 pub loop-position-preserved-then-has : goal.loop-position-preserved-then-has
 loop-position-preserved-then-has c =
     let ends = ap (λ x. not (is_in c.args.group.now x)) (sym (c.at.ensures c.at.result.now)) ∙ ap not (sym c.has.ensures ∙ c.if-has.true) in (

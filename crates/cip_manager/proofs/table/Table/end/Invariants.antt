@@ -3,7 +3,7 @@ use Rattle.cip_manager.specs.Table.{is_in}
 use Rattle.cip_manager.proofs.WalkLemmas.{IsKeptFrom}
 use Rattle.cip_manager.proofs.table.Table.end.Given as goal
 
--- from the place on, those that are not in the group are kept
+-- from the position on, those that are not in the group are kept
 abbrev pub invariant-loop-position : goal.invariant-loop-position
 invariant-loop-position l =
     (l.self.places ≡ l.fn.self.places)

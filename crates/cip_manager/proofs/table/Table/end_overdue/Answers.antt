@@ -21,6 +21,6 @@ invariant_of-self c =
           (subst (λ e. AreOpenUntil e c.end.new.self.connections) (sym earliest) (AreOpenUntil-earliest greatest c.end.new.self.connections));
     }
 
--- the IDs stay
+-- the IDs do not change
 pub returns-clause-below : goal.returns-clause-below
 returns-clause-below c = λ n below. subst (λ t. AreBelow n t.connections) (sym c.self.view_is) (c.end.ensures.below n below)

@@ -71,7 +71,7 @@ returns-then-connection-session g c =
       },
     )
 
--- the connection keeps its place
+-- the connection keeps its position
 pub invariant_of-self-2 : goal.invariant_of-self-2
 invariant_of-self-2 g c =
     let slab = c.self.inside.connections in

@@ -17,7 +17,7 @@ remove-requires c =
     subst (ContainsKey c.self.inside.connections) (sym c.remove-key.ensures.key)
     (has-key c.self.inside.connections c.self.inside.index c.args.position c.self.invariant.named inside)
 
--- the other entries name what they did
+-- the other entries name the same connections as before
 pub invariant_of-self : goal.invariant_of-self
 invariant_of-self c =
     let entries = c.self.inside.index in

@@ -5,7 +5,7 @@ use borrow.Rule.Slice.PartMut.{put_mid, mid_of, same_len_mid}
 use Rattle.cip_class3.specs.Item.{item}
 use Rattle.enip_adapter.proofs.commands.items.item_front.Goals as goal
 
--- what is written behind a front, to the end of its block
+-- what is written after a front, to the end of its block
 joined : (f b : List ℕ) → length f ≡ 20 → length b ≡ length (mid_of 20 2 (f ++ 0 ∷ 0 ∷ [])) → length b ≡ 2 →
     put_mid 20 2 (f ++ 0 ∷ 0 ∷ []) b ≡ f ++ b
 joined f b p same q =

@@ -5,7 +5,7 @@ use Rattle.enip_wire.proofs.NextLemmas.{of_none, no_frame, some_held, held_after
 use Rattle.enip_wire.proofs.reader.FrameReader.next.Goals as goal
 use Rattle.enip_wire.proofs.reader.FrameReader.next.Goals.{then-self-eq0+in_default, else-self-eq0}
 
--- what push leaves is kept: it is no frame, or a byte was held before
+-- what `push` leaves is kept: it is not a frame, or a byte was held before
 kept : (c : goal.After-state)
     → held_after_parse c.args.self.now c.push-taken.new.self (parsed c.push-taken.new.self) ≡ c.push-taken.new.self
 kept c =

@@ -1,17 +1,17 @@
-//! Reads and writes that are tried again where a signal interrupts them.
+//! Reads and writes that are tried again if a signal interrupts them.
 
 ghost use Rattle.std.specs.Prelude.{◌≤◌, length, IfOk};
 
 use std::io::{self, ErrorKind, Read, Write};
 
-/// How often a read or a write is tried that a signal interrupts.
-const INTERRUPTIONS: u32 = 64;
+/// How many interrupted attempts a read or a write may have.
+const MAX_ATTEMPTS: u32 = 64;
 
-/// Reads what has come.
+/// Reads once.
 pub(crate) fn read_some<R: Read>(stream: &mut R, into: &mut [u8]) -> io::Result<usize>
     ensures { IfOk result (λ n. n ≤ length into.new) }
 {
-    for _ in 0..INTERRUPTIONS {
+    for _ in 0..MAX_ATTEMPTS {
         match stream.read(into) {
             Err(error) if error.kind() == ErrorKind::Interrupted => {}
             read => return read,
@@ -20,11 +20,11 @@ pub(crate) fn read_some<R: Read>(stream: &mut R, into: &mut [u8]) -> io::Result<
     Err(io::Error::from(ErrorKind::Interrupted))
 }
 
-/// Writes a front of these bytes.
+/// Writes once. The count may be less than the length of `from`.
 pub(crate) fn write_some<W: Write>(stream: &mut W, from: &[u8]) -> io::Result<usize>
     ensures { IfOk result (λ n. n ≤ length from.now) }
 {
-    for _ in 0..INTERRUPTIONS {
+    for _ in 0..MAX_ATTEMPTS {
         match stream.write(from) {
             Err(error) if error.kind() == ErrorKind::Interrupted => {}
             written => return written,

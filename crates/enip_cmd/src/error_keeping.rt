@@ -1,49 +1,48 @@
-//! Streams of the program that keep why they failed.
+//! Streams of the program that keep their last error.
 
 ghost use Rattle.std.specs.Prelude.{None};
 
-use crate::reason::{DeviceWords, Reason};
-use crate::retried::read_some;
+use crate::reason::{Reason, SystemError};
+use crate::retry::read_some;
 use std::io::{self, Read, Write};
 
-/// A stream, and the failure that it met last.
+/// A stream and its last error.
 #[derive(Drop)]
-pub(crate) struct Noted<S> {
+pub(crate) struct ErrorKeeping<S> {
     stream: S,
-    failure: Option<io::Error>,
+    last_error: Option<io::Error>,
 }
 
-impl<S> Noted<S> {
-    /// A stream that has not failed.
-    pub(crate) fn new(stream: S) -> Noted<S> {
-        Noted {
+impl<S> ErrorKeeping<S> {
+    pub(crate) fn new(stream: S) -> ErrorKeeping<S> {
+        ErrorKeeping {
             stream,
-            failure: None,
+            last_error: None,
         }
     }
 
-    /// Why it failed, if it did, of a stream of this name.
+    /// Why the stream failed, if it did. `name` is what the message calls it.
     pub(crate) fn reason<'a>(&self, name: &'a str) -> Option<Reason<'a>> {
-        let error = self.failure?;
-        Some(Reason::Device(name, DeviceWords(error)))
+        let error = self.last_error?;
+        Some(Reason::System(name, SystemError(error)))
     }
 }
 
-impl<S: Read> Read for Noted<S> {
+impl<S: Read> Read for ErrorKeeping<S> {
     fn read(&mut self, into: &mut [u8]) -> io::Result<usize> {
         let read = read_some(&mut self.stream, into);
         if let Err(error) = &read {
-            self.failure = Some(*error);
+            self.last_error = Some(*error);
         }
         read
     }
 }
 
-impl<S: Write> Write for Noted<S> {
+impl<S: Write> Write for ErrorKeeping<S> {
     fn write(&mut self, from: &[u8]) -> io::Result<usize> {
         let written = self.stream.write(from);
         if let Err(error) = &written {
-            self.failure = Some(*error);
+            self.last_error = Some(*error);
         }
         written
     }
@@ -51,7 +50,7 @@ impl<S: Write> Write for Noted<S> {
     fn flush(&mut self) -> io::Result<()> {
         let flushed = self.stream.flush();
         if let Err(error) = &flushed {
-            self.failure = Some(*error);
+            self.last_error = Some(*error);
         }
         flushed
     }

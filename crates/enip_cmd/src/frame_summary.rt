@@ -1,4 +1,4 @@
-//! What a frame asks and what answers it, in the words of a log.
+//! Requests and answers as the log prints them.
 
 use cip_bytes::StatusText;
 use cip_bytes::protocol::{Command, EncapsulationStatus, ManagerService};
@@ -6,33 +6,33 @@ use cip_message::{Path, ReplyView, RequestView, read_path};
 use enip_wire::{FrameView, Header, rr_body, unit_body};
 use std::fmt;
 
-/// What a frame asks.
+/// What the log prints of a request, and what it needs to recognize the answer.
 #[derive(Clone, Copy)]
-pub(crate) struct Asked {
+pub(crate) struct RequestSummary {
     command: u16,
     context: [u8; 8],
-    /// Of an item: its connection and its count.
+    /// Of a class 3 item: the connection ID and the sequence count.
     item: Option<(u32, u16)>,
     service: Option<u8>,
     path: Option<Path>,
 }
 
-impl Asked {
-    /// What a frame asks.
-    pub(crate) fn of(frame: FrameView<'_>) -> Asked {
+impl RequestSummary {
+    /// The summary of a frame.
+    pub(crate) fn of(frame: FrameView<'_>) -> RequestSummary {
         let (item, message) = message_of(frame);
         let request = message.and_then(|bytes| RequestView::read(bytes).ok());
-        Asked {
+        RequestSummary {
             item,
             service: request.map(|request| request.service),
             path: request.and_then(|request| read_path(request.path).ok()),
-            ..Asked::of_header(&frame.header)
+            ..RequestSummary::of_header(&frame.header)
         }
     }
 
-    /// What a header asks whose frame is not looked at.
-    pub(crate) fn of_header(header: &Header) -> Asked {
-        Asked {
+    /// The summary of a header alone.
+    pub(crate) fn of_header(header: &Header) -> RequestSummary {
+        RequestSummary {
             command: header.command,
             context: header.context,
             item: None,
@@ -41,7 +41,7 @@ impl Asked {
         }
     }
 
-    /// Whether a frame answers it: it has the command, the context, and the count of an item.
+    /// Whether a frame is the answer: it has the same command, context and sequence count.
     pub(crate) fn is_answered_by(&self, frame: FrameView<'_>) -> bool {
         let count = self.item.map(|(_, count)| count);
         let answered = message_of(frame).0.map(|(_, count)| count);
@@ -51,7 +51,7 @@ impl Asked {
     }
 }
 
-/// The item and the message of the router that a frame carries. (Volume 2, SendRRData and SendUnitData.)
+/// The class 3 item and the message router's message in a frame. (Volume 2, SendRRData and SendUnitData.)
 fn message_of(frame: FrameView<'_>) -> (Option<(u32, u16)>, Option<&[u8]>) {
     match Command::of(frame.header.command) {
         Some(Command::SendRRData) => (None, rr_body(frame.body).ok()),
@@ -66,7 +66,7 @@ fn message_of(frame: FrameView<'_>) -> (Option<(u32, u16)>, Option<&[u8]>) {
     }
 }
 
-impl fmt::Display for Asked {
+impl fmt::Display for RequestSummary {
     fn fmt<W: fmt::Write>(&self, f: &mut fmt::Formatter<W>) -> fmt::Result {
         match Command::of(self.command) {
             Some(command) => write!(f, "{command}")?,
@@ -88,7 +88,7 @@ impl fmt::Display for Asked {
     }
 }
 
-/// Writes the name of a service, or its number.
+/// Writes the name of a service, or its number if it has no name here.
 fn write_service<W: fmt::Write>(f: &mut fmt::Formatter<W>, service: u8) -> fmt::Result {
     if let Some(known) = ManagerService::of(service) {
         return write!(f, " {known}");
@@ -99,7 +99,7 @@ fn write_service<W: fmt::Write>(f: &mut fmt::Formatter<W>, service: u8) -> fmt::
     }
 }
 
-/// The name of a service of all objects. (Volume 1, common services.)
+/// The name of a common service. (Volume 1, common services.)
 fn service_name(service: u8) -> Option<&'static str> {
     Some(match service {
         0x01 => "Get_Attributes_All",
@@ -127,7 +127,7 @@ fn service_name(service: u8) -> Option<&'static str> {
     })
 }
 
-/// Writes a path in words.
+/// Writes a path by its numbers.
 fn write_path<W: fmt::Write>(f: &mut fmt::Formatter<W>, path: Path) -> fmt::Result {
     let (class, instance) = (path.class, path.instance);
     write!(f, " class {class} instance {instance}")?;
@@ -140,30 +140,30 @@ fn write_path<W: fmt::Write>(f: &mut fmt::Formatter<W>, path: Path) -> fmt::Resu
     }
 }
 
-/// The status of an answer: that of its header, or that of the reply in it.
+/// The status of an answer.
 #[derive(Clone, Copy)]
-pub(crate) enum Status {
-    /// An encapsulation status.
-    Header(u32),
-    /// A general status, and the first additional word or 0.
+pub(crate) enum AnswerStatus {
+    /// The header's encapsulation status.
+    Encapsulation(u32),
+    /// The reply's general status, and its first additional word or 0.
     Reply(StatusText),
 }
 
-impl Status {
-    /// The status of an answer.
-    pub(crate) fn of(frame: FrameView<'_>) -> Status {
+impl AnswerStatus {
+    /// The status of a frame: that of the reply in it, unless the header has an error status.
+    pub(crate) fn of(frame: FrameView<'_>) -> AnswerStatus {
         let (_, message) = message_of(frame);
         match message.map(ReplyView::read) {
-            Some(Ok(reply)) if frame.header.status == 0 => Status::Reply(StatusText {
+            Some(Ok(reply)) if frame.header.status == 0 => AnswerStatus::Reply(StatusText {
                 status: reply.status,
                 extended: reply.additional_word(0).unwrap_or(0),
             }),
-            _ => Status::Header(frame.header.status),
+            _ => AnswerStatus::Encapsulation(frame.header.status),
         }
     }
 }
 
-/// The encapsulation statuses. (Volume 2, encapsulation status.)
+/// The encapsulation statuses with a name. (Volume 2, encapsulation status.)
 static STATUSES: [EncapsulationStatus; 6] = [
     EncapsulationStatus::Success,
     EncapsulationStatus::UnsupportedCommand,
@@ -173,11 +173,11 @@ static STATUSES: [EncapsulationStatus; 6] = [
     EncapsulationStatus::UnsupportedRevision,
 ];
 
-impl fmt::Display for Status {
+impl fmt::Display for AnswerStatus {
     fn fmt<W: fmt::Write>(&self, f: &mut fmt::Formatter<W>) -> fmt::Result {
         match self {
-            Status::Reply(words) => write!(f, "{words}"),
-            Status::Header(status) => {
+            AnswerStatus::Reply(text) => write!(f, "{text}"),
+            AnswerStatus::Encapsulation(status) => {
                 match STATUSES.iter().find(|known| known.number() == *status) {
                     Some(known) => write!(f, "{known}"),
                     None => write!(f, "status {status:#06x}"),

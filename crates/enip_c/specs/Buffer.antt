@@ -26,27 +26,27 @@ status_number status.Abandoned = 17
 status_number status.Wants = 18
 
 -- Bytes at the front of a buffer, whose rest stays as it was.
-abbrev pub in_room : List ℕ → List ℕ → List ℕ
-in_room bytes room = bytes ++ drop (length bytes) room
+abbrev pub in_buffer : List ℕ → List ℕ → List ℕ
+in_buffer bytes buffer = bytes ++ drop (length bytes) buffer
 
 -- The status, the count and the buffer after a call.
-pub record Told : Type 0 where
+pub record Returned : Type 0 where
   pub status : ℕ
   pub count : ℕ
-  pub room : List ℕ
+  pub buffer : List ℕ
 
-abbrev pub told : Status → ℕ → List ℕ → Told
-told s count room = record { status = status_number s; count = count; room = room }
+abbrev pub returned : Status → ℕ → List ℕ → Returned
+returned s count buffer = record { status = status_number s; count = count; buffer = buffer }
 
 -- Bytes are copied if they fit. If there are none, or they do not fit, nothing changes.
-abbrev pub told_bytes : Option (List ℕ) → ℕ → List ℕ → Told
-told_bytes None count room = told status.Absent count room
-told_bytes (Some bytes) count room =
-    if nat_le (length bytes) (length room)
-    then told status.Done (length bytes) (in_room bytes room)
-    else told status.Room count room
+abbrev pub returned_bytes : Option (List ℕ) → ℕ → List ℕ → Returned
+returned_bytes None count buffer = returned status.Absent count buffer
+returned_bytes (Some bytes) count buffer =
+    if nat_le (length bytes) (length buffer)
+    then returned status.Done (length bytes) (in_buffer bytes buffer)
+    else returned status.Room count buffer
 
 -- The status, and the number if there is one.
-abbrev pub IsToldNumber : Option ℕ → ℕ → ℕ → ℕ → Type 0
-IsToldNumber None old new result = (result ≡ status_number status.Absent) × (new ≡ old)
-IsToldNumber (Some n) old new result = (result ≡ status_number status.Done) × (new ≡ n)
+abbrev pub ReturnsNumber : Option ℕ → ℕ → ℕ → ℕ → Type 0
+ReturnsNumber None old new result = (result ≡ status_number status.Absent) × (new ≡ old)
+ReturnsNumber (Some n) old new result = (result ≡ status_number status.Done) × (new ≡ n)

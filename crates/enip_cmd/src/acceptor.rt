@@ -1,0 +1,55 @@
+//! Accepts connections.
+
+use crate::readiness::Readiness;
+use mio::net::{TcpListener, TcpStream};
+
+/// A nonblocking listening socket.
+#[derive(Drop)]
+pub(crate) struct Acceptor {
+    listener: TcpListener,
+    readiness: Readiness,
+}
+
+impl Acceptor {
+    /// The acceptor of a listener. A connection may be waiting already.
+    pub(crate) fn new(listener: TcpListener) -> Acceptor {
+        Acceptor {
+            listener,
+            readiness: Readiness::Ready,
+        }
+    }
+
+    /// When to try the listener next.
+    pub(crate) fn readiness(&self) -> Readiness {
+        self.readiness
+    }
+
+    /// The system has reported the listener as readable.
+    pub(crate) fn on_readable(&mut self) {
+        self.readiness = self.readiness.on_readable();
+    }
+
+    /// A descriptor was closed. A listener that lacked one is tried at once.
+    pub(crate) fn on_descriptor_freed(&mut self) {
+        self.readiness = self.readiness.on_descriptor_freed();
+    }
+
+    /// The next connection. `None` if there is none, or if the listener is not to be tried yet. `now` is in microseconds.
+    pub(crate) fn accept(&mut self, now: u64) -> Option<TcpStream> {
+        if !self.readiness.is_due(now) {
+            return None;
+        }
+        match self.listener.accept() {
+            Ok((stream, _)) => {
+                self.readiness = Readiness::Ready;
+                // Answers are small, so they are not to wait for one another.
+                let _ = stream.set_nodelay(true);
+                Some(stream)
+            }
+            Err(error) => {
+                self.readiness = Readiness::after_error(&error, now);
+                None
+            }
+        }
+    }
+}

@@ -1,0 +1,104 @@
+//! Files that arguments name, and why one is refused.
+
+use crate::fault::Fault;
+use crate::reason::{CommandError, Reason};
+use clap::ArgMatches;
+use enip_adapter::Adapter;
+use enip_cli::{OsArg, read_file};
+use enip_config::{Configuration, ConfigurationRefusal, adapter_from, explain};
+use std::alloc::Global;
+
+/// A file that an argument names, and its content.
+#[derive(Drop)]
+pub(crate) struct NamedFile<'a> {
+    name: &'a str,
+    bytes: Vec<u8>,
+}
+
+impl<'a> NamedFile<'a> {
+    /// Reads the file that the argument of this ID names.
+    pub(crate) fn read(
+        alloc: Global,
+        args: &[OsArg],
+        matches: &ArgMatches<'a>,
+        id: &str,
+    ) -> Result<NamedFile<'a>, CommandError<'a>> {
+        let name = matches.get_str(id).unwrap_or("");
+        match read_file(alloc, args, name) {
+            Ok(bytes) => Ok(NamedFile { name, bytes }),
+            Err(error) => Err(CommandError::of_system(name, error)),
+        }
+    }
+
+    /// The name as the argument gives it.
+    pub(crate) fn name(&self) -> &'a str {
+        self.name
+    }
+
+    fn bytes(&self) -> &[u8] {
+        self.bytes.as_slice()
+    }
+
+    /// The text of a configuration. One that is not UTF-8 is not TOML.
+    pub(crate) fn config_text(&self, alloc: Global) -> Result<&str, CommandError<'a>> {
+        match str::from_utf8(self.bytes()) {
+            Ok(text) => Ok(text),
+            Err(_) => {
+                let fault = enip_config::LoadFault::Refused(ConfigurationRefusal::NotToml);
+                Err(self.refused(alloc, fault))
+            }
+        }
+    }
+
+    /// The text of a script, with U+FFFD for what is not UTF-8, which only a comment may have.
+    pub(crate) fn script_text(&self, alloc: Global) -> Result<String, CommandError<'a>> {
+        Ok(String::from_utf8_lossy(alloc, self.bytes())?)
+    }
+
+    /// The adapter that the file configures.
+    pub(crate) fn adapter(&self, alloc: Global) -> Result<Adapter, CommandError<'a>> {
+        adapter_from(alloc, self.bytes()).map_err(|fault| self.refused(alloc, fault))
+    }
+
+    /// The configuration in the file.
+    pub(crate) fn configuration(&self, alloc: Global) -> Result<Configuration, CommandError<'a>> {
+        Configuration::from_bytes(alloc, self.bytes()).map_err(|fault| self.refused(alloc, fault))
+    }
+
+    /// The error of a command whose configuration this file is.
+    fn refused(&self, alloc: Global, fault: enip_config::LoadFault) -> CommandError<'a> {
+        if let enip_config::LoadFault::Memory = fault {
+            return CommandError::of_memory();
+        }
+        CommandError::new(Fault::from(fault), self.explanation(alloc))
+    }
+
+    /// Why the configuration in the file is refused.
+    fn explanation(&self, alloc: Global) -> Reason<'a> {
+        match explain(alloc, self.bytes()) {
+            Ok(Some(explanation)) => Reason::Configuration(self.name, explanation),
+            Ok(None) => Reason::Failed(self.name),
+            Err(_) => Reason::Memory,
+        }
+    }
+}
+
+/// The error of a run over a configuration and an input of lines. `stream_reason` is why a stream failed, if one did.
+pub(crate) fn error_of_run<'a>(
+    alloc: Global,
+    fault: Fault,
+    config: &NamedFile<'a>,
+    input_name: &'a str,
+    stream_reason: Option<Reason<'a>>,
+) -> CommandError<'a> {
+    let reason = match fault {
+        Fault::Configuration(_) => config.explanation(alloc),
+        Fault::Setup => Reason::Setup(config.name()),
+        Fault::Run(enip_commands::ProgramFault::Line(number, why)) => {
+            Reason::Line(input_name, number, why)
+        }
+        Fault::Run(enip_commands::ProgramFault::Memory) => Reason::Memory,
+        _ => stream_reason.unwrap_or(Reason::Failed(input_name)),
+    };
+    CommandError::new(fault, reason)
+}
