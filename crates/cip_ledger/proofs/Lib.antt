@@ -8,3 +8,4 @@ pub mod Lives
 pub mod Forms
 pub mod Words
 pub mod Turns
+pub mod Devices

@@ -11,3 +11,4 @@ pub mod Views
 pub mod TooLarge
 pub mod Laws
 pub mod Runs
+pub mod Device

@@ -3,7 +3,7 @@ use Rattle.std.specs.Prelude.{◌≡◌, ℕ, Option, Some, None, option_map, Li
 use Rattle.cip_ledger.specs.declared.status.Status.TheVariants as statuses
 use Rattle.cip_ledger.specs.Ledger.{LedgerState, with_slot, without_slot}
 use Rattle.cip_ledger.specs.Requests.{LedgerRequest, Command, ledger_request, is_barred}
-use Rattle.cip_ledger.specs.Services.{Answer, Action, Replies, Executes, Frees, action_of, refusal, success, reply_to}
+use Rattle.cip_ledger.specs.Services.{Action, Replies, Executes, Frees, action_of, refusal, success, reply_to}
 use Rattle.cip_ledger.specs.Services.{KEPT_LIMIT, DONE}
 
 -- A request goes to the router as it is, or is one of this service for the ledger, which does so with it.
