@@ -1,13 +1,17 @@
 -- The objects with a ledger before them, if there is one, as one router.
-use Rattle.std.specs.Prelude.{ℕ, List, [], ◌∷◌}
+use Rattle.std.specs.Prelude.{ℕ, Option, List, [], ◌∷◌}
 use Rattle.cip_objects.specs.Contents.{Contents}
 use Rattle.cip_objects.specs.Execution.{exec}
 use Rattle.cip_ledger.specs.declared.router.LedgerRouter.{LedgerRouter}
+use Rattle.cip_ledger.specs.Ledger.{LedgerState}
 use Rattle.cip_ledger.specs.Runs.{Request}
 use Rattle.cip_ledger.specs.Turn.{Turn, turn}
 
 abbrev pub Device : Type 0
 Device = LedgerRouter Contents
+
+abbrev pub device_of : Option LedgerState → Contents → Device
+device_of ledger objects = record { ledger = ledger; router = objects }
 
 abbrev pub device_turn : Device → ℕ → List ℕ → Turn Contents
 device_turn device max_size request =
