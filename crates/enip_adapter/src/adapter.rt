@@ -333,6 +333,13 @@ impl Adapter {
         &self.shared.objects.router
     }
 
+    /// The current command ledger. `None` if the adapter has none.
+    pub fn ledger(&self) -> Option<&Ledger>
+        ensures { option_map (λ ledger. ledger.now) result ≡ self.now.state.shared.objects.ledger }
+    {
+        self.shared.objects.ledger.as_ref()
+    }
+
     /// Writes bytes into the data of an assembly, from `offset` on, on behalf of the device itself. Whether peers may
     /// set the assembly does not matter.
     ///
