@@ -10,6 +10,7 @@ ghost use Rattle.enip_adapter.specs.declared.adapter.Limits.{Limits};
 ghost use Rattle.enip_adapter.specs.declared.peer.Session.{Session};
 ghost use Rattle.enip_adapter.specs.declared.shared.Listen.{Listen};
 ghost use Rattle.enip_adapter.specs.Adapter.{new_adapter};
+ghost use Rattle.enip_adapter.specs.DeviceRuns.{device_law, objects_law, commands_once_law, numbers_rise_law};
 ghost use Rattle.enip_adapter.specs.Discovery.{discovered};
 ghost use Rattle.enip_adapter.specs.Turn.{Event, Answer, answers, after, session_of};
 ghost use Rattle.enip_adapter.specs.Turn.Output.{Sends};
@@ -73,6 +74,17 @@ pub fn handles_rise()
 pub fn ids_rise()
     ensures { (device : Device) (listen : Listen) (limits : Limits) (events : List Event) →
         RisesFrom limits.first_id (ids_of_events (new_adapter device listen limits).state events) }
+{}
+
+/// Whatever calls are made, the objects and the command ledger change only by requests: they are those after a run of
+/// `requests_of_calls`, the requests in the frames that are served, in order. So all laws of `cip_ledger` hold for
+/// frames, over any peers, sessions, connections, timeouts and new connections. Two are written out: no number of an
+/// originator is executed twice, and the numbers rise, unless the originator's slot is freed in between.
+pub fn device_runs_requests()
+    ensures device { device_law }
+    ensures objects { objects_law }
+    ensures once { commands_once_law }
+    ensures rising { numbers_rise_law }
 {}
 
 /// From a peer's begin on, whatever other calls come between: the bytes taken of its stream are the frames that are
