@@ -1,22 +1,20 @@
 -- Commands that are answered with success.
-use Rattle.std.proofs.Common.{◌≡◌, ◌≢◌, ◌⊎◌, inl, inr, ℕ, ◌<◌, ◌≤◌, ◌==◌, ◌&&◌, nat_lt, Bool, true, false, if◌then◌else◌, Option, Some, None, unwrap_or, List, [], ◌∷◌, ◌++◌, length, refl, ap, sym, ◌∙◌, subst, arith, append_assoc, append-nil}
-use Rattle.std.specs.Prelude.{⊤, option_map}
-use Rattle.std.proofs.lemmas.Bool.{eqb-true, eqb-false, lt-ltb, le-ltb, ne_eqb, eq-eqb, ltb-false}
+use Rattle.std.proofs.Common.{◌≡◌, ◌≢◌, ◌⊎◌, inl, inr, ℕ, ◌<◌, ◌≤◌, ◌==◌, ◌&&◌, nat_lt, Bool, true, false, if◌then◌else◌, Option, Some, None, unwrap_or, List, [], ◌∷◌, length, refl, ap, sym, ◌∙◌, subst, arith}
+use Rattle.std.proofs.lemmas.Bool.{eqb-true, ltb-false}
 use Rattle.cip_message.specs.Reply.{reply_service}
 use Rattle.cip_objects.specs.Router.{general_status}
 use Rattle.cip_ledger.specs.Status.{status_number}
 use Rattle.cip_ledger.specs.declared.router.LedgerRouter.{LedgerRouter}
 use Rattle.cip_ledger.specs.declared.service.TheConstants as services
-use Rattle.cip_ledger.specs.Ledger.{LedgerState, SlotState, slot_of, empty_ledger, without_slot}
+use Rattle.cip_ledger.specs.Ledger.{LedgerState, SlotState, slot_of}
 use Rattle.cip_ledger.specs.Requests.{LedgerRequest, Command, command_of, ledger_request}
-use Rattle.cip_ledger.specs.Services.{Answer, Action, Replies, Executes, Frees, success, reply_to, DONE, KEPT_LIMIT, HEAD_SIZE}
-use Rattle.cip_ledger.specs.Turn.{Fate, Passed, Served, fate, turn_by, with_executed, with_freed, embedded_reply}
-use Rattle.cip_ledger.specs.Runs.{Request, slot_in, command_by, command_in_data, command_given, Event, Executed, Freed}
-use Rattle.cip_ledger.specs.Runs.{turn_at, answer_to, node_of, next, node_after, events_by, journal}
-use Rattle.cip_ledger.specs.Laws.{UntilFreed, Rises, HasNoDoubles, IsNotFreed, IsDone, Succeeds}
-use Rattle.cip_ledger.proofs.SlotLemmas.{slot_of-without_slot}
-use Rattle.cip_ledger.proofs.Fates.{Means, fate-means, MeansAction, IsServed}
-use Rattle.cip_ledger.proofs.Settled.{Settled, newer_than, next_by, executed-same, executed-other, freed-other, slot_done, settled-command, settled-run, journal-above}
+use Rattle.cip_ledger.specs.Services.{Action, Replies, Executes, Frees, success, reply_to, DONE}
+use Rattle.cip_ledger.specs.Turn.{Fate, Passed, Served, fate, turn_by, embedded_reply}
+use Rattle.cip_ledger.specs.Runs.{Request, slot_in, command_by, command_given, Event, Executed, Freed}
+use Rattle.cip_ledger.specs.Runs.{answer_to, next, node_after, journal}
+use Rattle.cip_ledger.specs.Laws.{UntilFreed, Rises, HasNoDoubles, IsNotFreed, IsAnswered, Succeeds}
+use Rattle.cip_ledger.proofs.Fates.{Means, fate-means, IsServed}
+use Rattle.cip_ledger.proofs.Settled.{Settled, newer_than, next_by, settled-command, settled-run, journal-above}
 
 -- ---- numbers that rise are no doubles
 
@@ -169,19 +167,38 @@ module _ {M : Type 0} (after : M → ℕ → List ℕ → M) (answer : M → ℕ
     again-by (Served service (Frees freed)) reply means settled status =
         absurd (none_some (command_given request) command means.means.no_command given)
 
+    -- the slot has a greater number
+    older-by : (f : Fate) → Means node.ledger request f →
+        general_status (turn_by after answer f node.ledger node.router request.0 request.1).answer ≡ 0x0c →
+        Settled number [] (slot_in originator (next_by after answer f node request).ledger)
+    older-by Passed means status = absurd (passed_none node.ledger request command means some given)
+    older-by (Served service (Replies reply)) means status =
+        let older = means.means.older command given status in
+        let greater = older.greater in
+        subst (λ l. Settled number [] (slot_in originator l)) (sym means.ledger_is)
+        (subst (λ o. Settled number [] (slot_of o means.state.taken)) originator_is
+        (subst (Settled number []) (sym older.found) (inr (omega (arith, greater, number_is)))))
+    older-by (Served service (Executes executed)) means status = absurd (omega (arith, status))
+    older-by (Served service (Frees freed)) means status = absurd (omega (arith, status))
+
   pub settles : (node : LedgerRouter M) (request : Request) (originator number : ℕ) → Succeeds after answer node request originator number →
       Settles (fate node.ledger request.0 request.1) node request originator number
   settles node request originator number is =
       settles-by node request originator number is.has_ledger is.command is.given is.originator_is is.number_is
-      (fate node.ledger request.0 request.1) (fate-means node.ledger request) is.status
+      (fate node.ledger request.0 request.1) (fate-means node.ledger request) is.status_is
 
-  -- only greater numbers are executed once a number was answered with success
-  pub never-again : (node : LedgerRouter M) (request : Request) (later : List Request) (originator number : ℕ) →
-      Succeeds after answer node request originator number →
+  -- only greater numbers are executed once a number was answered with success, or as too old
+  pub never-again : (node : LedgerRouter M) (request : Request) (later : List Request) (originator number status : ℕ) →
+      IsAnswered after answer node request originator number status → (status ≡ 0) ⊎ (status ≡ 0x0c) →
       UntilFreed originator (λ command. number < command.number) (journal after answer (next after answer node request) later)
-  never-again node request later originator number is =
-      let s = settles node request originator number is in
+  never-again node request later originator number status is (inl success) =
+      let s = settles-by node request originator number is.has_ledger is.command is.given is.originator_is is.number_is
+      (fate node.ledger request.0 request.1) (fate-means node.ledger request) (is.status_is ∙ success) in
       journal-above after answer later (next after answer node request) originator number s.reply s.settled
+  never-again node request later originator number status is (inr older) =
+      journal-above after answer later (next after answer node request) originator number []
+      (older-by node request originator number is.has_ledger is.command is.given is.originator_is is.number_is
+      (fate node.ledger request.0 request.1) (fate-means node.ledger request) (is.status_is ∙ older))
 
   -- two success answers to a number have the same bytes
   pub same-bytes : (node : LedgerRouter M) (first again : Request) (between : List Request) (originator number : ℕ) →
@@ -195,5 +212,5 @@ module _ {M : Type 0} (after : M → ℕ → List ℕ → M) (answer : M → ℕ
       again-by last again originator number again_is.has_ledger again_is.command again_is.given again_is.originator_is again_is.number_is
       (fate last.ledger again.0 again.1) s.reply (fate-means last.ledger again)
       (settled-run after answer between (next after answer node first) originator number s.reply s.settled kept)
-      again_is.status
+      again_is.status_is
       ∙ sym s.answered

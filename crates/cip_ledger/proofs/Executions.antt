@@ -1,6 +1,6 @@
 -- Kept replies are those of executions, and new commands are executed.
-use Rattle.std.proofs.Common.{◌≡◌, ◌≢◌, ◌⊎◌, inl, inr, ℕ, ◌+◌, ◌<◌, ◌≤◌, ◌==◌, ◌&&◌, nat_lt, Bool, true, false, not, if◌then◌else◌, Option, Some, None, unwrap_or, List, [], ◌∷◌, ◌++◌, length, refl, ap, sym, ◌∙◌, subst, arith, append_assoc, append-nil}
-use Rattle.std.specs.Prelude.{⊤, option_map}
+use Rattle.std.proofs.Common.{◌≡◌, inl, inr, ℕ, ◌+◌, ◌≤◌, ◌==◌, Bool, true, false, Option, Some, None, unwrap_or, List, [], ◌∷◌, ◌++◌, length, refl, ap, sym, ◌∙◌, subst, arith, append_assoc, append-nil}
+use Rattle.std.specs.Prelude.{option_map}
 use Rattle.std.proofs.lemmas.Bool.{eqb-true, eqb-false, lt-ltb, le-ltb, ne_eqb, eq-eqb}
 use Rattle.cip_objects.specs.Router.{general_status}
 use Rattle.cip_ledger.specs.declared.router.LedgerRouter.{LedgerRouter}
@@ -8,7 +8,7 @@ use Rattle.cip_ledger.specs.declared.service.TheConstants as services
 use Rattle.cip_ledger.specs.Status.{status_number}
 use Rattle.cip_ledger.specs.Ledger.{LedgerState, SlotState, slot_of, empty_ledger, without_slot}
 use Rattle.cip_ledger.specs.Requests.{LedgerRequest, Command, command_of, ledger_request}
-use Rattle.cip_ledger.specs.Services.{Action, Replies, Executes, Frees, success, reply_to, DONE, KEPT_LIMIT, HEAD_SIZE, do_command, do_by_slot, action_of}
+use Rattle.cip_ledger.specs.Services.{Replies, Executes, Frees, success, reply_to, DONE, KEPT_LIMIT, HEAD_SIZE, do_command, do_by_slot, action_of}
 use Rattle.cip_ledger.specs.Turn.{Fate, Passed, Served, fate, fate_of, turn_by, with_executed, with_freed, embedded_reply}
 use Rattle.cip_ledger.specs.Runs.{Request, slot_in, command_by, command_given, Event, Executed, Freed}
 use Rattle.cip_ledger.specs.Runs.{answer_to, next, node_after, events_by, journal}
@@ -146,7 +146,7 @@ module _ {M : Type 0} (after : M → ℕ → List ℕ → M) (answer : M → ℕ
       let f = fate node.ledger request.0 request.1 in
       subst (λ events. IsAnswerOf (past ++ events) (answer_to after answer node request) originator number)
       (sym (append-nil (events_by after answer f node.router)))
-      (last-by node request originator number is f past (fate-means node.ledger request) covered is.status)
+      (last-by node request originator number is f past (fate-means node.ledger request) covered is.status_is)
   answer-run (first ∷ requests) node past request originator number covered is =
       let f = fate node.ledger first.0 first.1 in
       let now = events_by after answer f node.router in

@@ -1,7 +1,7 @@
 -- What the fate of a request says of the request and of the ledger.
-use Rattle.std.proofs.Common.{◌≡◌, ◌≢◌, ◌⊎◌, inl, inr, ℕ, ◌+◌, ◌*◌, ◌<◌, ◌≤◌, ◌==◌, ◌&&◌, nat_lt, Bool, true, false, not, if◌then◌else◌, Option, Some, None, unwrap_or, List, [], ◌∷◌, ◌++◌, length, drop, refl, ap, sym, ◌∙◌, subst, arith, length-drop}
+use Rattle.std.proofs.Common.{◌≡◌, ◌⊎◌, inl, inr, ℕ, ◌+◌, ◌*◌, ◌<◌, ◌≤◌, ◌==◌, ◌&&◌, nat_lt, Bool, true, false, not, if◌then◌else◌, Option, Some, None, unwrap_or, List, [], ◌∷◌, ◌++◌, length, drop, refl, ap, sym, ◌∙◌, subst, arith, length-drop}
 use Rattle.std.specs.Prelude.{⊤}
-use Rattle.std.proofs.lemmas.Bool.{eq-eqb, ne_eqb, eqb-true, eqb-false, ltb-false}
+use Rattle.std.proofs.lemmas.Bool.{eq-eqb, eqb-true, eqb-false, ltb-true, ltb-false}
 use Rattle.cip_bytes.specs.Numbers.{le, number_at, words_of}
 use Rattle.cip_ledger.specs.declared.status.Status.{Status}
 use Rattle.cip_ledger.specs.declared.status.Status.TheVariants as statuses
@@ -11,7 +11,7 @@ use Rattle.cip_ledger.specs.Ledger.{LedgerState, SlotState, slot_of}
 use Rattle.cip_ledger.specs.Requests.{LedgerRequest, Command, command_of, ledger_request}
 use Rattle.cip_ledger.specs.Services.{Answer, Action, Replies, Executes, Frees, refusal, refuses, success, within, size_fault, unless, DONE, KEPT_LIMIT, HEAD_SIZE, do_once, do_command, do_by_slot, do_new, get_last, last_in, forget, forget_in, single, value_named, class_answer, class_values, get_attribute_list, list_answer, ledger_values, instance_action, action_of}
 use Rattle.cip_ledger.specs.Turn.{Fate, Passed, Served, fate, fate_of}
-use Rattle.cip_ledger.specs.Runs.{Request, slot_in, command_by, command_in_data, command_given, forgotten_by, forgotten_in_data, originator_forgotten}
+use Rattle.cip_ledger.specs.Runs.{Request, command_by, command_in_data, command_given, forgotten_by, forgotten_in_data, forgotten}
 
 -- the number is greater than that of the slot, if there is one
 abbrev pub IsNewAt : Option SlotState → ℕ → Type 0
@@ -25,10 +25,17 @@ pub record IsKept (ledger : LedgerState) (command : Command) (content : List ℕ
   pub number_is : slot.number ≡ command.number
   pub content_is : content ≡ DONE ∷ slot.reply
 
+-- the originator's slot has a greater number than the command
+pub record IsOlder (ledger : LedgerState) (command : Command) : Type 0 where
+  pub slot : SlotState
+  pub found : slot_of command.originator ledger.taken ≡ Some slot
+  pub greater : command.number < slot.number
+
 -- what an answer means where a command was given, or none, and it fits the reply limit
 pub record Answers (ledger : LedgerState) (max_size : ℕ) (given : Option Command) (answer : Answer) : Type 0 where
   pub fits : 8 ≤ max_size → HEAD_SIZE + length answer.content ≤ max_size
   pub kept : (command : Command) → given ≡ Some command → status_number answer.status ≡ 0 → IsKept ledger command answer.content
+  pub older : (command : Command) → given ≡ Some command → status_number answer.status ≡ 0x0c → IsOlder ledger command
 
 pub record IsExecuted (ledger : LedgerState) (max_size : ℕ) (given : Option Command) (command : Command) : Type 0 where
   pub given_is : given ≡ Some command
@@ -37,28 +44,32 @@ pub record IsExecuted (ledger : LedgerState) (max_size : ℕ) (given : Option Co
   pub fits : HEAD_SIZE + 1 + KEPT_LIMIT ≤ max_size
   pub request : 2 ≤ length command.request
 
-pub record IsForgotten (given : Option Command) (forgotten : Option ℕ) (originator : ℕ) : Type 0 where
+pub record Forgets (ledger : LedgerState) (given : Option Command) (named : Option (ℕ × ℕ)) (originator : ℕ) : Type 0 where
   pub no_command : given ≡ None
-  pub originator_is : forgotten ≡ Some originator
+  pub slot : SlotState
+  pub found : slot_of originator ledger.taken ≡ Some slot
+  pub named_is : named ≡ Some (originator, slot.number)
 
-abbrev pub MeansAction : LedgerState → ℕ → Option Command → Option ℕ → Action → Type 0
-MeansAction ledger max_size given forgotten (Replies answer) = Answers ledger max_size given answer
-MeansAction ledger max_size given forgotten (Executes command) = IsExecuted ledger max_size given command
-MeansAction ledger max_size given forgotten (Frees originator) = IsForgotten given forgotten originator
+abbrev pub MeansAction : LedgerState → ℕ → Option Command → Option (ℕ × ℕ) → Action → Type 0
+MeansAction ledger max_size given named (Replies answer) = Answers ledger max_size given answer
+MeansAction ledger max_size given named (Executes command) = IsExecuted ledger max_size given command
+MeansAction ledger max_size given named (Frees originator) = Forgets ledger given named originator
 
-refused_of : (ledger : LedgerState) (max_size : ℕ) (given : Option Command) (forgotten : Option ℕ) (status : Status) →
-    (status_number status ≡ 0 → ⊥) → MeansAction ledger max_size given forgotten (refuses status)
-refused_of ledger max_size given forgotten status other = record {
+refused_of : (ledger : LedgerState) (max_size : ℕ) (given : Option Command) (named : Option (ℕ × ℕ)) (status : Status) →
+    (status_number status ≡ 0 → ⊥) → (status_number status ≡ 0x0c → ⊥) → MeansAction ledger max_size given named (refuses status)
+refused_of ledger max_size given named status other not_older = record {
   fits = λ least. omega (arith, least);
   kept = λ command is e. absurd (other e);
+  older = λ command is e. absurd (not_older e);
 }
 
 -- a reply where no command was given
-no_command_of : (ledger : LedgerState) (max_size : ℕ) (given : Option Command) (forgotten : Option ℕ) (answer : Answer) → given ≡ None →
-    (8 ≤ max_size → HEAD_SIZE + length answer.content ≤ max_size) → MeansAction ledger max_size given forgotten (Replies answer)
-no_command_of ledger max_size given forgotten answer none fits = record {
+no_command_of : (ledger : LedgerState) (max_size : ℕ) (given : Option Command) (named : Option (ℕ × ℕ)) (answer : Answer) → given ≡ None →
+    (8 ≤ max_size → HEAD_SIZE + length answer.content ≤ max_size) → MeansAction ledger max_size given named (Replies answer)
+no_command_of ledger max_size given named answer none fits = record {
   fits = fits;
   kept = λ command is e. absurd (no_some given command none is);
+  older = λ command is e. absurd (no_some given command none is);
 }
   where
     no_some : (o : Option Command) (command : Command) → o ≡ None → o ≡ Some command → ⊥
@@ -72,24 +83,25 @@ within-fits max_size answer least = go (nat_lt max_size (HEAD_SIZE + length answ
     go true h = omega (arith, least)
     go false h = ltb-false max_size (HEAD_SIZE + length answer.content) h
 
-module _ (ledger : LedgerState) (max_size : ℕ) (bytes : List ℕ) (forgotten : Option ℕ) where
+module _ (ledger : LedgerState) (max_size : ℕ) (bytes : List ℕ) (named : Option (ℕ × ℕ)) where
   kept_means : (slot : SlotState) (tight : Bool) → slot_of (command_of bytes).originator ledger.taken ≡ Some slot → slot.number ≡ (command_of bytes).number →
       nat_lt max_size (HEAD_SIZE + length (DONE ∷ slot.reply)) ≡ tight →
-      MeansAction ledger max_size (Some (command_of bytes)) forgotten
+      MeansAction ledger max_size (Some (command_of bytes)) named
       (Replies (if tight then refusal statuses.ReplyDataTooLarge else success (DONE ∷ slot.reply)))
-  kept_means slot true found number h = refused_of ledger max_size (Some (command_of bytes)) forgotten statuses.ReplyDataTooLarge (λ e. absurd (omega (arith, e)))
+  kept_means slot true found number h = refused_of ledger max_size (Some (command_of bytes)) named statuses.ReplyDataTooLarge (λ e. absurd (omega (arith, e))) (λ e. absurd (omega (arith, e)))
   kept_means slot false found number h = record {
     fits = λ least. ltb-false max_size (HEAD_SIZE + length (DONE ∷ slot.reply)) h;
     kept = λ command is e. subst (λ (command : Command). IsKept ledger command (DONE ∷ slot.reply)) (ap (λ o. unwrap_or o command) is)
         (record { slot = slot; found = found; number_is = number; content_is = refl });
+    older = λ command is e. absurd (omega (arith, e));
   }
 
   new_means : (tight : Bool) → 22 ≤ length bytes → (command_of bytes).life ≡ ledger.life →
       IsNewAt (slot_of (command_of bytes).originator ledger.taken) (command_of bytes).number →
       nat_lt max_size (HEAD_SIZE + 1 + KEPT_LIMIT) ≡ tight →
-      MeansAction ledger max_size (Some (command_of bytes)) forgotten
+      MeansAction ledger max_size (Some (command_of bytes)) named
       (if tight then refuses statuses.ReplyDataTooLarge else Executes (command_of bytes))
-  new_means true enough life newer h = refused_of ledger max_size (Some (command_of bytes)) forgotten statuses.ReplyDataTooLarge (λ e. absurd (omega (arith, e)))
+  new_means true enough life newer h = refused_of ledger max_size (Some (command_of bytes)) named statuses.ReplyDataTooLarge (λ e. absurd (omega (arith, e))) (λ e. absurd (omega (arith, e)))
   new_means false enough life newer h = record {
     given_is = refl;
     life = life;
@@ -101,10 +113,15 @@ module _ (ledger : LedgerState) (max_size : ℕ) (bytes : List ℕ) (forgotten :
   some_means : (slot : SlotState) (less same : Bool) → 22 ≤ length bytes → (command_of bytes).life ≡ ledger.life →
       slot_of (command_of bytes).originator ledger.taken ≡ Some slot →
       nat_lt (command_of bytes).number slot.number ≡ less → ((command_of bytes).number == slot.number) ≡ same →
-      MeansAction ledger max_size (Some (command_of bytes)) forgotten
+      MeansAction ledger max_size (Some (command_of bytes)) named
       (if less then refuses statuses.ObjectStateConflict
       else (if same then Replies (within max_size (success (DONE ∷ slot.reply))) else do_new max_size (command_of bytes)))
-  some_means slot true same enough life found h i = refused_of ledger max_size (Some (command_of bytes)) forgotten statuses.ObjectStateConflict (λ e. absurd (omega (arith, e)))
+  some_means slot true same enough life found h i = record {
+    fits = λ least. omega (arith, least);
+    kept = λ command is e. absurd (omega (arith, e));
+    older = λ command is e. subst (λ (command : Command). IsOlder ledger command) (ap (λ o. unwrap_or o command) is)
+        (record { slot = slot; found = found; greater = ltb-true (command_of bytes).number slot.number h });
+  }
   some_means slot false true enough life found h i =
       kept_means slot (nat_lt max_size (HEAD_SIZE + length (DONE ∷ slot.reply))) found (sym (eqb-true (command_of bytes).number slot.number i)) refl
   some_means slot false false enough life found h i =
@@ -114,28 +131,28 @@ module _ (ledger : LedgerState) (max_size : ℕ) (bytes : List ℕ) (forgotten :
       new_means (nat_lt max_size (HEAD_SIZE + 1 + KEPT_LIMIT)) enough life (rw found newer) refl
 
   slot_means : (found : Option SlotState) → 22 ≤ length bytes → (command_of bytes).life ≡ ledger.life → slot_of (command_of bytes).originator ledger.taken ≡ found →
-      MeansAction ledger max_size (Some (command_of bytes)) forgotten (do_by_slot ledger max_size (command_of bytes) found)
+      MeansAction ledger max_size (Some (command_of bytes)) named (do_by_slot ledger max_size (command_of bytes) found)
   slot_means None enough life found = by_free (nat_lt (length ledger.taken) ledger.slots)
     where
-      by_free : (free : Bool) → MeansAction ledger max_size (Some (command_of bytes)) forgotten
+      by_free : (free : Bool) → MeansAction ledger max_size (Some (command_of bytes)) named
           (if free then do_new max_size (command_of bytes) else refuses statuses.ResourceUnavailable)
       by_free true = new_means (nat_lt max_size (HEAD_SIZE + 1 + KEPT_LIMIT)) enough life (rw found tt) refl
-      by_free false = refused_of ledger max_size (Some (command_of bytes)) forgotten statuses.ResourceUnavailable (λ e. absurd (omega (arith, e)))
+      by_free false = refused_of ledger max_size (Some (command_of bytes)) named statuses.ResourceUnavailable (λ e. absurd (omega (arith, e))) (λ e. absurd (omega (arith, e)))
   slot_means (Some slot) enough life found =
       some_means slot (nat_lt (command_of bytes).number slot.number) ((command_of bytes).number == slot.number) enough life found refl refl
 
   life_means : (same : Bool) → 22 ≤ length bytes → ((command_of bytes).life == ledger.life) ≡ same →
-      MeansAction ledger max_size (Some (command_of bytes)) forgotten
+      MeansAction ledger max_size (Some (command_of bytes)) named
       (if not same then refuses statuses.DeviceStateConflict
       else do_by_slot ledger max_size (command_of bytes) (slot_of (command_of bytes).originator ledger.taken))
   life_means true enough h =
       slot_means (slot_of (command_of bytes).originator ledger.taken) enough (eqb-true (command_of bytes).life ledger.life h) refl
-  life_means false enough h = refused_of ledger max_size (Some (command_of bytes)) forgotten statuses.DeviceStateConflict (λ e. absurd (omega (arith, e)))
+  life_means false enough h = refused_of ledger max_size (Some (command_of bytes)) named statuses.DeviceStateConflict (λ e. absurd (omega (arith, e))) (λ e. absurd (omega (arith, e)))
 
   once_means : (few : Bool) → nat_lt (length bytes) 22 ≡ few →
-      MeansAction ledger max_size (if few then None else Some (command_of bytes)) forgotten
+      MeansAction ledger max_size (if few then None else Some (command_of bytes)) named
       (if few then refuses statuses.NotEnoughData else do_command ledger max_size (command_of bytes))
-  once_means true h = refused_of ledger max_size None forgotten statuses.NotEnoughData (λ e. absurd (omega (arith, e)))
+  once_means true h = refused_of ledger max_size None named statuses.NotEnoughData (λ e. absurd (omega (arith, e))) (λ e. absurd (omega (arith, e)))
   once_means false h = life_means ((command_of bytes).life == ledger.life) (ltb-false (length bytes) 22 h) refl
 
 -- ---- Get_Last and the attributes only reply
@@ -165,29 +182,36 @@ list-fits ledger max_size bytes false least =
 
 -- ---- Forget
 
-exact : (bytes : List ℕ) → 12 ≤ length bytes → length bytes ≤ 12 → forgotten_in_data bytes ≡ Some (number_at 0 8 bytes)
+exact : (bytes : List ℕ) → 12 ≤ length bytes → length bytes ≤ 12 → forgotten_in_data bytes ≡ Some (number_at 0 8 bytes, number_at 8 4 bytes)
 exact bytes least most = let same : length bytes ≡ 12 = omega (arith, least, most) in rw (eq-eqb (length bytes) 12 same) refl
 
 module _ (ledger : LedgerState) (max_size : ℕ) (bytes : List ℕ) where
-  forget_found : (found : Option SlotState) → 12 ≤ length bytes → length bytes ≤ 12 →
+  forget_found : (found : Option SlotState) → slot_of (number_at 0 8 bytes) ledger.taken ≡ found → 12 ≤ length bytes → length bytes ≤ 12 →
       MeansAction ledger max_size None (forgotten_in_data bytes) (forget_in (number_at 0 8 bytes) (number_at 8 4 bytes) found)
-  forget_found None least most =
+  forget_found None is least most =
       no_command_of ledger max_size None (forgotten_in_data bytes) (success []) refl (λ h. omega (arith, h))
-  forget_found (Some slot) least most = by_number (slot.number == number_at 8 4 bytes)
+  forget_found (Some slot) is least most = by_number (slot.number == number_at 8 4 bytes) refl
     where
-      by_number : (same : Bool) → MeansAction ledger max_size None (forgotten_in_data bytes)
+      by_number : (same : Bool) → (slot.number == number_at 8 4 bytes) ≡ same → MeansAction ledger max_size None (forgotten_in_data bytes)
           (if same then Frees (number_at 0 8 bytes) else refuses statuses.ObjectStateConflict)
-      by_number true = record { no_command = refl; originator_is = exact bytes least most }
-      by_number false = refused_of ledger max_size None (forgotten_in_data bytes) statuses.ObjectStateConflict (λ e. absurd (omega (arith, e)))
+      by_number true h = record {
+        no_command = refl;
+        slot = slot;
+        found = is;
+        named_is = exact bytes least most
+            ∙ ap (λ n. Some (number_at 0 8 bytes, n)) (sym (eqb-true slot.number (number_at 8 4 bytes) h));
+      }
+      by_number false h =
+          no_command_of ledger max_size None (forgotten_in_data bytes) (refusal statuses.ObjectStateConflict) refl (λ h. omega (arith, h))
 
   forget_means : (few many : Bool) → nat_lt (length bytes) 12 ≡ few → nat_lt 12 (length bytes) ≡ many →
       MeansAction ledger max_size None (forgotten_in_data bytes)
       (unless (if few then Some statuses.NotEnoughData else (if many then Some statuses.TooMuchData else None)) refuses
       (forget_in (number_at 0 8 bytes) (number_at 8 4 bytes) (slot_of (number_at 0 8 bytes) ledger.taken)))
-  forget_means true many h i = refused_of ledger max_size None (forgotten_in_data bytes) statuses.NotEnoughData (λ e. absurd (omega (arith, e)))
-  forget_means false true h i = refused_of ledger max_size None (forgotten_in_data bytes) statuses.TooMuchData (λ e. absurd (omega (arith, e)))
+  forget_means true many h i = refused_of ledger max_size None (forgotten_in_data bytes) statuses.NotEnoughData (λ e. absurd (omega (arith, e))) (λ e. absurd (omega (arith, e)))
+  forget_means false true h i = refused_of ledger max_size None (forgotten_in_data bytes) statuses.TooMuchData (λ e. absurd (omega (arith, e))) (λ e. absurd (omega (arith, e)))
   forget_means false false h i =
-      forget_found (slot_of (number_at 0 8 bytes) ledger.taken) (ltb-false (length bytes) 12 h) (ltb-false 12 (length bytes) i)
+      forget_found (slot_of (number_at 0 8 bytes) ledger.taken) refl (ltb-false (length bytes) 12 h) (ltb-false 12 (length bytes) i)
 
 -- ---- the service of a request
 
@@ -223,7 +247,7 @@ module _ (ledger : LedgerState) (max_size : ℕ) (request : LedgerRequest) where
       only_replies false false (get_attribute_list (ledger_values ledger) max_size request.data) refl
       (λ least. list-fits ledger max_size request.data (nat_lt (length request.data) 2) least)
   service_means false false false false false h i =
-      refused_of ledger max_size None None statuses.ServiceNotSupported (λ e. absurd (omega (arith, e)))
+      refused_of ledger max_size None None statuses.ServiceNotSupported (λ e. absurd (omega (arith, e))) (λ e. absurd (omega (arith, e)))
 
   class-fits : (get : Bool) → 8 ≤ max_size →
       HEAD_SIZE + length (if get then single max_size request.data (value_named class_values request.attribute)
@@ -246,7 +270,7 @@ module _ (ledger : LedgerState) (max_size : ℕ) (request : LedgerRequest) where
       service_means (request.service == services.DO_ONCE) (request.service == services.GET_LAST) (request.service == services.FORGET)
       (request.service == services.GET_ATTRIBUTE_SINGLE) (request.service == services.GET_ATTRIBUTE_LIST) refl refl
   instance_means false false h i =
-      refused_of ledger max_size None None statuses.PathDestinationUnknown (λ e. absurd (omega (arith, e)))
+      refused_of ledger max_size None None statuses.PathDestinationUnknown (λ e. absurd (omega (arith, e))) (λ e. absurd (omega (arith, e)))
 
   pub action-means : MeansAction ledger max_size (command_by (Some request)) (forgotten_by (Some request)) (action_of ledger max_size request)
   action-means = instance_means (request.instance == 0) (request.instance == 1) refl refl
@@ -259,7 +283,7 @@ pub record IsServed (ledger : Option LedgerState) (request : Request) (service :
   pub asked : LedgerRequest
   pub asked_is : ledger_request request.1 ≡ Some asked
   pub service_is : asked.service ≡ service
-  pub means : MeansAction state request.0 (command_given request) (originator_forgotten request) action
+  pub means : MeansAction state request.0 (command_given request) (forgotten request) action
 
 abbrev pub Means : Option LedgerState → Request → Fate → Type 0
 Means ledger request Passed = (ledger ≡ None) ⊎ (ledger_request request.1 ≡ None)

@@ -1,5 +1,5 @@
 -- Replies of a ledger over a router whose replies are well-formed, and requests that pass the ledger.
-use Rattle.std.proofs.Common.{◌≡◌, ◌⊎◌, inl, inr, ℕ, ◌*◌, ◌+◌, ◌≤◌, ◌==◌, nat_lt, Bool, true, false, if◌then◌else◌, Option, Some, None, unwrap_or, List, [], ◌∷◌, length, take, drop, Result, Ok, Err, refl, ap, sym, ◌∙◌, subst, arith, slice_index}
+use Rattle.std.proofs.Common.{◌≡◌, ◌⊎◌, inl, inr, ℕ, ◌*◌, ◌≤◌, ◌==◌, nat_lt, Bool, true, false, if◌then◌else◌, Option, Some, None, unwrap_or, List, [], ◌∷◌, length, take, drop, Result, Ok, Err, refl, ap, sym, ◌∙◌, arith, slice_index}
 use Rattle.cip_message.specs.declared.path.Path.{Path}
 use Rattle.cip_message.specs.declared.path.PathFault.{PathFault}
 use Rattle.cip_message.specs.declared.request.RequestFault.TheVariants.{PathSize}
@@ -12,7 +12,7 @@ use Rattle.cip_ledger.specs.Ledger.{LedgerState}
 use Rattle.cip_ledger.specs.Requests.{LedgerRequest, ledger_request, request_by_path, request_by_parts, is_barred}
 use Rattle.cip_ledger.specs.Services.{Replies, Executes, Frees, reply_to, refusal, KEPT_LIMIT}
 use Rattle.cip_ledger.specs.declared.status.Status.TheVariants as statuses
-use Rattle.cip_ledger.specs.Turn.{Fate, Passed, Served, fate, fate_of, turn_by, turn_of, embedded_reply}
+use Rattle.cip_ledger.specs.Turn.{Fate, Passed, Served, fate, fate_of, turn_by, turn_of}
 use Rattle.cip_ledger.specs.Runs.{Request, answer_to, turn_at}
 use Rattle.cip_ledger.proofs.Fates.{Means, fate-means}
 

@@ -1,10 +1,10 @@
 -- Commands over several lives of a device.
-use Rattle.std.proofs.Common.{◌≡◌, ◌≢◌, ℕ, List, [], ◌∷◌, refl, sym, ◌∙◌, Some}
-use Rattle.std.specs.Prelude.{⊤, map}
+use Rattle.std.proofs.Common.{◌≢◌, ℕ, List, [], ◌∷◌, refl, sym, ◌∙◌}
+use Rattle.std.specs.Prelude.{map}
 use Rattle.std.specs.List.{AllByRecursion}
 use Rattle.cip_ledger.specs.Requests.{Command}
-use Rattle.cip_ledger.specs.Runs.{Event, Executed, Freed, journal}
-use Rattle.cip_ledger.specs.Laws.{AreOfLife, IsNotExecuted, AreApart, IsOnceInAll, HasNoDoubles, Life, begun, HaveOwnNumbers, journal_of}
+use Rattle.cip_ledger.specs.Runs.{Event, Executed, Freed}
+use Rattle.cip_ledger.specs.Laws.{AreOfLife, IsNotExecuted, AreApart, IsOnceInAll, Life, begun, HaveOwnNumbers, journal_of}
 use Rattle.cip_ledger.proofs.Settled.{journal-life, journal-rises}
 use Rattle.cip_ledger.proofs.Answered.{rises-apart}
 

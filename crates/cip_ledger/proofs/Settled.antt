@@ -1,17 +1,17 @@
 -- A slot once a command was answered with success, over every list of requests.
 use Rattle.std.proofs.Common.{◌≡◌, ◌≢◌, ◌⊎◌, inl, inr, ℕ, ◌<◌, ◌==◌, Bool, true, false, if◌then◌else◌, Option, Some, None, unwrap_or, List, [], ◌∷◌, ◌++◌, refl, ap, sym, ◌∙◌, subst, arith}
-use Rattle.std.specs.Prelude.{⊤, option_map}
+use Rattle.std.specs.Prelude.{option_map}
 use Rattle.std.specs.List.{AllByRecursion}
 use Rattle.std.proofs.lemmas.Bool.{eqb-true, eqb-false}
 use Rattle.cip_ledger.specs.declared.router.LedgerRouter.{LedgerRouter}
-use Rattle.cip_ledger.specs.Ledger.{LedgerState, SlotState, slot_of, with_slot, without_slot}
+use Rattle.cip_ledger.specs.Ledger.{LedgerState, SlotState, slot_of, without_slot}
 use Rattle.cip_ledger.specs.Requests.{Command, is_barred}
 use Rattle.cip_ledger.specs.Services.{Replies, Executes, Frees, KEPT_LIMIT}
 use Rattle.cip_ledger.specs.Turn.{Fate, Passed, Served, fate, turn_by, with_executed, with_freed, embedded_reply}
-use Rattle.cip_ledger.specs.Runs.{Request, slot_in, command_given, originator_forgotten, Event, Executed, Freed}
-use Rattle.cip_ledger.specs.Runs.{turn_at, node_of, next, node_after, events_by, journal, embedded_in, reached_by, reached, router_after}
-use Rattle.cip_ledger.specs.Laws.{UntilFreed, Rises, HasNoDoubles, IsNotFreed, IsOfAnother, AreOfLife}
-use Rattle.cip_ledger.proofs.SlotLemmas.{slot_of-with_slot, slot_of-with_other, slot_of-without_other}
+use Rattle.cip_ledger.specs.Runs.{Request, slot_in, forgotten, Event, Executed, Freed}
+use Rattle.cip_ledger.specs.Runs.{node_of, next, node_after, events_by, journal, reached_by, reached, router_after}
+use Rattle.cip_ledger.specs.Laws.{UntilFreed, Rises, IsNotFreed, IsOfAnother, IsForgotten, AreOfLife}
+use Rattle.cip_ledger.proofs.SlotLemmas.{slot_of-with_slot, slot_of-with_other, slot_of-without_slot, slot_of-without_other}
 use Rattle.cip_ledger.proofs.Fates.{IsNewAt, Means, fate-means}
 
 -- the slot keeps this number with this reply, or a greater number
@@ -198,7 +198,7 @@ module _ {M : Type 0} (after : M → ℕ → List ℕ → M) (answer : M → ℕ
       executed-other node.ledger command (embedded_reply after answer node.router command.request) originator
       (λ same. other.command (ap (option_map (λ (c : Command). c.originator)) means.means.given_is ∙ ap (λ o. Some o) same))
   others-by (Served service (Frees freed)) node request originator means other =
-      freed-other node.ledger freed originator (λ same. other.forget (means.means.originator_is ∙ ap (λ o. Some o) same))
+      freed-other node.ledger freed originator (λ same. other.forget means.means.slot.number (means.means.named_is ∙ ap (λ o. Some (o, means.means.slot.number)) same))
 
   pub others-run : (requests : List Request) (node : LedgerRouter M) (originator : ℕ) → AllByRecursion (IsOfAnother originator) requests →
       slot_in originator (node_after after answer node requests).ledger ≡ slot_in originator node.ledger
@@ -240,3 +240,35 @@ module _ {M : Type 0} (after : M → ℕ → List ℕ → M) (answer : M → ℕ
       (fate-means node.ledger request) is
       (journal-life requests (next after answer node request) life
       (life-next (fate node.ledger request.0 request.1) node request ∙ is))
+
+  -- a slot is freed by Forget with its number alone
+  no_event : (command : Command) (reply : List ℕ) (originator : ℕ) → ◌≡◌ {A = List Event} (Executed command reply ∷ []) (Freed originator ∷ []) → ⊥
+  no_event command reply originator e = absurd (cc)
+
+  same_freed : (a b : ℕ) → ◌≡◌ {A = List Event} (Freed a ∷ []) (Freed b ∷ []) → a ≡ b
+  same_freed a b e = cc
+
+  frees-by : (f : Fate) (node : LedgerRouter M) (request : Request) (originator : ℕ) → Means node.ledger request f →
+      events_by after answer f node.router ++ [] ≡ Freed originator ∷ [] →
+      (slot : SlotState) × (slot_in originator node.ledger ≡ Some slot) × (forgotten request ≡ Some (originator, slot.number))
+      × (slot_in originator (next_by f node request).ledger ≡ None)
+  frees-by Passed node request originator means is = absurd (cc)
+  frees-by (Served service (Replies reply)) node request originator means is = absurd (cc)
+  frees-by (Served service (Executes command)) node request originator means is =
+      absurd (no_event command (embedded_reply after answer node.router command.request) originator is)
+  frees-by (Served service (Frees freed)) node request originator means is =
+      let same = same_freed freed originator is in
+      let slot = means.means.slot in (
+        slot,
+        subst (λ l. slot_in originator l ≡ Some slot) (sym means.ledger_is)
+            (subst (λ o. slot_of o means.state.taken ≡ Some slot) same means.means.found),
+        means.means.named_is ∙ ap (λ o. Some (o, slot.number)) same,
+        subst (λ l. slot_in originator (option_map (with_freed freed) l) ≡ None) (sym means.ledger_is)
+            (subst (λ o. slot_of o (without_slot freed means.state.taken) ≡ None) same (slot_of-without_slot means.state.taken freed)),
+      )
+
+  pub frees : (node : LedgerRouter M) (request : Request) (originator : ℕ) →
+      journal after answer node (request ∷ []) ≡ Freed originator ∷ [] → IsForgotten after answer node request originator
+  frees node request originator is =
+      let parts = frees-by (fate node.ledger request.0 request.1) node request originator (fate-means node.ledger request) is in
+      record { slot = parts.0; found = parts.1; named = parts.2; free = parts.3 }

@@ -1,10 +1,10 @@
 -- Turns of services that no router takes part in.
-use Rattle.std.proofs.Common.{◌≡◌, ℕ, Option, Some, List, refl, ap, sym, ◌∙◌, subst}
+use Rattle.std.proofs.Common.{◌≡◌, ℕ, Option, Some, List, ◌∷◌, ap, sym, ◌∙◌, subst}
 use Rattle.cip_ledger.specs.declared.service.TheConstants as services
-use Rattle.cip_ledger.specs.Ledger.{LedgerState}
-use Rattle.cip_ledger.specs.Requests.{LedgerRequest}
-use Rattle.cip_ledger.specs.Services.{Action, Replies, Executes, Frees, forget, get_attribute_list, ledger_values, instance_action, reply_to, success}
-use Rattle.cip_ledger.specs.Turn.{Turn, turn_of, acted, ActsAlone, with_freed}
+use Rattle.cip_ledger.specs.Ledger.{LedgerState, SlotState, with_slot}
+use Rattle.cip_ledger.specs.Requests.{LedgerRequest, Command}
+use Rattle.cip_ledger.specs.Services.{Action, Replies, Executes, Frees, forget, get_attribute_list, ledger_values, instance_action, reply_to, success, DONE}
+use Rattle.cip_ledger.specs.Turn.{turn_of, acted, ActsAlone, with_freed, with_executed, embedded_reply, after_embedded}
 
 module _ {M : Type 0} (after : M → ℕ → List ℕ → M) (answer : M → ℕ → List ℕ → List ℕ) (old : LedgerState) (router : M) where
   acts-acted : (action : Action) (service : ℕ) (new : LedgerState) (text : List ℕ) → ActsAlone old action service new text →
@@ -35,3 +35,22 @@ module _ {M : Type 0} (after : M → ℕ → List ℕ → M) (answer : M → ℕ
     list_turn is text written =
         subst (λ s. turn_of (Some old) router text ≡ acted after answer (instance_action old max_size (asked s)) s (Some old) router) (sym is)
         (ap (λ t. turn_of (Some old) router t) written)
+
+  -- a command that is executed
+  pub executed_turn : (command : Command) (router_left : M) (life slots slots_left : ℕ) (taken taken_left : List SlotState) (inner given kept text : List ℕ) →
+      (let l : LedgerState = record { slots = slots; life = life; taken = taken } in l) ≡ old → slots_left ≡ slots →
+      taken_left ≡ with_slot (record { originator = command.originator; number = command.number; reply = given }) taken →
+      given ≡ inner → inner ≡ embedded_reply after answer router command.request → router_left ≡ after_embedded after answer router command.request →
+      kept ≡ given → text ≡ reply_to services.DO_ONCE (success (DONE ∷ kept)) →
+      turn_of (Some (let l : LedgerState = record { slots = slots_left; life = life; taken = taken_left } in l)) router_left text
+      ≡ acted after answer (Executes command) services.DO_ONCE (Some old) router
+  executed_turn command router_left life slots slots_left taken taken_left inner given kept text old_is slots_is taken_is given_is inner_is router_is kept_is text_is =
+      let reply = embedded_reply after answer router command.request in
+      let all = given_is ∙ inner_is in
+      ap (λ n. turn_of (Some (let l : LedgerState = record { slots = n; life = life; taken = taken_left } in l)) router_left text) slots_is
+      ∙ ap (λ t. turn_of (Some (let l : LedgerState = record { slots = slots; life = life; taken = t } in l)) router_left text) taken_is
+      ∙ ap (λ r. turn_of (Some (with_executed command r (record { slots = slots; life = life; taken = taken }))) router_left text) all
+      ∙ ap (λ l. turn_of (Some (with_executed command reply l)) router_left text) old_is
+      ∙ ap (λ m. turn_of (Some (with_executed command reply old)) m text) router_is
+      ∙ ap (λ t. turn_of (Some (with_executed command reply old)) (after_embedded after answer router command.request) t)
+      (text_is ∙ ap (λ k. reply_to services.DO_ONCE (success (DONE ∷ k))) (kept_is ∙ all))

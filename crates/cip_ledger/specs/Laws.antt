@@ -8,10 +8,10 @@ use Rattle.cip_ledger.specs.Ledger.{LedgerState, SlotState, empty_ledger}
 use Rattle.cip_ledger.specs.Requests.{Command, ledger_request}
 use Rattle.cip_ledger.specs.Services.{reply_to, success, DONE, KEPT_LIMIT, HEAD_SIZE}
 use Rattle.cip_ledger.specs.Turn.{turn_of, embedded_reply}
-use Rattle.cip_ledger.specs.Runs.{Request, slot_in, command_given, originator_forgotten, Event, Executed, Freed}
+use Rattle.cip_ledger.specs.Runs.{Request, slot_in, command_given, forgotten, Event, Executed, Freed}
 use Rattle.cip_ledger.specs.Runs.{answer_to, turn_at, next, node_after, journal, reached, router_after}
 
--- ---- words on events
+-- ---- facts on events
 
 -- each command of this originator that is executed before its slot is freed is so
 abbrev pub UntilFreed : ℕ → (Command → Type 0) → List Event → Type 0
@@ -74,7 +74,7 @@ abbrev pub IsOnceInAll : List (List Event) → Type 0
 IsOnceInAll [] = ⊤
 IsOnceInAll (journal ∷ journals) = HasNoDoubles journal × AllByRecursion (AreApart journal) journals × IsOnceInAll journals
 
--- ---- words on requests
+-- ---- facts on requests and lives
 
 -- the command's originator has a smaller number, or no slot, and then one is free
 abbrev pub IsNewIn : LedgerState → ℕ → Option SlotState → Type 0
@@ -89,7 +89,7 @@ pub record IsNew (ledger : LedgerState) (command : Command) : Type 0 where
 -- the request is neither a command of this originator nor Forget of its slot
 pub record IsOfAnother (originator : ℕ) (request : Request) : Type 0 where
   pub command : option_map (λ command. command.originator) (command_given request) ≢ Some originator
-  pub forget : originator_forgotten request ≢ Some originator
+  pub forget : (number : ℕ) → forgotten request ≢ Some (originator, number)
 
 -- one life of a device: how many slots its ledger has, its number, the router as it begins, the requests that come
 pub record Life (M : Type 0) : Type 0 where
@@ -108,14 +108,17 @@ HaveOwnNumbers (life ∷ lives) = AllByRecursion (λ other. life.number ≢ othe
 -- ---- the laws
 
 module _ {M : Type 0} (after : M → ℕ → List ℕ → M) (answer : M → ℕ → List ℕ → List ℕ) where
-  -- the request is the originator's command of this number, and the ledger answers it with success
-  pub record Succeeds (node : LedgerRouter M) (request : Request) (originator number : ℕ) : Type 0 where
+  -- the request is the originator's command of this number, and the ledger answers it with this status
+  pub record IsAnswered (node : LedgerRouter M) (request : Request) (originator number status : ℕ) : Type 0 where
     pub has_ledger : node.ledger ≢ None
     pub command : Command
     pub given : command_given request ≡ Some command
     pub originator_is : command.originator ≡ originator
     pub number_is : command.number ≡ number
-    pub status : general_status (answer_to after answer node request) ≡ 0
+    pub status_is : general_status (answer_to after answer node request) ≡ status
+
+  abbrev pub Succeeds : LedgerRouter M → Request → ℕ → ℕ → Type 0
+  Succeeds node request originator number = IsAnswered node request originator number 0
 
   -- the router is as if it alone had executed what reached it
   abbrev pub router_law : Type 0
@@ -129,23 +132,24 @@ module _ {M : Type 0} (after : M → ℕ → List ℕ → M) (answer : M → ℕ
       turn_at after answer node request
       ≡ turn_of node.ledger (after node.router request.0 request.1) (answer node.router request.0 request.1)
 
-  -- the numbers that are executed for one originator rise
+  -- the numbers that are executed for one originator rise, unless its slot is freed in between
   abbrev pub rising_law : Type 0
   rising_law = (node : LedgerRouter M) (requests : List Request) → Rises (journal after answer node requests)
 
-  -- each number of an originator is executed at most once
+  -- each number of an originator is executed at most once, unless its slot is freed in between
   abbrev pub once_law : Type 0
   once_law = (node : LedgerRouter M) (requests : List Request) → HasNoDoubles (journal after answer node requests)
 
-  -- once a number was answered with success, only greater ones of that originator are executed
+  -- once a number was answered with success, or with 0x0c as a greater one was executed, only greater ones of that
+  -- originator are executed, until its slot is freed
   abbrev pub never_again_law : Type 0
-  never_again_law = (node : LedgerRouter M) (request : Request) (later : List Request) (originator number : ℕ) →
-      Succeeds node request originator number →
+  never_again_law = (node : LedgerRouter M) (request : Request) (later : List Request) (originator number status : ℕ) →
+      IsAnswered node request originator number status → (status ≡ 0) ⊎ (status ≡ 0x0c) →
       UntilFreed originator (λ command. number < command.number)
       (journal after answer (next after answer node request) later)
 
   -- every two success answers to a number have the same bytes, whatever else the requests say, and whatever came
-  -- between them
+  -- between them, but a Forget that freed the slot
   abbrev pub same_bytes_law : Type 0
   same_bytes_law = (node : LedgerRouter M) (first again : Request) (between : List Request) (originator number : ℕ) →
       Succeeds node first originator number →
@@ -168,6 +172,17 @@ module _ {M : Type 0} (after : M → ℕ → List ℕ → M) (answer : M → ℕ
   others_law = (node : LedgerRouter M) (requests : List Request) (originator : ℕ) →
       AllByRecursion (IsOfAnother originator) requests →
       slot_in originator (node_after after answer node requests).ledger ≡ slot_in originator node.ledger
+
+  -- a slot is freed by Forget with its number alone, and is free then
+  pub record IsForgotten (node : LedgerRouter M) (request : Request) (originator : ℕ) : Type 0 where
+    pub slot : SlotState
+    pub found : slot_in originator node.ledger ≡ Some slot
+    pub named : forgotten request ≡ Some (originator, slot.number)
+    pub free : slot_in originator (next after answer node request).ledger ≡ None
+
+  abbrev pub frees_law : Type 0
+  frees_law = (node : LedgerRouter M) (request : Request) (originator : ℕ) →
+      journal after answer node (request ∷ []) ≡ Freed originator ∷ [] → IsForgotten node request originator
 
   -- a new command is executed, if the longest reply fits
   abbrev pub executes_law : Type 0

@@ -31,17 +31,17 @@ command_by (Some request) =
 abbrev pub command_given : Request → Option Command
 command_given request = command_by (ledger_request request.1)
 
-abbrev pub forgotten_in_data : List ℕ → Option ℕ
-forgotten_in_data bytes = if length bytes == 12 then Some (number_at 0 8 bytes) else None
+abbrev pub forgotten_in_data : List ℕ → Option (ℕ × ℕ)
+forgotten_in_data bytes = if length bytes == 12 then Some (number_at 0 8 bytes, number_at 8 4 bytes) else None
 
-abbrev pub forgotten_by : Option LedgerRequest → Option ℕ
+abbrev pub forgotten_by : Option LedgerRequest → Option (ℕ × ℕ)
 forgotten_by None = None
 forgotten_by (Some request) =
     if (request.instance == 1) && (request.service == services.FORGET) then forgotten_in_data request.data else None
 
--- the originator that a request names, if it is Forget
-abbrev pub originator_forgotten : Request → Option ℕ
-originator_forgotten request = forgotten_by (ledger_request request.1)
+-- the originator and the number that a request names, if it is Forget
+abbrev pub forgotten : Request → Option (ℕ × ℕ)
+forgotten request = forgotten_by (ledger_request request.1)
 
 -- ---- what happens in a run
 

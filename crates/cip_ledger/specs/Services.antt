@@ -13,10 +13,11 @@ use Rattle.cip_ledger.specs.Status.{status_number}
 use Rattle.cip_ledger.specs.Ledger.{SlotState, LedgerState, slot_of}
 use Rattle.cip_ledger.specs.Requests.{LedgerRequest, Command, command_of}
 
--- the bytes of a reply before its data; the state byte and the most bytes of a kept reply
+-- the bytes of a reply before its data
 abbrev pub HEAD_SIZE : ℕ
 HEAD_SIZE = 4
 
+-- the most bytes of a kept reply, and so the reply limit of an embedded request
 abbrev pub KEPT_LIMIT : ℕ
 KEPT_LIMIT = 480
 
@@ -72,6 +73,8 @@ abbrev pub do_new : ℕ → Command → Action
 do_new max_size command =
     if nat_lt max_size (HEAD_SIZE + 1 + KEPT_LIMIT) then refuses statuses.ReplyDataTooLarge else Executes command
 
+-- by the originator's slot: without one a free slot is needed, and in one a smaller number is refused, the same number
+-- is answered by the kept reply, and a greater one is new
 abbrev pub do_by_slot : LedgerState → ℕ → Command → Option SlotState → Action
 do_by_slot ledger max_size command None =
     if nat_lt (length ledger.taken) ledger.slots then do_new max_size command
@@ -81,11 +84,13 @@ do_by_slot ledger max_size command (Some slot) =
     else (if command.number == slot.number then Replies (within max_size (success (DONE ∷ slot.reply)))
     else do_new max_size command)
 
+-- a command of another life is never executed
 abbrev pub do_command : LedgerState → ℕ → Command → Action
 do_command ledger max_size command =
     if not (command.life == ledger.life) then refuses statuses.DeviceStateConflict
     else do_by_slot ledger max_size command (slot_of command.originator ledger.taken)
 
+-- the smallest data are two numbers of 8 bytes, one of 4, and a request of 2
 abbrev pub do_once : LedgerState → ℕ → List ℕ → Action
 do_once ledger max_size bytes =
     if nat_lt (length bytes) 22 then refuses statuses.NotEnoughData
@@ -102,12 +107,13 @@ abbrev pub get_last : LedgerState → ℕ → List ℕ → Answer
 get_last ledger max_size bytes =
     unless (size_fault 8 bytes) refusal (last_in max_size (slot_of (number_at 0 8 bytes) ledger.taken))
 
+-- a slot is freed only if it has this number
 abbrev pub forget_in : ℕ → ℕ → Option SlotState → Action
 forget_in originator number None = Replies (success [])
 forget_in originator number (Some slot) =
     if slot.number == number then Frees originator else refuses statuses.ObjectStateConflict
 
--- an originator's slot is freed, if it has this number
+-- the originator and the number in the data name the slot
 abbrev pub forget : LedgerState → List ℕ → Action
 forget ledger bytes =
     unless (size_fault 12 bytes) refuses

@@ -4,7 +4,7 @@
 //! connections, with any repeats, mixed with requests to other objects.
 
 ghost use Rattle.cip_ledger.specs.Laws.{router_law, passing_law, rising_law, once_law, never_again_law, same_bytes_law};
-ghost use Rattle.cip_ledger.specs.Laws.{of_execution_law, others_law, executes_law, form_law, life_law, lives_law};
+ghost use Rattle.cip_ledger.specs.Laws.{of_execution_law, others_law, frees_law, executes_law, form_law, life_law, lives_law};
 
 use cip_objects::Router;
 
@@ -29,8 +29,8 @@ pub fn each_command_once<R: Router>()
     ensures { once_law R.after R.answer }
 {}
 
-/// Once a number was answered with success, only greater numbers of its originator are executed, until its slot is
-/// freed.
+/// Once a number was answered with success, or with 0x0c as a greater one was executed, only greater numbers of its
+/// originator are executed, until its slot is freed.
 pub fn never_again<R: Router>()
     ensures { never_again_law R.after R.answer }
 {}
@@ -48,6 +48,11 @@ pub fn reply_of_execution<R: Router>()
 /// The requests of others leave an originator's slot as it is.
 pub fn others_leave_the_slot<R: Router>()
     ensures { others_law R.after R.answer }
+{}
+
+/// A slot is freed only by Forget with the number that it has, and is free then.
+pub fn freed_by_its_number<R: Router>()
+    ensures { frees_law R.after R.answer }
 {}
 
 /// A new command is executed, if a slot is its originator's or free and the longest reply fits the reply limit.

@@ -1,9 +1,8 @@
 //! The ledger: what it does with each request.
-//! Text: docs/PROTOCOL.md, "The command ledger".
-ghost use Rattle.std.specs.Prelude.{◌≡◌, ◌≤◌, [], ◌∷◌, ◌++◌, length, Some, option_map, IfOk};
-ghost use Rattle.cip_ledger.specs.Ledger.{empty_ledger};
+ghost use Rattle.std.specs.Prelude.{◌≡◌, ◌<◌, ◌≤◌, ◌∷◌, length, Some, None, IfOk};
+ghost use Rattle.cip_ledger.specs.Ledger.{empty_ledger, slot_of};
 ghost use Rattle.cip_ledger.specs.Requests as requests;
-ghost use Rattle.cip_ledger.specs.Services.{do_command, Replies, KEPT_LIMIT};
+ghost use Rattle.cip_ledger.specs.Services.{do_command, Executes, KEPT_LIMIT};
 ghost use Rattle.cip_ledger.specs.Services as services;
 ghost use Rattle.cip_ledger.specs.Turn.{turn, turn_of, acted, after_embedded, embedded_reply, ActsAlone};
 ghost use Rattle.cip_ledger.specs.Verdicts.{action_in, Fits};
@@ -15,9 +14,10 @@ use crate::reply::{HEAD_SIZE, answer, begin, size_fault};
 use crate::request::{Command, LedgerRequest, is_barred};
 use crate::service::{DO_ONCE, FORGET, GET_ATTRIBUTE_LIST, GET_ATTRIBUTE_SINGLE, GET_LAST};
 use crate::slot::KEPT_LIMIT;
-use crate::slots::Slots;
+use crate::slots::{MOST_ORIGINATORS, Slots};
 use crate::status::Status;
 use byteorder::{ByteOrder, LittleEndian};
+use cip_bytes::append;
 use cip_objects::{REPLY_LIMIT, ReplyBuf, Router};
 use std::alloc::{AllocError, Global};
 use std::marker::Model;
@@ -39,6 +39,9 @@ pub(crate) enum Verdict<'a> {
 }
 
 /// The ledger of a device: for each originator the last command that was executed, and its reply.
+///
+/// A caller sees it as `LedgerState`: how many slots there are, the number of the device's life, and the taken slots.
+/// No call after `new` takes memory.
 #[derive(Drop)]
 pub struct Ledger {
     life: u64,
@@ -54,14 +57,16 @@ impl Model for Ledger {
 }
 
 impl Ledger {
-    /// A ledger with so many slots, all free, in the device's life of this number. All its memory is taken here.
+    /// A ledger with slots for so many originators, 1 to 64, all free. `life` is the number of the device's life: a
+    /// device that starts with an empty ledger has another life than before. All memory is taken here, some 500 bytes a
+    /// slot.
     ///
     /// # Errors
     ///
     /// `AllocError` if memory is refused.
     pub fn new(alloc: Global, originators: u16, life: u64) -> Result<Ledger, AllocError>
         requires least { 1 ≤ originators }
-        requires most { originators ≤ 64 }
+        requires most { originators ≤ MOST_ORIGINATORS }
         ensures { IfOk result (λ ledger. ledger ≡ empty_ledger originators life) }
     {
         Ok(Ledger {
@@ -121,13 +126,28 @@ impl Ledger {
         match self.verdict(command, max_size) {
             Verdict::Refuses(status) => begin(DO_ONCE, status, reply),
             Verdict::Repeats(kept) => answer(DO_ONCE, &[DONE], kept, max_size, reply),
-            Verdict::Executes => {
-                execute_embedded(router, command.request, reply);
-                self.slots
-                    .keep(command.originator, command.number, reply.as_slice());
-                put_head(reply);
-            }
+            Verdict::Executes => self.execute_command(router, command, reply),
         }
+    }
+
+    /// Executes a command that is new, and keeps its reply.
+    fn execute_command<R: Router>(
+        &mut self,
+        router: &mut R,
+        command: Command<'_>,
+        reply: &mut ReplyBuf,
+    )
+        requires free { slot_of command.originator self.old.taken ≡ None → length self.old.taken < self.old.slots }
+        requires request { 2 ≤ length command.request.now }
+        ensures rule { turn_of (Some self.new) router.new reply.new.items
+            ≡ acted R.after R.answer (Executes (command_in command.entry)) DO_ONCE (Some self.old) router.old }
+        ensures fits { length reply.new.items ≤ LONGEST_DONE }
+    {
+        execute_embedded(router, command.request, reply);
+        let index = self
+            .slots
+            .keep(command.originator, command.number, reply.as_slice());
+        write_done(self.slots.reply(index), reply);
     }
 
     /// Get_Last: the number of an originator's last command, and the reply to it.
@@ -307,14 +327,13 @@ fn execute_embedded<R: Router>(router: &mut R, request: &[u8], reply: &mut Reply
     router.execute(request, KEPT_LIMIT, reply);
 }
 
-/// Puts the head of a reply to Do_Once, and the state, before the reply to an embedded request.
-fn put_head(reply: &mut ReplyBuf)
-    requires { length reply.old.items ≤ KEPT_LIMIT }
-    ensures { reply.new.items ≡ services.reply_to DO_ONCE (services.success (DONE ∷ reply.old.items)) }
+/// Replies that a command is done, with the reply to its embedded request.
+fn write_done(kept: &[u8], reply: &mut ReplyBuf)
+    requires { length kept.now ≤ KEPT_LIMIT }
+    ensures reply { reply.new.items ≡ services.reply_to DO_ONCE (services.success (DONE ∷ kept.now)) }
+    ensures fits { length reply.new.items ≤ LONGEST_DONE }
 {
-    reply.insert(0, DONE);
-    reply.insert(0, 0);
-    reply.insert(0, Status::Success.number());
-    reply.insert(0, 0);
-    reply.insert(0, DO_ONCE | 0x80);
+    begin(DO_ONCE, Status::Success, reply);
+    reply.push(DONE);
+    append(reply, kept);
 }

@@ -1,4 +1,22 @@
-//! A ledger of commands: each is executed once, even if connections are lost and opened anew.
+//! The command ledger (class 0x65, ours): a command is executed once, even if connections are lost and opened anew.
+//!
+//! An originator numbers its commands. A command is a service, Do_Once, that has the number of the device's life, the
+//! originator, the command's number and an embedded request. The [`Ledger`] executes the embedded request if the number
+//! is greater than the originator's last one, and keeps the reply. It answers a repeat with the kept reply. Nothing
+//! depends on connections, sessions or the order of requests. [`laws`] states what follows for whole lists of requests
+//! and for several lives of a device.
+//!
+//! A [`LedgerRouter`] is a ledger before any router that keeps the laws of `cip_objects::Router`, and such a router
+//! itself. Only `Ledger::new` allocates: 64 slots take some 32 KB.
+//!
+//! ```
+//! let mut device = LedgerRouter {
+//!     ledger: Some(Ledger::new(alloc, 16, life)?), // 16 originators
+//!     router: objects,
+//! };
+//! device.execute(do_once, 504, &mut reply); // executes the embedded request
+//! device.execute(do_once, 504, &mut reply); // the same reply again, and nothing is executed
+//! ```
 #![tactic(auto)]
 
 mod attributes;
@@ -17,3 +35,4 @@ pub use request::LEDGER;
 pub use router::LedgerRouter;
 pub use service::{DO_ONCE, FORGET, GET_LAST};
 pub use slot::KEPT_LIMIT;
+pub use slots::MOST_ORIGINATORS;

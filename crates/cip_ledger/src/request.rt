@@ -10,9 +10,7 @@ use cip_message::{RequestView, read_path};
 /// The class of the ledger, in the range of the vendor's own (ours).
 pub const LEDGER: u16 = 0x65;
 
-/// The first byte of a path whose class has 8 bits, and of one whose class has 16. (Volume 1, logical segment.)
-const CLASS_8_BITS: u8 = 0x20;
-
+/// The first byte of a path whose class has 16 bits. (Volume 1, logical segment.)
 const CLASS_16_BITS: u8 = 0x21;
 
 /// A request to the ledger's class.
@@ -60,9 +58,8 @@ impl<'a> LedgerRequest<'a> {
 pub(crate) fn may_be_to_ledger(request: &[u8]) -> bool
     ensures { result ≡ false → ledger_request request.now ≡ None }
 {
-    request.len() > 3
-        && (request[2] == CLASS_16_BITS
-            || request[2] == CLASS_8_BITS && u16::from(request[3]) == LEDGER)
+    // behind the service and the path size: the segment's first byte, and a class of 8 bits
+    request.len() > 3 && (u16::from(request[3]) == LEDGER || request[2] == CLASS_16_BITS)
 }
 
 /// Whether a request can't be embedded in a command: it goes to the Connection Manager or to the ledger.

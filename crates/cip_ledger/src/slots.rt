@@ -1,13 +1,16 @@
 //! The slots of the originators. No call after `new` takes memory.
-ghost use Rattle.std.specs.Prelude.{◌≡◌, ◌≤◌, ◌<◌, nat_lt, [], ◌∷◌, ◌++◌, length, option_map, Some, None, IfOk, IfSome, IfNone};
+ghost use Rattle.std.specs.Prelude.{◌≡◌, ℕ, List, ◌≤◌, ◌<◌, nat_lt, [], ◌∷◌, ◌++◌, length, option_map, Some, None, IfOk, IfSome, IfNone};
 ghost use Rattle.std.specs.Prelude.{slice_index_or, slice_set};
 ghost use Rattle.cip_ledger.specs.Ledger.{SlotState, slot_of, with_slot, without_slot};
 ghost use Rattle.cip_ledger.specs.Services.{KEPT_LIMIT};
-ghost use Rattle.cip_ledger.specs.Slots.{slots_in};
+ghost use Rattle.cip_ledger.specs.Slots.{slots_in, IsKeptAt};
 
 use crate::slot::Slot;
 use std::alloc::{AllocError, Global};
 use std::marker::Model;
+
+/// The most originators that a ledger has slots for.
+pub const MOST_ORIGINATORS: u16 = 64;
 
 /// So many slots, in the order in which those that are taken were taken.
 #[derive(Drop)]
@@ -33,7 +36,7 @@ impl Slots {
     ///
     /// `AllocError` if memory is refused.
     pub(crate) fn new(alloc: Global, limit: u16) -> Result<Slots, AllocError>
-        requires { limit ≤ 64 }
+        requires { limit ≤ MOST_ORIGINATORS }
         ensures { IfOk result (λ slots. slots ≡ slots_in limit []) }
     {
         let taken = Vec::with_capacity(alloc, usize::from(limit))?;
@@ -69,20 +72,33 @@ impl Slots {
         Some(&self.taken[index])
     }
 
-    /// Keeps the last command of an originator and its reply, in the originator's slot or in a free one.
-    pub(crate) fn keep(&mut self, originator: u64, number: u32, reply: &[u8])
+    /// Keeps the last command of an originator and its reply, in the originator's slot or in a free one, and answers
+    /// the index of that slot.
+    pub(crate) fn keep(&mut self, originator: u64, number: u32, reply: &[u8]) -> usize
         requires free { slot_of originator self.old.taken ≡ None → length self.old.taken < self.old.limit }
         requires fits { length reply.now ≤ KEPT_LIMIT }
         ensures limit { self.new.limit ≡ self.old.limit }
         ensures taken { self.new.taken
             ≡ with_slot (record { originator = originator; number = number; reply = reply.now }) self.old.taken }
+        ensures index { IsKeptAt self.new.taken result reply.now }
     {
-        match index_of(&self.taken, originator) {
-            Some(index) => self.taken[index].keep(number, reply),
-            None => self
-                .taken
-                .push_reserved(Slot::new(originator, number, reply)),
-        }
+        let Some(index) = index_of(&self.taken, originator) else {
+            let index = self.taken.len();
+            self.taken
+                .push_reserved(Slot::new(originator, number, reply));
+            return index;
+        };
+        self.taken[index].keep(number, reply);
+        index
+    }
+
+    /// The reply in the slot at an index.
+    pub(crate) fn reply(&self, index: usize) -> &[u8]
+        requires { index < length self.now.taken }
+        ensures reply { (reply : List ℕ) → IsKeptAt self.now.taken index reply → result.now ≡ reply }
+        ensures fits { length result.now ≤ KEPT_LIMIT }
+    {
+        self.taken[index].reply()
     }
 
     /// Frees the slot of an originator.

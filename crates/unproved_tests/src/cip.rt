@@ -7,6 +7,7 @@ mod class3_long;
 mod class3_originator;
 mod counting;
 mod device_writes;
+mod ledger;
 mod manager_deadlines;
 mod manager_find;
 mod manager_openings;

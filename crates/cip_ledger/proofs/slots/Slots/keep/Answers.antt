@@ -5,8 +5,8 @@ use Rattle.cip_ledger.specs.Slots.{SlotsState}
 use Rattle.cip_ledger.proofs.SlotLemmas.{slot_of-originator}
 use Rattle.cip_ledger.proofs.slots.Slots.keep.Goals as goal
 
-pub returns-in-Some-clause-taken : goal.returns-in-Some-clause-taken
-returns-in-Some-clause-taken c =
+pub returns-clause-taken : goal.returns-clause-taken
+returns-clause-taken c =
     let items = c.self.inside.taken.items in
     let old = c.index_mut.result.now in
     let slot : SlotState = record { originator = c.args.originator; number = c.args.number; reply = c.args.reply.now } in
