@@ -1,9 +1,9 @@
-// What performance/adapter measures beside: copies of bytes, an echo on a socket, and the client of both servers.
+// For performance/adapter: copies of bytes, an echo server on a socket, and the client of both servers.
 //
-//   copy COUNT PIECE             copies the bytes of standard input so often, in pieces of at most so many bytes
+//   copy COUNT PIECE             copies the bytes of standard input COUNT times, in pieces of at most PIECE bytes
 //   echo CONNECTIONS             prints its port, and sends back what it reads, one connection after another
-//   ask PORT ROUNDS FIRST ANSWER prints the round trips a second: standard input is what comes first, FIRST bytes of
-//                                which the answers are not counted, and a request that is answered by ANSWER bytes
+//   ask PORT ROUNDS FIRST ANSWER prints the round trips per second. Standard input has FIRST bytes that are sent once
+//                                and not measured, then a request whose answer has ANSWER bytes
 #include <arpa/inet.h>
 #include <netinet/in.h>
 #include <netinet/tcp.h>
@@ -93,11 +93,11 @@ static int ask(int port, long rounds, size_t first, size_t answer) {
     return 0;
 }
 
-int main(int count, char **words) {
-    if (count == 4 && !strcmp(words[1], "copy")) return copy(atol(words[2]), atol(words[3]));
-    if (count == 3 && !strcmp(words[1], "echo")) return echo(atol(words[2]));
-    if (count == 6 && !strcmp(words[1], "ask")) {
-        return ask(atoi(words[2]), atol(words[3]), atol(words[4]), atol(words[5]));
+int main(int count, char **arguments) {
+    if (count == 4 && !strcmp(arguments[1], "copy")) return copy(atol(arguments[2]), atol(arguments[3]));
+    if (count == 3 && !strcmp(arguments[1], "echo")) return echo(atol(arguments[2]));
+    if (count == 6 && !strcmp(arguments[1], "ask")) {
+        return ask(atoi(arguments[2]), atol(arguments[3]), atol(arguments[4]), atol(arguments[5]));
     }
     return 2;
 }

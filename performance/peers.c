@@ -1,16 +1,16 @@
-// What performance/peers measures beside: a server with epoll that reads and writes as `enip serve` does, and peers of both.
+// For performance/peers: a server with epoll that reads and writes as `enip serve` does, and the peers of both servers.
 //
-//   serve PLACES                    prints its port, and answers each whole frame of its peers as a device of one
-//                                   object would that is written by hand: it reads header, session, items and path,
-//                                   and answers RegisterSession and a get of an attribute of Identity. One read of
-//                                   4,096 bytes a peer and round, and no other where it did not fill its room (unless the
-//                                   end of the stream is reported); one write an answer. A peer that is silent for 120 seconds
-//                                   is ended. The server ends when standard input does
-//   load PORT PEERS ROUNDS          that many peers ask for the vendor at once, each as often, and compare each answer:
-//                                   prints the round trips a second
-//   wait PORT ROUNDS                one peer asks: prints the median and the 99th percentile of a round trip, and the
-//                                   longest, in microseconds
-//   flood PORT                      one peer asks without waiting, and reads what comes, until it is killed
+//   serve SLOTS               prints its port, and serves a device of one object that is written by hand: it checks the
+//                             header, session, items and path of each complete frame, and answers RegisterSession and
+//                             a get of an attribute of Identity. It makes one read of 4,096 bytes per peer and round.
+//                             After a read that did not fill the buffer it waits for a report, unless the end of the
+//                             stream has been reported. It makes one write per answer. A peer that is silent for 120
+//                             seconds is ended. The server ends when standard input ends
+//   load PORT PEERS ROUNDS    PEERS peers read the vendor ROUNDS times at once, and compare each answer. Prints the
+//                             round trips per second
+//   wait PORT ROUNDS          one peer reads the vendor ROUNDS times. Prints the median, the 99th percentile and the
+//                             longest round trip, in microseconds
+//   flood PORT                one peer sends requests without waiting, and reads the answers, until it is killed
 #define _GNU_SOURCE
 #include <arpa/inet.h>
 #include <errno.h>
@@ -26,12 +26,12 @@
 #include <time.h>
 #include <unistd.h>
 
-enum { HEADER = 24, PACKET = 16, LONGEST_REPLY = 40, ROOM = 4096, MOST_PEERS = 64, LISTENER = MOST_PEERS };
+enum { HEADER = 24, PACKET = 16, LONGEST_REPLY = 40, CAPACITY = 4096, MOST_PEERS = 64, LISTENER = MOST_PEERS };
 
-// The seconds for which a peer may be silent.
-enum { SILENCE = 120 };
+// The idle timeout of a peer, in seconds.
+enum { IDLE_TIMEOUT = 120 };
 
-// What the peers of both send and get: RegisterSession, a get of the vendor, and its answer.
+// The sizes of the frames of the peers: RegisterSession, a get of the vendor, and its answer.
 enum { REGISTER = 28, REQUEST = 48, ANSWER = 46 };
 
 static const unsigned char REGISTERING[REGISTER] = {0x65, 0, 4, 0, [24] = 1};
@@ -40,13 +40,13 @@ typedef struct {
     int socket, ready, ends;
     double heard;
     size_t held;
-    unsigned char bytes[ROOM + HEADER];
+    unsigned char bytes[CAPACITY + HEADER];
 } Peer;
 
 static Peer peers[MOST_PEERS];
 
-// The moment of the round.
-static double moment;
+// The time of the round.
+static double round_time;
 
 static double now_in_seconds(void) {
     struct timespec now;
@@ -74,7 +74,7 @@ typedef struct {
     unsigned class, instance, attribute;
 } Path;
 
-// Logical segments of 8 and 16 bits. Answers whether there is no other.
+// Reads logical segments of 8 and 16 bits. Returns 0 if there is another segment.
 static int read_path(const unsigned char *at, const unsigned char *end, Path *path) {
     for (int wide; at < end; at += wide ? 4 : 2) {
         wide = *at & 3;
@@ -90,7 +90,7 @@ static int read_path(const unsigned char *at, const unsigned char *end, Path *pa
     return 1;
 }
 
-// An attribute of Identity. Answers where it ends, and null where there is none.
+// Writes an attribute of Identity. Returns its end, or NULL if there is no such attribute.
 static unsigned char *put_attribute(unsigned char *at, unsigned attribute) {
     switch (attribute) {
     case 1: return put(at, 0x1234, 2);
@@ -104,7 +104,7 @@ static unsigned char *put_attribute(unsigned char *at, unsigned attribute) {
     }
 }
 
-// The reply to a request of the message router: how long it is.
+// Writes the reply to a message router request. Returns its size.
 static size_t reply_to(const unsigned char *request, size_t size, unsigned char *reply) {
     Path path = {0};
     unsigned char *end = NULL;
@@ -122,8 +122,8 @@ static size_t reply_to(const unsigned char *request, size_t size, unsigned char 
     return status ? 4 : (size_t)(end - reply);
 }
 
-// The answer to an unconnected request: its null address, its one item of data, and what the router replies. Answers
-// how long the data are, and 0 where they are no such packet.
+// Writes the answer to an unconnected request: a null address, and a data item with the reply. Returns the size of the
+// data, or 0 if the packet is malformed.
 static size_t answer_packet(const unsigned char *data, size_t size, unsigned char *answer) {
     if (size < PACKET || number(data, 4) || number(data + 6, 2) != 2 || number(data + 8, 4)) return 0;
     if (number(data + 12, 2) != 0xb2 || number(data + 14, 2) != size - PACKET) return 0;
@@ -133,7 +133,7 @@ static size_t answer_packet(const unsigned char *data, size_t size, unsigned cha
     return PACKET + reply;
 }
 
-// Answers a frame of a peer. Answers whether it goes on.
+// Answers a frame of a peer. Returns 0 if the peer must be ended.
 static int answer(Peer *peer, const unsigned char *frame, size_t size) {
     unsigned char bytes[HEADER + PACKET + LONGEST_REPLY];
     unsigned handle = 1 + (peer - peers), session = number(frame + 4, 4), status = 0;
@@ -155,14 +155,14 @@ static int answer(Peer *peer, const unsigned char *frame, size_t size) {
     return send(peer->socket, bytes, HEADER + data, MSG_NOSIGNAL) == (ssize_t)(HEADER + data);
 }
 
-// One turn of a peer: a read, and an answer to each frame that is whole. Answers whether it goes on.
+// One turn of a peer: a read, and an answer to each complete frame. Returns 0 if the peer must be ended.
 static int turn(Peer *peer) {
-    ssize_t got = recv(peer->socket, peer->bytes + peer->held, ROOM - peer->held, 0);
+    ssize_t got = recv(peer->socket, peer->bytes + peer->held, CAPACITY - peer->held, 0);
     if (got < 0 && errno == EAGAIN) return peer->ready = 0, 1;
     if (got <= 0) return 0;
-    peer->heard = moment;
-    // a read that did not fill its room took all that had come; of an end that was reported already this says nothing
-    if ((size_t)got < ROOM - peer->held && !peer->ends) peer->ready = 0;
+    peer->heard = round_time;
+    // a read that did not fill the buffer took all that had arrived, except an end of the stream that was reported
+    if ((size_t)got < CAPACITY - peer->held && !peer->ends) peer->ready = 0;
     size_t at = 0, size = peer->held + got;
     while (size - at >= HEADER) {
         unsigned frame = HEADER + peer->bytes[at + 2] + 256 * peer->bytes[at + 3];
@@ -175,38 +175,38 @@ static int turn(Peer *peer) {
     return 1;
 }
 
-static void admit(int poll, int listener, int places) {
+static void admit(int poll, int listener, int slots) {
     for (int socket; (socket = accept4(listener, NULL, NULL, SOCK_NONBLOCK)) >= 0;) {
-        int place = 0;
-        while (place < places && peers[place].socket > 0) place++;
-        if (place == places) {
+        int slot = 0;
+        while (slot < slots && peers[slot].socket > 0) slot++;
+        if (slot == slots) {
             close(socket);
             continue;
         }
         no_delay(socket);
-        peers[place] = (Peer){.socket = socket, .ready = 1, .heard = moment};
-        struct epoll_event event = {.events = EPOLLIN | EPOLLOUT | EPOLLRDHUP | EPOLLET, .data.u32 = place};
+        peers[slot] = (Peer){.socket = socket, .ready = 1, .heard = round_time};
+        struct epoll_event event = {.events = EPOLLIN | EPOLLOUT | EPOLLRDHUP | EPOLLET, .data.u32 = slot};
         epoll_ctl(poll, EPOLL_CTL_ADD, socket, &event);
     }
 }
 
-// The milliseconds after which a peer has been silent for too long; -1 where there is none.
-static int until_silence(int places) {
+// The milliseconds until the first idle timeout; -1 without peers.
+static int until_timeout(int slots) {
     double earliest = 0;
-    for (int place = 0; place < places; place++) {
-        Peer *peer = &peers[place];
+    for (int slot = 0; slot < slots; slot++) {
+        Peer *peer = &peers[slot];
         if (peer->socket > 0 && (earliest == 0 || peer->heard < earliest)) earliest = peer->heard;
     }
-    return earliest == 0 ? -1 : (int)((earliest + SILENCE - moment) * 1000) + 1;
+    return earliest == 0 ? -1 : (int)((earliest + IDLE_TIMEOUT - round_time) * 1000) + 1;
 }
 
-// One round: each peer that may be ready has a turn, and one that was silent for too long is ended. Answers whether one
-// may be ready still.
-static int round_of_turns(int places) {
+// One round: each peer that may be ready has a turn, and one that was silent for too long is ended. Returns whether a
+// peer may still be ready.
+static int round_of_turns(int slots) {
     int ready = 0;
-    for (int place = 0; place < places; place++) {
-        Peer *peer = &peers[place];
-        if (peer->socket > 0 && (moment >= peer->heard + SILENCE || (peer->ready && !turn(peer)))) {
+    for (int slot = 0; slot < slots; slot++) {
+        Peer *peer = &peers[slot];
+        if (peer->socket > 0 && (round_time >= peer->heard + IDLE_TIMEOUT || (peer->ready && !turn(peer)))) {
             close(peer->socket);
             peer->socket = 0;
         }
@@ -226,24 +226,24 @@ static int listen_on_a_free_port(void) {
     return listener;
 }
 
-static int serve(int places) {
+static int serve(int slots) {
     int listener = listen_on_a_free_port(), poll = epoll_create1(0), ready = 0;
     struct epoll_event listening = {.events = EPOLLIN | EPOLLET, .data.u32 = LISTENER}, events[32];
     struct epoll_event input = {.events = EPOLLIN | EPOLLHUP, .data.u32 = LISTENER + 1};
     if (listener < 0 || epoll_ctl(poll, EPOLL_CTL_ADD, listener, &listening)) return 1;
     epoll_ctl(poll, EPOLL_CTL_ADD, 0, &input);
     for (;;) {
-        int count = epoll_wait(poll, events, 32, ready ? 0 : until_silence(places));
-        moment = now_in_seconds();
+        int count = epoll_wait(poll, events, 32, ready ? 0 : until_timeout(slots));
+        round_time = now_in_seconds();
         for (int i = 0; i < count; i++) {
             if (events[i].data.u32 > LISTENER) return 0;
-            if (events[i].data.u32 == LISTENER) admit(poll, listener, places);
+            if (events[i].data.u32 == LISTENER) admit(poll, listener, slots);
             else {
                 peers[events[i].data.u32].ready = 1;
                 if (events[i].events & EPOLLRDHUP) peers[events[i].data.u32].ends = 1;
             }
         }
-        ready = round_of_turns(places);
+        ready = round_of_turns(slots);
     }
 }
 
@@ -262,14 +262,14 @@ static int read_whole(int peer, unsigned char *bytes, size_t size) {
     return 1;
 }
 
-// A peer with a session, whose handle is answered; 0 where that failed.
+// Registers a session. Returns its handle, or 0 if that failed.
 static unsigned begin(int peer) {
     unsigned char bytes[REGISTER];
     if (write(peer, REGISTERING, REGISTER) != REGISTER || !read_whole(peer, bytes, REGISTER)) return 0;
     return bytes[4] + 256 * bytes[5];
 }
 
-// The request of a session for the vendor, its number as the context, and what answers it.
+// The request of a session for the vendor, with its number as the context, and its answer.
 static void request_of(unsigned session, unsigned number, unsigned char *request, unsigned char *wanted) {
     static const unsigned char PACKET[24] = {[6] = 2, [12] = 0xb2, [14] = 8, [16] = 0x0e, 3, 0x20, 1, 0x24, 1, 0x30, 1};
     memset(request, 0, REQUEST);
@@ -347,10 +347,12 @@ static int flood(int port) {
     }
 }
 
-int main(int count, char **words) {
-    if (count == 3 && !strcmp(words[1], "serve")) return serve(atoi(words[2]));
-    if (count == 5 && !strcmp(words[1], "load")) return load(atoi(words[2]), atoi(words[3]), atol(words[4]));
-    if (count == 4 && !strcmp(words[1], "wait")) return wait_for_each(atoi(words[2]), atol(words[3]));
-    if (count == 3 && !strcmp(words[1], "flood")) return flood(atoi(words[2]));
+int main(int count, char **arguments) {
+    if (count == 3 && !strcmp(arguments[1], "serve")) return serve(atoi(arguments[2]));
+    if (count == 5 && !strcmp(arguments[1], "load")) {
+        return load(atoi(arguments[2]), atoi(arguments[3]), atol(arguments[4]));
+    }
+    if (count == 4 && !strcmp(arguments[1], "wait")) return wait_for_each(atoi(arguments[2]), atol(arguments[3]));
+    if (count == 3 && !strcmp(arguments[1], "flood")) return flood(atoi(arguments[2]));
     return 2;
 }

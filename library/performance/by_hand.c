@@ -1,4 +1,4 @@
-/* A device written by hand in C, without the library, behind the calls of enip.h that library.c makes.
+/* A device written by hand in C, without the library. It has the calls of enip.h that library.c makes.
  *
  * It has what the configuration of library.c describes: Identity, assembly 100 of 4 bytes and a counter, 16 peers and 64
  * connections. It checks the measured frames as docs/PROTOCOL.md requires: header, session, items, path, object, data
@@ -8,7 +8,7 @@
 #include <stdlib.h>
 #include <string.h>
 
-enum { HEADER = 24, PEERS = 16, CONNECTIONS = 64, LONGEST_FRAME = HEADER + 65535, REPLY_ROOM = 504 };
+enum { HEADER = 24, PEERS = 16, CONNECTIONS = 64, LONGEST_FRAME = HEADER + 65535, REPLY_CAPACITY = 504 };
 enum { RR_FRONT = 16, UNIT_FRONT = 22, NO_PACKET = 0x03, NO_SESSION = 0x64, NO_COMMAND = 0x01, NO_VERSION = 0x69 };
 
 struct peer {
@@ -24,7 +24,7 @@ struct connection {
     uint16_t count;
     uint64_t timeout, deadline;
     size_t size;
-    unsigned char reply[REPLY_ROOM];
+    unsigned char reply[REPLY_CAPACITY];
 };
 
 struct enip_adapter {

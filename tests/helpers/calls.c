@@ -1,10 +1,10 @@
-// Preloaded into the program by tests/calls. Stands in for calls of the system as the environment's RULES say, and
-// tells each call that is looked at in a line of the file TOLD: its name, whose it is, and what it had or answered.
+// Preloaded into the program by tests/calls. Replaces system calls as the environment variable RULES says. Each observed
+// call writes a line to the file that CALLS_LOG names: the call, its peer, and its arguments or its result.
 //
-// RULES is a list of `NAME PEER FIRST COUNT KIND NUMBER;`. A rule is for the calls of this name on the socket of the
-// PEER-th connection that was accepted, or on any where PEER is 0. Of these it takes COUNT from the FIRST one on, all
-// where COUNT is 0. KIND is e: the call fails with this error; n: it is done with this many bytes at most; r: it is not
-// done, and answers this number; p: it is not done, and answers at once that all is well.
+// RULES is a list of `NAME PEER FIRST COUNT KIND NUMBER;`. A rule applies to the calls of this name on the socket of the
+// PEER-th accepted connection, or on any socket if PEER is 0. Of these it takes COUNT calls from the FIRST one on, or all
+// if COUNT is 0. KIND is e: the call fails with this error; n: it transfers at most this many bytes; r: it is not made,
+// and returns this number; p: it is not made, and returns success at once.
 #define _GNU_SOURCE
 #include <dlfcn.h>
 #include <errno.h>
@@ -33,11 +33,11 @@ struct rule {
 };
 
 static struct rule rules[MOST];
-static int peers[SOCKETS], accepted, told = -1, many;
+static int peers[SOCKETS], accepted, log_file = -1, many;
 
 // Reads the rules, and opens the file at a number that no socket of the program has.
 __attribute__((constructor)) static void begin(void) {
-    const char *text = getenv("RULES"), *name = getenv("TOLD");
+    const char *text = getenv("RULES"), *name = getenv("CALLS_LOG");
     for (int used = 0; text && many < MOST; many++, text += used) {
         struct rule *r = &rules[many];
         int fields = sscanf(text, "%15s %d %lu %lu %c %ld;%n",
@@ -46,39 +46,39 @@ __attribute__((constructor)) static void begin(void) {
     }
     int file = name ? open(name, O_CREAT | O_WRONLY | O_APPEND, 0600) : -1;
     if (file >= 0) {
-        told = fcntl(file, F_DUPFD_CLOEXEC, 900);
+        log_file = fcntl(file, F_DUPFD_CLOEXEC, 900);
         close(file);
     }
 }
 
-// Tells a line, with no memory, since a sanitizer may look at the clock while it gives some.
-static void tell(const char *form, ...) {
+// Writes a line to the log. It allocates nothing, since a sanitizer may read the clock when it allocates.
+static void log_line(const char *form, ...) {
     char line[128];
-    va_list words;
-    va_start(words, form);
-    int size = vsnprintf(line, sizeof line, form, words);
-    va_end(words);
-    if (told >= 0 && size > 0) syscall(SYS_write, told, line, (size_t)size);
+    va_list arguments;
+    va_start(arguments, form);
+    int size = vsnprintf(line, sizeof line, form, arguments);
+    va_end(arguments);
+    if (log_file >= 0 && size > 0) syscall(SYS_write, log_file, line, (size_t)size);
 }
 
 static int peer_of(int socket) {
     return socket >= 0 && socket < SOCKETS ? peers[socket] : 0;
 }
 
-// The rule that takes this call, which is counted by each rule that it is one of.
+// The rule that takes this call. Each rule for this name and peer counts the call.
 static struct rule *rule_of(const char *name, int socket) {
     struct rule *found = 0;
     for (int at = 0; at < many; at++) {
         struct rule *r = &rules[at];
         if (strcmp(r->name, name) || (r->peer && r->peer != peer_of(socket))) continue;
-        unsigned long place = ++r->seen;
-        if (!found && place >= r->first && (!r->count || place < r->first + r->count)) found = r;
+        unsigned long number = ++r->seen;
+        if (!found && number >= r->first && (!r->count || number < r->first + r->count)) found = r;
     }
-    if (found) tell("%s %d %c %ld\n", name, peer_of(socket), found->kind, found->number);
+    if (found) log_line("%s %d %c %ld\n", name, peer_of(socket), found->kind, found->number);
     return found;
 }
 
-// Whether a rule answers in place of the system, and what.
+// Whether a rule answers instead of the system, and what it answers.
 static int answers(struct rule *r, long *answer) {
     if (!r || r->kind == 'n') return 0;
     *answer = r->kind == 'r' ? r->number : r->kind == 'p' ? 0 : -1;
@@ -105,7 +105,7 @@ ssize_t send(int socket, const void *from, size_t size, int flags) {
     NEXT(send);
     long answer;
     struct rule *r = rule_of("send", socket);
-    tell("sends %d\n", peer_of(socket));
+    log_line("sends %d\n", peer_of(socket));
     return answers(r, &answer) ? answer : next(socket, from, size_of(r, size), flags);
 }
 
@@ -147,7 +147,7 @@ int accept4(int socket, struct sockaddr *restrict from, socklen_t *restrict leng
     int peer = next(socket, from, length, flags);
     if (peer >= 0 && peer < SOCKETS) {
         peers[peer] = ++accepted;
-        tell("accepts %d\n", accepted);
+        log_line("accepts %d\n", accepted);
     }
     return peer;
 }
@@ -156,7 +156,7 @@ int connect(int socket, const struct sockaddr *to, socklen_t length) {
     NEXT(connect);
     long answer;
     if (answers(rule_of("connect", socket), &answer)) return (int)answer;
-    tell("connects 0\n");
+    log_line("connects 0\n");
     return next(socket, to, length);
 }
 
@@ -165,42 +165,42 @@ int setsockopt(int socket, int level, int name, const void *value, socklen_t len
     long answer;
     const struct timeval *time = value;
     int peer = peer_of(socket);
-    if (length == sizeof *time) tell("sets %d %d %d %ld.%06ld\n", peer, level, name, time->tv_sec, time->tv_usec);
-    else tell("sets %d %d %d %d\n", peer, level, name, *(const int *)value);
+    if (length == sizeof *time) log_line("sets %d %d %d %ld.%06ld\n", peer, level, name, time->tv_sec, time->tv_usec);
+    else log_line("sets %d %d %d %d\n", peer, level, name, *(const int *)value);
     const char *rule = name == SO_RCVTIMEO ? "timeout" : "option";
     if (level == IPPROTO_TCP && name == TCP_NODELAY) rule = "nodelay";
     return answers(rule_of(rule, socket), &answer) ? (int)answer : next(socket, level, name, value, length);
 }
 
-// Finds no function by its name, since a sanitizer may look at the clock while it does.
+// Does not use dlsym, since a sanitizer may read the clock during it.
 int clock_gettime(clockid_t clock, struct timespec *time) {
     long answer;
     return answers(rule_of("clock", -1), &answer) ? (int)answer : (int)syscall(SYS_clock_gettime, clock, time);
 }
 
-int nanosleep(const struct timespec *asked, struct timespec *left) {
+int nanosleep(const struct timespec *time, struct timespec *left) {
     NEXT(nanosleep);
     long answer;
-    tell("sleeps %ld.%06ld\n", (long)asked->tv_sec, asked->tv_nsec / 1000);
+    log_line("sleeps %ld.%06ld\n", (long)time->tv_sec, time->tv_nsec / 1000);
     struct rule *r = rule_of("nanosleep", -1);
-    if (!answers(r, &answer)) return next(asked, left);
+    if (!answers(r, &answer)) return next(time, left);
     // an interrupted sleep has half of its time left
-    if (answer < 0 && left) *left = (struct timespec){asked->tv_sec / 2, 0};
+    if (answer < 0 && left) *left = (struct timespec){time->tv_sec / 2, 0};
     return (int)answer;
 }
 
 int poll(struct pollfd *sockets, nfds_t count, int milliseconds) {
     NEXT(poll);
     long answer;
-    tell("polls %d\n", milliseconds);
+    log_line("polls %d\n", milliseconds);
     return answers(rule_of("poll", -1), &answer) ? (int)answer : next(sockets, count, milliseconds);
 }
 
-int epoll_wait(int poll, struct epoll_event *events, int room, int milliseconds) {
+int epoll_wait(int poll, struct epoll_event *events, int capacity, int milliseconds) {
     NEXT(epoll_wait);
     long answer;
-    tell("waits %d\n", milliseconds);
-    return answers(rule_of("epoll_wait", -1), &answer) ? (int)answer : next(poll, events, room, milliseconds);
+    log_line("waits %d\n", milliseconds);
+    return answers(rule_of("epoll_wait", -1), &answer) ? (int)answer : next(poll, events, capacity, milliseconds);
 }
 
 int epoll_ctl(int poll, int what, int socket, struct epoll_event *event) {
@@ -218,13 +218,13 @@ int getpeername(int socket, struct sockaddr *restrict name, socklen_t *restrict 
 int shutdown(int socket, int how) {
     NEXT(shutdown);
     long answer;
-    tell("shuts %d %d\n", peer_of(socket), how);
+    log_line("shuts %d %d\n", peer_of(socket), how);
     return answers(rule_of("shutdown", socket), &answer) ? (int)answer : next(socket, how);
 }
 
 int close(int file) {
     NEXT(close);
-    if (peer_of(file)) tell("closes %d\n", peer_of(file));
+    if (peer_of(file)) log_line("closes %d\n", peer_of(file));
     if (file >= 0 && file < SOCKETS) peers[file] = 0;
     return next(file);
 }

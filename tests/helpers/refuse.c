@@ -1,5 +1,5 @@
-// Preloaded into the program by tests/memory. Refuses one growth of memory, the one whose number the environment gives
-// as REFUSE, from 1, and then leaves a file of the name REFUSED. Counts all growths in the file COUNTED, 8 bytes.
+// Preloaded into the program by tests/memory. Refuses one allocation, number REFUSE of the environment, counted from 1,
+// and then creates the file that REFUSED names. Counts all allocations in the file that COUNTED names, in 8 bytes.
 #define _GNU_SOURCE
 #include <dlfcn.h>
 #include <fcntl.h>
@@ -9,7 +9,7 @@
 
 static unsigned long own, refused, *seen;
 
-// The count lies in the file itself, so that it stands however the program ends.
+// The count is mapped from the file, so it is there however the program ends.
 static unsigned long *count(void) {
     const char *name = getenv("COUNTED");
     int file = name ? open(name, O_CREAT | O_RDWR, 0600) : -1;

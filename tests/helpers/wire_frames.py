@@ -1,7 +1,7 @@
-"""Frames as a peer of a device sends and hears them, for the tests that speak over sockets (Volume 2, encapsulation)."""
+"""Frames that a peer of a device sends and receives, for the tests that use sockets (Volume 2, encapsulation)."""
 import struct
 
-# The sender context of every frame that says no other.
+# The sender context, unless a frame gives another.
 CONTEXT = bytes(range(1, 9))
 # The data of a RegisterSession: version 1, no flags.
 REGISTER = bytes.fromhex("01000000")
@@ -22,13 +22,13 @@ def unconnected(session, request, context=CONTEXT):
 
 
 def connected(session, connection, item, context=CONTEXT):
-    """A SendUnitData with an item of a connection: a count, and a request or a reply."""
+    """A SendUnitData with a connected item: a sequence count, and a request or a reply."""
     head = bytes(6) + struct.pack("<HHHIHH", 2, 0xA1, 4, connection, 0xB1, len(item))
     return frame(0x70, session, head + item, context=context)
 
 
 def read_all(peer, count):
-    """So many bytes of a socket, or those that come before its end."""
+    """Reads `count` bytes of a socket, or those that arrive before its end."""
     got = b""
     while len(got) < count:
         more = peer.recv(count - len(got))

@@ -10,7 +10,7 @@ from reading.manager import Manager
 
 
 def items_of(body):
-    """The packet items of a body, each its type and data, or None where the body has a fault."""
+    """The packet items of a body, each with its type and data, or None if the body is malformed."""
     if len(body) < 8 or body[:4] != bytes(4):
         return None
     items, rest = [], body[8:]
@@ -26,7 +26,7 @@ def items_of(body):
 
 
 def message_of(body):
-    """The data of the unconnected item, or None where the body has a fault."""
+    """The data of the unconnected item, or None if the body is malformed."""
     items = items_of(body)
     if items is None or items[0] != (NULL_ADDRESS, b"") or items[1][0] != UNCONNECTED_DATA:
         return None
@@ -34,7 +34,7 @@ def message_of(body):
 
 
 def connected_of(body):
-    """The connection ID and the data of the connected item, or None where the body has a fault."""
+    """The connection ID and the data of the connected item, or None if the body is malformed."""
     items = items_of(body)
     if items is None or items[0][0] != CONNECTED_ADDRESS or len(items[0][1]) != 4 or items[1][0] != CONNECTED_DATA:
         return None
@@ -53,19 +53,19 @@ class Peer:
 
 
 class Adapter:
-    """The adapter of a configuration: its peers by their digit, its connections, its objects and its moment."""
+    """The adapter of a configuration: its peers by their digit, its connections, its objects and its time."""
 
     def __init__(self, config):
         self.config, self.objects, self.manager = config, Objects(config), Manager(config)
         self.given, self.now, self.next_handle, self.peers = 0, 0, config["first_handle"], {}
 
-    def moment(self):
-        """A piece's moment, as the last `now` gave it: the greatest stands; connections that it reached end."""
+    def update_time(self):
+        """Sets the time to the greatest `now` so far, and ends the connections whose deadline it has reached."""
         self.now = max(self.now, self.given)
         self.manager.end(lambda one: one.deadline <= self.now)
 
     def begin(self, digit):
-        """Why a peer can't begin, or None where it did."""
+        """Begins a peer. Returns None, or the reason why it can't begin."""
         if len(self.peers) == self.config["peers"]:
             return 1
         if self.next_handle > LAST:
@@ -83,7 +83,7 @@ class Adapter:
         self.manager.end(lambda one: one.session == peer.handle)
 
     def line(self, digit, piece):
-        """The lines printed for a piece of the stream of a peer, who begins at the first."""
+        """The lines printed for a piece of a peer's stream. The first piece begins the peer."""
         full = self.begin(digit) if digit not in self.peers else None
         if full is not None:
             return ["%d full %d" % (digit, full)]
@@ -96,9 +96,9 @@ class Adapter:
     def answers(self, peer, piece):
         """The answers to a piece of a peer's stream."""
         peer.held += piece
-        self.moment()
+        self.update_time()
         while not peer.closed and len(peer.held) >= 24:
-            self.moment()
+            self.update_time()
             command, length, session, status = struct.unpack("<HHII", peer.held[:12])
             context, options = peer.held[12:20], peer.held[20:24]
             if length > 65511:

@@ -1,4 +1,4 @@
-"""Random configurations and conversations, right ones and such with a fault."""
+"""Random configurations and conversations, with and without faults."""
 import random
 import struct
 
@@ -38,7 +38,7 @@ class Configurations(Chooser):
         return {"instance": instance, "settable": not self.seldom(0.3), "members": sizes}
 
     def config(self):
-        """A configuration; `omitted` are the keys whose default it has and that its text leaves out."""
+        """A configuration. `omitted` are keys with their default that its text leaves out."""
         below = self.random.randrange
         instances = [1, 2, 99, 100, 255, 256, 1000, 65535] + list(range(400, 420))
         instances = self.random.sample(instances, self.pick(0, 1, 2, 3, 16))
@@ -60,14 +60,14 @@ class Configurations(Chooser):
         return config
 
     def first(self):
-        """A first number, now and then one near the last."""
+        """A first number, sometimes one near the last."""
         return self.pick(1, 1, 1 + self.random.randrange(LAST), LAST - self.random.randrange(24))
 
 
 class Requests(Configurations):
-    """Makes router requests, right ones and such with a fault."""
+    """Makes message router requests, with and without faults."""
 
-    # whether the counter was cleared, and its additions were not read since
+    # whether the counter was cleared, and its additions have not been read since
     cleared = False
 
     def segment(self, kind, value):
@@ -126,7 +126,7 @@ class Requests(Configurations):
         elif self.seldom(0.2):
             service, path, data = GET_ALL, self.right_path(IDENTITY, 1), b""
         elif self.cleared and self.seldom(0.5):
-            # what Clear leaves is read, by whoever asks next
+            # the next request reads what Clear leaves
             self.cleared = False
             service, path, data = GET, self.right_path(COUNTER, 1, 3), b""
         else:
@@ -148,7 +148,7 @@ class Requests(Configurations):
 
 
 class Openings(Requests):
-    """Makes openings and closings, right ones and such with a fault, or with two whose checks are neighbours."""
+    """Makes openings and closings, right ones and ones with a fault, or with two faults whose checks are neighbours."""
 
     FAULTS = ["short", "long", "path", "key", "target", "transport", "type", "size", "interval", "numbers"]
 
@@ -172,7 +172,7 @@ class Openings(Requests):
         return b"\x34\x04" + struct.pack("<HHHBB", vendor, device_type, product_code, major, minor)
 
     def connection_path(self, config, faults):
-        """An optional key and the path of the Message Router, with the faults asked for."""
+        """An optional key and the path of the Message Router, with these faults."""
         key = self.key(config, "key" in faults) if "key" in faults or self.seldom(0.3) else b""
         path = self.right_path(2, 1)
         if "target" in faults:
@@ -187,20 +187,20 @@ class Openings(Requests):
         )
 
     def parameters(self, faults, sizes, large):
-        """A direction's parameters: point to point with one of the sizes, all other bits at random."""
+        """The parameters of a direction: point to point with one of the sizes, and all other bits at random."""
         kind, size = self.pick(0, 1, 3) if "type" in faults else 2, self.pick(*sizes)
         if large:
             return number(4, self.random.randrange(2**32) & 0x9FFF0000 | kind << 29 | size)
         return number(2, self.random.randrange(2**16) & 0x9E00 | kind << 13 | size)
 
     def opening(self, config, taken, large):
-        """The data of an opening, in one layout or the other; `taken` are the numbers of open connections."""
+        """The data of an opening, in the small or the large layout. `taken` are the numbers of open connections."""
         at = self.random.randrange(len(self.FAULTS))
         faults = self.FAULTS[at : at + self.pick(1, 2)] if self.seldom(0.45) else []
         numbers = self.random.choice(taken) if "numbers" in faults and taken else self.numbers()
         side = self.pick(0, 1, 2)
         multiplier = self.pick(8, 255) if "type" in faults and side == 2 else self.random.randrange(8)
-        # a multiplier that is wrong is so alone, or in both directions the type is wrong too
+        # a wrong multiplier is the only fault, or the type is wrong in both directions, too
         types = [] if side == 2 and self.seldom(0.5) else faults
         o_t, t_o = [4, 12, 13, 34, 500, 511, 511, 511], [10, 12, 13, 34, 500, 500, 511, 511]
         over = [4003, 4004, 0x2000 + 500, 0x8000, 0x8000 + 500, 0xFFFF] if large else []
@@ -226,7 +226,7 @@ class Openings(Requests):
         return self.lengthened(data, 10, [self.pick("short", "long")] if self.seldom(0.1) else [])
 
     def lengthened(self, data, words, faults):
-        """Data that are too short or too long for the number of words at this place, where asked for."""
+        """Data that are too short or too long for the number of words at this offset, if the faults say so."""
         if "short" in faults:
             cut = data[: self.pick(self.random.randrange(len(data)), len(data) - 1)]
             more = data[:words] + bytes([self.pick(data[words] + 1, 255)]) + data[words + 1 :]
@@ -235,20 +235,20 @@ class Openings(Requests):
 
 
 class Conversation(Openings):
-    """Makes the lines of a conversation, and the lines that answer it."""
+    """Makes the lines of a conversation, and the expected answers."""
 
     def begin(self, config):
         self.configuration, self.adapter = config, Adapter(config)
         self.kept, self.sent, self.lines, self.wanted = {}, {}, [], []
         if self.seldom(0.15):
-            self.moment(LAST_MOMENT - self.random.randrange(2**28))
+            self.set_time(LAST_MOMENT - self.random.randrange(2**28))
 
-    def moment(self, now):
+    def set_time(self, now):
         self.lines.append("now %d" % now)
         self.adapter.given = now
 
-    def some_moment(self):
-        """A moment near a deadline, a step further, far, or back; none goes back before a piece came at the last."""
+    def some_time(self):
+        """A time near a deadline, a step further, far, or back. It goes back only after a piece at the last time."""
         least = self.adapter.given if self.adapter.given > self.adapter.now else 0
         now, deadlines = self.adapter.now, [one.deadline for one in self.adapter.manager.connections]
         kind = self.pick("step", "step", "step", "deadline", "deadline", "deadline", "back", "far")
@@ -263,7 +263,7 @@ class Conversation(Openings):
         return min(max(now, least), LAST_MOMENT)
 
     def connected_request(self, o_t_size):
-        """A request for a connection, or one whose item has just its size, or one byte more."""
+        """A request for a connection. Sometimes its item has just the O->T size, or one byte more."""
         if self.seldom(0.06):
             return self.some(3)
         request = self.request(self.configuration)
@@ -273,7 +273,7 @@ class Conversation(Openings):
         return request
 
     def item(self, o_t_id, o_t_size):
-        """An item for a connection: a new count, the last one again with equal or other bytes, an older one."""
+        """An item for a connection, with a new count, the last count and the same or other bytes, or an older count."""
         request = self.connected_request(o_t_size)
         if o_t_id not in self.sent:
             count = self.pick(0, 1, 65534, 65535, 65535, self.random.randrange(65536))
@@ -288,7 +288,7 @@ class Conversation(Openings):
         return item
 
     def unit_body(self, handle):
-        """The body of a SendUnitData, mostly for a connection of the peer's."""
+        """The body of a SendUnitData, mostly for a connection of the peer."""
         connections = self.adapter.manager.connections
         found = [one for one in connections if one.session == handle] if self.seldom(0.93) else connections
         if found and self.seldom(0.95):
@@ -302,7 +302,7 @@ class Conversation(Openings):
         return self.body((CONNECTED_ADDRESS, number(4, o_t_id)), (CONNECTED_DATA, item))
 
     def rr_body(self, handle):
-        """The body of a SendRRData: to the objects, or an opening, or a closing."""
+        """The body of a SendRRData: a request to the objects, an opening, or a closing."""
         connections = self.adapter.manager.connections
         own = [one for one in connections if one.session == handle]
         if self.seldom(0.35 if len(own) < 2 else 0.15):
@@ -318,7 +318,7 @@ class Conversation(Openings):
         return self.body((NULL_ADDRESS, b""), (UNCONNECTED_DATA, message))
 
     def body(self, address, item):
-        """A body with these items, now and then with a fault."""
+        """A body with these items, sometimes with a fault."""
         (kind, data), (item_kind, message) = address, item
         items = [address, item, (self.random.randrange(65536), self.some(5))] if self.seldom() else [address, item]
         wrong = [items[:1], [], items[::-1], [(kind, data + b"\0"), item], [(kind, data[1:]), item]]
@@ -332,7 +332,7 @@ class Conversation(Openings):
         return text[: self.random.randrange(len(text))] if self.seldom(0.02) else text
 
     def registration(self):
-        """The data of a RegisterSession: right ones, other versions, flags in either byte, both, and other lengths."""
+        """The data of a RegisterSession: right, or another version, flags in either byte, both, or another length."""
         right = number(2, 1) + number(2, 0)
         version = number(2, self.pick(0, 2, 3, 4, 255, 256, 257, 65535, self.random.randrange(2, 65536)))
         flags = number(2, self.pick(1, 2, 0x80, 0x100, 0x8000, 0x0101, self.random.randrange(1, 65536)))
@@ -370,7 +370,7 @@ class Conversation(Openings):
         return " ".join(text[at : at + 5] for at in range(0, len(text), 5)) if self.seldom(0.2) else text
 
     def text(self, digit):
-        """The next bytes of a peer's stream, who begins by registering where it isn't held."""
+        """The next bytes of a peer's stream. A new peer mostly begins with a RegisterSession."""
         peer, register = self.adapter.peers.get(digit), b""
         if peer is None and not self.seldom(0.1):
             register = struct.pack("<HHII", REGISTER, 4, 0, 0) + bytes(12) + b"\1\0\0\0"
@@ -382,7 +382,7 @@ class Conversation(Openings):
         return text[:end]
 
     def pieces(self, text):
-        """A text in pieces: one, some, or now and then one a byte."""
+        """A text in pieces: one, several, or sometimes one per byte."""
         if self.seldom(0.01):
             return [text[at : at + 1] for at in range(len(text))]
         pieces = []
@@ -393,7 +393,7 @@ class Conversation(Openings):
         return pieces
 
     def turn(self):
-        """One turn: the end of a peer, a moment, a remark, or a text of a peer in pieces."""
+        """One turn: the end of a peer, a new time, a comment, or a text of a peer in pieces."""
         held = list(self.adapter.peers)
         digit = self.pick(*held) if held and self.seldom(0.93) else self.random.randint(1, 9)
         closed = digit in held and self.adapter.peers[digit].closed
@@ -402,7 +402,7 @@ class Conversation(Openings):
             self.adapter.end(digit)
             self.kept.pop(digit, None)
         elif self.seldom(0.1):
-            self.moment(self.some_moment())
+            self.set_time(self.some_time())
         elif self.seldom(0.02):
             self.lines.append(self.pick("# a remark", "", "#"))
         else:
@@ -414,7 +414,7 @@ class Conversation(Openings):
                     return
 
     def read_attributes(self):
-        """A conversation in which each attribute of each object and of each class is read, and some that are none."""
+        """A conversation that reads each attribute of each object and class, and some that do not exist."""
         config = self.config()
         while not config["assemblies"]:
             config = self.config()

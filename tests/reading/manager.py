@@ -10,7 +10,7 @@ from reading.protocol import (
 
 @dataclass
 class Connection:
-    """An open class 3 connection: whose it is, its IDs, numbers, sizes and times, and what its target holds."""
+    """An open class 3 connection: its session, IDs, numbers, sizes and times, and the count and reply that are kept."""
 
     session: int
     o_t_id: int
@@ -24,7 +24,7 @@ class Connection:
     reply: bytes = b""
 
     def item(self, objects, now, item):
-        """The count and reply that answer an item, or None where it is dropped."""
+        """The count and reply that answer an item, or None if it is dropped."""
         if not 4 <= len(item) <= self.o_t_size:
             return None
         self.deadline = min(now + self.time, LAST_MOMENT)
@@ -48,8 +48,8 @@ def refuses_key(key, config):
 
 @dataclass
 class Layout:
-    """How an opening says its two directions: how many bytes stand before its path, both intervals and parameters from
-    byte 22 on, from which bit on the parameters have the type, and which of their bits are the size."""
+    """The layout of an opening: the number of bytes before its path, the format of both intervals and parameters from
+    byte 22 on, the lowest bit of the type in the parameters, and the mask of the size."""
 
     before_path: int
     directions: str

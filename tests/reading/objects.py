@@ -46,7 +46,7 @@ class Objects:
         return {1: number(4, self.value), 2: number(4, self.limit), 3: number(4, self.additions)}.get(attribute)
 
     def execute(self, request, room):
-        """The reply to a request. What it changes is kept only where the reply fits into the room."""
+        """The reply to a request. Its changes are kept only if the reply fits into `room` bytes."""
         before = (self.value, self.limit, self.additions, dict(self.contents))
         try:
             status, data = self.served(request)

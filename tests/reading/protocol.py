@@ -1,4 +1,4 @@
-"""What the second reading knows of the standard: numbers, statuses, and how a request and its path are spelled."""
+"""What the second reading uses of the standard: numbers, statuses, and the layout of a request and its path."""
 
 IDENTITY, ASSEMBLY, CONNECTION_MANAGER, COUNTER = 0x01, 0x04, 0x06, 0x64
 GET_ALL, GET_LIST, GET, SET, GET_MEMBER, SET_MEMBER, ADD, CLEAR = 0x01, 0x03, 0x0E, 0x10, 0x18, 0x19, 0x32, 0x33
@@ -14,9 +14,9 @@ LARGEST_ASSEMBLY, LARGEST_SIZE = 3900, 4002
 LAST = 2**32 - 1
 LAST_MOMENT = 2**64 - 1
 TEN_SECONDS = 10_000_000
-# The most requests since the last one whose reply was accepted.
+# The greatest number of requests after the last one whose reply was accepted.
 MOST = 65535
-# The keys of a configuration that may be left out, and what they are then.
+# The optional keys of a configuration, and their defaults.
 DEFAULTS = {
     "status": 0, "state": 3, "address": [0, 0, 0, 0], "port": 44818, "peers": 4, "connections": 16,
     "first_handle": 1, "first_id": 1, "value": 0, "limit": LAST,
@@ -47,7 +47,7 @@ def check_length(data, length):
 
 
 def path_of(text):
-    """The values of a path's segments, or None where it is no path."""
+    """The values of a path's segments, or None if it is malformed."""
     values, last = {}, -1
     while text:
         kind, width = SEGMENTS.get(text[0], (None, 0))

@@ -6,22 +6,22 @@ from reading.conversations import Requests
 
 
 class NumberedWorld:
-    """A client and an adapter whose requests have numbers: no counts, and no reply is kept. What was executed is a log
-    of own numbers and of other sessions' requests, and the machine is what a run over the log makes of it."""
+    """A client and an adapter whose requests have numbers. There are no sequence counts, and no reply is kept. The log
+    has the numbers and the other sessions' requests that were executed. The objects are the result of a run over it."""
 
     O_T_SIZE = T_O_SIZE = 500
 
     def __init__(self, config):
         self.config, self.submits, self.sent, self.back, self.log = config, [], [], [], []
-        self.reached, self.heard, self.open, self.awaited, self.given_up = 0, 0, True, None, False
-        self.after_accepted, self.went_on = 0, 0
+        self.reached, self.last_back, self.open, self.awaited, self.given_up = 0, 0, True, None, False
+        self.after_accepted, self.continued = 0, 0
 
     def is_refused(self):
-        """Whether there is no place for two sessions."""
+        """Whether there is no capacity for two sessions."""
         return self.config["peers"] < 2 or self.config["first_handle"] == LAST
 
     def run(self, until=None):
-        """The objects after the log, and the reply at this number's place."""
+        """The objects after the log, and the reply to the request with the number `until`."""
         objects, reply = Objects(self.config), None
         for entry in self.log:
             own = isinstance(entry, int)
@@ -43,7 +43,7 @@ class NumberedWorld:
         refusal = self.refusal(request)
         if refusal is not None:
             return "submit refused %d" % refusal
-        self.went_on += self.given_up
+        self.continued += self.given_up
         self.awaited, self.given_up = len(self.submits), False
         self.submits.append(request)
         self.sent.append(self.awaited)
@@ -66,10 +66,10 @@ class NumberedWorld:
         self.back.append(number)
         return "reach %d back %d" % (position, len(self.back) - 1)
 
-    def hear(self, position):
-        if not self.heard <= position < len(self.back):
+    def deliver_back(self, position):
+        if not self.last_back <= position < len(self.back):
             return "back %d impossible" % position
-        self.heard, number = position, self.back[position]
+        self.last_back, number = position, self.back[position]
         if number != self.awaited:
             return "back %d ignored" % position
         self.awaited, self.after_accepted = None, number + 1
@@ -100,7 +100,7 @@ class NumberedWorld:
 
 
 class Script(Requests):
-    """Makes the lines of a script, and what is printed for them."""
+    """Makes the lines of a script, and the output that is expected."""
 
     KINDS = ["submit", "other"] * 2 + ["reach", "back"] * 5 + ["resend", "end", "remark"]
 
@@ -108,14 +108,14 @@ class Script(Requests):
         self.configuration, self.world, self.lines, self.wanted = config, NumberedWorld(config), [], []
 
     def listing(self, size):
-        """A request for a list of attributes, unknown ones and of one byte, whose reply has this size."""
+        """A request for a list of unknown attributes and attributes of one byte, whose reply has this size."""
         known = (size - 6) % 4
         listed = [number(2, 300)] * ((size - 6) // 4 - known) + [number(2, 8)] * known
         path = self.right_path(IDENTITY, 1)
         return bytes([GET_LIST, len(path) // 2]) + path + number(2, len(listed)) + b"".join(listed)
 
     def bytes(self, limit):
-        """A request, now and then of about a limit's length, or whose reply has, or a byte of one, or none."""
+        """A request. Sometimes its length or that of its reply is about the limit, or it has a byte or two, or none."""
         if self.seldom(0.05):
             return self.listing(limit + self.pick(-1, 0, 0, 1, 2))
         request = self.request(self.configuration)
@@ -130,45 +130,45 @@ class Script(Requests):
         return " ".join(text[at : at + 5] for at in range(0, len(text), 5)) if self.seldom(0.2) else text
 
     def position(self, last, count):
-        """A position of a direction with so many: mostly the newest, the last one again, or one of those between."""
+        """A position in a direction with `count` frames: mostly the newest, the last one again, or one in between."""
         if self.seldom(0.08):
             return self.pick(count, count + 1, max(last - 1, 0), 0, LAST_MOMENT)
         between = range(last, max(count, last + 1))
         return self.pick(between[-1], between[-1], between[0], self.random.choice(between))
 
     def turn(self):
-        """A line, and what is printed for it."""
+        """A line, and its expected output."""
         self.line(self.pick(*self.KINDS))
 
     def line(self, kind):
-        """A line of this kind, and what is printed for it."""
+        """A line of this kind, and its expected output."""
         world = self.world
         if kind == "submit":
             request = self.bytes(world.O_T_SIZE - 2)
-            line, told = "submit " + self.spelled(request), world.submit(request)
+            line, printed = "submit " + self.spelled(request), world.submit(request)
         elif kind == "reach":
             position = self.position(world.reached, len(world.sent))
-            line, told = "reach %d" % position, world.reach(position)
+            line, printed = "reach %d" % position, world.reach(position)
         elif kind == "back":
-            position = self.position(world.heard, len(world.back))
-            line, told = "back %d" % position, world.hear(position)
+            position = self.position(world.last_back, len(world.back))
+            line, printed = "back %d" % position, world.deliver_back(position)
         elif kind == "other":
             request = self.bytes(ROOM)
-            line, told = "other " + self.spelled(request), world.other(request)
+            line, printed = "other " + self.spelled(request), world.other(request)
         elif kind == "resend":
-            line, told = "resend", world.resend()
+            line, printed = "resend", world.resend()
         elif kind == "giveup":
-            line, told = "giveup", world.give_up()
+            line, printed = "giveup", world.give_up()
         elif kind == "end":
             rare = self.pick("shut", "giveup", "", "", "", "")
-            line, told = rare, {"shut": world.shut, "giveup": world.give_up}.get(rare, lambda: None)()
+            line, printed = rare, {"shut": world.shut, "giveup": world.give_up}.get(rare, lambda: None)()
         else:
-            line, told = self.pick("# resend", "", "#"), None
+            line, printed = self.pick("# resend", "", "#"), None
         self.lines.append(line)
-        self.wanted += [] if told is None else [told]
+        self.wanted += [] if printed is None else [printed]
 
     def turns(self, count):
-        """Makes so many lines."""
+        """Makes `count` lines."""
         for _ in range(count):
             self.turn()
 
@@ -180,7 +180,7 @@ class Script(Requests):
         )
 
     def make(self):
-        """The lines of a script, and status, standard error and printed lines of its run."""
+        """Makes the lines of a script. Returns the status, the standard error and the output of its run."""
         config = self.config()
         config["peers"] = config["peers"] if self.seldom(0.2) else max(config["peers"], 2)
         self.begin(config)
@@ -193,29 +193,29 @@ class Script(Requests):
         return 0, "", self.wanted + list(self.world.ending())
 
 
-class GoingOn(Script):
-    """Makes scripts in which the client gives up and goes on."""
+class GivingUp(Script):
+    """Makes scripts in which the client gives up and continues."""
 
     KINDS = ["submit"] * 5 + ["giveup"] * 3 + ["reach", "back"] * 4 + ["other", "resend", "end", "remark"]
     to_the_bound = False
 
     def abandon(self):
-        """A request is submitted and given up, and mostly it is lost."""
+        """A request is submitted and given up, and mostly lost."""
         self.line("submit")
         if self.seldom(0.0005):
             self.line("reach")
         self.line("giveup")
 
     def turns(self, count):
-        """So many lines, and as many more as it takes to go on."""
+        """Makes `count` lines, and more until the client has continued."""
         super().turns(count)
-        while self.world.went_on == 0:
+        while self.world.continued == 0:
             self.turn()
         if self.to_the_bound:
             few = self.pick(0, 1, 1, 2)
             while len(self.world.submits) - self.world.after_accepted < MOST - few:
                 self.abandon()
-            # the last one that is taken waits while another is submitted
+            # the last request that is accepted waits while another is submitted
             self.line("submit")
             self.line("submit")
             super().turns(40)

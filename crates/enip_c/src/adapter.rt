@@ -95,7 +95,7 @@ pub extern "C" fn enip_core_adapter_begin(
 
 fn begin(adapter: &mut Adapter, peer: &mut u32) -> u32
     ensures state { adapter.new ≡ after_call adapter.old Call.Begins_peer }
-    ensures begun { IsBegun (call_answer adapter.old Call.Begins_peer).said peer.old peer.new result }
+    ensures begun { IsBegun (call_answer adapter.old Call.Begins_peer).output peer.old peer.new result }
 {
     match adapter.begin() {
         Ok(begun) => {

@@ -2,7 +2,7 @@
 
 use crate::argument_error::{ArgumentError, parse_seconds};
 use crate::listing::list_request;
-use crate::reason::{CommandError, Reason, SystemError};
+use crate::reason::{CLOCK, CommandError, Reason, SystemError};
 use enip_client::ListCommand;
 use std::io::{self, ErrorKind};
 use std::net::{HostAddrs, IpAddr, SocketAddr, TcpListener, TcpStream, ToSocketAddrs, UdpSocket};
@@ -62,7 +62,7 @@ impl<'a> HostPort<'a> {
         timeout: Timeout<'a>,
     ) -> Result<TcpStream, CommandError<'a>> {
         let addresses = self.addresses(rt)?;
-        let start = Instant::now(rt).map_err(CommandError::of_clock)?;
+        let start = Instant::now(rt).map_err(|error| CommandError::of_system(CLOCK, error))?;
         let mut last = Reason::NoHost(self.text);
         for address in addresses {
             match timeout.connect(rt, address, start) {

@@ -5,7 +5,7 @@ ghost use Rattle.std.specs.Prelude.{◌≤◌, length, IfOk, IfSome};
 use crate::error_keeping::ErrorKeeping;
 use crate::fault::Fault;
 use crate::host_port::{HostPort, Timeout};
-use crate::reason::{CommandError, Reason};
+use crate::reason::{CLOCK, CommandError, Reason};
 use crate::request::reason_of_client;
 use crate::socket::{SocketSink, SocketSource};
 use enip_client::{ListCommand, Sent, write_list};
@@ -33,7 +33,7 @@ pub(crate) fn run_list<'a>(
     timeout: Timeout<'a>,
 ) -> Result<u8, CommandError<'a>> {
     let device = HostPort::parse(address)?;
-    let start = Instant::now(rt).map_err(CommandError::of_clock)?;
+    let start = Instant::now(rt).map_err(|error| CommandError::of_system(CLOCK, error))?;
     let stream = device.connect(rt, timeout)?;
     let mut output = ErrorKeeping::new(rt.stdout());
     let mut source = SocketSource::new(&stream, rt, start);
@@ -78,7 +78,7 @@ pub(crate) fn run_discovery<'a>(
 ) -> Result<u8, CommandError<'a>> {
     let target = HostPort::parse(address)?;
     let socket = target.send_list_identity(rt)?;
-    let start = Instant::now(rt).map_err(CommandError::of_clock)?;
+    let start = Instant::now(rt).map_err(|error| CommandError::of_system(CLOCK, error))?;
     let mut buffer = Vec::from_elem(rt.alloc(), 0, DATAGRAM_CAPACITY)?;
     let mut output = rt.stdout();
     for _ in 0..MAX_DATAGRAMS {
@@ -120,7 +120,9 @@ fn next_datagram<'a>(
 ) -> Result<Option<usize>, CommandError<'a>>
     ensures { IfOk result (λ received. IfSome received (λ size. size ≤ length buffer.new)) }
 {
-    let elapsed = start.elapsed(rt).map_err(CommandError::of_clock)?;
+    let elapsed = start
+        .elapsed(rt)
+        .map_err(|error| CommandError::of_system(CLOCK, error))?;
     let mut left = None;
     if let Some(limit) = timeout.limit() {
         let rest = limit.saturating_sub(elapsed);

@@ -46,7 +46,7 @@ use mio::net::UdpSocket;
 use named_file::{NamedFile, error_of_run};
 use observer::NoObserver;
 use polling::{PollOptions, run_polling};
-use reason::{CommandError, Reason};
+use reason::{CLOCK, CommandError, Reason};
 use replay::{draw, replay};
 use report::Reported;
 use request::{Request, run_request};
@@ -280,7 +280,7 @@ fn run_serve<'a>(
         idle_timeout,
     };
     let served = if matches.get_flag("log") {
-        let start = Instant::now(rt).map_err(CommandError::of_clock)?;
+        let start = Instant::now(rt).map_err(|error| CommandError::of_system(CLOCK, error))?;
         let log = FrameLog::new(rt, rt.alloc(), start);
         serve_connections(rt, rt.alloc(), sockets, adapter, options, &log)
     } else {

@@ -3,7 +3,7 @@
 use crate::argument_error::{ArgumentError, parse_seconds};
 use crate::error_keeping::ErrorKeeping;
 use crate::host_port::HostPort;
-use crate::reason::{CommandError, Reason, print_reason};
+use crate::reason::{CLOCK, CommandError, Reason, print_reason};
 use crate::request::{Request, error_of_failure, print_refusal};
 use crate::socket::{SocketSink, SocketSource};
 use clap::ArgMatches;
@@ -92,7 +92,7 @@ pub(crate) fn run_polling<'a>(
         request,
         options,
         bytes: bytes.as_slice(),
-        start: Instant::now(rt).map_err(CommandError::of_clock)?,
+        start: Instant::now(rt).map_err(|error| CommandError::of_system(CLOCK, error))?,
         readings: Readings::new(rt.alloc()),
         taken: 0,
         last: ReplyOutcome::Done,
@@ -159,10 +159,9 @@ impl<'a> Poller<'a, '_, '_> {
         if !is_new && !self.options.print_all {
             return Ok(());
         }
-        let elapsed = self
-            .start
-            .elapsed(self.rt)
-            .map_err(|error| SessionEnd::Fatal(CommandError::of_clock(error)))?;
+        let elapsed = self.start.elapsed(self.rt).map_err(|error| SessionEnd::Fatal(
+            CommandError::of_system(CLOCK, error),
+        ))?;
         let moment = u64::try_from(elapsed.as_micros()).unwrap_or(u64::MAX);
         let mut output = ErrorKeeping::new(self.rt.stdout());
         let printed = print_reading(

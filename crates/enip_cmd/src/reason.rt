@@ -99,6 +99,9 @@ impl fmt::Display for SystemError {
     }
 }
 
+/// The name of the clock in a reason.
+pub(crate) const CLOCK: &str = "the clock";
+
 /// The error of a command: the fault, with its exit status and its line for scripts, and the reason for people.
 #[derive(Drop)]
 pub(crate) struct CommandError<'a> {
@@ -118,11 +121,6 @@ impl<'a> CommandError<'a> {
             _ => Reason::System(name, SystemError(error)),
         };
         CommandError::new(Fault::from(error), reason)
-    }
-
-    /// The clock cannot be read.
-    pub(crate) fn of_clock(error: io::Error) -> CommandError<'a> {
-        CommandError::of_system("the clock", error)
     }
 
     /// A file, a stream or a device failed for this reason.

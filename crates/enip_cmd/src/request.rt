@@ -5,7 +5,7 @@ use crate::argument_error::{ArgumentError, parse_type};
 use crate::error_keeping::ErrorKeeping;
 use crate::fault::Fault;
 use crate::host_port::{HostPort, Timeout};
-use crate::reason::{CommandError, Reason, print_reason};
+use crate::reason::{CLOCK, CommandError, Reason, print_reason};
 use crate::socket::{SocketSink, SocketSource};
 use cip_bytes::StatusText;
 use cip_message::Path;
@@ -161,7 +161,7 @@ fn send_request<'a>(
     bytes: &[u8],
 ) -> Result<ReplyOutcome, CommandError<'a>> {
     let device = HostPort::parse(request.address)?;
-    let start = Instant::now(rt).map_err(CommandError::of_clock)?;
+    let start = Instant::now(rt).map_err(|error| CommandError::of_system(CLOCK, error))?;
     let stream = device.connect(rt, request.timeout)?;
     let mut output = ErrorKeeping::new(rt.stdout());
     let mut source = SocketSource::new(&stream, rt, start);

@@ -5,6 +5,10 @@ use Rattle.enip_config.specs.Configured.{IsAccepted}
 use Rattle.enip_cmd.proofs.StatusLemmas.{status_of_fault, line_refused, configuration_refused}
 use Rattle.enip_cmd.proofs.answer.answer.Goals as goal
 
+pub returns-in-Ok-clause-accepted : goal.returns-in-Ok-clause-accepted
+returns-in-Ok-clause-accepted g c done_ =
+    subst (λ (text : List ℕ). IsAccepted text) c.as_bytes.ensures.value c.in-Ok.ensures.accepted
+
 pub returns-in-Err-clause-status : goal.returns-in-Err-clause-status
 returns-in-Err-clause-status g c = rw c.exit_status.ensures (status_of_fault _ c.in-Err.fault c.in-Err.ensures.refused)
 

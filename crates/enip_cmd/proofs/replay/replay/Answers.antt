@@ -6,6 +6,10 @@ use Rattle.enip_cmd.specs.Statuses.{IsOpeningRefused}
 use Rattle.enip_cmd.proofs.StatusLemmas.{status_of_replay_fault, replay_line_refused, replay_configuration_refused, replay_setup}
 use Rattle.enip_cmd.proofs.replay.replay.Goals as goal
 
+pub returns-in-Ok-clause-accepted : goal.returns-in-Ok-clause-accepted
+returns-in-Ok-clause-accepted g c done_ =
+    subst (λ (text : List ℕ). IsAccepted text) c.as_bytes.ensures.value c.in-Ok.ensures.accepted
+
 pub returns-in-Err-clause-status : goal.returns-in-Err-clause-status
 returns-in-Err-clause-status g c = rw c.exit_status.ensures (status_of_replay_fault _ c.in-Err.fault c.in-Err.ensures.refused)
 
