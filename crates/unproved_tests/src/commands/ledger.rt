@@ -34,7 +34,7 @@ fn life_of_the_configuration(rt: HostRuntime) -> Result<(), Fail> {
     assert!(rt; adapter.ledger().is_some());
     assert_eq!(rt;
         life_in(rt.alloc(), &mut adapter)?.as_slice(),
-        &[2, 0, 0, 0, 0, 0, 0, 0]
+        [2, 0, 0, 0, 0, 0, 0, 0].as_slice()
     );
     Ok(())
 }
@@ -44,7 +44,7 @@ fn another_life(rt: HostRuntime) -> Result<(), Fail> {
     let mut adapter = adapter_in_life(rt.alloc(), LEDGER, 0x0102_0304_0506_0708)?;
     assert_eq!(rt;
         life_in(rt.alloc(), &mut adapter)?.as_slice(),
-        &[8, 7, 6, 5, 4, 3, 2, 1]
+        [8, 7, 6, 5, 4, 3, 2, 1].as_slice()
     );
     Ok(())
 }
