@@ -1,50 +1,90 @@
--- The objects with a ledger before them.
-use Rattle.std.proofs.Common.{◌≡◌, ◌≢◌, ◌⊎◌, ℕ, ◌≤◌, None, List, length, Ok, refl, ap, ◌∙◌, [], ◌∷◌}
-use Rattle.std.proofs.lemmas.Bool.{ne_eqb}
-use Rattle.cip_message.specs.declared.path.Path.{Path}
-use Rattle.cip_message.specs.PathReading.{path_of}
-use Rattle.cip_message.specs.Request.{Request, request_of}
+-- The objects with a ledger before them: every reply is well-formed, and which requests change nothing.
+use Rattle.std.proofs.Common.{◌≡◌, ℕ, ◌≤◌, ◌==◌, Bool, true, false, if◌then◌else◌, None, Option, Some, inr, List, [], ◌∷◌, ◌++◌, length, slice_index, Ok, refl, ap, ◌∙◌, arith}
+use Rattle.std.proofs.lemmas.Bool.{eqb-true}
 use Rattle.cip_objects.specs.Contents.{Contents}
 use Rattle.cip_objects.specs.Execution.{exec}
 use Rattle.cip_objects.specs.ExecutionLaws.{exec_begins, exec_within}
 use Rattle.cip_objects.specs.Router.{IsReplyTo, RepliesWellFormed}
-use Rattle.cip_ledger.specs.Requests.{ledger_request}
-use Rattle.cip_ledger.specs.Turn.{Turn}
-use Rattle.cip_ledger.specs.Runs.{node_after}
-use Rattle.cip_ledger.specs.Device.{Device, exec_once, run}
+use Rattle.cip_message.specs.declared.path.Path.{Path}
+use Rattle.cip_message.specs.PathReading.{path_of}
+use Rattle.cip_message.specs.Request.{Request as Spelled, request_of}
+use Rattle.cip_ledger.specs.declared.status.Status.TheVariants as statuses
+use Rattle.cip_ledger.specs.declared.request.TheConstants.{LEDGER}
+use Rattle.cip_ledger.specs.Requests.{LedgerRequest, ledger_request, request_by_path, request_by_parts, is_barred}
+use Rattle.cip_ledger.specs.Services.{Replies, Executes, Frees, KEPT_LIMIT, reply_to, refusal}
+use Rattle.cip_ledger.specs.Turn.{Fate, Passed, Served, fate, Turn, turn_by}
+use Rattle.cip_ledger.specs.Runs.{Request, node_of, node_after}
+use Rattle.cip_ledger.specs.Device.{Device, exec_device, run}
+use Rattle.cip_ledger.proofs.Fates.{Means, fate-means}
 use Rattle.cip_ledger.proofs.Forms.{in-form, passes}
 
-abbrev after : Contents → ℕ → List ℕ → Contents
+abbrev pub after : Contents → ℕ → List ℕ → Contents
 after objects max_size request = (exec objects max_size request).after
 
-abbrev answer : Contents → ℕ → List ℕ → List ℕ
+abbrev pub answer : Contents → ℕ → List ℕ → List ℕ
 answer objects max_size request = (exec objects max_size request).answer
 
 form : RepliesWellFormed answer
-form = record { begins = λ m max_size text h g. exec_begins m max_size text; within = λ m max_size text h g. exec_within m max_size text h }
+form = record {
+  begins = λ objects max_size request least enough. exec_begins objects max_size request;
+  within = λ objects max_size request least enough. exec_within objects max_size request least;
+}
 
-pub exec_once-begins : (device : Device) (max_size : ℕ) (text : List ℕ) → 8 ≤ max_size → 2 ≤ length text →
-    IsReplyTo text (exec_once device max_size text).answer
-exec_once-begins device max_size text h g = (in-form after answer form).begins device max_size text h g
+pub exec_device-begins : (device : Device) (max_size : ℕ) (request : List ℕ) → 8 ≤ max_size → 2 ≤ length request →
+    IsReplyTo request (exec_device device max_size request).answer
+exec_device-begins device max_size request least enough = (in-form after answer form).begins device max_size request least enough
 
-pub exec_once-within : (device : Device) (max_size : ℕ) (text : List ℕ) → 8 ≤ max_size → 2 ≤ length text →
-    length (exec_once device max_size text).answer ≤ max_size
-exec_once-within device max_size text h g = (in-form after answer form).within device max_size text h g
+within-by : (f : Fate) (device : Device) (request : Request) → Means device.ledger request f → 8 ≤ request.0 →
+    length (turn_by after answer f device.ledger device.router request.0 request.1).answer ≤ request.0
+within-by Passed device request means least = exec_within device.router request.0 request.1 least
+within-by (Served service (Replies reply)) device request means least =
+    let fits = means.means.fits least in omega (arith, fits)
+within-by (Served service (Executes command)) device request means least =
+    let fits = means.means.fits in
+    let inner = embedded (is_barred command.request) in
+    omega (arith, fits, inner)
+  where
+    embedded : (barred : Bool) →
+        length (if barred then reply_to (slice_index command.request 0) (refusal statuses.ServiceNotSupported) else answer device.router KEPT_LIMIT command.request) ≤ KEPT_LIMIT
+    embedded true = omega arith
+    embedded false = exec_within device.router KEPT_LIMIT command.request (omega arith)
+within-by (Served service (Frees freed)) device request means least = omega (arith, least)
+
+pub exec_device-within : (device : Device) (max_size : ℕ) (request : List ℕ) → 8 ≤ max_size →
+    length (exec_device device max_size request).answer ≤ max_size
+exec_device-within device max_size request least =
+    within-by (fate device.ledger max_size request) device (max_size, request) (fate-means device.ledger (max_size, request)) least
+
+-- a request that is not to the ledger and leaves the objects as they are leaves the device as it is
+pub exec_device-passed : (device : Device) (max_size : ℕ) (request : List ℕ) → ledger_request request ≡ None →
+    (exec device.router max_size request).after ≡ device.router → (exec_device device max_size request).after ≡ device
+exec_device-passed device max_size request other same =
+    ap (λ (done : Turn Contents). node_of done) (passes after answer device (max_size, request) (inr other))
+    ∙ ap (λ (objects : Contents). (let d : Device = record { ledger = device.ledger; router = objects } in d)) same
 
 -- a request to another class is not to the ledger
-pub ledger_request-other_class : (text : List ℕ) (q : Request) (path : Path) → request_of text ≡ Ok q → path_of q.path ≡ Ok path → path.class ≢ 0x65 →
-    ledger_request text ≡ None
+pub other_class : (text : List ℕ) (request : Spelled) (path : Path) → request_of text ≡ Ok request →
+    path_of request.path ≡ Ok path → (path.class ≡ LEDGER → ⊥) → ledger_request text ≡ None
 unfolding ledger_request
-ledger_request-other_class text q path read found other = rw (read, found, ne_eqb path.class 0x65 other) refl
+other_class text request path read found other =
+    ap request_by_parts read ∙ (ap (request_by_path request) found ∙ by_class (path.class == LEDGER) refl)
+  where
+    by_class : (same : Bool) → (path.class == LEDGER) ≡ same →
+        ◌≡◌ {A = Option LedgerRequest} (if same then Some (record {
+          service = request.service;
+          instance = path.instance;
+          attribute = path.attribute;
+          «data» = request.data;
+        }) else None) None
+    by_class true is = absurd (other (eqb-true path.class LEDGER is))
+    by_class false is = refl
 
--- a request that is not to the ledger, or finds none, is the objects'
-pub exec_once-passed : (device : Device) (max_size : ℕ) (text : List ℕ) → (device.ledger ≡ None) ⊎ (ledger_request text ≡ None) →
-    (exec device.router max_size text).after ≡ device.router → (exec_once device max_size text).after ≡ device
-exec_once-passed device max_size text elsewhere same =
-    ap (λ (t : Turn Contents). (let d : Device = record { ledger = t.ledger; router = t.router } in d)) (passes after answer device (max_size, text) elsewhere)
-    ∙ ap (λ objects. (let d : Device = record { ledger = device.ledger; router = objects } in d)) same
+-- a run ends as the runs of the laws do
+pub run-ends : (device : Device) (requests : List Request) → (run device requests).after ≡ node_after after answer device requests
+run-ends device [] = refl
+run-ends device (request ∷ requests) = run-ends (exec_device device request.0 request.1).after requests
 
--- a run of the device is a run of the laws
-pub run-node_after : (requests : List (ℕ × List ℕ)) (device : Device) → (run device requests).after ≡ node_after after answer device requests
-run-node_after [] device = refl
-run-node_after (request ∷ requests) device = run-node_after requests (exec_once device request.0 request.1).after
+pub run-two : (device : Device) (first second : List Request) →
+    (run device (first ++ second)).after ≡ (run (run device first).after second).after
+run-two device [] second = refl
+run-two device (request ∷ first) second = run-two (exec_device device request.0 request.1).after first second

@@ -1,15 +1,20 @@
--- The objects with a ledger before them, as one router.
-use Rattle.std.specs.Prelude.{ℕ, List, [], ◌∷◌}
+-- The objects with a ledger before them, if there is one, as one router.
+use Rattle.std.specs.Prelude.{ℕ, Option, List, [], ◌∷◌}
 use Rattle.cip_objects.specs.Contents.{Contents}
 use Rattle.cip_objects.specs.Execution.{exec}
 use Rattle.cip_ledger.specs.declared.router.LedgerRouter.{LedgerRouter}
+use Rattle.cip_ledger.specs.Ledger.{LedgerState}
+use Rattle.cip_ledger.specs.Runs.{Request}
 use Rattle.cip_ledger.specs.Turn.{Turn, turn}
 
 abbrev pub Device : Type 0
 Device = LedgerRouter Contents
 
-abbrev pub turn_at_objects : Device → ℕ → List ℕ → Turn Contents
-turn_at_objects device max_size request =
+abbrev pub device_of : Option LedgerState → Contents → Device
+device_of ledger objects = record { ledger = ledger; router = objects }
+
+abbrev pub device_turn : Device → ℕ → List ℕ → Turn Contents
+device_turn device max_size request =
     turn (λ objects max_size request. (exec objects max_size request).after)
     (λ objects max_size request. (exec objects max_size request).answer) device.ledger device.router max_size request
 
@@ -18,23 +23,23 @@ pub record Executed : Type 0 where
   pub after : Device
   pub answer : List ℕ
 
-abbrev pub exec_once : Device → ℕ → List ℕ → Executed
-exec_once device max_size request = record {
+abbrev pub exec_device : Device → ℕ → List ℕ → Executed
+exec_device device max_size request = record {
   after = record {
-    ledger = (turn_at_objects device max_size request).ledger;
-    router = (turn_at_objects device max_size request).router;
+    ledger = (device_turn device max_size request).ledger;
+    router = (device_turn device max_size request).router;
   };
-  answer = (turn_at_objects device max_size request).answer;
+  answer = (device_turn device max_size request).answer;
 }
 
--- the device after these requests, each a reply limit and bytes, from left to right, and their replies
+-- the device after these requests, each a reply limit and its bytes, from left to right, and their replies
 pub record Ran : Type 0 where
   pub after : Device
   pub answers : List (List ℕ)
 
-abbrev pub run : Device → List (ℕ × List ℕ) → Ran
+abbrev pub run : Device → List Request → Ran
 run device [] = record { after = device; answers = [] }
 run device (request ∷ requests) =
-    let now = exec_once device request.0 request.1 in
+    let now = exec_device device request.0 request.1 in
     let later = run now.after requests in
     record { after = later.after; answers = now.answer ∷ later.answers }

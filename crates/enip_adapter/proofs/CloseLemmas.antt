@@ -190,9 +190,9 @@ live-calls base peer session bytes a (c ∷ cs) sound at goes says front b bs e 
 live-run : (base : Shared) (peer : ℕ) (run : Run peer) (front : List ℕ) (b : ℕ) (bs : List ℕ)
     → taken_in peer run ≡ front ++ b ∷ bs → IsLive base (new_session peer) front
 live-run base peer run front b bs e =
-    from (after_calls (new_adapter run.objects run.listen run.limits) run.earlier)
-    (sound-calls (new_adapter run.objects run.listen run.limits) run.earlier
-    (sound-new run.objects run.listen run.limits)) run.begins e
+    from (after_calls (new_adapter run.device run.listen run.limits) run.earlier)
+    (sound-calls (new_adapter run.device run.listen run.limits) run.earlier
+    (sound-new run.device run.listen run.limits)) run.begins e
   where
     from : (a : AdapterState) → IsSound a → (call_answer a Begins_peer).output ≡ Begins peer
         → taken_by_calls peer (after_call a Begins_peer) run.calls ≡ front ++ b ∷ bs

@@ -2,11 +2,12 @@
 use Rattle.std.proofs.Common.{not, ltb, eqb, length, ℕ, List, Option, Some, Result, Ok, Err}
 use Rattle.cip_bytes.specs.Protocol.{command_of}
 use Rattle.cip_bytes.specs.declared.protocol.Command.{Command}
+use Rattle.cip_bytes.specs.declared.protocol.TheConstants.{UNCONNECTED_LIMIT}
 use Rattle.cip_bytes.specs.declared.protocol.Command.TheVariants.{SendRRData, SendUnitData}
 use Rattle.cip_message.specs.Open.{Layout}
 use Rattle.cip_manager.specs.Closing.{close_turn}
 use Rattle.cip_manager.specs.Opening.{open_turn_in}
-use Rattle.cip_objects.specs.Contents.{Contents}
+use Rattle.cip_ledger.specs.Device.{exec_device}
 use Rattle.enip_wire.specs.Bodies.{rr_body_of, unit_body_of}
 use Rattle.enip_wire.specs.Frames.{Frame}
 use Rattle.enip_wire.specs.declared.item_list.CpfFault.{CpfFault}
@@ -25,7 +26,8 @@ pub record Changes (P : Shared → Type 0) (shared : Shared) (session : Session)
   pub opens : (layout : Layout) (bytes : List ℕ) →
       P (managed shared (open_turn_in layout shared.manager shared.moment session.handle bytes)).shared
   pub closes : (bytes : List ℕ) → P (managed shared (close_turn shared.manager session.handle bytes)).shared
-  pub executes : (objects : Contents) → P (record shared { objects = objects })
+  pub executes : (request : List ℕ) →
+      P (record shared { objects = (exec_device shared.objects UNCONNECTED_LIMIT request).after })
   pub receives : (id : ℕ) (item : List ℕ) → P (record shared {
     manager = record shared.manager { connections = (turn_of_item shared session id item).connections };
     objects = (turn_of_item shared session id item).router;
@@ -35,7 +37,7 @@ module _ (P : Shared → Type 0) (shared : Shared) (session : Session) (changes 
   after_routed : (request : List ℕ) (to : Route) → P (routed_to shared session request to).shared
   after_routed request (Opens layout bytes) = changes.opens layout bytes
   after_routed request (Closes bytes) = changes.closes bytes
-  after_routed request Executes = changes.executes _
+  after_routed request Executes = changes.executes request
 
   after_body : (f : Frame) (body : Result (List ℕ) CpfFault) → P (reply_to_body shared session f body).shared
   after_body f (Err fault) = changes.same

@@ -10,7 +10,7 @@ use Rattle.std.proofs.lemmas.List.{take_all}
 use Rattle.cip_bytes.specs.Numbers.{number_at}
 use Rattle.cip_manager.specs.Connection.{is_open_at}
 use Rattle.cip_manager.proofs.ListLemmas.{filter-implied}
-use Rattle.cip_objects.specs.Contents.{Contents}
+use Rattle.cip_ledger.specs.Device.{Device}
 use Rattle.enip_wire.specs.Frames.{end_after}
 use Rattle.enip_wire.specs.Stream.{Parsed, bytes_taken, held_and_taken, parsed, cleared}
 use Rattle.enip_wire.specs.Stream.Parsed.{Incomplete, WholeFrame, TooLongHeader}
@@ -551,26 +551,26 @@ alike now peer a l m pieces others xs ys sound e p q =
     let one : AreSame f.ys g.ys l m = one-flow f.flow (subst (λ s. Flows now peer a s g.ys m) (sym e) g.flow) in
     record { answers = f.same ∙ (ap visible_answers one.answers ∙ sym g.same); adapter = one.adapter }
 
-module _ (objects : Contents) (listen : Listen) (limits : Limits) (calls : List Call) where
-  reached : IsSound (after_calls (new_adapter objects listen limits) calls)
-  reached = sound-calls (new_adapter objects listen limits) calls (sound-new objects listen limits)
+module _ (device : Device) (listen : Listen) (limits : Limits) (calls : List Call) where
+  reached : IsSound (after_calls (new_adapter device listen limits) calls)
+  reached = sound-calls (new_adapter device listen limits) calls (sound-new device listen limits)
 
   pub cuts-answers : (now peer : ℕ) (pieces others : List (List ℕ)) (xs ys : List Answer) (l m : AdapterState)
       → concat pieces ≡ concat others
-      → FeedsPieces now peer (after_calls (new_adapter objects listen limits) calls) pieces xs l
-      → FeedsPieces now peer (after_calls (new_adapter objects listen limits) calls) others ys m
+      → FeedsPieces now peer (after_calls (new_adapter device listen limits) calls) pieces xs l
+      → FeedsPieces now peer (after_calls (new_adapter device listen limits) calls) others ys m
       → visible_answers xs ≡ visible_answers ys
   cuts-answers now peer pieces others xs ys l m e p q =
       (alike now peer (after_calls
-      (new_adapter objects listen limits) calls) l m pieces others xs ys reached e p q).answers
+      (new_adapter device listen limits) calls) l m pieces others xs ys reached e p q).answers
 
   pub cuts-adapter : (now peer : ℕ) (pieces others : List (List ℕ)) (xs ys : List Answer) (l m : AdapterState)
       → concat pieces ≡ concat others
-      → FeedsPieces now peer (after_calls (new_adapter objects listen limits) calls) pieces xs l
-      → FeedsPieces now peer (after_calls (new_adapter objects listen limits) calls) others ys m → l ≡ m
+      → FeedsPieces now peer (after_calls (new_adapter device listen limits) calls) pieces xs l
+      → FeedsPieces now peer (after_calls (new_adapter device listen limits) calls) others ys m → l ≡ m
   cuts-adapter now peer pieces others xs ys l m e p q =
       (alike now peer (after_calls
-      (new_adapter objects listen limits) calls) l m pieces others xs ys reached e p q).adapter
+      (new_adapter device listen limits) calls) l m pieces others xs ys reached e p q).adapter
 
 -- There is a way for every list of pieces.
 record HasPour (now peer : ℕ) (a : AdapterState) (pieces : List (List ℕ)) : Type 0 where
@@ -613,12 +613,12 @@ pour-pieces now peer [] a sound = record { answers = []; last = a; pours = Ended
 pour-pieces now peer (piece ∷ pieces) a sound =
     pour-piece (length piece) now peer piece pieces a (omega arith) sound (pour-pieces now peer pieces)
 
-pub some-pour : (objects : Contents) (listen : Listen) (limits : Limits) (calls : List Call) (now peer : ℕ)
+pub some-pour : (device : Device) (listen : Listen) (limits : Limits) (calls : List Call) (now peer : ℕ)
     (pieces : List (List ℕ))
     → (xs : List Answer) ×
-    ((l : AdapterState) × FeedsPieces now peer (after_calls (new_adapter objects listen limits) calls) pieces xs l)
-some-pour objects listen limits calls now peer pieces =
-    let p : HasPour now peer (after_calls (new_adapter objects listen limits) calls) pieces
-    = pour-pieces now peer pieces (after_calls (new_adapter objects listen limits) calls)
-    (sound-calls (new_adapter objects listen limits) calls (sound-new objects listen limits)) in
+    ((l : AdapterState) × FeedsPieces now peer (after_calls (new_adapter device listen limits) calls) pieces xs l)
+some-pour device listen limits calls now peer pieces =
+    let p : HasPour now peer (after_calls (new_adapter device listen limits) calls) pieces
+    = pour-pieces now peer pieces (after_calls (new_adapter device listen limits) calls)
+    (sound-calls (new_adapter device listen limits) calls (sound-new device listen limits)) in
     (p.answers, (p.last, p.pours))

@@ -18,3 +18,4 @@ pub mod ServeLemmas
 pub mod ActionLemmas
 pub mod DiscoveryLemmas
 pub mod EndingLemmas
+pub mod DeviceLemmas

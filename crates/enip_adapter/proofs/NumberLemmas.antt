@@ -12,8 +12,7 @@ use Rattle.cip_manager.specs.Manager.{ManagerState}
 use Rattle.cip_manager.specs.Opening.{new_connection}
 use Rattle.cip_manager.proofs.CallLemmas.{after_open, after_close, after_item_turn}
 use Rattle.cip_manager.proofs.ListLemmas.{All-with_first, filter-swap}
-use Rattle.cip_objects.specs.Contents.{Contents}
-use Rattle.cip_objects.specs.Execution.{exec}
+use Rattle.cip_ledger.specs.Device.{Device, exec_device}
 use Rattle.enip_wire.specs.Stream.{Parsed}
 use Rattle.enip_wire.specs.Stream.Parsed.{Incomplete, WholeFrame, TooLongHeader}
 use Rattle.enip_wire.specs.Frames.{Frame}
@@ -227,11 +226,11 @@ rises-opening m c id drawn =
           id refl;
     }
 
-abbrev exec_after : Contents → ℕ → List ℕ → Contents
-exec_after objects room request = (exec objects room request).after
+abbrev exec_after : Device → ℕ → List ℕ → Device
+exec_after device max_size request = (exec_device device max_size request).after
 
-abbrev exec_answer : Contents → ℕ → List ℕ → List ℕ
-exec_answer objects room request = (exec objects room request).answer
+abbrev exec_answer : Device → ℕ → List ℕ → List ℕ
+exec_answer device max_size request = (exec_device device max_size request).answer
 
 rises-command : (shared : Shared) (session : Session) (f : Frame) → AreDrawn shared.manager
     → Rises shared.manager (command_served shared session f).shared.manager
@@ -245,7 +244,7 @@ rises-command shared session f drawn =
           (λ asked check. rises-opening m (new_connection m.next_id shared.moment session.handle asked) refl drawn);
       closes = λ bytes. after_close (Rises m) m session.handle bytes (rises-same m drawn)
           (λ request e. rises-filter _ m drawn);
-      executes = λ objects. rises-same m drawn;
+      executes = λ request. rises-same m drawn;
       receives = λ id item. after_item_turn exec_after exec_answer
           (λ ds. Rises m (record m { connections = ds })) m.connections shared.moment
           session.handle id item shared.objects (rises-same m drawn)
@@ -314,8 +313,8 @@ ids-rise-from s (e ∷ es) drawn =
     let r : Rises s.shared.manager (turn s e).state.shared.manager = rises-event s e drawn in
     rises-draws s.shared.manager (turn s e).state.shared.manager _ r.draws (ids-rise-from (turn s e).state es r.drawn)
 
-pub ids-rise : (objects : Contents) (listen : Listen) (limits : Limits) (es : List Event)
-    → RisesFrom limits.first_id (ids_of_events (new_adapter objects listen limits).state es)
-ids-rise objects listen limits es =
-    ids-rise-from (new_adapter objects listen limits).state es
+pub ids-rise : (device : Device) (listen : Listen) (limits : Limits) (es : List Event)
+    → RisesFrom limits.first_id (ids_of_events (new_adapter device listen limits).state es)
+ids-rise device listen limits es =
+    ids-rise-from (new_adapter device listen limits).state es
     (All-nil (λ (c : Connection). c.o_to_t_id < limits.first_id))

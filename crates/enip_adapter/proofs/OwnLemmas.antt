@@ -292,14 +292,14 @@ says-beginning base a peer sound e =
 pub says-run : (base : Shared) (peer : ℕ) (run : Run peer)
     → Says base peer (new_session peer) (frames_in peer run) (at_end peer run)
 says-run base peer run =
-    let first : AdapterState = after_calls (new_adapter run.objects run.listen run.limits) run.earlier in
-    let sound : IsSound (after_calls (new_adapter run.objects run.listen run.limits) run.earlier)
-    = sound-calls (new_adapter run.objects run.listen run.limits) run.earlier
-    (sound-new run.objects run.listen run.limits) in
+    let first : AdapterState = after_calls (new_adapter run.device run.listen run.limits) run.earlier in
+    let sound : IsSound (after_calls (new_adapter run.device run.listen run.limits) run.earlier)
+    = sound-calls (new_adapter run.device run.listen run.limits) run.earlier
+    (sound-new run.device run.listen run.limits) in
     says-calls base peer (new_session peer) (at_beginning peer run) run.calls
-    (sound-call (after_calls (new_adapter run.objects run.listen run.limits) run.earlier) Begins_peer sound) run.goes_on
+    (sound-call (after_calls (new_adapter run.device run.listen run.limits) run.earlier) Begins_peer sound) run.goes_on
     (says-beginning base (after_calls
-    (new_adapter run.objects run.listen run.limits) run.earlier) peer sound run.begins)
+    (new_adapter run.device run.listen run.limits) run.earlier) peer sound run.begins)
 
 pub same-session : (peer : ℕ) (r s : Run peer) → taken_in peer r ≡ taken_in peer s
     → session_of (at_end peer r).state peer ≡ session_of (at_end peer s).state peer

@@ -9,8 +9,7 @@ use Rattle.cip_manager.specs.Runs.{ManagerCall, Opens, Closes, Receives, Ends, I
 use Rattle.cip_manager.specs.Runs.{state_after, is_open_after_all}
 use Rattle.cip_manager.proofs.SessionLemmas.{calls-of_other}
 use Rattle.cip_manager.proofs.ListLemmas.{filter-true, filter-filter, filter-swap}
-use Rattle.cip_objects.specs.Contents.{Contents}
-use Rattle.cip_objects.specs.Execution.{exec}
+use Rattle.cip_ledger.specs.Device.{Device, exec_device}
 use Rattle.enip_wire.specs.Frames.{Frame}
 use Rattle.enip_wire.specs.Stream.{Parsed, held_and_taken, parsed}
 use Rattle.enip_wire.specs.Stream.Parsed.{Incomplete, WholeFrame, TooLongHeader}
@@ -40,11 +39,11 @@ pub record Leaves (peer : ℕ) (old new : Shared) : Type 0 where
 leaves-same : (peer : ℕ) (shared : Shared) → Leaves peer shared shared
 leaves-same peer shared = record { connections = refl; moment = refl }
 
-abbrev exec_after : Contents → ℕ → List ℕ → Contents
-exec_after objects room request = (exec objects room request).after
+abbrev exec_after : Device → ℕ → List ℕ → Device
+exec_after device max_size request = (exec_device device max_size request).after
 
-abbrev exec_answer : Contents → ℕ → List ℕ → List ℕ
-exec_answer objects room request = (exec objects room request).answer
+abbrev exec_answer : Device → ℕ → List ℕ → List ℕ
+exec_answer device max_size request = (exec_device device max_size request).answer
 
 -- One call of the manager for another session.
 leaves-manager : (peer : ℕ) (shared : Shared) (call : ManagerCall) → IsOfOther peer call
@@ -71,7 +70,7 @@ leaves-command peer shared session f differ =
             ∙ filter-true (connections_of peer shared);
         moment = refl;
       };
-      executes = λ objects. record { connections = refl; moment = refl };
+      executes = λ request. record { connections = refl; moment = refl };
       receives = λ id item. record {
         connections = leaves-manager peer shared (Receives shared.moment session.handle id item) differ
             ∙ filter-true (connections_of peer shared);

@@ -3,7 +3,7 @@ use Rattle.std.proofs.Common.{◌≡◌, ℕ, ◌+◌, ◌≤◌, List, [], ◌�
 use Rattle.std.proofs.Common.{Option, Some, None, refl, sym, ap, subst, ◌∙◌}
 use Rattle.std.proofs.lemmas.Bool.{eqb-true, eqb-false}
 use Rattle.std.proofs.lemmas.List.{map-append}
-use Rattle.cip_objects.specs.Contents.{Contents}
+use Rattle.cip_ledger.specs.Device.{Device}
 use Rattle.enip_wire.specs.Stream.{Parsed, held_and_taken, parsed, cleared}
 use Rattle.enip_wire.specs.Stream.Parsed.{Incomplete, WholeFrame, TooLongHeader}
 use Rattle.enip_adapter.specs.declared.adapter.Limits.{Limits}
@@ -277,8 +277,8 @@ pub sound-calls : (a : AdapterState) (calls : List Call) → IsSound a → IsSou
 sound-calls a [] sound = sound
 sound-calls a (c ∷ cs) sound = sound-calls (after_call a c) cs (sound-call a c sound)
 
-pub sound-new : (objects : Contents) (listen : Listen) (limits : Limits) → IsSound (new_adapter objects listen limits)
-sound-new objects listen limits = record {
+pub sound-new : (device : Device) (listen : Listen) (limits : Limits) → IsSound (new_adapter device listen limits)
+sound-new device listen limits = record {
   same = refl;
   drawn = record { once = tt; below = tt };
   ready = λ peer session e alive. cc;
@@ -300,12 +300,12 @@ taken-piece a now peer b bs sound (Some session) e alive = go session.closed ref
     go true shut k = cc
     go false lives k = bytes_taken-some (bytes_held a.held peer) b bs (sound.ready peer session e lives)
 
-pub some-taken : (objects : Contents) (listen : Listen) (limits : Limits) (calls : List Call) (now peer b : ℕ)
+pub some-taken : (device : Device) (listen : Listen) (limits : Limits) (calls : List Call) (now peer b : ℕ)
     (bs : List ℕ)
-    → (call_answer (after_calls (new_adapter objects listen limits) calls) (Feeds now peer (b ∷ bs))).close ≡ false
-    → 1 ≤ (call_meaning (after_calls (new_adapter objects listen limits) calls) (Feeds now peer (b ∷ bs))).taken
-some-taken objects listen limits calls now peer b bs alive =
-    let a : AdapterState = after_calls (new_adapter objects listen limits) calls in
-    taken-piece (after_calls (new_adapter objects listen limits) calls) now peer b bs
-    (sound-calls (new_adapter objects listen limits) calls (sound-new objects listen limits))
-    (session_of (after_calls (new_adapter objects listen limits) calls).state peer) refl alive
+    → (call_answer (after_calls (new_adapter device listen limits) calls) (Feeds now peer (b ∷ bs))).close ≡ false
+    → 1 ≤ (call_meaning (after_calls (new_adapter device listen limits) calls) (Feeds now peer (b ∷ bs))).taken
+some-taken device listen limits calls now peer b bs alive =
+    let a : AdapterState = after_calls (new_adapter device listen limits) calls in
+    taken-piece (after_calls (new_adapter device listen limits) calls) now peer b bs
+    (sound-calls (new_adapter device listen limits) calls (sound-new device listen limits))
+    (session_of (after_calls (new_adapter device listen limits) calls).state peer) refl alive

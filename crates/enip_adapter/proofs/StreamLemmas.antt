@@ -6,7 +6,7 @@ use Rattle.std.specs.List.{flat_map, AllByRecursion}
 use Rattle.std.proofs.lemmas.Bool.{eqb-true, eqb-false, eq-eqb}
 use Rattle.cip_bytes.specs.Numbers.{AreBytes}
 use Rattle.cip_bytes.proofs.Bytes.{AreBytes-take, AreBytes-append}
-use Rattle.cip_objects.specs.Contents.{Contents}
+use Rattle.cip_ledger.specs.Device.{Device}
 use Rattle.enip_wire.specs.Frames.{frame, IsFrame}
 use Rattle.enip_wire.specs.Stream.{Cut, Parsed, bytes_taken, held_and_taken, parsed, cleared}
 use Rattle.enip_wire.specs.Stream.Parsed.{Incomplete, WholeFrame, TooLongHeader}
@@ -233,17 +233,17 @@ at-beginning s held peer none =
       none = none-running [] running-empty;
     }))
 
-pub cut-from-beginning : (objects : Contents) (listen : Listen) (limits : Limits) (earlier calls : List Call) (peer : ℕ)
-    → (call_answer (after_calls (new_adapter objects listen limits) earlier) Begins_peer).output ≡ Begins peer
+pub cut-from-beginning : (device : Device) (listen : Listen) (limits : Limits) (earlier calls : List Call) (peer : ℕ)
+    → (call_answer (after_calls (new_adapter device listen limits) earlier) Begins_peer).output ≡ Begins peer
     → AllByRecursion (GoesOn peer) calls
-    → Cut (taken_by_calls peer (after_call (after_calls (new_adapter objects listen limits) earlier) Begins_peer) calls)
+    → Cut (taken_by_calls peer (after_call (after_calls (new_adapter device listen limits) earlier) Begins_peer) calls)
     (frames_of_peer peer (events_of_calls
-    (after_call (after_calls (new_adapter objects listen limits) earlier) Begins_peer) calls))
+    (after_call (after_calls (new_adapter device listen limits) earlier) Begins_peer) calls))
     (bytes_held (after_calls
-    (after_call (after_calls (new_adapter objects listen limits) earlier) Begins_peer) calls).held peer)
-cut-from-beginning objects listen limits earlier calls peer begins goes =
-    from (after_calls (new_adapter objects listen limits) earlier)
-    (sound-calls (new_adapter objects listen limits) earlier (sound-new objects listen limits)) begins
+    (after_call (after_calls (new_adapter device listen limits) earlier) Begins_peer) calls).held peer)
+cut-from-beginning device listen limits earlier calls peer begins goes =
+    from (after_calls (new_adapter device listen limits) earlier)
+    (sound-calls (new_adapter device listen limits) earlier (sound-new device listen limits)) begins
   where
     from : (a : AdapterState) → IsSound a → (begun a.state).answer.output ≡ Begins peer
         → Cut (taken_by_calls peer (after_call a Begins_peer) calls)
@@ -259,7 +259,7 @@ cut-from-beginning objects listen limits earlier calls peer begins goes =
 
 pub cut-of-run : (peer : ℕ) (run : Run peer)
     → Cut (taken_in peer run) (frames_in peer run) (bytes_held (at_end peer run).held peer)
-cut-of-run peer run = cut-from-beginning run.objects run.listen run.limits run.earlier run.calls peer run.begins run.goes_on
+cut-of-run peer run = cut-from-beginning run.device run.listen run.limits run.earlier run.calls peer run.begins run.goes_on
 
 pub same-runs : (p q : ℕ) (r : Run p) (s : Run q) → taken_in p r ≡ taken_in q s
     → (frames_in p r ≡ frames_in q s) × (bytes_held (at_end p r).held p ≡ bytes_held (at_end q s).held q)

@@ -3,7 +3,7 @@ use Rattle.std.specs.Prelude.{ℕ, List, [], ◌≡◌, map, false, Option, Some
 use Rattle.std.specs.Prelude.{Err, unwrap_or}
 use Rattle.std.specs.Borrow.{Bor}
 use Rattle.cip_manager.specs.Manager.{no_connection}
-use Rattle.cip_objects.specs.Contents.{Contents}
+use Rattle.cip_ledger.specs.Device.{Device}
 use Rattle.enip_wire.specs.Frames.{IsComplete}
 use Rattle.enip_adapter.specs.declared.adapter.Full.{Full}
 use Rattle.enip_adapter.specs.declared.adapter.Full.TheVariants.{Places, Handles}
@@ -40,16 +40,16 @@ adapter_in places next_handle shared peers =
     record { state = state_in places next_handle shared peers; held = map held_in peers }
 
 -- An adapter with no peer and no connection.
-abbrev pub new_shared : Contents → Listen → Limits → Shared
-new_shared objects listen limits = record {
+abbrev pub new_shared : Device → Listen → Limits → Shared
+new_shared device listen limits = record {
   listen = listen;
   moment = 0;
-  manager = no_connection limits.connections limits.first_id objects.device;
-  objects = objects;
+  manager = no_connection limits.connections limits.first_id device.router.device;
+  objects = device;
 }
 
-abbrev pub new_adapter : Contents → Listen → Limits → AdapterState
-new_adapter objects listen limits = adapter_in limits.peers limits.first_handle (new_shared objects listen limits) []
+abbrev pub new_adapter : Device → Listen → Limits → AdapterState
+new_adapter device listen limits = adapter_in limits.peers limits.first_handle (new_shared device listen limits) []
 
 -- Between calls, a peer that is not closed holds neither a whole frame nor a header whose length is over the limit.
 abbrev pub IsWaiting : PeerSlot → Type 0

@@ -1,5 +1,5 @@
 -- Which connections ended between two updates, and why.
-use Rattle.std.specs.Prelude.{ℕ, Bool, not, nat_le, if◌then◌else◌, List, [], map, filter, Option, Some, None}
+use Rattle.std.specs.Prelude.{Bool, not, nat_le, if◌then◌else◌, List, [], map, filter, Option, Some, None}
 use Rattle.std.specs.List.{list_any}
 use Rattle.cip_manager.specs.declared.connection.ConnectionInfo.{ConnectionInfo}
 use Rattle.cip_manager.specs.Connection.{has_id}

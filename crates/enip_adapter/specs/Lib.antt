@@ -21,3 +21,4 @@ pub mod Serving
 pub mod AdapterActions
 pub mod Device
 pub mod Endings
+pub mod DeviceRuns

@@ -5,7 +5,7 @@ use Rattle.std.specs.List.{flat_map, list_all, list_any, AllByRecursion}
 use Rattle.cip_bytes.specs.Numbers.{AreBytes}
 use Rattle.cip_manager.specs.declared.connection.Connection.{Connection}
 use Rattle.cip_manager.specs.Connection.{is_open_at}
-use Rattle.cip_objects.specs.Contents.{Contents}
+use Rattle.cip_ledger.specs.Device.{Device}
 use Rattle.enip_wire.specs.Frames.{Frame}
 use Rattle.enip_adapter.specs.declared.adapter.Limits.{Limits}
 use Rattle.enip_adapter.specs.declared.shared.Listen.{Listen}
@@ -165,18 +165,18 @@ visible_answers answers = filter (λ answer. not (is_no_reply answer.output) || 
 -- A run of a peer: earlier calls lead from a new adapter to one at which the peer begins, and then come calls that do
 -- not end it.
 pub record Run (peer : ℕ) : Type 0 where
-  pub objects : Contents
+  pub device : Device
   pub listen : Listen
   pub limits : Limits
   pub earlier : List Call
   pub calls : List Call
-  pub begins : (call_answer (after_calls (new_adapter objects listen limits) earlier) Begins_peer).output ≡ Begins peer
+  pub begins : (call_answer (after_calls (new_adapter device listen limits) earlier) Begins_peer).output ≡ Begins peer
   pub goes_on : AllByRecursion (GoesOn peer) calls
 
 -- The adapter when the peer begins, and after the run.
 abbrev pub at_beginning : (peer : ℕ) → Run peer → AdapterState
 at_beginning peer run =
-    after_call (after_calls (new_adapter run.objects run.listen run.limits) run.earlier) Begins_peer
+    after_call (after_calls (new_adapter run.device run.listen run.limits) run.earlier) Begins_peer
 
 abbrev pub at_end : (peer : ℕ) → Run peer → AdapterState
 at_end peer run = after_calls (at_beginning peer run) run.calls

@@ -15,7 +15,7 @@ use Rattle.cip_message.specs.Request.{Request, request_of}
 use Rattle.cip_manager.specs.Manager.{Turn}
 use Rattle.cip_manager.specs.Opening.{open_turn_in}
 use Rattle.cip_manager.specs.Closing.{close_turn}
-use Rattle.cip_objects.specs.Execution.{exec}
+use Rattle.cip_ledger.specs.Device.{exec_device}
 use Rattle.enip_wire.specs.Bodies.{rr_body_bytes, rr_body_of}
 use Rattle.enip_wire.specs.Frames.{Frame}
 use Rattle.enip_wire.specs.declared.item_list.CpfFault.{CpfFault}
@@ -69,8 +69,8 @@ routed_to shared session request (Opens layout bytes) =
     managed shared (open_turn_in layout shared.manager shared.moment session.handle bytes)
 routed_to shared session request (Closes bytes) = managed shared (close_turn shared.manager session.handle bytes)
 routed_to shared session request Executes = record {
-  shared = record shared { objects = (exec shared.objects UNCONNECTED_LIMIT request).after };
-  reply = (exec shared.objects UNCONNECTED_LIMIT request).answer;
+  shared = record shared { objects = (exec_device shared.objects UNCONNECTED_LIMIT request).after };
+  reply = (exec_device shared.objects UNCONNECTED_LIMIT request).answer;
 }
 
 -- A request of a session, and its reply as the data of a SendRRData.

@@ -2,8 +2,7 @@
 use Rattle.std.specs.Prelude.{ℕ, List, if◌then◌else◌, not, Option, Some, None, Result, Ok, Err}
 use Rattle.cip_bytes.specs.declared.protocol.EncapsulationStatus.TheVariants.{Success}
 use Rattle.cip_manager.specs.Items.{Reply as HeldReply, ItemTurn, item_turn}
-use Rattle.cip_objects.specs.Contents.{Contents}
-use Rattle.cip_objects.specs.Execution.{exec}
+use Rattle.cip_ledger.specs.Device.{Device, exec_device}
 use Rattle.enip_wire.specs.Bodies.{unit_body_bytes, unit_body_of}
 use Rattle.enip_wire.specs.Frames.{Frame}
 use Rattle.enip_wire.specs.declared.header.Header.{Header}
@@ -13,11 +12,11 @@ use Rattle.enip_adapter.specs.declared.shared.Shared.{Shared}
 use Rattle.enip_adapter.specs.declared.no_reply_reason.NoReplyReason.TheVariants.{AnotherSession, NotAPacket, NotTaken}
 use Rattle.enip_adapter.specs.Replies.{Reply, NoReply, Sends, Served, leaving, replying, no_reply, reply, is_registered_as}
 
--- What an item does. The objects are the router behind the connections.
-abbrev pub turn_of_item : Shared → Session → ℕ → List ℕ → ItemTurn Contents
+-- What an item does. The objects, with the ledger before them, are the router behind the connections.
+abbrev pub turn_of_item : Shared → Session → ℕ → List ℕ → ItemTurn Device
 turn_of_item shared session id item =
-    item_turn (λ objects room request. (exec objects room request).after)
-    (λ objects room request. (exec objects room request).answer)
+    item_turn (λ device max_size request. (exec_device device max_size request).after)
+    (λ device max_size request. (exec_device device max_size request).answer)
     shared.manager.connections shared.moment session.handle id item shared.objects
 
 -- A SendUnitData with the T->O ID, and the count and reply that the target holds.
@@ -30,11 +29,11 @@ item_reply asked None = NoReply NotTaken
 item_reply asked (Some answer) = Sends (unit_reply asked answer)
 
 -- What all peers share after an item.
-abbrev pub left_by_item : Shared → ItemTurn Contents → Shared
+abbrev pub left_by_item : Shared → ItemTurn Device → Shared
 left_by_item shared turn =
     record shared { manager = record shared.manager { connections = turn.connections }; objects = turn.router }
 
-abbrev pub served_item : Shared → Session → Frame → ItemTurn Contents → Served
+abbrev pub served_item : Shared → Session → Frame → ItemTurn Device → Served
 served_item shared session f turn =
     leaving (left_by_item shared turn) (replying session (item_reply f.header turn.reply))
 

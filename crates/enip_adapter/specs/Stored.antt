@@ -1,9 +1,11 @@
 -- How the adapter's value is stored: each record as pairs of its fields, and rebuilt from them.
 use Rattle.std.specs.Prelude.{ℕ, List, Bool, Option, refl}
 use Rattle.std.specs.Coded.{Coded, code_by, coded×, coded_ℕ, coded_bool, coded_list, coded_option}
-use Rattle.cip_message.specs.declared.key.Device.{Device}
+use Rattle.cip_message.specs.declared.key.Device.{Device as DeviceKey}
 use Rattle.cip_objects.specs.Contents.{Contents, contents_code, device_code}
 use Rattle.cip_class3.specs.TargetRule.{KeptReply, TargetState}
+use Rattle.cip_ledger.specs.Device.{Device}
+use Rattle.cip_ledger.specs.Ledger.{LedgerState, SlotState}
 use Rattle.cip_manager.specs.declared.connection.Connection.{Connection}
 use Rattle.cip_manager.specs.declared.connection.Triad.{Triad}
 use Rattle.cip_manager.specs.Manager.{ManagerState}
@@ -68,13 +70,13 @@ connection_code =
     (λ c. (c.session, (c.o_to_t_id, (c.t_to_o_id, (c.triad, (c.timeout, (c.deadline, c.target)))))))
     connection_from (λ _. refl)
 
-abbrev pub manager_from : ℕ × (ℕ × (Device × List Connection)) → ManagerState
+abbrev pub manager_from : ℕ × (ℕ × (DeviceKey × List Connection)) → ManagerState
 manager_from (places, (next_id, (device, connections))) =
     record { places = places; next_id = next_id; device = device; connections = connections }
 
 abbrev pub manager_code : Coded ManagerState
 manager_code =
-    code_by (ℕ × (ℕ × (Device × List Connection)))
+    code_by (ℕ × (ℕ × (DeviceKey × List Connection)))
     (coded× coded_ℕ (coded× coded_ℕ (coded× device_code (coded_list connection_code))))
     (λ m. (m.places, (m.next_id, (m.device, m.connections))))
     manager_from (λ _. refl)
@@ -84,14 +86,38 @@ listen_code =
     code_by (List ℕ × ℕ) (coded× (coded_list coded_ℕ) coded_ℕ) (λ l. (l.address, l.port))
     (λ p. record { address = p.0; port = p.1 }) (λ _. refl)
 
-abbrev pub shared_from : Listen × (ℕ × (ManagerState × Contents)) → Shared
+abbrev pub slot_from : ℕ × (ℕ × List ℕ) → SlotState
+slot_from (originator, (number, reply)) = record { originator = originator; number = number; reply = reply }
+
+abbrev pub slot_code : Coded SlotState
+slot_code =
+    code_by (ℕ × (ℕ × List ℕ)) (coded× coded_ℕ (coded× coded_ℕ (coded_list coded_ℕ)))
+    (λ s. (s.originator, (s.number, s.reply)))
+    slot_from (λ _. refl)
+
+abbrev pub ledger_from : ℕ × (ℕ × List SlotState) → LedgerState
+ledger_from (slots, (life, taken)) = record { slots = slots; life = life; taken = taken }
+
+abbrev pub ledger_code : Coded LedgerState
+ledger_code =
+    code_by (ℕ × (ℕ × List SlotState)) (coded× coded_ℕ (coded× coded_ℕ (coded_list slot_code)))
+    (λ l. (l.slots, (l.life, l.taken)))
+    ledger_from (λ _. refl)
+
+abbrev pub served_code : Coded Device
+served_code =
+    code_by (Option LedgerState × Contents) (coded× (coded_option ledger_code) contents_code)
+    (λ d. (d.ledger, d.router))
+    (λ p. record { ledger = p.0; router = p.1 }) (λ _. refl)
+
+abbrev pub shared_from : Listen × (ℕ × (ManagerState × Device)) → Shared
 shared_from (listen, (moment, (manager, objects))) =
     record { listen = listen; moment = moment; manager = manager; objects = objects }
 
 abbrev pub shared_code : Coded Shared
 shared_code =
-    code_by (Listen × (ℕ × (ManagerState × Contents)))
-    (coded× listen_code (coded× coded_ℕ (coded× manager_code contents_code)))
+    code_by (Listen × (ℕ × (ManagerState × Device)))
+    (coded× listen_code (coded× coded_ℕ (coded× manager_code served_code)))
     (λ s. (s.listen, (s.moment, (s.manager, s.objects))))
     shared_from (λ _. refl)
 

@@ -2,7 +2,7 @@
 //! Text: docs/PROTOCOL.md, "A peer".
 
 ghost use Rattle.std.specs.Prelude.{◌≡◌, ◌<◌, ◌≤◌, ◌-◌, length, slice_index_or, false};
-ghost use Rattle.std.specs.Prelude.{IfOk, IfSome, is_some, is_none, unwrap_or};
+ghost use Rattle.std.specs.Prelude.{IfOk, IfSome, Some, None, is_some, is_none, unwrap_or};
 ghost use Rattle.std.specs.Borrow.{sem};
 ghost use Rattle.std.specs.Io.BufRead.{Rests};
 ghost use Rattle.std.specs.Option.{option_map};
@@ -11,6 +11,7 @@ ghost use Rattle.cip_manager.specs.declared.connection.Connection.{Connection};
 ghost use Rattle.cip_manager.specs.Connection.{earliest_deadline, has_id};
 ghost use Rattle.cip_manager.specs.ConnectionInfo.{connection_info};
 ghost use Rattle.enip_adapter.specs.Turn.{session_of};
+ghost use Rattle.cip_ledger.specs.Device.{device_of};
 ghost use Rattle.cip_objects.specs.Changes.{changes_of};
 ghost use Rattle.cip_objects.specs.DeviceWrites.{device_write, with_device_status, with_device_state};
 ghost use Rattle.enip_adapter.specs.Adapter.{full_number};
@@ -23,6 +24,7 @@ use crate::peer::{Peer, Session};
 use crate::peer_slots::PeerSlots;
 use crate::reply::{AnswerFrame, LONGEST_ANSWER, Reaction, Reply};
 use crate::shared::{Listen, Shared};
+use cip_ledger::{Ledger, LedgerRouter};
 use cip_manager::{ConnectionInfo, Manager, Steps};
 use cip_objects::{Objects, ReplyBuf};
 use std::alloc::{AllocError, Global};
@@ -129,7 +131,8 @@ impl Adapter {
     ghost use Rattle.enip_adapter.specs.Serving.{is_peer_served};
     ghost use Rattle.enip_adapter.specs.contracts.adapter.Adapter.{the_row};
 
-    /// Makes an adapter with no peer and no connection. It allocates all of its memory here.
+    /// Makes an adapter with no peer and no connection, and without a command ledger. It allocates all of its memory
+    /// here.
     ///
     /// # Errors
     ///
@@ -146,17 +149,68 @@ impl Adapter {
         requires connections_to { limits.connections ≤ 64 }
         requires handle { 1 ≤ limits.first_handle }
         requires id { 1 ≤ limits.first_id }
-        ensures { IfOk result (λ a. a ≡ new_adapter objects listen limits) }
+        ensures { IfOk result (λ a. a ≡ new_adapter (device_of None objects) listen limits) }
+    {
+        let device = LedgerRouter {
+            ledger: None,
+            router: objects,
+        };
+        Adapter::of_device(alloc, device, listen, limits)
+    }
+
+    /// Makes an adapter as `new` does, with a command ledger before its objects: a command that is sent again is
+    /// executed once, even over another connection.
+    ///
+    /// # Errors
+    ///
+    /// `AllocError` if memory is refused.
+    pub fn with_ledger(
+        alloc: Global,
+        objects: Objects,
+        ledger: Ledger,
+        listen: Listen,
+        limits: Limits,
+    ) -> Result<Adapter, AllocError>
+        requires peers_from { 1 ≤ limits.peers }
+        requires peers_to { limits.peers ≤ 16 }
+        requires connections_from { 1 ≤ limits.connections }
+        requires connections_to { limits.connections ≤ 64 }
+        requires handle { 1 ≤ limits.first_handle }
+        requires id { 1 ≤ limits.first_id }
+        ensures { IfOk result (λ a. a ≡ new_adapter (device_of (Some ledger) objects) listen limits) }
+    {
+        let device = LedgerRouter {
+            ledger: Some(ledger),
+            router: objects,
+        };
+        Adapter::of_device(alloc, device, listen, limits)
+    }
+
+    /// Makes an adapter of the objects, with the ledger before them if there is one.
+    fn of_device(
+        alloc: Global,
+        device: LedgerRouter<Objects>,
+        listen: Listen,
+        limits: Limits,
+    ) -> Result<Adapter, AllocError>
+        requires peers_from { 1 ≤ limits.peers }
+        requires peers_to { limits.peers ≤ 16 }
+        requires connections_from { 1 ≤ limits.connections }
+        requires connections_to { limits.connections ≤ 64 }
+        requires handle { 1 ≤ limits.first_handle }
+        requires id { 1 ≤ limits.first_id }
+        ensures { IfOk result (λ a. a ≡ new_adapter device listen limits) }
     {
         let places = PeerSlots::new(alloc, limits.peers)?;
-        let manager = Manager::new(alloc, limits.connections, limits.first_id, objects.device())?;
+        let key = device.router.device();
+        let manager = Manager::new(alloc, limits.connections, limits.first_id, key)?;
         Ok(Adapter {
             next_handle: u64::from(limits.first_handle),
             shared: Shared {
                 listen,
                 moment: 0,
                 manager,
-                objects,
+                objects: device,
             },
             places,
             reply: ReplyBuf::new(),
@@ -274,9 +328,16 @@ impl Adapter {
 
     /// The current objects.
     pub fn objects(&self) -> &Objects
-        ensures { result.now ≡ self.now.state.shared.objects }
+        ensures { result.now ≡ self.now.state.shared.objects.router }
     {
-        &self.shared.objects
+        &self.shared.objects.router
+    }
+
+    /// The current command ledger. `None` if the adapter has none.
+    pub fn ledger(&self) -> Option<&Ledger>
+        ensures { option_map (λ ledger. ledger.now) result ≡ self.now.state.shared.objects.ledger }
+    {
+        self.shared.objects.ledger.as_ref()
     }
 
     /// Writes bytes into the data of an assembly, from `offset` on, on behalf of the device itself. Whether peers may
@@ -286,34 +347,37 @@ impl Adapter {
     /// write is not counted in `changes`, and nothing else of the adapter changes.
     pub fn write_data(&mut self, instance: u32, offset: usize, bytes: &[u8]) -> bool
         ensures written { self.new ≡ with_objects self.old (unwrap_or
-            (device_write self.old.state.shared.objects instance offset bytes.now) self.old.state.shared.objects) }
-        ensures told { result ≡ is_some (device_write self.old.state.shared.objects instance offset bytes.now) }
+            (device_write self.old.state.shared.objects.router instance offset bytes.now) self.old.state.shared.objects.router) }
+        ensures told { result ≡ is_some (device_write self.old.state.shared.objects.router instance offset bytes.now) }
     {
-        self.shared.objects.write_data(instance, offset, bytes)
+        self.shared
+            .objects
+            .router
+            .write_data(instance, offset, bytes)
     }
 
     /// Sets the device's status, a WORD: attribute 5 of the Identity object, which ListIdentity shows too. Nothing else
     /// changes.
     pub fn set_device_status(&mut self, status: u16)
-        ensures { self.new ≡ with_objects self.old (with_device_status self.old.state.shared.objects status) }
+        ensures { self.new ≡ with_objects self.old (with_device_status self.old.state.shared.objects.router status) }
     {
-        self.shared.objects.set_device_status(status);
+        self.shared.objects.router.set_device_status(status);
     }
 
     /// Sets the device's state, a USINT: attribute 8 of the Identity object, which ListIdentity shows too. Nothing else
     /// changes.
     pub fn set_device_state(&mut self, state: u8)
-        ensures { self.new ≡ with_objects self.old (with_device_state self.old.state.shared.objects state) }
+        ensures { self.new ≡ with_objects self.old (with_device_state self.old.state.shared.objects.router state) }
     {
-        self.shared.objects.set_device_state(state);
+        self.shared.objects.router.set_device_state(state);
     }
 
     /// How often peers have written data of this assembly, modulo 2^32. `None` if there is no such assembly. See
     /// `Objects::changes` for what counts.
     pub fn changes(&self, instance: u32) -> Option<u32>
-        ensures { result ≡ changes_of instance self.now.state.shared.objects.changes }
+        ensures { result ≡ changes_of instance self.now.state.shared.objects.router.changes }
     {
-        self.shared.objects.changes(instance)
+        self.shared.objects.router.changes(instance)
     }
 
     /// The number of open connections.

@@ -5,11 +5,12 @@ ghost use Rattle.std.specs.Prelude.{ℕ, List, [], ◌∷◌, ◌++◌, ◌≡�
 ghost use Rattle.std.specs.List.{flat_map, concat, list_any, AllByRecursion};
 ghost use Rattle.cip_manager.specs.Runs.{of_session};
 ghost use Rattle.enip_wire.specs.Stream.{Cut};
-ghost use Rattle.cip_objects.specs.Contents.{Contents};
+ghost use Rattle.cip_ledger.specs.Device.{Device};
 ghost use Rattle.enip_adapter.specs.declared.adapter.Limits.{Limits};
 ghost use Rattle.enip_adapter.specs.declared.peer.Session.{Session};
 ghost use Rattle.enip_adapter.specs.declared.shared.Listen.{Listen};
 ghost use Rattle.enip_adapter.specs.Adapter.{new_adapter};
+ghost use Rattle.enip_adapter.specs.DeviceRuns.{device_law, objects_law, commands_once_law, numbers_rise_law};
 ghost use Rattle.enip_adapter.specs.Discovery.{discovered};
 ghost use Rattle.enip_adapter.specs.Turn.{Event, Answer, answers, after, session_of};
 ghost use Rattle.enip_adapter.specs.Turn.Output.{Sends};
@@ -71,8 +72,19 @@ pub fn handles_rise()
 /// O->T IDs are never used again: whatever happens to a new adapter, the IDs of the connections that open rise from its
 /// first ID.
 pub fn ids_rise()
-    ensures { (objects : Contents) (listen : Listen) (limits : Limits) (events : List Event) →
-        RisesFrom limits.first_id (ids_of_events (new_adapter objects listen limits).state events) }
+    ensures { (device : Device) (listen : Listen) (limits : Limits) (events : List Event) →
+        RisesFrom limits.first_id (ids_of_events (new_adapter device listen limits).state events) }
+{}
+
+/// Whatever calls are made, the objects and the command ledger change only by requests: they are those after a run of
+/// `requests_of_calls`, the requests in the frames that are served, in order. So all laws of `cip_ledger` hold for
+/// frames, over any peers, sessions, connections, timeouts and new connections. Two are written out: no number of an
+/// originator is executed twice, and the numbers rise, unless the originator's slot is freed in between.
+pub fn device_runs_requests()
+    ensures device { device_law }
+    ensures objects { objects_law }
+    ensures once { commands_once_law }
+    ensures rising { numbers_rise_law }
 {}
 
 /// From a peer's begin on, whatever other calls come between: the bytes taken of its stream are the frames that are
@@ -112,8 +124,8 @@ pub fn closes_at_one_byte()
 
 /// A piece that is not empty is taken in part at least, or the answer is that the peer's connection is closed.
 pub fn progress()
-    ensures { (objects : Contents) (listen : Listen) (limits : Limits) (calls : List Call) (now peer b : ℕ)
-        (bs : List ℕ) → let a = after_calls (new_adapter objects listen limits) calls in
+    ensures { (device : Device) (listen : Listen) (limits : Limits) (calls : List Call) (now peer b : ℕ)
+        (bs : List ℕ) → let a = after_calls (new_adapter device listen limits) calls in
         (call_answer a (Feeds now peer (b ∷ bs))).close ≡ false →
         1 ≤ (call_meaning a (Feeds now peer (b ∷ bs))).taken }
 {}
@@ -122,21 +134,21 @@ pub fn progress()
 /// same bytes and feed both at the same time, each piece until all of it is taken or the peer is closed: both have the
 /// same answers and leave the same adapter. Every list of pieces can be fed this way.
 pub fn cuts_change_nothing()
-    ensures answers { (objects : Contents) (listen : Listen) (limits : Limits) (calls : List Call) (now peer : ℕ)
+    ensures answers { (device : Device) (listen : Listen) (limits : Limits) (calls : List Call) (now peer : ℕ)
         (pieces others : List (List ℕ)) (answers replies : List Answer) (last end : AdapterState) →
         concat pieces ≡ concat others →
-        FeedsPieces now peer (after_calls (new_adapter objects listen limits) calls) pieces answers last →
-        FeedsPieces now peer (after_calls (new_adapter objects listen limits) calls) others replies end →
+        FeedsPieces now peer (after_calls (new_adapter device listen limits) calls) pieces answers last →
+        FeedsPieces now peer (after_calls (new_adapter device listen limits) calls) others replies end →
         visible_answers answers ≡ visible_answers replies }
-    ensures adapter { (objects : Contents) (listen : Listen) (limits : Limits) (calls : List Call) (now peer : ℕ)
+    ensures adapter { (device : Device) (listen : Listen) (limits : Limits) (calls : List Call) (now peer : ℕ)
         (pieces others : List (List ℕ)) (answers replies : List Answer) (last end : AdapterState) →
         concat pieces ≡ concat others →
-        FeedsPieces now peer (after_calls (new_adapter objects listen limits) calls) pieces answers last →
-        FeedsPieces now peer (after_calls (new_adapter objects listen limits) calls) others replies end →
+        FeedsPieces now peer (after_calls (new_adapter device listen limits) calls) pieces answers last →
+        FeedsPieces now peer (after_calls (new_adapter device listen limits) calls) others replies end →
         last ≡ end }
-    ensures some { (objects : Contents) (listen : Listen) (limits : Limits) (calls : List Call) (now peer : ℕ)
+    ensures some { (device : Device) (listen : Listen) (limits : Limits) (calls : List Call) (now peer : ℕ)
         (pieces : List (List ℕ)) → (answers : List Answer) × ((last : AdapterState) ×
-        FeedsPieces now peer (after_calls (new_adapter objects listen limits) calls) pieces answers last) }
+        FeedsPieces now peer (after_calls (new_adapter device listen limits) calls) pieces answers last) }
 {}
 
 /// Discovery answers as TCP does. The answer to a datagram is what any peer gets that sends the same bytes, registered

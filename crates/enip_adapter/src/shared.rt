@@ -4,6 +4,7 @@
 ghost use Rattle.std.specs.Prelude.{◌≡◌};
 ghost use Rattle.enip_adapter.specs.Turn.{at_moment, without_connections};
 
+use cip_ledger::LedgerRouter;
 use cip_manager::Manager;
 use cip_objects::Objects;
 
@@ -27,7 +28,8 @@ pub(crate) struct Shared {
     /// The greatest time so far, in microseconds.
     pub(crate) moment: u64,
     pub(crate) manager: Manager,
-    pub(crate) objects: Objects,
+    /// The objects, and the command ledger before them if there is one.
+    pub(crate) objects: LedgerRouter<Objects>,
 }
 
 impl Shared {

@@ -12,7 +12,7 @@ use Rattle.cip_manager.specs.Connection.{is_of_session, is_open_at, is_answered,
 use Rattle.cip_manager.specs.Items.{ItemTurn, turn_of_found, reply_of}
 use Rattle.cip_manager.specs.Runs.{of_session}
 use Rattle.cip_manager.proofs.ListLemmas.{filter-swap}
-use Rattle.cip_objects.specs.Contents.{Contents}
+use Rattle.cip_ledger.specs.Device.{Device}
 use Rattle.enip_wire.specs.Bodies.{rr_body_bytes, unit_body_bytes, unit_body_of}
 use Rattle.enip_wire.specs.Frames.{Frame, frame, IsFrame}
 use Rattle.enip_wire.proofs.WriteLemmas.{rr_again, unit_again}
@@ -79,7 +79,7 @@ abbrev pub Connected : Wire → Shared → TargetState → Bool → Type 0
 Connected wire shared target true = Serves wire shared target
 Connected wire shared target false = of_session wire.peer shared.manager.connections ≡ []
 
-pub record AdapterShows (wire : Wire) (a : AdapterState) (target : TargetState) (router : Contents) (is_open : Bool) : Type 0 where
+pub record AdapterShows (wire : Wire) (a : AdapterState) (target : TargetState) (router : Device) (is_open : Bool) : Type 0 where
   pub peer : IsReady a wire.peer (registered_as wire.peer)
   pub second : IsReady a wire.second (registered_as wire.second)
   pub objects : a.state.shared.objects ≡ router
@@ -149,7 +149,7 @@ item-served shared peer id item below small =
     ∙ ap (item_of_body shared (registered_as peer) (item_frame peer id item))
     (unit_again id item below (omega (arith, small)))
 
-abbrev turn_by : Shared → ℕ → ℕ → List ℕ → Option Connection → ItemTurn Contents
+abbrev turn_by : Shared → ℕ → ℕ → List ℕ → Option Connection → ItemTurn Device
 turn_by shared peer id item found =
     turn_of_found after_exec exec_answer shared.manager.connections shared.moment peer id item shared.objects found
 
@@ -158,12 +158,12 @@ served_by shared peer id item found =
     served_item shared (registered_as peer) (item_frame peer id item) (turn_by shared peer id item found)
 
 -- what a frame with an item does
-pub record IsReached (wire : Wire) (a : AdapterState) (item : List ℕ) (target : TargetState) (router : Contents)
+pub record IsReached (wire : Wire) (a : AdapterState) (item : List ℕ) (target : TargetState) (router : Device)
     (is_open : Bool) (back : Option (List ℕ)) : Type 0 where
   pub shows : AdapterShows wire (after_call a (Feeds 0 wire.peer (frame_out wire item))) target router is_open
   pub output : output_bytes (call_answer a (Feeds 0 wire.peer (frame_out wire item))).output ≡ option_map (frame_back wire) back
 
-answer-same : (wire : Wire) (item : List ℕ) (c new : Connection) (step : TargetStep Contents) →
+answer-same : (wire : Wire) (item : List ℕ) (c new : Connection) (step : TargetStep Device) →
     new.t_to_o_id ≡ wire.wants.t_to_o_id → new.target ≡ step.target →
     output_bytes (sent (item_reply (item_frame wire.peer wire.id item).header
     (cond (is_answered step.received) (Some (reply_of new)) None)))
@@ -196,7 +196,7 @@ serves-item : (wire : Wire) (shared : Shared) (target : TargetState) (item : Lis
     (target_step after_exec exec_answer serves.connection.target shared.objects item).target
 serves-item wire shared target item serves =
     let c : Connection = serves.connection in
-    let step : TargetStep Contents = target_step after_exec exec_answer c.target shared.objects item in
+    let step : TargetStep Device = target_step after_exec exec_answer c.target shared.objects item in
     let new : Connection = after_item shared.moment step.received step.target c in
     let alone : IsNamedAlone wire.peer wire.id shared.manager.connections c
     = named-alone wire.peer wire.id shared.manager.connections c serves.alone serves.id in
@@ -217,15 +217,15 @@ serves-item wire shared target item serves =
     }
 
 -- an item's frame at an open connection
-reached-connection : (wire : Wire) (a : AdapterState) (target : TargetState) (router : Contents) (item : List ℕ) →
+reached-connection : (wire : Wire) (a : AdapterState) (target : TargetState) (router : Device) (item : List ℕ) →
     IsWire wire → AdapterShows wire a target router true → length item ≤ LARGEST_CONNECTION_SIZE →
     (serves : Serves wire (at_moment a.state.shared 0) target) →
-    (let step : TargetStep Contents = target_step after_exec exec_answer serves.connection.target a.state.shared.objects item in
+    (let step : TargetStep Device = target_step after_exec exec_answer serves.connection.target a.state.shared.objects item in
     IsReached wire a item step.target step.router true (answer_to step))
 reached-connection wire a target router item is shows small serves =
     let shared : Shared = at_moment a.state.shared 0 in
     let c : Connection = serves.connection in
-    let step : TargetStep Contents = target_step after_exec exec_answer c.target shared.objects item in
+    let step : TargetStep Device = target_step after_exec exec_answer c.target shared.objects item in
     let f : Frame = item_frame wire.peer wire.id item in
     let alone : IsNamedAlone wire.peer wire.id shared.manager.connections c
     = named-alone wire.peer wire.id shared.manager.connections c serves.alone serves.id in
@@ -245,21 +245,21 @@ reached-connection wire a target router item is shows small serves =
           ∙ answer-same wire item c (after_item shared.moment step.received step.target c) step serves.t_to_o_id refl;
     }
 
-pub reached-open : (wire : Wire) (a : AdapterState) (target : TargetState) (router : Contents) (item : List ℕ) →
+pub reached-open : (wire : Wire) (a : AdapterState) (target : TargetState) (router : Device) (item : List ℕ) →
     IsWire wire → AdapterShows wire a target router true → length item ≤ LARGEST_CONNECTION_SIZE →
-    (let step : TargetStep Contents = target_step after_exec exec_answer target router item in
+    (let step : TargetStep Device = target_step after_exec exec_answer target router item in
     IsReached wire a item step.target step.router true (answer_to step))
 reached-open wire a target router item is shows small =
     let serves : Serves wire (at_moment a.state.shared 0) target
     = at-zero wire a.state.shared target true shows.connected in
-    subst (λ t. (let step : TargetStep Contents = target_step after_exec exec_answer t router item in
+    subst (λ t. (let step : TargetStep Device = target_step after_exec exec_answer t router item in
     IsReached wire a item step.target step.router true (answer_to step))) serves.is_target
-    (subst (λ m. (let step : TargetStep Contents = target_step after_exec exec_answer serves.connection.target m item in
+    (subst (λ m. (let step : TargetStep Device = target_step after_exec exec_answer serves.connection.target m item in
     IsReached wire a item step.target step.router true (answer_to step))) shows.objects
     (reached-connection wire a target router item is shows small serves))
 
 -- after the connection has ended, nothing is answered
-pub reached-shut : (wire : Wire) (a : AdapterState) (target : TargetState) (router : Contents) (item : List ℕ) →
+pub reached-shut : (wire : Wire) (a : AdapterState) (target : TargetState) (router : Device) (item : List ℕ) →
     IsWire wire → AdapterShows wire a target router false → length item ≤ LARGEST_CONNECTION_SIZE →
     IsReached wire a item target router false None
 reached-shut wire a target router item is shows small =
@@ -331,7 +331,7 @@ spared wire a piece target false now apart none is moment =
     ∙ (connections-calls wire.peer a (Feeds 0 wire.second piece ∷ []) (apart, tt)
     ∙ ap (filter (is_open_at_all (max a.state.shared.moment 0 ∷ []))) none)
 
-pub asked-other : (wire : Wire) (a : AdapterState) (target : TargetState) (router : Contents) (is_open : Bool)
+pub asked-other : (wire : Wire) (a : AdapterState) (target : TargetState) (router : Device) (is_open : Bool)
     (request : List ℕ) →
     IsWire wire → AdapterShows wire a target router is_open → 2 ≤ length request → length request ≤ 504 →
     AdapterShows wire (after_call a (Feeds 0 wire.second (frame (request_frame wire.second 0 request)))) target
@@ -367,7 +367,7 @@ ends wire shared target false none =
     filter-swap (is_of_session wire.peer) (is_open_at (max shared.moment LAST_MOMENT)) shared.manager.connections
     ∙ ap (filter (is_open_at (max shared.moment LAST_MOMENT))) none
 
-pub shut : (wire : Wire) (a : AdapterState) (target : TargetState) (router : Contents) (is_open : Bool) →
+pub shut : (wire : Wire) (a : AdapterState) (target : TargetState) (router : Device) (is_open : Bool) →
     AdapterShows wire a target router is_open → AdapterShows wire (after_call a (Ticks LAST_MOMENT)) target router false
 shut wire a target router is_open shows = record {
   peer = record { found = shows.peer.found; alive = shows.peer.alive; blank = shows.peer.blank };

@@ -4,7 +4,7 @@ use Rattle.std.proofs.Math.Seq.{take-suc}
 use Rattle.std.proofs.lemmas.List.{take-map, take_all}
 use Rattle.std.proofs.lemmas.Option.{same_Some, slice_get_within}
 use Rattle.cip_bytes.specs.Reading.{◌>>=◌}
-use Rattle.cip_objects.specs.Contents.{Contents}
+use Rattle.cip_ledger.specs.Device.{Device}
 use Rattle.enip_wire.specs.Frames.{frame}
 use Rattle.enip_adapter.specs.Calls.{AdapterState, after_call}
 use Rattle.enip_adapter.specs.Calls.Call.{Begins_peer, Feeds}
@@ -65,12 +65,12 @@ pub last-at : (xs : List Accepted_reply) (x : Accepted_reply) → slice_get xs (
     last_reply (acceptances_in xs) ≡ x.reply.items
 last-at xs x e = last-of xs (length xs - 1) x (omega (arith, slice_get_within xs (length xs - 1) x e)) e
 
-pub same_seen : (a b : Seen Contents) → a.router ≡ b.router → a.back ≡ b.back → a.accepted ≡ b.accepted →
+pub same_seen : (a b : Seen Device) → a.router ≡ b.router → a.back ≡ b.back → a.accepted ≡ b.accepted →
     a.stage ≡ b.stage → a ≡ b
 same_seen a b router back accepted stage =
-    ap₂ (λ r k. (let x : Seen Contents = record { router = r; back = k; accepted = a.accepted; stage = a.stage } in x))
+    ap₂ (λ r k. (let x : Seen Device = record { router = r; back = k; accepted = a.accepted; stage = a.stage } in x))
     router back
-    ∙ ap₂ (λ c s. (let x : Seen Contents = record { router = b.router; back = b.back; accepted = c; stage = s } in x))
+    ∙ ap₂ (λ c s. (let x : Seen Device = record { router = b.router; back = b.back; accepted = c; stage = s } in x))
     accepted stage
 
 -- a reply was accepted

@@ -1,8 +1,8 @@
 -- What one more request would do, over whole frames.
 use Rattle.std.proofs.Common.{◌≡◌, ℕ, ◌+◌, None, List, [], ◌∷◌, ap, ap₂, sym, ◌∙◌, subst}
 use Rattle.cip_class3.specs.OriginatorRule.{submit_refusal, form_refusal}
-use Rattle.cip_objects.specs.Contents.{Contents}
-use Rattle.cip_objects.specs.ExecutionLaws.{exec_begins, exec_within}
+use Rattle.cip_ledger.specs.Device.{Device}
+use Rattle.cip_ledger.proofs.Devices.{exec_device-begins, exec_device-within}
 use Rattle.enip_client.specs.Calls.{submits, submitted}
 use Rattle.enip_client.specs.declared.wants.Wants.{Wants}
 use Rattle.enip_bench.specs.Bound.{accepted_then_abandoned, IsOneTooMany, one_more_seen}
@@ -23,14 +23,14 @@ use Rattle.enip_bench.proofs.OpenedLemmas.{IsOpened}
 use Rattle.enip_bench.proofs.OpeningRun.{opening_shows}
 
 -- a request of a valid form is taken in both worlds
-taken-shows : (wire : Wire) (world : CountingWorld) (item_world : ItemWorld Contents) (request : List ℕ) →
+taken-shows : (wire : Wire) (world : CountingWorld) (item_world : ItemWorld Device) (request : List ℕ) →
     form_refusal item_world.originator.o_to_t_size request ≡ None → Shows wire world item_world →
     Shows wire (taken_all_the_same world request) (items.after_submit None item_world request)
 taken-shows wire world item_world request formed shows =
     subst (λ w. Shows wire (taken_all_the_same w request) (items.after_submit None item_world request)) (sym shows.is)
     (at_taken wire shows.ends_at shows.starts_at item_world request formed shows.agrees)
 
-one_more-shown : (wire : Wire) (world : CountingWorld) (item_world : ItemWorld Contents) (request : List ℕ)
+one_more-shown : (wire : Wire) (world : CountingWorld) (item_world : ItemWorld Device) (request : List ℕ)
     (position : ℕ) → IsWire wire → form_refusal item_world.originator.o_to_t_size request ≡ None →
     Shows wire world item_world →
     one_more_shown world request position
@@ -42,7 +42,7 @@ one_more-shown wire world item_world request position ok formed shows =
     (run_shows wire events (taken_all_the_same world request) (items.after_submit None item_world request) ok
     (taken-shows wire world item_world request formed shows))
 
-refused-shown : (wire : Wire) (world : CountingWorld) (item_world : ItemWorld Contents) (request : List ℕ) →
+refused-shown : (wire : Wire) (world : CountingWorld) (item_world : ItemWorld Device) (request : List ℕ) →
     Shows wire world item_world →
     submits world.client.state request
     ≡ submitted world.client.state request (submit_refusal item_world.originator request)
@@ -55,19 +55,19 @@ pub raised_framed : raised_in_frames
 raised_framed objects listen limits wants world abandoned request is e formed all =
     let opened : IsOpened objects wants world = opening_shows objects listen limits wants is world e in
     let events : List Event = accepted_then_abandoned request abandoned in
-    let start : ItemWorld Contents = items_at_opening wants.first_count wants.o_to_t_size wants.t_to_o_size objects in
+    let start : ItemWorld Device = items_at_opening wants.first_count wants.o_to_t_size wants.t_to_o_size objects in
     let now : CountingWorld = counting_run world events in
-    let now_in_items : ItemWorld Contents = item_run after_exec exec_answer start events in
+    let now_in_items : ItemWorld Device = item_run after_exec exec_answer start events in
     let shows : Shows opened.wire now now_in_items = run_shows opened.wire events world start opened.ok opened.shows in
     let size : now_in_items.originator.o_to_t_size ≡ wants.o_to_t_size
-    = ap (λ (w : ItemWorld Contents). w.originator.o_to_t_size)
-    (items_after-image after_exec exec_answer (λ m room text h g. exec_begins m room text)
-    (λ m room text h g. exec_within m room text h) wants.first_count wants.o_to_t_size wants.t_to_o_size objects events
+    = ap (λ (w : ItemWorld Device). w.originator.o_to_t_size)
+    (items_after-image after_exec exec_answer (λ m room text h g. exec_device-begins m room text h g)
+    (λ m room text h g. exec_device-within m room text h) wants.first_count wants.o_to_t_size wants.t_to_o_size objects events
     is.first_count is.t_to_o_from) in
     let one : IsOneTooMany after_exec exec_answer wants.first_count wants.t_to_o_size objects now_in_items request
     (abandoned + 1)
-    = raised after_exec exec_answer (λ m room text h g. exec_begins m room text)
-    (λ m room text h g. exec_within m room text h) wants.first_count wants.o_to_t_size wants.t_to_o_size abandoned
+    = raised after_exec exec_answer (λ m room text h g. exec_device-begins m room text h g)
+    (λ m room text h g. exec_device-within m room text h) wants.first_count wants.o_to_t_size wants.t_to_o_size abandoned
     objects request is.first_count is.t_to_o_from formed all in
     record {
       refused = refused-shown opened.wire now now_in_items request shows

@@ -2,9 +2,9 @@
 use Rattle.std.proofs.Common.{◌≡◌, ℕ, ◌-◌, ◌≤◌, Bool, true, false, cond, Option, Some, None, option_map, List, [], ◌∷◌, ◌++◌, map, length, slice_get, Result, Ok, Err, refl, ap, ap₂, sym, ◌∙◌, subst}
 use Rattle.std.proofs.lemmas.Option.{same_Some, slice_get-map, get_or_from_slice_get}
 use Rattle.cip_class3.specs.Item.{item}
-use Rattle.cip_objects.specs.Contents.{Contents}
+use Rattle.cip_ledger.specs.Device.{Device}
 use Rattle.cip_objects.specs.Router.{IsReplyTo}
-use Rattle.cip_objects.specs.ExecutionLaws.{exec_begins, exec_within}
+use Rattle.cip_ledger.proofs.Devices.{exec_device-begins, exec_device-within}
 use Rattle.enip_client.specs.Calls.{Lent, submits}
 use Rattle.enip_client.specs.Frames.{item_frame}
 use Rattle.enip_client.specs.State.{o_to_t_id_in}
@@ -45,17 +45,17 @@ use Rattle.enip_bench.proofs.TrackedSteps.{tracked_run}
 use Rattle.enip_bench.proofs.TrackedWorld.{Own, TrackedWorld, tracked_at_opening}
 
 -- the objects' replies have the form of a reply
-begins : (objects : Contents) (room : ℕ) (request : List ℕ) → 8 ≤ room → 2 ≤ length request →
+begins : (objects : Device) (room : ℕ) (request : List ℕ) → 8 ≤ room → 2 ≤ length request →
     IsReplyTo request (exec_answer objects room request)
-begins objects room request roomy least = exec_begins objects room request
+begins objects room request roomy least = exec_device-begins objects room request roomy least
 
-within : (objects : Contents) (room : ℕ) (request : List ℕ) → 8 ≤ room → 2 ≤ length request →
+within : (objects : Device) (room : ℕ) (request : List ℕ) → 8 ≤ room → 2 ≤ length request →
     length (exec_answer objects room request) ≤ room
-within objects room request roomy least = exec_within objects room request roomy
+within objects room request roomy least = exec_device-within objects room request roomy
 
 module _ {world : CountingWorld} (by : IsReached world) where
   -- the item world after the same events
-  abbrev items_of : ItemWorld Contents
+  abbrev items_of : ItemWorld Device
   items_of =
       items_after after_exec exec_answer by.wants.first_count by.wants.o_to_t_size by.wants.t_to_o_size by.objects
       by.events
@@ -191,7 +191,7 @@ requests_framed world by position =
     let numbers : TrackedWorld = tracked by in
     ap (λ (w : CountingWorld). delivery w.last_reached w.sent position) (shows_of by).is
     ∙ delivery-map (frame_out wire) (items_of by).last_reached (items_of by).sent position
-    ∙ ap (λ (w : ItemWorld Contents). option_map (frame_out wire) (delivery w.last_reached w.sent position))
+    ∙ ap (λ (w : ItemWorld Device). option_map (frame_out wire) (delivery w.last_reached w.sent position))
     (items_after-image after_exec exec_answer begins within by.wants.first_count by.wants.o_to_t_size
     by.wants.t_to_o_size by.objects by.events by.wanted.first_count by.wanted.t_to_o_from)
     ∙ ap (option_map (frame_out wire))
@@ -215,11 +215,11 @@ not_true false never = refl
 
 module _ {world : CountingWorld} (by : IsReached world) where
   -- the objects after a log
-  abbrev logged : List Entry → Contents
+  abbrev logged : List Entry → Device
   logged log = router_after after_exec exec_answer by.wants.t_to_o_size (numbers_of by).submits by.objects log
 
   -- and after these numbers
-  abbrev objects_by : NumberedWorld → Contents
+  abbrev objects_by : NumberedWorld → Device
   objects_by numbers =
       router_after after_exec exec_answer by.wants.t_to_o_size numbers.submits by.objects numbers.log
 

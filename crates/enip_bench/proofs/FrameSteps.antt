@@ -7,7 +7,7 @@ use Rattle.cip_class3.specs.Item.{item}
 use Rattle.cip_class3.specs.OriginatorRule.{OriginatorState, form_refusal, submit_refusal, waiting_item, with_next_request, after_item, accepted_reply, after_give_up}
 use Rattle.cip_class3.specs.TargetRule.{TargetStep, target_step}
 use Rattle.cip_class3.specs.declared.originator.Refused.{Refused}
-use Rattle.cip_objects.specs.Contents.{Contents}
+use Rattle.cip_ledger.specs.Device.{Device}
 use Rattle.enip_wire.specs.Frames.{frame}
 use Rattle.enip_adapter.specs.Calls.{AdapterState, after_call}
 use Rattle.enip_adapter.specs.Calls.Call.{Feeds, Ticks}
@@ -28,7 +28,7 @@ use Rattle.enip_bench.proofs.PositionLemmas.{Each, delivered, delivery-map, map-
 use Rattle.enip_bench.proofs.SmallLemmas.{IsShort, IsSmallOriginator, IsSmallTarget, each-any, allowed-formed, submitted-short, small-submit, small-item, small-give_up, small-step, answer-short}
 
 -- the counting world with these ends, and the items of the item world in their frames
-abbrev pub shown : Wire → AdapterState → ClientState → ItemWorld Contents → CountingWorld
+abbrev pub shown : Wire → AdapterState → ClientState → ItemWorld Device → CountingWorld
 shown wire adapter client world = record {
   adapter = adapter;
   client = client;
@@ -43,27 +43,27 @@ shown wire adapter client world = record {
 }
 
 -- each end and each item is within the sizes
-pub record IsSmall (world : ItemWorld Contents) : Type 0 where
+pub record IsSmall (world : ItemWorld Device) : Type 0 where
   pub ours : IsSmallOriginator world.originator
   pub theirs : IsSmallTarget world.target
   pub sent : Each IsShort world.sent
   pub back : Each IsShort world.back
 
 -- both ends agree with the item world
-pub record Agrees (wire : Wire) (adapter : AdapterState) (client : ClientState) (world : ItemWorld Contents) : Type 0 where
+pub record Agrees (wire : Wire) (adapter : AdapterState) (client : ClientState) (world : ItemWorld Device) : Type 0 where
   pub adapter_shows : AdapterShows wire adapter world.target world.router world.is_open
   pub client_shows : ClientShows wire client world.originator
   pub small : IsSmall world
 
 -- the counting world shows the item world
-pub record Shows (wire : Wire) (counting : CountingWorld) (world : ItemWorld Contents) : Type 0 where
+pub record Shows (wire : Wire) (counting : CountingWorld) (world : ItemWorld Device) : Type 0 where
   pub ends_at : AdapterState
   pub starts_at : ClientState
   pub is : counting ≡ shown wire ends_at starts_at world
   pub agrees : Agrees wire ends_at starts_at world
 
 -- a request is taken; for that its form is enough
-pub at_taken : (wire : Wire) (a : AdapterState) (c : ClientState) (world : ItemWorld Contents) (request : List ℕ) →
+pub at_taken : (wire : Wire) (a : AdapterState) (c : ClientState) (world : ItemWorld Device) (request : List ℕ) →
     form_refusal world.originator.o_to_t_size request ≡ None → Agrees wire a c world →
     Shows wire (counting.after_submit (submitted c.state request None) (shown wire a c world))
     (items.after_submit None world request)
@@ -100,7 +100,7 @@ at_taken wire a c world request e agrees =
       };
     }
 
-at_submit : (wire : Wire) (a : AdapterState) (c : ClientState) (world : ItemWorld Contents) (request : List ℕ)
+at_submit : (wire : Wire) (a : AdapterState) (c : ClientState) (world : ItemWorld Device) (request : List ℕ)
     (why : Option Refused) → submit_refusal world.originator request ≡ why → Agrees wire a c world →
     Shows wire (counting.after_submit (submitted c.state request why) (shown wire a c world))
     (items.after_submit why world request)
@@ -109,7 +109,7 @@ at_submit wire a c world request (Some why) e agrees =
 at_submit wire a c world request None e agrees =
     at_taken wire a c world request (allowed-formed world.originator request e) agrees
 
-at_resend : (wire : Wire) (a : AdapterState) (c : ClientState) (world : ItemWorld Contents) → Agrees wire a c world →
+at_resend : (wire : Wire) (a : AdapterState) (c : ClientState) (world : ItemWorld Device) → Agrees wire a c world →
     Shows wire (counting_step (shown wire a c world) Resend) (with_waiting_item_sent world)
 at_resend wire a c world agrees =
     let small : IsSmall world = agrees.small in
@@ -131,7 +131,7 @@ at_resend wire a c world agrees =
       };
     }
 
-at_give_up : (wire : Wire) (a : AdapterState) (c : ClientState) (world : ItemWorld Contents) → Agrees wire a c world →
+at_give_up : (wire : Wire) (a : AdapterState) (c : ClientState) (world : ItemWorld Device) → Agrees wire a c world →
     Shows wire (counting_step (shown wire a c world) GiveUp) (item_step after_exec exec_answer world GiveUp)
 at_give_up wire a c world agrees =
     let shows : ClientShows wire c world.originator = agrees.client_shows in
@@ -154,7 +154,7 @@ at_give_up wire a c world agrees =
       };
     }
 
-at_shut : (wire : Wire) (a : AdapterState) (c : ClientState) (world : ItemWorld Contents) → Agrees wire a c world →
+at_shut : (wire : Wire) (a : AdapterState) (c : ClientState) (world : ItemWorld Device) → Agrees wire a c world →
     Shows wire (counting_step (shown wire a c world) Shut) (record world { is_open = false })
 at_shut wire a c world agrees = record {
   ends_at = after_call a (Ticks LAST_MOMENT);
@@ -172,7 +172,7 @@ at_shut wire a c world agrees = record {
   };
 }
 
-at_other : (wire : Wire) (a : AdapterState) (c : ClientState) (world : ItemWorld Contents) (request : List ℕ) (is : Bool) →
+at_other : (wire : Wire) (a : AdapterState) (c : ClientState) (world : ItemWorld Device) (request : List ℕ) (is : Bool) →
     is_unconnected_request request ≡ is → IsWire wire → Agrees wire a c world →
     Shows wire (cond is (counting.after_other (shown wire a c world) request) (shown wire a c world))
     (cond is (record world { router = after_exec world.router UNCONNECTED_LIMIT request }) world)
@@ -196,13 +196,13 @@ at_other wire a c world request true e ok agrees = record {
 }
 
 -- after an item's frame, at an open or a closed target
-at_reached : (wire : Wire) (a : AdapterState) (c : ClientState) (world : ItemWorld Contents) (bytes : List ℕ) (position : ℕ)
+at_reached : (wire : Wire) (a : AdapterState) (c : ClientState) (world : ItemWorld Device) (bytes : List ℕ) (position : ℕ)
     (is_open : Bool) → world.is_open ≡ is_open → IsWire wire → IsShort bytes → Agrees wire a c world →
     Shows wire (counting.after_reach (Some (frame_out wire bytes)) (shown wire a c world) position)
-    (let moved : ItemWorld Contents = record world { last_reached = Some position } in
+    (let moved : ItemWorld Device = record world { last_reached = Some position } in
     cond is_open (with_step moved (target_step after_exec exec_answer world.target world.router bytes)) moved)
 at_reached wire a c world bytes position true e ok short agrees =
-    let step : TargetStep Contents = target_step after_exec exec_answer world.target world.router bytes in
+    let step : TargetStep Device = target_step after_exec exec_answer world.target world.router bytes in
     let small : IsSmall world = agrees.small in
     let theirs : IsSmallTarget step.target = small-step world.target world.router bytes small.theirs in
     let done : IsReached wire a bytes step.target step.router true (answer_to step)
@@ -251,7 +251,7 @@ at_reached wire a c world bytes position false e ok short agrees =
       };
     }
 
-at_reach : (wire : Wire) (a : AdapterState) (c : ClientState) (world : ItemWorld Contents) (position : ℕ)
+at_reach : (wire : Wire) (a : AdapterState) (c : ClientState) (world : ItemWorld Device) (position : ℕ)
     (found : Option (List ℕ)) → ((bytes : List ℕ) → found ≡ Some bytes → IsShort bytes) → IsWire wire →
     Agrees wire a c world →
     Shows wire (counting.after_reach (option_map (frame_out wire) found) (shown wire a c world) position)
@@ -267,7 +267,7 @@ acceptance-same : (submits : ℕ) (o : Option (List ℕ)) →
 acceptance-same submits None = refl
 acceptance-same submits (Some reply) = refl
 
-at_back : (wire : Wire) (a : AdapterState) (c : ClientState) (world : ItemWorld Contents) (position : ℕ)
+at_back : (wire : Wire) (a : AdapterState) (c : ClientState) (world : ItemWorld Device) (position : ℕ)
     (found : Option (List ℕ)) → ((bytes : List ℕ) → found ≡ Some bytes → IsShort bytes) → IsWire wire →
     Agrees wire a c world →
     Shows wire (counting.after_back (option_map (frame_back wire) found) (shown wire a c world) position)
@@ -308,7 +308,7 @@ at_back wire a c world position (Some bytes) short ok agrees =
     }
 
 -- this holds for each event
-step-shown : (wire : Wire) (a : AdapterState) (c : ClientState) (world : ItemWorld Contents) (event : Event) → IsWire wire →
+step-shown : (wire : Wire) (a : AdapterState) (c : ClientState) (world : ItemWorld Device) (event : Event) → IsWire wire →
     Agrees wire a c world →
     Shows wire (counting_step (shown wire a c world) event) (item_step after_exec exec_answer world event)
 step-shown wire a c world (Submit request) ok agrees =
@@ -334,7 +334,7 @@ step-shown wire a c world (Other request) ok agrees =
 step-shown wire a c world Shut ok agrees = at_shut wire a c world agrees
 step-shown wire a c world GiveUp ok agrees = at_give_up wire a c world agrees
 
-pub step_shows : (wire : Wire) (world : CountingWorld) (item_world : ItemWorld Contents) (event : Event) → IsWire wire →
+pub step_shows : (wire : Wire) (world : CountingWorld) (item_world : ItemWorld Device) (event : Event) → IsWire wire →
     Shows wire world item_world →
     Shows wire (counting_step world event) (item_step after_exec exec_answer item_world event)
 step_shows wire world item_world event ok shows =
@@ -342,7 +342,7 @@ step_shows wire world item_world event ok shows =
     (step-shown wire shows.ends_at shows.starts_at item_world event ok shows.agrees)
 
 -- and for any list of events
-pub run_shows : (wire : Wire) (events : List Event) (world : CountingWorld) (item_world : ItemWorld Contents) → IsWire wire →
+pub run_shows : (wire : Wire) (events : List Event) (world : CountingWorld) (item_world : ItemWorld Device) → IsWire wire →
     Shows wire world item_world →
     Shows wire (counting_run world events) (item_run after_exec exec_answer item_world events)
 run_shows wire [] world item_world ok shows = shows

@@ -1,6 +1,6 @@
 -- Both ends right after an opening, from the proofs of the opening.
 use Rattle.std.proofs.Common.{◌≡◌, Ok, refl, ap, ap₂, sym, ◌∙◌, subst}
-use Rattle.cip_objects.specs.Contents.{Contents}
+use Rattle.cip_ledger.specs.Device.{Device}
 use Rattle.enip_adapter.specs.Calls.{AdapterState}
 use Rattle.enip_client.specs.Client.{ClientState}
 use Rattle.enip_client.specs.declared.wants.Wants.{Wants}
@@ -15,8 +15,8 @@ use Rattle.enip_bench.proofs.FrameSteps.{shown, Agrees}
 use Rattle.enip_bench.proofs.OpenedLemmas.{IsOpened}
 use Rattle.enip_bench.proofs.OpeningRun.{opening_shows}
 
-module _ (objects : Contents) (wants : Wants) where
-  abbrev start : ItemWorld Contents
+module _ (objects : Device) (wants : Wants) where
+  abbrev start : ItemWorld Device
   start = items_at_opening wants.first_count wants.o_to_t_size wants.t_to_o_size objects
 
   -- both ends, as they agree with the item world at its opening

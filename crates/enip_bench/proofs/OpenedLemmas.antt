@@ -9,7 +9,7 @@ use Rattle.cip_manager.specs.declared.opening.Opening.{Opening}
 use Rattle.cip_manager.specs.Connection.{timeout_of}
 use Rattle.cip_manager.specs.Opening.{opening_check, new_connection}
 use Rattle.cip_manager.specs.Manager.{ManagerState}
-use Rattle.cip_objects.specs.Contents.{Contents}
+use Rattle.cip_ledger.specs.Device.{Device}
 use Rattle.enip_wire.specs.Frames.{Frame, frame}
 use Rattle.enip_adapter.specs.declared.adapter.Limits.{Limits}
 use Rattle.enip_adapter.specs.declared.shared.Listen.{Listen}
@@ -51,14 +51,14 @@ is_checked manager asked e =
     record { some = passes.fields.rpi; id = passes.room.id_left }
 
 -- an opening without a refusal
-pub record IsOpened (objects : Contents) (wants : Wants) (world : CountingWorld) : Type 0 where
+pub record IsOpened (objects : Device) (wants : Wants) (world : CountingWorld) : Type 0 where
   pub wire : Wire
   pub ok : IsWire wire
   pub asked_for : wire.wants ≡ wants
   pub same_peer : world.peer ≡ wire.peer
   pub shows : Shows wire world (items_at_opening wants.first_count wants.o_to_t_size wants.t_to_o_size objects)
 
-module _ (objects : Contents) (listen : Listen) (limits : Limits) (wants : Wants) (is : IsWanted wants) where
+module _ (objects : Device) (listen : Listen) (limits : Limits) (wants : Wants) (is : IsWanted wants) where
   abbrev pub peer : ℕ
   peer = limits.first_handle
 

@@ -7,7 +7,7 @@ use Rattle.cip_manager.specs.declared.opening.Opening.{Opening}
 use Rattle.cip_manager.specs.Manager.{Turn}
 use Rattle.cip_manager.specs.Opening.{opening_check, opening_turn, decided_opening, service_in, read_opening_turn, open_success}
 use Rattle.cip_manager.specs.Replies.{failure_reply, open_success_data}
-use Rattle.cip_objects.specs.Contents.{Contents}
+use Rattle.cip_ledger.specs.Device.{Device}
 use Rattle.enip_wire.specs.Bodies.{rr_body_bytes}
 use Rattle.enip_wire.specs.Frames.{Frame, frame}
 use Rattle.enip_wire.proofs.WriteLemmas.{rr_again}
@@ -43,7 +43,7 @@ abbrev pub registered : Wants → ℕ → ClientState
 registered wants peer =
     record { state = (hears (registering wants).state (framed RegisterSession peer 1 version_one)).state; held = [] }
 
-module _ (objects : Contents) (listen : Listen) (limits : Limits) (wants : Wants) (next peer : ℕ) where
+module _ (objects : Device) (listen : Listen) (limits : Limits) (wants : Wants) (next peer : ℕ) where
   abbrev shared : Shared
   shared = new_shared objects listen limits
 

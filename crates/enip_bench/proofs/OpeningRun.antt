@@ -3,7 +3,7 @@ use Rattle.std.proofs.Common.{◌≡◌, ℕ, ◌+◌, ◌<◌, ◌^◌, Result,
 use Rattle.cip_bytes.specs.declared.protocol.ExtendedStatus.{ExtendedStatus}
 use Rattle.cip_bytes.specs.Reading.{◌>>=◌}
 use Rattle.cip_bytes.proofs.Steps.{bind_ok}
-use Rattle.cip_objects.specs.Contents.{Contents}
+use Rattle.cip_ledger.specs.Device.{Device}
 use Rattle.enip_wire.specs.Frames.{frame}
 use Rattle.enip_adapter.specs.declared.adapter.Limits.{Limits}
 use Rattle.enip_adapter.specs.declared.shared.Listen.{Listen}
@@ -37,7 +37,7 @@ first ends peer wants =
 ok_is : {A E : Type 0} (x y : A) → ◌≡◌ {A = Result A E} (Ok x) (Ok y) → x ≡ y
 ok_is x y e = cc
 
-module _ (objects : Contents) (listen : Listen) (limits : Limits) (wants : Wants) (is : IsWanted wants)
+module _ (objects : Device) (listen : Listen) (limits : Limits) (wants : Wants) (is : IsWanted wants)
     (world : CountingWorld) where
   abbrev peer : ℕ
   peer = limits.first_handle

@@ -4,7 +4,7 @@ use Rattle.std.proofs.lemmas.List.{length-drop}
 use Rattle.std.proofs.lemmas.Option.{same_Some}
 use Rattle.cip_class3.specs.Item.{message_of}
 use Rattle.cip_class3.specs.OriginatorRule.{OriginatorState, submit_refusal, stage_of, is_reply, accepted_reply}
-use Rattle.cip_objects.specs.Contents.{Contents}
+use Rattle.cip_ledger.specs.Device.{Device}
 use Rattle.enip_adapter.specs.Calls.{AdapterState}
 use Rattle.enip_client.specs.Calls.{submits, submitted, stage_in, bytes_lent}
 use Rattle.enip_client.specs.Client.{ClientState, fed}
@@ -53,14 +53,14 @@ reached_again world event reached = record {
 record Item (world : CountingWorld) : Type 0 where
   wire : Wire
   ok : IsWire wire
-  items : ItemWorld Contents
+  items : ItemWorld Device
   shows : Shows wire world items
 
 item_of : (world : CountingWorld) → IsReached world → Item world
 item_of world reached =
     let opened : IsOpened reached.objects reached.wants reached.begun
     = opening_shows reached.objects reached.listen reached.limits reached.wants reached.wanted reached.begun reached.opened in
-    let start : ItemWorld Contents
+    let start : ItemWorld Device
     = items_at_opening reached.wants.first_count reached.wants.o_to_t_size reached.wants.t_to_o_size reached.objects in
     record {
       wire = opened.wire;
@@ -126,7 +126,7 @@ reply-within originator bytes reply e = go (is_reply originator.t_to_o_size orig
     go false e = absurd (cc)
 
 -- an accepted reply is not longer than its frame
-shown-fits : (wire : Wire) (a : AdapterState) (c : ClientState) (world : ItemWorld Contents) (position : ℕ) (bytes reply : List ℕ) →
+shown-fits : (wire : Wire) (a : AdapterState) (c : ClientState) (world : ItemWorld Device) (position : ℕ) (bytes reply : List ℕ) →
     IsWire wire → Agrees wire a c world →
     delivery world.last_back (shown wire a c world).back position ≡ Some bytes → reply_heard (fed c bytes).heard_event ≡ Some reply →
     length reply ≤ length bytes
@@ -161,7 +161,7 @@ headline_holds old events new went objects listen limits wants opened before is 
     ∙ frames_agree objects listen limits wants opened (before ++ events) is e
 
 -- the headline, for what a world shows now
-pub shows_numbers : (world : CountingWorld) (seen : Seen Contents) → IsReached world → seen ≡ counting_seen world →
+pub shows_numbers : (world : CountingWorld) (seen : Seen Device) → IsReached world → seen ≡ counting_seen world →
     ShowsNumbers world seen
 shows_numbers world seen reached is = record {
   came = reached;

@@ -1,5 +1,5 @@
 -- What an unconnected request changes in the state that the adapter's peers share.
-use Rattle.std.proofs.Common.{◌≡◌, ℕ, ◌⊎◌, inl, inr, Bool, true, false, cond, eqb, ◌&&◌, List, Result, Ok, Err, refl, ap, sym, ◌∙◌}
+use Rattle.std.proofs.Common.{arith, ◌≡◌, ℕ, ◌⊎◌, inl, inr, Bool, true, false, cond, eqb, ◌&&◌, List, Result, Ok, Err, refl, ap, sym, ◌∙◌}
 use Rattle.std.proofs.lemmas.Bool.{eqb-true}
 use Rattle.cip_message.specs.declared.path.Path.{Path}
 use Rattle.cip_message.specs.declared.path.PathFault.{PathFault}
@@ -7,6 +7,9 @@ use Rattle.cip_message.specs.declared.request.RequestFault.{RequestFault}
 use Rattle.cip_message.specs.PathReading.{path_of}
 use Rattle.cip_message.specs.Request.{Request, request_of}
 use Rattle.cip_bytes.specs.Reading.{◌>>=◌}
+use Rattle.cip_ledger.specs.Device.{Device}
+use Rattle.cip_ledger.specs.Device.{exec_device}
+use Rattle.cip_ledger.proofs.Devices.{exec_device-passed, other_class}
 use Rattle.cip_objects.specs.Contents.{Contents}
 use Rattle.cip_objects.specs.Execution.{Outcome, outcome, exec, perform, request_or_refusal, path_or_refusal}
 use Rattle.cip_objects.specs.ReadServices.{service_at}
@@ -52,9 +55,9 @@ manager-refused m text q path read found manages =
     ∙ fails-then (service_at m.shapes 6 1 q.service) (λ service. perform m service path q.data)
     (no_service m.shapes q.service))))
 
-refused-same : (m : Contents) (room : ℕ) (text : List ℕ) → fails (outcome m text) ≡ true →
+refused-map : (m : Contents) (room : ℕ) (text : List ℕ) → fails (outcome m text) ≡ true →
     (exec m room text).after ≡ m
-refused-same m room text refused = go (exec_left m room text)
+refused-map m room text refused = go (exec_left m room text)
   where
     go : ((exec m room text).after ≡ m) ⊎ ((o : Outcome) × (outcome m text ≡ Ok o) × ((exec m room text).after ≡ o.after))
         → (exec m room text).after ≡ m
@@ -62,6 +65,14 @@ refused-same m room text refused = go (exec_left m room text)
     go (inr left) =
         let bad : false ≡ true = sym (ap (λ r. fails r) left.1) ∙ refused in
         absurd (cc)
+
+-- and so is the ledger before them
+refused-same : (m : Device) (room : ℕ) (text : List ℕ) (q : Request) (path : Path) → request_of text ≡ Ok q →
+    path_of q.path ≡ Ok path → is_manager path ≡ true → (exec_device m room text).after ≡ m
+refused-same m room text q path read found manages =
+    let six = eqb-true path.class 6 (both_true (eqb path.class 6) (eqb path.instance 1) manages).0 in
+    exec_device-passed m room text (other_class text q path read found (λ e. absurd (omega (arith, six, e))))
+    (refused-map m.router room text (manager-refused m.router text q path read found manages))
 
 -- wherever a request is routed, the objects are those after its execution, and the moment is unchanged
 pub record IsRouted (shared : Shared) (request : List ℕ) (done : Routed) : Type 0 where
@@ -72,7 +83,7 @@ pub routed-objects : (shared : Shared) (session : Session) (request : List ℕ) 
     IsRouted shared request (routed shared session request)
 routed-objects shared session request = by_request (request_of request) refl
   where
-    unchanged : (d : Route) → (exec shared.objects UNCONNECTED_LIMIT request).after ≡ shared.objects →
+    unchanged : (d : Route) → (exec_device shared.objects UNCONNECTED_LIMIT request).after ≡ shared.objects →
         IsRouted shared request (routed_to shared session request d)
     unchanged (Opens layout bytes) same = record { objects = sym same; moment = refl }
     unchanged (Closes bytes) same = record { objects = sym same; moment = refl }
@@ -83,8 +94,7 @@ routed-objects shared session request = by_request (request_of request) refl
         IsRouted shared request (routed_to shared session request (cond b (manager_service q.service q.data) Executes))
     by_manager q path true read found manages =
         unchanged (manager_service q.service q.data)
-        (refused-same shared.objects UNCONNECTED_LIMIT request
-        (manager-refused shared.objects request q path read found manages))
+        (refused-same shared.objects UNCONNECTED_LIMIT request q path read found manages)
     by_manager q path false read found manages = record { objects = refl; moment = refl }
 
     by_path : (q : Request) (p : Result Path PathFault) → request_of request ≡ Ok q → path_of q.path ≡ p →

@@ -9,8 +9,8 @@ use Rattle.cip_class3.specs.OriginatorRule.{OriginatorState, Phase, Idle, Waitin
 use Rattle.cip_class3.specs.TargetRule.{TargetState, TargetStep, step_of, target_step, after_execution, kept_bytes, has_accepted_size, is_held}
 use Rattle.cip_class3.specs.declared.target.Received.{Received}
 use Rattle.cip_class3.specs.declared.target.Received.TheVariants.{Dropped, Repeated, Executed}
-use Rattle.cip_objects.specs.Contents.{Contents}
-use Rattle.cip_objects.specs.ExecutionLaws.{exec_within}
+use Rattle.cip_ledger.specs.Device.{Device}
+use Rattle.cip_ledger.proofs.Devices.{exec_device-within}
 use Rattle.enip_bench.specs.Events.{with_any}
 use Rattle.enip_bench.specs.ObjectsRun.{after_exec, exec_answer}
 use Rattle.enip_bench.proofs.HeldLemmas.{IsOfForm, has_form}
@@ -80,7 +80,7 @@ small-give_up originator small = go originator.phase small.waiting
     go GivenUp short = record { o_to_t_to = small.o_to_t_to; waiting = short }
 
 -- the target after a step
-pub small-step : (target : TargetState) (router : Contents) (bytes : List ℕ) → IsSmallTarget target →
+pub small-step : (target : TargetState) (router : Device) (bytes : List ℕ) → IsSmallTarget target →
     IsSmallTarget (target_step after_exec exec_answer target router bytes).target
 small-step target router bytes small =
     go (has_accepted_size target bytes) (is_held target.held (sequence_count_of bytes))
@@ -88,7 +88,7 @@ small-step target router bytes small =
     executed : IsSmallTarget (after_execution after_exec exec_answer target router bytes).target
     executed =
         let fits : length (exec_answer router (target.t_to_o_size - 2) (message_of bytes)) ≤ target.t_to_o_size - 2
-        = exec_within router (target.t_to_o_size - 2) (message_of bytes) (omega (arith, small.t_to_o_from)) in
+        = exec_device-within router (target.t_to_o_size - 2) (message_of bytes) (omega (arith, small.t_to_o_from)) in
         record {
           t_to_o_from = small.t_to_o_from;
           t_to_o_to = small.t_to_o_to;
@@ -103,7 +103,7 @@ small-step target router bytes small =
     go false held = small
 
 -- the answer to an item
-pub answer-short : (step : TargetStep Contents) → IsSmallTarget step.target → (bytes : List ℕ) →
+pub answer-short : (step : TargetStep Device) → IsSmallTarget step.target → (bytes : List ℕ) →
     answer_to step ≡ Some bytes → IsShort bytes
 answer-short step small bytes e = go step.received e
   where

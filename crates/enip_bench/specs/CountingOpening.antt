@@ -2,7 +2,7 @@
 use Rattle.std.specs.Prelude.{ℕ, ◌<◌, ◌≤◌, ◌^◌, if◌then◌else◌, Bool, true, false, Option, Some, None, List, [], Result, Ok, Err}
 use Rattle.cip_bytes.specs.Reading.{◌>>=◌}
 use Rattle.cip_bytes.specs.declared.protocol.TheConstants.{LARGEST_CONNECTION_SIZE}
-use Rattle.cip_objects.specs.Contents.{Contents}
+use Rattle.cip_ledger.specs.Device.{Device}
 use Rattle.enip_adapter.specs.Adapter.{new_adapter}
 use Rattle.enip_adapter.specs.Calls.{AdapterState, Call, after_call, call_answer}
 use Rattle.enip_adapter.specs.Calls.Call.{Begins_peer, Feeds}
@@ -108,5 +108,5 @@ opening_between adapter client = do
   Ok (counting_at_opening opened peer second)
 
 -- the opening between a new adapter and a new client
-unfoldable pub opening : Contents → Listen → Limits → Wants → Result CountingWorld Setup
+unfoldable pub opening : Device → Listen → Limits → Wants → Result CountingWorld Setup
 opening objects listen limits wants = opening_between (new_adapter objects listen limits) (new_client wants)

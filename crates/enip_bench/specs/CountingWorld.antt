@@ -1,7 +1,7 @@
 -- The counting world: the whole adapter, the whole client, and the bytes of whole frames between them.
 use Rattle.std.specs.Prelude.{ℕ, ◌+◌, ◌-◌, if◌then◌else◌, Option, Some, None, option_map, List, [], ◌∷◌, ◌++◌, Result, Ok, Err}
 use Rattle.cip_class3.specs.OriginatorRule.{stage_of}
-use Rattle.cip_objects.specs.Contents.{Contents}
+use Rattle.cip_ledger.specs.Device.{Device}
 use Rattle.enip_adapter.specs.Calls.{AdapterState, after_call, call_answer}
 use Rattle.enip_adapter.specs.Calls.Call.{Feeds, Ticks}
 use Rattle.enip_adapter.specs.Turn.Output.{NoReply, Sends, Begins, Refuses}
@@ -109,7 +109,7 @@ counting_run world [] = world
 counting_run world (event ∷ events) = counting_run (counting_step world event) events
 
 -- what the counting world shows
-abbrev pub counting_seen : CountingWorld → Seen Contents
+abbrev pub counting_seen : CountingWorld → Seen Device
 counting_seen world = record {
   router = world.adapter.state.shared.objects;
   back = world.back;

@@ -1,7 +1,7 @@
 -- What becomes of each request over whole frames, in every world reached from an opening.
 use Rattle.std.specs.Prelude.{◌≡◌, ℕ, ◌+◌, ◌-◌, ◌%◌, ◌≤◌, Some, option_map, List, map, slice_get}
 use Rattle.cip_class3.specs.Item.{item}
-use Rattle.cip_objects.specs.Contents.{Contents}
+use Rattle.cip_ledger.specs.Device.{Device}
 use Rattle.enip_client.specs.Frames.{item_frame}
 use Rattle.enip_client.specs.State.{o_to_t_id_in}
 use Rattle.enip_wire.specs.Frames.{frame}
@@ -14,7 +14,7 @@ use Rattle.enip_bench.specs.Reached.{IsReached}
 use Rattle.enip_bench.specs.WorldLaws.{numbers_after, IsReplyOf}
 
 -- the adapter's objects
-abbrev pub objects_in : CountingWorld → Contents
+abbrev pub objects_in : CountingWorld → Device
 objects_in world = world.adapter.state.shared.objects
 
 module _ {world : CountingWorld} (by : IsReached world) where

@@ -1,6 +1,6 @@
 -- Worked examples of the counting world: an opening with handles and IDs from 1, and the frame of a request.
 use Rattle.std.specs.Prelude.{◌≡◌, ℕ, List, [], ◌∷◌, Result, Ok, Err, refl}
-use Rattle.cip_objects.specs.Contents.{Contents}
+use Rattle.cip_ledger.specs.Device.{Device}
 use Rattle.enip_adapter.specs.declared.adapter.Limits.{Limits}
 use Rattle.enip_adapter.specs.declared.shared.Listen.{Listen}
 use Rattle.enip_client.specs.declared.wants.Wants.{Wants}
@@ -45,19 +45,19 @@ handles (Err why) = []
 handles (Ok world) = world.peer ∷ world.second ∷ []
 
 -- over any objects: session 1 opens its connection, and session 2 is registered
-pub handles-opened : (objects : Contents) (listen : Listen) →
+pub handles-opened : (objects : Device) (listen : Listen) →
     handles (opening objects listen limits (wants 500)) ≡ 1 ∷ 2 ∷ []
 unfolding opening command_served rr_body_of request_of path_of class_of instance_of attribute_of member_of whole_of segment_of open_of open_fields open_path_of reply_of
 handles-opened objects listen = refl
 
 -- an O->T size of 3 is refused
-pub handles-refused : (objects : Contents) (listen : Listen) →
+pub handles-refused : (objects : Device) (listen : Listen) →
     handles (opening objects listen limits (wants 3)) ≡ []
 unfolding opening command_served rr_body_of request_of path_of class_of instance_of attribute_of member_of whole_of segment_of open_of open_fields open_path_of reply_of
 handles-refused objects listen = refl
 
 -- service 0x32 with the number 5, on connection 1 of session 1, with count 1
-pub sent-request : (objects : Contents) (listen : Listen) →
+pub sent-request : (objects : Device) (listen : Listen) →
     sent_after (Submit (add 5) ∷ []) (opening objects listen limits (wants 500))
     ≡ (0x70 ∷ 0x00 ∷ 0x20 ∷ 0x00 ∷ 1 ∷ 0 ∷ 0 ∷ 0 ∷ 0 ∷ 0 ∷ 0 ∷ 0 ∷ 0 ∷ 0 ∷ 0 ∷ 0 ∷ 0 ∷ 0 ∷ 0 ∷ 0 ∷ 0 ∷ 0 ∷ 0 ∷ 0
     ∷ 0 ∷ 0 ∷ 0 ∷ 0 ∷ 0 ∷ 0 ∷ 2 ∷ 0 ∷ 0xa1 ∷ 0 ∷ 4 ∷ 0 ∷ 1 ∷ 0 ∷ 0 ∷ 0 ∷ 0xb1 ∷ 0 ∷ 0x0c ∷ 0

@@ -1,6 +1,6 @@
 -- The worlds that can be reached from an opening.
 use Rattle.std.specs.Prelude.{◌≡◌, List, Ok}
-use Rattle.cip_objects.specs.Contents.{Contents}
+use Rattle.cip_ledger.specs.Device.{Device}
 use Rattle.enip_adapter.specs.Adapter.{new_adapter}
 use Rattle.enip_adapter.specs.Calls.{AdapterState}
 use Rattle.enip_adapter.specs.declared.adapter.Limits.{Limits}
@@ -13,7 +13,7 @@ use Rattle.enip_bench.specs.Events.{Event}
 
 -- a new adapter
 pub record IsNewAdapter (adapter : AdapterState) : Type 0 where
-  pub objects : Contents
+  pub objects : Device
   pub listen : Listen
   pub limits : Limits
   pub is : adapter ≡ new_adapter objects listen limits
@@ -26,7 +26,7 @@ pub record IsNewClient (client : ClientState) : Type 0 where
 
 -- an opening without a refusal, and then these events, led to this world
 pub record IsReached (world : CountingWorld) : Type 0 where
-  pub objects : Contents
+  pub objects : Device
   pub listen : Listen
   pub limits : Limits
   pub wants : Wants

@@ -1,6 +1,6 @@
 -- The counting world, its events and their outcomes, as the code stores them.
-use Rattle.std.specs.Prelude.{◌≡◌, ◌<◌, ◌≤◌, ℕ, ⊤, Bool, if◌then◌else◌, map, take, length, Option, Some, None, List, [], ◌∷◌, Result, Ok, Err}
-use Rattle.cip_objects.specs.Contents.{Contents}
+use Rattle.std.specs.Prelude.{◌≡◌, ◌<◌, ◌≤◌, ℕ, ⊤, Bool, if◌then◌else◌, map, take, length, Option, Some, None, option_map, List, [], ◌∷◌, Result, Ok, Err}
+use Rattle.cip_ledger.specs.Device.{Device, device_of}
 use Rattle.enip_adapter.specs.Calls.{AdapterState, after_call}
 use Rattle.enip_adapter.specs.Calls.Call.{Begins_peer}
 use Rattle.enip_client.specs.Client.{ClientState}
@@ -171,9 +171,9 @@ abbrev pub NamesAnEvent : {E : Type 0} → List Event → Result (Unit {0}) (ℕ
 NamesAnEvent events (Ok done) = ⊤
 NamesAnEvent events (Err error) = error.0 < length events
 
-abbrev pub seen_in : SeenInCode → Seen Contents
+abbrev pub seen_in : SeenInCode → Seen Device
 seen_in seen = record {
-  router = seen.objects.now;
+  router = device_of (option_map (λ ledger. ledger.now) seen.ledger) seen.objects.now;
   back = seen.back.now.frames;
   accepted = acceptances_in seen.accepted.now;
   stage = seen.stage;

@@ -12,6 +12,7 @@ use crate::frames::Frames;
 use crate::opening::open_both;
 use crate::world::{Accepted, World};
 use cip_class3::Stage;
+use cip_ledger::Ledger;
 use cip_objects::Objects;
 use enip_adapter::{Adapter, Peer};
 use enip_client::Client;
@@ -45,6 +46,8 @@ impl From<AllocError> for BenchFault {
 pub struct Seen<'a> {
     /// The adapter's objects.
     pub objects: &'a Objects,
+    /// The adapter's command ledger, if it has one.
+    pub ledger: Option<&'a Ledger>,
     /// Every frame from the adapter to the client, by position.
     pub back: &'a Frames,
     /// Every reply that the client accepted, in order.
@@ -184,6 +187,7 @@ impl Bench {
     {
         Seen {
             objects: self.world.adapter.objects(),
+            ledger: self.world.adapter.ledger(),
             back: &self.world.back,
             accepted: &self.world.accepted,
             // never `None`: the client's connection stays open

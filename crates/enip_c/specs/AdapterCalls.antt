@@ -101,4 +101,4 @@ deadline_kept (Some a) = earliest_deadline a.state.shared.manager.connections
 -- The bytes of an attribute, if it can be read.
 abbrev pub attribute_kept : Option AdapterState → ℕ → ℕ → ℕ → Option (List ℕ)
 attribute_kept None class instance attribute = None
-attribute_kept (Some a) class instance attribute = value_at a.state.shared.objects class instance attribute
+attribute_kept (Some a) class instance attribute = value_at a.state.shared.objects.router class instance attribute

@@ -16,14 +16,14 @@ use Rattle.enip_c.specs.Buffer.{status_number}
 
 -- The objects after the device has written to the data of an assembly; none if they have no such data.
 abbrev pub device_written : AdapterState → ℕ → ℕ → List ℕ → Option Contents
-device_written a instance offset bytes = device_write a.state.shared.objects instance offset bytes
+device_written a instance offset bytes = device_write a.state.shared.objects.router instance offset bytes
 
 abbrev pub write_status : Bool → Status
 write_status written = if written then status.Done else status.Absent
 
 -- The device wrote, or there is no such data and nothing changed.
 pub record IsWritten (old new : AdapterState) (instance offset : ℕ) (bytes : List ℕ) (result : ℕ) : Type 0 where
-  pub state : new ≡ with_objects old (unwrap_or (device_written old instance offset bytes) old.state.shared.objects)
+  pub state : new ≡ with_objects old (unwrap_or (device_written old instance offset bytes) old.state.shared.objects.router)
   pub returned : result ≡ status_number (write_status (is_some (device_written old instance offset bytes)))
 
 abbrev pub IsWrittenKept : Option AdapterState → Option AdapterState → ℕ → ℕ → List ℕ → ℕ → Type 0
@@ -33,7 +33,7 @@ IsWrittenKept old new instance offset bytes result = ⊥
 -- The number of times that peers have written data of an assembly.
 abbrev pub changes_kept : Option AdapterState → ℕ → Option ℕ
 changes_kept None instance = None
-changes_kept (Some a) instance = changes_of instance a.state.shared.objects.changes
+changes_kept (Some a) instance = changes_of instance a.state.shared.objects.router.changes
 
 -- The number in enip.h of the reason why a connection ended.
 abbrev pub end_reason_number : EndReason → ℕ

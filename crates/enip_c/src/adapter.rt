@@ -257,7 +257,7 @@ fn read(
     count: &mut usize,
 ) -> u32
     ensures { record { status = result; count = count.new; buffer = buffer.new }
-        ≡ returned_bytes (value_at adapter.now.state.shared.objects class instance attribute) count.old buffer.old }
+        ≡ returned_bytes (value_at adapter.now.state.shared.objects.router class instance attribute) count.old buffer.old }
 {
     match adapter.objects().attribute(class, instance, attribute) {
         Some(bytes) => return_bytes(bytes.as_slice(), buffer, count),

@@ -61,7 +61,7 @@ fn status_of(written: bool) -> Status
 pub extern "C" fn enip_core_adapter_set_status(alloc: Global, kept: &mut KeptAdapter, status: u16)
     requires { IsLive kept.old.value }
     ensures { kept.new.value
-        ≡ option_map (λ a. with_objects a (with_device_status a.state.shared.objects status)) kept.old.value }
+        ≡ option_map (λ a. with_objects a (with_device_status a.state.shared.objects.router status)) kept.old.value }
 {
     let mut adapter = kept.take(alloc);
     adapter.set_device_status(status);
@@ -73,7 +73,7 @@ pub extern "C" fn enip_core_adapter_set_status(alloc: Global, kept: &mut KeptAda
 pub extern "C" fn enip_core_adapter_set_state(alloc: Global, kept: &mut KeptAdapter, state: u8)
     requires { IsLive kept.old.value }
     ensures { kept.new.value
-        ≡ option_map (λ a. with_objects a (with_device_state a.state.shared.objects state)) kept.old.value }
+        ≡ option_map (λ a. with_objects a (with_device_state a.state.shared.objects.router state)) kept.old.value }
 {
     let mut adapter = kept.take(alloc);
     adapter.set_device_state(state);

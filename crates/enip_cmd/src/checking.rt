@@ -1,7 +1,7 @@
 //! `enip check`: prints the device that a configuration describes.
 
 use cip_objects::{AssemblyConfig, Config};
-use enip_config::Configuration;
+use enip_config::{Configuration, LedgerConfig};
 use std::alloc::Global;
 use std::io::{self, BufWriter, Write};
 
@@ -21,6 +21,9 @@ fn print_lines<W: Write>(output: &mut W, configuration: &Configuration) -> io::R
     print_address_and_counter(output, configuration)?;
     for assembly in &configuration.objects.assemblies {
         print_assembly(output, assembly)?;
+    }
+    if let Some(ledger) = configuration.ledger {
+        print_ledger(output, ledger)?;
     }
     print_limits(output, configuration)?;
     output.flush()
@@ -53,6 +56,15 @@ fn print_address_and_counter<W: Write>(
     let counter = configuration.objects.counter;
     let (value, limit) = (counter.value, counter.limit);
     writeln!(output, "counter {value}, limit {limit}")
+}
+
+/// Prints how many originators the command ledger has slots for, and the number of its life.
+fn print_ledger<W: Write>(output: &mut W, ledger: LedgerConfig) -> io::Result<()> {
+    let (originators, life) = (ledger.originators, ledger.life);
+    writeln!(
+        output,
+        "command ledger for {originators} originators, life {life}"
+    )
 }
 
 /// Prints how many peers and connections there may be, and the first numbers that they get.

@@ -34,6 +34,7 @@ use argument_error::ArgumentError;
 use checking::print_device;
 use clap::ArgMatches;
 use clap::error::ErrorKind;
+use enip_adapter::Adapter;
 use enip_cli::{OsArg, PROGRAM, os_args, program};
 use enip_client::ListCommand;
 use enip_server::NO_IDLE_TIMEOUT;
@@ -55,7 +56,7 @@ use show::show;
 use std::io;
 use std::net::TcpListener;
 use std::process::ExitCode;
-use std::time::Instant;
+use std::time::{Instant, UNIX_EPOCH};
 
 /// The exit status if the arguments are refused.
 const ARGUMENTS_REFUSED: u8 = 2;
@@ -271,7 +272,7 @@ fn run_serve<'a>(
     };
     let idle_timeout = idle_timeout_of(seconds);
     let config = NamedFile::read(rt.alloc(), args, matches, "CONFIG")?;
-    let adapter = config.adapter(rt.alloc())?;
+    let adapter = adapter_to_serve(rt, &config)?;
     let address = HostPort::parse(matches.get_str("ADDRESS").unwrap_or(""))?;
     let sockets = bind(rt, address, matches.get_flag("discovery"))?;
     print_listening(rt, &sockets).map_err(|error| CommandError::of_system(ERRORS, error))?;
@@ -291,6 +292,24 @@ fn run_serve<'a>(
         Err(enip_commands::ProgramFault::Memory) => Err(CommandError::of_memory()),
         Err(_) => Err(CommandError::of_reason(Reason::Failed(address.text()))),
     }
+}
+
+/// The adapter of a configuration. A command ledger gets another life with each start, because it is empty then.
+fn adapter_to_serve<'a>(
+    rt: &HostRuntime,
+    config: &NamedFile<'a>,
+) -> Result<Adapter, CommandError<'a>> {
+    if config.configuration(rt.alloc())?.ledger.is_none() {
+        return config.adapter(rt.alloc());
+    }
+    let life = life_now(rt).map_err(|error| CommandError::of_system(CLOCK, error))?;
+    config.adapter_in_life(rt.alloc(), life)
+}
+
+/// The number of a life that starts now: the microseconds of the wall clock since 1970 (ours).
+fn life_now(rt: &HostRuntime) -> io::Result<u64> {
+    let age = UNIX_EPOCH.elapsed(rt)?;
+    Ok(u64::try_from(age.as_micros()).unwrap_or(u64::MAX))
 }
 
 /// Prints the address at which the device listens.

@@ -5,7 +5,7 @@ use crate::reason::{CommandError, Reason};
 use clap::ArgMatches;
 use enip_adapter::Adapter;
 use enip_cli::{OsArg, read_file};
-use enip_config::{Configuration, ConfigurationRefusal, adapter_from, explain};
+use enip_config::{Configuration, ConfigurationRefusal, adapter_from, adapter_in_life, explain};
 use std::alloc::Global;
 
 /// A file that an argument names, and its content.
@@ -58,6 +58,15 @@ impl<'a> NamedFile<'a> {
     /// The adapter that the file configures.
     pub(crate) fn adapter(&self, alloc: Global) -> Result<Adapter, CommandError<'a>> {
         adapter_from(alloc, self.bytes()).map_err(|fault| self.refused(alloc, fault))
+    }
+
+    /// The same adapter, with this number of the device's life in its command ledger.
+    pub(crate) fn adapter_in_life(
+        &self,
+        alloc: Global,
+        life: u64,
+    ) -> Result<Adapter, CommandError<'a>> {
+        adapter_in_life(alloc, self.bytes(), life).map_err(|fault| self.refused(alloc, fault))
     }
 
     /// The configuration in the file.

@@ -1,7 +1,6 @@
-use Rattle.std.proofs.Common.{◌≡◌, ◌≤◌, ℕ, List, subst, Bool, if◌then◌else◌, ◌&&◌, nat_le, true, false, Option, IfSome, Some, None, inl, Result, Ok, Err, IfErr, IsTrue, option_and_then, refl, sym, ap, ◌∙◌, arith, rules}
-use Rattle.std.specs.Option.{IsSomeAnd}
+use Rattle.std.proofs.Common.{◌≡◌, ◌≤◌, ℕ, List, subst, Option, IfSome, Some, None, inl, Result, Ok, Err, IfErr, option_and_then, refl, sym, arith, rules}
 use Rattle.std.specs.Result.{IsErr, IsErrAnd}
-use Rattle.toml.specs.Data.{Data, Members, integer, get_member}
+use Rattle.toml.specs.Data.{Data, Members, get_member}
 use Rattle.cip_objects.specs.declared.config.ConfigFault.{ConfigFault}
 use Rattle.cip_objects.specs.declared.config.ConfigFault.TheVariants.{Name, Size, Members as WrongMembers, DoubleInstance, Limit, Memory}
 use Rattle.cip_objects.specs.Configuration.{fault_of}

@@ -1,11 +1,14 @@
 -- The adapter of a configuration.
-use Rattle.std.specs.Prelude.{◌≡◌, ℕ, List}
+use Rattle.std.specs.Prelude.{◌≡◌, ℕ, List, Option, option_map}
+use Rattle.cip_ledger.specs.Device.{device_of}
+use Rattle.cip_ledger.specs.Ledger.{LedgerState, empty_ledger}
 use Rattle.cip_objects.specs.Configuration.{contents_of_config}
 use Rattle.enip_adapter.specs.declared.adapter.Limits.{Limits}
 use Rattle.enip_adapter.specs.declared.shared.Listen.{Listen}
 use Rattle.enip_adapter.specs.Adapter.{new_adapter}
 use Rattle.enip_adapter.specs.Calls.{AdapterState}
 use Rattle.enip_config.specs.declared.configuration.Configuration.{Configuration}
+use Rattle.enip_config.specs.declared.ledger.LedgerConfig.{LedgerConfig}
 use Rattle.enip_config.specs.Documents.{IsDescribed}
 
 -- the address and port that ListIdentity reports
@@ -21,11 +24,28 @@ limits_of c = record {
   first_id = c.first_id;
 }
 
+-- an empty ledger, if the configuration has one
+abbrev pub ledger_from : Option LedgerConfig → Option LedgerState
+ledger_from ledger = option_map (λ l. empty_ledger l.originators l.life) ledger
+
+-- the same, in a life of this number
+abbrev pub with_life : ℕ → LedgerConfig → LedgerConfig
+with_life life ledger = record ledger { life = life }
+
+abbrev pub in_life : ℕ → Option LedgerConfig → Option LedgerConfig
+in_life life ledger = option_map (with_life life) ledger
+
 -- a new adapter, as a text describes it
 abbrev pub IsAdapterOf : List ℕ → AdapterState → Type 0
 IsAdapterOf text adapter =
     (c : Configuration) × (IsDescribed text c
-    × (adapter ≡ new_adapter (contents_of_config c.objects) (listen_of c) (limits_of c)))
+    × (adapter ≡ new_adapter (device_of (ledger_from c.ledger) (contents_of_config c.objects)) (listen_of c) (limits_of c)))
+
+-- the same, in a life of this number
+abbrev pub IsAdapterInLife : ℕ → List ℕ → AdapterState → Type 0
+IsAdapterInLife life text adapter =
+    (c : Configuration) × (IsDescribed text c × (adapter
+    ≡ new_adapter (device_of (ledger_from (in_life life c.ledger)) (contents_of_config c.objects)) (listen_of c) (limits_of c)))
 
 -- the text is a configuration that the objects accept
 abbrev pub IsAccepted : List ℕ → Type 0

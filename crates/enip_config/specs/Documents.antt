@@ -1,5 +1,5 @@
 -- What a configuration says, and why one is refused: the first check that fails, in the order 7, 9, 8, 1 to 5.
-use Rattle.std.specs.Prelude.{◌≡◌, ◌≤◌, ◌⊎◌, ⊤, ℕ, List, Bool, true, false, Option, Some, None, map, string_bytes}
+use Rattle.std.specs.Prelude.{◌≡◌, ◌≤◌, ◌⊎◌, ⊤, ℕ, List, Bool, true, false, Option, Some, None, IfSome, option_map, map, string_bytes}
 use Rattle.std.specs.Prelude.{IsUtf8}
 use Rattle.std.specs.Option.{IsSomeAnd}
 use Rattle.toml.specs.Parse.{parse_document}
@@ -17,7 +17,8 @@ use Rattle.enip_config.specs.declared.key.NumberKey.TheVariants.{Status, State, 
 use Rattle.enip_config.specs.declared.key.NumberKey.TheVariants.{FirstId, CounterValue}
 use Rattle.enip_config.specs.declared.key.NumberKey.TheVariants.{CounterLimit}
 use Rattle.enip_config.specs.Known.{has_unknown_key}
-use Rattle.enip_config.specs.Keys.{row, number_of, name_of, address_of, assemblies_of}
+use Rattle.enip_config.specs.declared.ledger.LedgerConfig.{LedgerConfig}
+use Rattle.enip_config.specs.Keys.{row, originators_row, life_row, number_of, name_of, address_of, assemblies_of, ledger_of}
 use Rattle.enip_config.specs.Refusals.{fault_of_objects}
 
 -- the number that a configuration has for a key
@@ -42,18 +43,24 @@ number_in c CounterLimit = c.objects.counter.limit
 abbrev pub assembly_seen : AssemblyConfig → ℕ × (Bool × List ℕ)
 assembly_seen assembly = (assembly.instance, (assembly.settable, assembly.members.items))
 
+-- how many originators a ledger has slots for, and its life
+abbrev pub ledger_seen : LedgerConfig → ℕ × ℕ
+ledger_seen ledger = (ledger.originators, ledger.life)
+
 -- the configuration has the value of each key
 pub record HasValues (described : Members) (c : Configuration) : Type 0 where
   pub numbers : (key : NumberKey) → number_of key described ≡ Some (number_in c key)
   pub name : name_of described ≡ Some (string_bytes c.objects.name)
   pub address : address_of described ≡ Some c.address
   pub assemblies : assemblies_of described ≡ Some (map assembly_seen c.objects.assemblies.items)
+  pub ledger : ledger_of described ≡ Some (option_map ledger_seen c.ledger)
 
 -- a required value is missing, or a value has another type or is out of range
 abbrev pub HasBadValue : Members → Type 0
 HasBadValue described =
     ((key : NumberKey) × (number_of key described ≡ None))
-    ⊎ ((name_of described ≡ None) ⊎ ((address_of described ≡ None) ⊎ (assemblies_of described ≡ None)))
+    ⊎ ((name_of described ≡ None) ⊎ ((address_of described ≡ None) ⊎ ((assemblies_of described ≡ None)
+    ⊎ (ledger_of described ≡ None))))
 
 -- why a table whose keys are all known gives no configuration
 abbrev pub IsUnread : Members → LoadFault → Type 0
@@ -105,3 +112,13 @@ IsFaultOf bytes (Refused refusal) = IsRefused bytes refusal
 -- each number is in range
 abbrev pub IsInRange : Configuration → Type 0
 IsInRange c = (key : NumberKey) → ((row key).least ≤ number_in c key) × (number_in c key ≤ (row key).greatest)
+
+-- the numbers of the ledger are in range, if there is one
+pub record HasRanges (ledger : LedgerConfig) : Type 0 where
+  pub originators_from : originators_row.least ≤ ledger.originators
+  pub originators_to : ledger.originators ≤ originators_row.greatest
+  pub life_from : life_row.least ≤ ledger.life
+  pub life_to : ledger.life ≤ life_row.greatest
+
+abbrev pub IsLedgerInRange : Configuration → Type 0
+IsLedgerInRange c = IfSome c.ledger HasRanges

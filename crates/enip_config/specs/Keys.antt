@@ -51,6 +51,13 @@ row CounterLimit = optional (codes "limit") 0 0xffffffff 0xffffffff
 abbrev pub instance_row : KeyRow
 instance_row = required (codes "instance") 0 0xffff
 
+-- the keys of the table `ledger`
+abbrev pub originators_row : KeyRow
+originators_row = required (codes "originators") 1 64
+
+abbrev pub life_row : KeyRow
+life_row = optional (codes "life") 1 0x7fffffffffffffff 1
+
 abbrev pub row_seen : Row → KeyRow
 row_seen r = record { name = r.name.now; least = r.least; greatest = r.greatest; default = r.default }
 
@@ -134,3 +141,13 @@ assemblies_in _ = None
 
 abbrev pub assemblies_of : Members → Option (List (ℕ × (Bool × List ℕ)))
 assemblies_of described = read_or (Some []) assemblies_in (get_member (codes "assembly") described)
+
+-- how many originators a ledger has slots for, and its life
+abbrev pub ledger_in : Data → Option (ℕ × ℕ)
+ledger_in (table described) = both (number_by originators_row described) (number_by life_row described)
+ledger_in _ = None
+
+-- the table `ledger`, if there is one
+abbrev pub ledger_of : Members → Option (Option (ℕ × ℕ))
+ledger_of described =
+    read_or (Some None) (λ value. option_map (λ ledger. Some ledger) (ledger_in value)) (get_member (codes "ledger") described)

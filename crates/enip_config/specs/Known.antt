@@ -2,13 +2,13 @@
 use Rattle.std.specs.Prelude.{ℕ, List, [], ◌∷◌, ◌++◌, map, Bool, true, false, ◌||◌, not, codes, bytes_eq, if◌then◌else◌}
 use Rattle.std.specs.List.{list_any}
 use Rattle.enip_config.specs.declared.known.TableKind.{TableKind}
-use Rattle.enip_config.specs.declared.known.TableKind.TheVariants.{Text, Counter, Assembly}
+use Rattle.enip_config.specs.declared.known.TableKind.TheVariants.{Text, Counter, Assembly, Ledger}
 use Rattle.enip_config.specs.declared.key.NumberKey.{NumberKey}
 use Rattle.enip_config.specs.declared.key.NumberKey.TheVariants.{Vendor, DeviceType, ProductCode, Major, Minor, Serial}
 use Rattle.enip_config.specs.declared.key.NumberKey.TheVariants.{Status, State, Port, Peers, Connections, FirstHandle}
 use Rattle.enip_config.specs.declared.key.NumberKey.TheVariants.{FirstId, CounterValue}
 use Rattle.enip_config.specs.declared.key.NumberKey.TheVariants.{CounterLimit}
-use Rattle.enip_config.specs.Keys.{row, instance_row}
+use Rattle.enip_config.specs.Keys.{row, instance_row, originators_row, life_row}
 use Rattle.toml.specs.Data.{Data, array, table, Items, no_items, item, Members, no_members, member}
 
 -- whether there is a key within a value, at any depth
@@ -58,12 +58,14 @@ abbrev pub keys_of : TableKind → List (List ℕ)
 keys_of Text = map (λ key. (row key).name) text_numbers ++ (codes "name" ∷ codes "address" ∷ [])
 keys_of Counter = map (λ key. (row key).name) (CounterValue ∷ CounterLimit ∷ [])
 keys_of Assembly = instance_row.name ∷ codes "settable" ∷ codes "members" ∷ []
+keys_of Ledger = originators_row.name ∷ life_row.name ∷ []
 
 -- whether a key at the top level is unknown, or one within its value
 abbrev pub is_unknown : List ℕ → Data → Bool
 is_unknown key value =
     if bytes_eq key (codes "counter") then has_other_keys_within (keys_of Counter) value
     else if bytes_eq key (codes "assembly") then has_other_keys_within (keys_of Assembly) value
+    else if bytes_eq key (codes "ledger") then has_other_keys_within (keys_of Ledger) value
     else not (is_among (keys_of Text) key) || has_key value
 
 -- whether a key is unknown, at any depth

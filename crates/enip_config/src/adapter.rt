@@ -1,13 +1,16 @@
 //! The adapter that a configuration describes.
 //! Text: docs/PROGRAM.md, "The configuration".
 
-ghost use Rattle.std.specs.Prelude.{◌≡◌, IfOk, IfErr};
+ghost use Rattle.std.specs.Prelude.{◌≡◌, ◌≤◌, IfOk, IfErr, IfSome};
+ghost use Rattle.cip_ledger.specs.Device.{device_of};
 ghost use Rattle.enip_adapter.specs.Adapter.{new_adapter};
-ghost use Rattle.enip_config.specs.Configured.{IsAccepted, IsAdapterOf, limits_of, listen_of};
+ghost use Rattle.enip_config.specs.Configured.{IsAccepted, IsAdapterInLife, IsAdapterOf, in_life, ledger_from, limits_of, listen_of};
 ghost use Rattle.enip_config.specs.Documents.{IsFaultOf, IsInRange};
 
 use crate::configuration::Configuration;
 use crate::fault::LoadFault;
+use crate::ledger::LedgerConfig;
+use cip_ledger::Ledger;
 use cip_objects::Objects;
 use enip_adapter::{Adapter, Limits, Listen};
 use std::alloc::{AllocError, Global};
@@ -25,19 +28,53 @@ pub fn adapter_from(alloc: Global, config: &[u8]) -> Result<Adapter, LoadFault>
 {
     let configuration = Configuration::from_bytes(alloc, config)?;
     let objects = Objects::new(alloc, &configuration.objects)?;
-    let adapter = adapter_of(alloc, objects, &configuration)?;
+    let adapter = adapter_of(alloc, objects, &configuration, configuration.ledger)?;
     Ok(adapter)
 }
 
-/// Makes the adapter of a configuration, over its objects.
+/// Makes the same adapter, but with this number of the device's life in its ledger. A device that was restarted needs
+/// another life, because its ledger is empty.
+///
+/// # Errors
+///
+/// As `adapter_from`.
+pub fn adapter_in_life(alloc: Global, config: &[u8], life: u64) -> Result<Adapter, LoadFault>
+    ensures made { IfOk result (IsAdapterInLife life config.now) }
+    ensures accepted { IfOk result (λ _. IsAccepted config.now) }
+    ensures refused { IfErr result (IsFaultOf config.now) }
+{
+    let configuration = Configuration::from_bytes(alloc, config)?;
+    let objects = Objects::new(alloc, &configuration.objects)?;
+    let ledger = in_life(life, configuration.ledger);
+    let adapter = adapter_of(alloc, objects, &configuration, ledger)?;
+    Ok(adapter)
+}
+
+/// The same ledger, in a life of this number.
+fn in_life(life: u64, ledger: Option<LedgerConfig>) -> Option<LedgerConfig>
+    ensures { result ≡ in_life life ledger }
+{
+    match ledger {
+        Some(ledger) => Some(LedgerConfig {
+            originators: ledger.originators,
+            life,
+        }),
+        None => None,
+    }
+}
+
+/// Makes the adapter of a configuration, over its objects, with a ledger before them if there is one.
 fn adapter_of(
     alloc: Global,
     objects: Objects,
     configuration: &Configuration,
+    ledger: Option<LedgerConfig>,
 ) -> Result<Adapter, AllocError>
-    requires { IsInRange configuration.now }
-    ensures { IfOk result (λ adapter. adapter
-        ≡ new_adapter objects (listen_of configuration.now) (limits_of configuration.now)) }
+    requires numbers { IsInRange configuration.now }
+    requires ledger_from { IfSome ledger (λ l. 1 ≤ l.originators) }
+    requires ledger_to { IfSome ledger (λ l. l.originators ≤ 64) }
+    ensures { IfOk result (λ adapter. adapter ≡ new_adapter (device_of (ledger_from ledger) objects)
+        (listen_of configuration.now) (limits_of configuration.now)) }
 {
     let listen = Listen {
         address: configuration.address,
@@ -49,5 +86,11 @@ fn adapter_of(
         first_handle: configuration.first_handle,
         first_id: configuration.first_id,
     };
-    Adapter::new(alloc, objects, listen, limits)
+    match ledger {
+        None => Adapter::new(alloc, objects, listen, limits),
+        Some(ledger) => {
+            let ledger = Ledger::new(alloc, ledger.originators, ledger.life)?;
+            Adapter::with_ledger(alloc, objects, ledger, listen, limits)
+        }
+    }
 }

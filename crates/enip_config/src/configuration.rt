@@ -4,18 +4,20 @@
 ghost use Rattle.std.specs.Prelude.{◌≡◌, IfOk, IfErr, None};
 ghost use Rattle.toml.specs.View.{table_view};
 ghost use Rattle.cip_objects.specs.Configuration.{fault_of};
-ghost use Rattle.enip_config.specs.Documents.{IsDescribed, IsFaultOf, IsInRange, IsUnread, HasValues};
+ghost use Rattle.enip_config.specs.Documents.{IsDescribed, IsFaultOf, IsInRange, IsLedgerInRange, IsUnread, HasValues};
 
 use crate::assemblies::assemblies_of;
 use crate::fault::{ConfigurationRefusal, LoadFault};
 use crate::key::NumberKey;
 use crate::known::has_unknown_key;
+use crate::ledger::{LedgerConfig, ledger_of};
 use crate::values::{address_of, name_of, number};
 use cip_objects::{Config, CounterConfig};
 use std::alloc::Global;
 use toml::Table;
 
-/// A device as a configuration describes it: its objects, the address and port that it reports, and its limits.
+/// A device as a configuration describes it: its objects, the address and port that it reports, its limits, and its
+/// command ledger if it has one.
 ///
 /// ```
 /// const DEVICE: &[u8] = b"vendor = 1
@@ -48,6 +50,8 @@ pub struct Configuration {
     pub first_handle: u32,
     /// The first O->T connection ID, from 1.
     pub first_id: u32,
+    /// The command ledger before the objects, if there is one.
+    pub ledger: Option<LedgerConfig>,
 }
 
 impl Configuration {
@@ -61,6 +65,7 @@ impl Configuration {
     pub fn from_bytes(alloc: Global, bytes: &[u8]) -> Result<Configuration, LoadFault>
         ensures read { IfOk result (IsDescribed bytes.now) }
         ensures in_range { IfOk result IsInRange }
+        ensures ledger { IfOk result IsLedgerInRange }
         ensures refused { IfErr result (IsFaultOf bytes.now) }
     {
         let table = match toml::table_from_slice(alloc, bytes) {
@@ -106,6 +111,7 @@ impl Configuration {
             connections: number(text, NumberKey::Connections)?,
             first_handle: number(text, NumberKey::FirstHandle)?,
             first_id: number(text, NumberKey::FirstId)?,
+            ledger: ledger_of(text)?,
         })
     }
 }

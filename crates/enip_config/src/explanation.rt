@@ -57,7 +57,7 @@ pub(crate) enum Problem {
     #[error("{0} is missing")]
     Missing(&'static str),
     #[error("{0} is {1} (allowed: {2} to {3})")]
-    Range(&'static str, i64, u32, u32),
+    Range(&'static str, i64, u64, u64),
     #[error("{0} is not {1}")]
     Type(&'static str, &'static str),
     #[error("settable is neither true nor false")]
@@ -80,12 +80,13 @@ pub(crate) enum Problem {
     Limit(u32, u32),
 }
 
-/// A location in a configuration: a key at the top level, a key of the table `counter`, one of the tables `assembly`,
+/// A location in a configuration: a key at the top level, a key of the table `counter` or `ledger`, one of the tables `assembly`,
 /// from 0, or a key of one.
 #[derive(Clone, Copy)]
 pub(crate) enum Location<'a> {
     Text(&'a str),
     Counter(&'a str),
+    Ledger(&'a str),
     Assembly(usize),
     InAssembly(usize, &'a str),
 }
@@ -97,6 +98,9 @@ impl Location<'_> {
             Location::Text(key) => text.get(key).is_some(),
             Location::Counter(key) => text
                 .get("counter")
+                .is_some_and(|described| described.get(key).is_some()),
+            Location::Ledger(key) => text
+                .get("ledger")
                 .is_some_and(|described| described.get(key).is_some()),
             Location::Assembly(place) => assembly_at(text, place).is_some(),
             Location::InAssembly(place, key) => {

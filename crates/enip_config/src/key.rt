@@ -5,7 +5,10 @@ ghost use Rattle.std.specs.Prelude.{◌≡◌, bytes_eq};
 ghost use Rattle.enip_config.specs.Keys.{row, row_seen};
 
 /// The port registered for EtherNet/IP. (Volume 2, TCP.)
-const REGISTERED_PORT: u32 = 44_818;
+const REGISTERED_PORT: u64 = 44_818;
+
+/// The greatest number of 32 bits.
+const GREATEST_UDINT: u64 = 0xffff_ffff;
 
 /// A key whose value is a number, at the top level or in the table `counter`.
 #[derive(Clone, Copy, Debug)]
@@ -46,10 +49,10 @@ pub enum NumberKey {
 #[derive(Clone, Copy)]
 pub(crate) struct Row {
     pub(crate) name: &'static str,
-    pub(crate) least: u32,
-    pub(crate) greatest: u32,
+    pub(crate) least: u64,
+    pub(crate) greatest: u64,
     /// `None` if the key is required.
-    pub(crate) default: Option<u32>,
+    pub(crate) default: Option<u64>,
 }
 
 /// The key `instance` of a table `assembly`.
@@ -58,6 +61,22 @@ pub(crate) const INSTANCE: Row = Row {
     least: 0,
     greatest: 0xffff,
     default: None,
+};
+
+/// The key `originators` of the table `ledger`.
+pub(crate) const ORIGINATORS: Row = Row {
+    name: "originators",
+    least: 1,
+    greatest: 64,
+    default: None,
+};
+
+/// The key `life` of the table `ledger`. TOML has no greater integers.
+pub(crate) const LIFE: Row = Row {
+    name: "life",
+    least: 1,
+    greatest: 0x7fff_ffff_ffff_ffff,
+    default: Some(1),
 };
 
 impl NumberKey {
@@ -71,16 +90,16 @@ impl NumberKey {
             NumberKey::ProductCode => ("product_code", 0, 0xffff, None),
             NumberKey::Major => ("major", 1, 127, None),
             NumberKey::Minor => ("minor", 0, 0xff, None),
-            NumberKey::Serial => ("serial", 0, u32::MAX, None),
+            NumberKey::Serial => ("serial", 0, GREATEST_UDINT, None),
             NumberKey::Status => ("status", 0, 0xffff, Some(0)),
             NumberKey::State => ("state", 0, 0xff, Some(3)),
             NumberKey::Port => ("port", 0, 0xffff, Some(REGISTERED_PORT)),
             NumberKey::Peers => ("peers", 1, 16, Some(4)),
             NumberKey::Connections => ("connections", 1, 64, Some(16)),
-            NumberKey::FirstHandle => ("first_handle", 1, u32::MAX, Some(1)),
-            NumberKey::FirstId => ("first_id", 1, u32::MAX, Some(1)),
-            NumberKey::CounterValue => ("value", 0, u32::MAX, Some(0)),
-            NumberKey::CounterLimit => ("limit", 0, u32::MAX, Some(u32::MAX)),
+            NumberKey::FirstHandle => ("first_handle", 1, GREATEST_UDINT, Some(1)),
+            NumberKey::FirstId => ("first_id", 1, GREATEST_UDINT, Some(1)),
+            NumberKey::CounterValue => ("value", 0, GREATEST_UDINT, Some(0)),
+            NumberKey::CounterLimit => ("limit", 0, GREATEST_UDINT, Some(GREATEST_UDINT)),
         };
         Row {
             name,

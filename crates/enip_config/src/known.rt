@@ -8,7 +8,7 @@ ghost use Rattle.enip_config.specs.Keys.{row};
 ghost use Rattle.enip_config.specs.Known.{is_among, keys_of, has_key, has_unknown_key, is_unknown};
 ghost use Rattle.enip_config.specs.Known.{are_other_keys, has_other_keys, has_other_keys_within};
 
-use crate::key::{INSTANCE, NumberKey};
+use crate::key::{INSTANCE, LIFE, NumberKey, ORIGINATORS};
 use toml::{Table, Value};
 
 /// The kinds of tables in a configuration.
@@ -20,6 +20,8 @@ pub(crate) enum TableKind {
     Counter,
     /// A table `assembly`.
     Assembly,
+    /// The table `ledger`.
+    Ledger,
 }
 
 /// The keys at the top level whose values are numbers.
@@ -55,6 +57,7 @@ impl TableKind {
             TableKind::Assembly => INSTANCE.is_named(name)
                 || name == "settable"
                 || name == "members",
+            TableKind::Ledger => ORIGINATORS.is_named(name) || LIFE.is_named(name),
         }
     }
 }
@@ -90,6 +93,7 @@ fn is_unknown(key: &str, value: &Value) -> bool
     match key {
         "counter" => has_other_keys_within(value, TableKind::Counter),
         "assembly" => has_other_keys_within(value, TableKind::Assembly),
+        "ledger" => has_other_keys_within(value, TableKind::Ledger),
         name => !TableKind::Text.knows(name) || has_key(value),
     }
 }

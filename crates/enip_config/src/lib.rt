@@ -1,10 +1,11 @@
 //! The configuration of an EtherNet/IP device, as a TOML document: its identity, counter and assemblies, the address
-//! and port that it reports, and its limits.
+//! and port that it reports, its limits, and its command ledger.
 //!
 //! - [`Configuration::from_bytes`] reads a configuration, and refuses it by the first check that fails
 //!   (`specs/Documents.antt`). Each check has a number. Each key has a name, a range and, unless it is required, a
 //!   default (`specs/Keys.antt`). The objects accept every configuration that is read.
-//! - [`adapter_from`] makes the adapter of a configuration (`specs/Configured.antt`).
+//! - [`adapter_from`] makes the adapter of a configuration (`specs/Configured.antt`), [`adapter_in_life`] that of another
+//!   life of its ledger.
 //! - [`explain`] says what is wrong with a refused configuration, and in which line.
 //!
 //! An adapter, or one line of text that says why there is none:
@@ -29,14 +30,16 @@ mod explanation;
 mod fault;
 mod key;
 mod known;
+mod ledger;
 mod object_problems;
 mod text_problems;
 mod value_problems;
 mod values;
 mod width;
 
-pub use adapter::adapter_from;
+pub use adapter::{adapter_from, adapter_in_life};
 pub use configuration::Configuration;
 pub use explanation::{Explanation, explain};
 pub use fault::{ConfigurationRefusal, LoadFault};
 pub use key::NumberKey;
+pub use ledger::LedgerConfig;

@@ -31,6 +31,7 @@ pub(crate) fn unknown_key(
         let found = match key {
             "counter" => unknown_within(alloc, key, value, TableKind::Counter)?,
             "assembly" => unknown_within(alloc, key, value, TableKind::Assembly)?,
+            "ledger" => unknown_within(alloc, key, value, TableKind::Ledger)?,
             _ => unknown_at(alloc, "", key, value, TableKind::Text)?.map(|problem| (
                 Location::Text(key),
                 problem,
@@ -43,7 +44,7 @@ pub(crate) fn unknown_key(
     Ok(None)
 }
 
-/// The same within the value of `counter` or `assembly`: a table, or an array of them.
+/// The same within the value of `counter`, `assembly` or `ledger`: a table, or an array of them.
 fn unknown_within<'a>(
     alloc: Global,
     name: &'a str,
@@ -64,6 +65,7 @@ fn unknown_within<'a>(
             let found = unknown_in(alloc, name, value, kind)?;
             Ok(found.map(|(key, problem)| match kind {
                 TableKind::Counter => (Location::Counter(key), problem),
+                TableKind::Ledger => (Location::Ledger(key), problem),
                 _ => (Location::InAssembly(0, key), problem),
             }))
         }

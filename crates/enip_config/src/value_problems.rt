@@ -1,12 +1,13 @@
 //! What is wrong with the value of a key: it is missing, has another type or is out of range.
 
 use crate::explanation::{Location, Problem};
-use crate::key::{INSTANCE, NumberKey, Row};
+use crate::key::{INSTANCE, LIFE, NumberKey, ORIGINATORS, Row};
 use crate::known::TEXT_NUMBERS;
 use crate::values::number_in;
 use toml::{Table, Value};
 
-/// The first bad value, in this order: the numbers, the name, the address, the counter, the assemblies.
+/// The first bad value, in this order: the numbers, the name, the address, the counter, the assemblies, the
+/// ledger.
 pub(crate) fn bad_value(text: &Table) -> Option<(Location<'static>, Problem)> {
     for key in &TEXT_NUMBERS {
         let row = key.row();
@@ -23,7 +24,10 @@ pub(crate) fn bad_value(text: &Table) -> Option<(Location<'static>, Problem)> {
     if let Some(found) = bad_counter(text) {
         return Some(found);
     }
-    bad_assemblies(text)
+    if let Some(found) = bad_assemblies(text) {
+        return Some(found);
+    }
+    bad_ledger(text)
 }
 
 /// What is wrong with the number of a key.
@@ -36,7 +40,7 @@ fn bad_number(table: &Table, row: Row) -> Option<Problem> {
 }
 
 /// What is wrong with a number.
-fn out_of_range(name: &'static str, value: &Value, least: u32, greatest: u32) -> Option<Problem> {
+fn out_of_range(name: &'static str, value: &Value, least: u64, greatest: u64) -> Option<Problem> {
     if number_in(value, least, greatest).is_ok() {
         return None;
     }
@@ -79,6 +83,24 @@ fn bad_counter(text: &Table) -> Option<(Location<'static>, Problem)> {
         let row = key.row();
         if let Some(problem) = bad_number(table, row) {
             return Some((Location::Counter(row.name), problem));
+        }
+    }
+    None
+}
+
+fn bad_ledger(text: &Table) -> Option<(Location<'static>, Problem)> {
+    let table = match text.get("ledger") {
+        None => return None,
+        Some(Value::Table(table)) => table,
+        Some(_) => return Some((Location::Text("ledger"), Problem::Type("ledger", "a table"))),
+    };
+    for row in [ORIGINATORS, LIFE] {
+        if let Some(problem) = bad_number(table, row) {
+            let spot = match table.get(row.name) {
+                Some(_) => Location::Ledger(row.name),
+                None => Location::Text("ledger"),
+            };
+            return Some((spot, problem));
         }
     }
     None

@@ -24,7 +24,7 @@ pub(crate) fn value_of<'a>(table: &'a Table, key: &str) -> Option<&'a Value>
 }
 
 /// Reads a value as a number within a range, from `least` to `greatest`.
-pub(crate) fn number_in(value: &Value, least: u32, greatest: u32) -> Result<u32, LoadFault>
+pub(crate) fn number_in(value: &Value, least: u64, greatest: u64) -> Result<u64, LoadFault>
     ensures read { IfOk result (λ n. number_in least greatest (view value.now) ≡ Some n) }
     ensures refused { IfErr result (IsBad (number_in least greatest (view value.now))) }
     ensures to { IfOk result (λ n. n ≤ greatest) }
@@ -32,7 +32,7 @@ pub(crate) fn number_in(value: &Value, least: u32, greatest: u32) -> Result<u32,
     let Value::Integer(number) = value else {
         return Err(BAD_VALUE);
     };
-    match u32::try_from(*number) {
+    match u64::try_from(*number) {
         Ok(number) if least <= number && number <= greatest => Ok(number),
         _ => Err(BAD_VALUE),
     }

@@ -2,7 +2,7 @@
 
 ghost use Rattle.std.specs.Prelude.{◌≡◌, ◌≤◌, ℕ};
 
-/// A number of a fixed width: 8, 16 or 32 bits.
+/// A number of a fixed width: 8, 16, 32 or 64 bits.
 pub(crate) trait Width: Sized {
     /// The value of the number.
     ghost number: { Self → ℕ };
@@ -11,7 +11,7 @@ pub(crate) trait Width: Sized {
     ghost most: { ℕ };
 
     /// The number in this width.
-    fn of(wide: u32) -> Self
+    fn of(wide: u64) -> Self
         requires { wide ≤ most }
         ensures { number result ≡ wide };
 }
@@ -21,7 +21,7 @@ impl Width for u8 {
 
     ghost most = { 0xff };
 
-    fn of(wide: u32) -> u8 {
+    fn of(wide: u64) -> u8 {
         wide as u8
     }
 }
@@ -31,7 +31,7 @@ impl Width for u16 {
 
     ghost most = { 0xffff };
 
-    fn of(wide: u32) -> u16 {
+    fn of(wide: u64) -> u16 {
         wide as u16
     }
 }
@@ -41,7 +41,17 @@ impl Width for u32 {
 
     ghost most = { 0xffffffff };
 
-    fn of(wide: u32) -> u32 {
+    fn of(wide: u64) -> u32 {
+        wide as u32
+    }
+}
+
+impl Width for u64 {
+    ghost number = { λ n. n };
+
+    ghost most = { 0xffffffffffffffff };
+
+    fn of(wide: u64) -> u64 {
         wide
     }
 }

@@ -78,4 +78,4 @@ objects_printed contents =
 
 -- What is printed at the end: the objects and the state of the client.
 abbrev pub ending : CountingWorld → List ℕ
-ending world = objects_printed (counting_seen world).router ++ with_newline (final_line (counting_seen world).stage)
+ending world = objects_printed (counting_seen world).router.router ++ with_newline (final_line (counting_seen world).stage)

@@ -7,6 +7,7 @@ mod configuration;
 mod demo;
 mod exchanges;
 mod ladders;
+mod ledger;
 mod replaying;
 mod showing;
 mod streams;

@@ -1,4 +1,4 @@
-use Rattle.std.proofs.Common.{length, map, ap, sym, ◌∙◌, arith}
+use Rattle.std.proofs.Common.{length, map, ap, ◌∙◌, arith}
 use Rattle.std.proofs.lemmas.List.{take_all}
 use Rattle.cip_manager.specs.ConnectionInfo.{connection_info}
 use Rattle.enip_adapter.proofs.EndingLemmas.{seen_more}

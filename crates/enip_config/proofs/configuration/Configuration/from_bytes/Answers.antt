@@ -1,4 +1,4 @@
-use Rattle.std.proofs.Common.{rules, ◌≡◌}
+use Rattle.std.proofs.Common.{rules}
 use Rattle.toml.specs.View.{table_view}
 use Rattle.enip_config.proofs.Refused.{refused_by_objects, all_in_range}
 use Rattle.enip_config.proofs.configuration.Configuration.from_bytes.Goals as goal

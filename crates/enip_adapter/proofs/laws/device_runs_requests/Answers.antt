@@ -1,0 +1,14 @@
+use Rattle.enip_adapter.proofs.DeviceLemmas.{calls-end, objects-end, commands-once, numbers-rise}
+use Rattle.enip_adapter.proofs.laws.device_runs_requests.Goals as goal
+
+pub returns-clause-device : goal.returns-clause-device
+returns-clause-device c = calls-end
+
+pub returns-clause-objects : goal.returns-clause-objects
+returns-clause-objects c = objects-end
+
+pub returns-clause-once : goal.returns-clause-once
+returns-clause-once c = commands-once
+
+pub returns-clause-rising : goal.returns-clause-rising
+returns-clause-rising c = numbers-rise
