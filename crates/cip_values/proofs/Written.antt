@@ -1,14 +1,15 @@
 -- Values written one after another.
-use Rattle.std.proofs.Common.{◌≡◌, ◌≢◌, ℕ, ◌+◌, ◌<◌, List, [], ◌∷◌, ◌++◌, length, map, take, get_or, Bor, inr, refl, sym, ap, subst, ◌∙◌, arith, length-append, append_assoc}
+use Rattle.std.proofs.Common.{◌≡◌, ◌≢◌, ℕ, ◌+◌, ◌<◌, List, [], ◌∷◌, ◌++◌, length, map, take, drop, get_or, Bor, inr, refl, sym, ap, subst, ◌∙◌, arith, length-append, append_assoc}
 use Rattle.std.proofs.lemmas.Grind.{flat_map-append}
-use Rattle.std.proofs.lemmas.List.{append-nil, take_more, map-append}
+use Rattle.std.proofs.lemmas.List.{append-nil, take_more, drop_more, take-append-drop, map-append}
 use Rattle.std.specs.List.{AllByRecursion}
 use Rattle.cip_values.specs.Types.{form_of, size_of}
 use Rattle.cip_values.specs.Values.{Value, Text, IsOf, spelled, joined, BeginsWithAll}
-use Rattle.cip_values.specs.Parsing.{Appends, IsAppended, ParsesAs, AllParseAs, IsWordFault, IsWriteFault}
+use Rattle.cip_values.specs.Parsing.{Appends, IsAppended, ParsesAs, AllParseAs, IsWordFault, IsFirstRefused, IsWriteFault}
 use Rattle.cip_values.specs.declared.element.ElementaryType.{ElementaryType}
 use Rattle.cip_values.specs.declared.element.ValueType.{ValueType}
 use Rattle.cip_values.specs.declared.fault.ValueFault.{ValueFault}
+use Rattle.cip_values.specs.declared.fault.ValueFault.TheVariants as faults
 use Rattle.cip_values.specs.declared.element.Form.{Form}
 use Rattle.cip_values.specs.declared.element.Form.TheVariants as forms
 
@@ -80,7 +81,39 @@ so_far_word element words place d old new inside h more =
     subst (λ (parses : List (List ℕ)). SoFar element parses new) (sym texts)
     (so_far_more element (map (λ (w : Bor (List ℕ)). w.now) (take place words)) (get_or words place d).now old new h more)
 
--- if a word is refused, so are the words
-pub word_refused : (value_type : ValueType) (count : ℕ) (word : List ℕ) (fault : ValueFault) → IsWordFault value_type.element word fault
-    → IsWriteFault value_type count fault
-word_refused value_type count word fault h = inr (word, h)
+first_refused : (element : ElementaryType) (words : List (Bor (List ℕ))) (index : ℕ) (d : Bor (List ℕ)) (bytes : List ℕ)
+    (fault : ValueFault) → index < length words → SoFar element (map (λ word. word.now) (take index words)) bytes
+    → IsWordFault element (get_or words index d).now fault
+    → IsFirstRefused element (map (λ word. word.now) words) fault
+first_refused element words index d bytes fault inside h refused =
+    let now : Bor (List ℕ) → List ℕ = λ word. word.now in
+    let parts : words ≡ take index words ++ get_or words index d ∷ drop (index + 1) words =
+    sym (take-append-drop index words) ∙ ap (λ (rest : List (Bor (List ℕ))). take index words ++ rest) (drop_more words index d inside) in
+    record {
+      before = map now (take index words);
+      word = (get_or words index d).now;
+      behind = map now (drop (index + 1) words);
+      values = h.values;
+      place = ap (map now) parts ∙ map-append now (take index words) (get_or words index d ∷ drop (index + 1) words);
+      parses = h.parses;
+      of_type = h.begins.of_type;
+      refused = refused;
+    }
+
+-- a word that is refused, behind words that parse
+pub word_refused : (value_type : ValueType) (words : List (Bor (List ℕ))) (index : ℕ) (d : Bor (List ℕ)) (bytes : List ℕ)
+    (fault : ValueFault) → index < length words
+    → SoFar value_type.element (map (λ word. word.now) (take index words)) bytes
+    → IsWordFault value_type.element (get_or words index d).now fault
+    → IsWriteFault value_type (map (λ word. word.now) words) fault
+word_refused value_type words index d bytes faults.Memory inside h refused = tt
+word_refused value_type words index d bytes (faults.Form text element) inside h refused =
+    inr (first_refused value_type.element words index d bytes (faults.Form text element) inside h refused)
+word_refused value_type words index d bytes (faults.Range text element) inside h refused =
+    inr (first_refused value_type.element words index d bytes (faults.Range text element) inside h refused)
+word_refused value_type words index d bytes (faults.TooLong count) inside h refused =
+    inr (first_refused value_type.element words index d bytes (faults.TooLong count) inside h refused)
+word_refused value_type words index d bytes faults.Short inside h refused = absurd refused
+word_refused value_type words index d bytes (faults.Trailing count) inside h refused = absurd refused
+word_refused value_type words index d bytes (faults.NotBool byte) inside h refused = absurd refused
+word_refused value_type words index d bytes (faults.Count element count) inside h refused = absurd refused

@@ -1,8 +1,10 @@
 -- Parsing a word as a value.
-use Rattle.std.specs.Prelude.{◌≡◌, ◌≢◌, ◌⊎◌, ◌<◌, ◌≤◌, ◌^◌, [], length, ⊤, ℕ, ℤ, pos, neg_ℤ, Bool, true, false, List, ◌∷◌, ◌++◌, codes, Option, None, Some, to_bits, unsigned_abs}
+use Rattle.std.specs.Prelude.{◌≡◌, ◌≢◌, ◌⊎◌, ◌<◌, ◌≤◌, ◌^◌, [], length, ⊤, ℕ, ℤ, pos, neg_ℤ, Bool, true, false, ◌&&◌, List, ◌∷◌, ◌++◌, codes, Option, None, Some, to_bits, unsigned_abs}
+use Rattle.std.specs.Char.{is_digit}
 use Rattle.std.specs.Float.{binary32, float_is_infinite}
 use Rattle.std.specs.Float.Ieee.{Float}
 use Rattle.std.specs.Float.Parse.{parse_float}
+use Rattle.std.specs.List.{list_any, AllByRecursion}
 use Rattle.std.specs.Str.Parse.{IsNumeral, digits_value}
 use Rattle.cip_values.specs.Values.{Value, Truth, Signed, Unsigned, Bits, Real, Text, IsSignedOf, IsUnsignedOf, IsOf, AreBytesOf, spelled}
 use Rattle.cip_values.specs.Types.{form_of, size_of}
@@ -32,9 +34,18 @@ ParsesAsBits word number =
     ParsesAsInteger word number
     ⊎ ((digits : List ℕ) × ((word ≡ codes "0x" ++ digits) × IsNumeral 16 digits × (number ≡ pos (digits_value 16 digits))))
 
--- The bits of the single-precision number that is nearest to a decimal number.
+-- The word has a decimal digit. `inf` and `nan` have none.
+abbrev pub has_digit : List ℕ → Bool
+has_digit word = list_any (λ byte. is_digit byte 10) word
+
+-- The word is a decimal number, and the single-precision number nearest to it is infinite.
+abbrev pub overflows : List ℕ → Float → Bool
+overflows word x = float_is_infinite x && has_digit word
+
+-- The bits of the single-precision number that is nearest to a decimal number, and finite; or those of `inf` or `nan`.
 abbrev pub ParsesAsReal : List ℕ → ℕ → Type 0
-ParsesAsReal word bits = (x : Float) × ((parse_float binary32 word ≡ Some x) × (bits ≡ to_bits binary32 x))
+ParsesAsReal word bits =
+    (x : Float) × ((parse_float binary32 word ≡ Some x) × (overflows word x ≡ false) × (bits ≡ to_bits binary32 x))
 
 -- The word parses as this value, of this kind. For texts this states nothing.
 abbrev pub ParsesAs : Form → List ℕ → Value → Type 0
@@ -57,7 +68,7 @@ IsParseFault forms.Text word parse_faults.Form = ⊤
 IsParseFault (forms.Signed n) word parse_faults.Range = (number : ℤ) × (ParsesAsInteger word number × (IsSignedOf n number → ⊥))
 IsParseFault (forms.Unsigned n) word parse_faults.Range = (number : ℤ) × (ParsesAsInteger word number × (IsUnsignedOf n number → ⊥))
 IsParseFault (forms.Bits n) word parse_faults.Range = (number : ℤ) × (ParsesAsBits word number × (IsUnsignedOf n number → ⊥))
-IsParseFault forms.Real word parse_faults.Range = (x : Float) × ((parse_float binary32 word ≡ Some x) × (float_is_infinite x ≡ true))
+IsParseFault forms.Real word parse_faults.Range = (x : Float) × ((parse_float binary32 word ≡ Some x) × (overflows word x ≡ true))
 IsParseFault form word parse_faults.Range = ⊥
 
 -- Why a word is refused as a value of a type.
@@ -99,10 +110,22 @@ IsMiscounted value_type words (faults.Count element count) =
     (value_type.is_list ≡ false) × (element ≡ value_type.element) × (count ≡ words) × (count ≢ 1)
 IsMiscounted value_type words fault = ⊥
 
+-- The first word that is refused, and why. Those before it parse.
+pub record IsFirstRefused (element : ElementaryType) (words : List (List ℕ)) (fault : ValueFault) : Type 0 where
+  pub before : List (List ℕ)
+  pub word : List ℕ
+  pub behind : List (List ℕ)
+  pub values : List Value
+  pub place : words ≡ before ++ word ∷ behind
+  pub parses : AllParseAs (form_of element) before values
+  pub of_type : AllByRecursion (IsOf (form_of element)) values
+  pub refused : IsWordFault element word fault
+
 -- Why words are refused.
-abbrev pub IsWriteFault : ValueType → ℕ → ValueFault → Type 0
+abbrev pub IsWriteFault : ValueType → List (List ℕ) → ValueFault → Type 0
+IsWriteFault value_type words faults.Memory = ⊤
 IsWriteFault value_type words fault =
-    IsMiscounted value_type words fault ⊎ ((word : List ℕ) × IsWordFault value_type.element word fault)
+    IsMiscounted value_type (length words) fault ⊎ IsFirstRefused value_type.element words fault
 
 -- The number is one that the word parses as, or both are past 64 bits.
 abbrev pub Clamps : (ℤ → Type 0) → ℤ → Type 0

@@ -90,7 +90,7 @@ pub fn write_values<'a>(
     words: &[&'a str],
 ) -> Result<Vec<u8>, ValueFault<'a>>
     ensures written { IfOk result (λ bytes. AreWritten value_type (map (λ word. word.now) words.now) bytes.items) }
-    ensures refused { IfErr result (IsWriteFault value_type (length words.now)) }
+    ensures refused { IfErr result (IsWriteFault value_type (map (λ word. word.now) words.now)) }
 {
     if !value_type.is_list && words.len() != 1 {
         return Err(ValueFault::Count(value_type.element, words.len()));
