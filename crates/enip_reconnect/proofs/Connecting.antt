@@ -74,7 +74,7 @@ connects own ends sent back wants None is =
 -- ---- RegisterSession
 
 -- The frame is on its way, and nothing else was.
-behind-nothing : (held text more : List ℕ) → held ++ text ≡ [] → held ++ (text ++ more) ≡ more
+pub behind-nothing : (held text more : List ℕ) → held ++ text ≡ [] → held ++ (text ++ more) ≡ more
 behind-nothing held text more none = sym (append_assoc held text more) ∙ ap (λ front. front ++ more) none
 
 -- The client refuses: nothing changes.

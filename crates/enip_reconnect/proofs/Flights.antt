@@ -34,12 +34,12 @@ found-last [] x = refl
 found-last (y ∷ xs) x = found-last xs x
 
 -- as many bytes are left as were not taken
-left-over : (count : ℕ) (bytes : List ℕ) → drop (length (take count bytes)) bytes ≡ drop count bytes
+pub left-over : (count : ℕ) (bytes : List ℕ) → drop (length (take count bytes)) bytes ≡ drop count bytes
 left-over zero bytes = refl
 left-over (suc count) [] = refl
 left-over (suc count) (byte ∷ bytes) = left-over count bytes
 
-take-none : (count : ℕ) → take {A = ℕ} count [] ≡ []
+pub take-none : (count : ℕ) → take {A = ℕ} count [] ≡ []
 take-none zero = refl
 take-none (suc count) = refl
 
@@ -108,14 +108,14 @@ waits-by a sent now peer count in_flight held flight below was_sent takes stream
 }
 
 -- the bytes that arrive, and those that do not yet
-joined : (held : List ℕ) (count : ℕ) (in_flight : List ℕ) →
+pub joined : (held : List ℕ) (count : ℕ) (in_flight : List ℕ) →
     (held ++ take count in_flight) ++ drop count in_flight ≡ held ++ in_flight
 joined held count in_flight =
     append_assoc held (take count in_flight) (drop count in_flight)
     ∙ ap (λ bytes. held ++ bytes) (take-append-drop count in_flight)
 
 -- nothing is in flight
-none-left : (xs ys : List ℕ) → xs ++ ys ≡ [] → ys ≡ []
+pub none-left : (xs ys : List ℕ) → xs ++ ys ≡ [] → ys ≡ []
 none-left [] ys is = is
 none-left (x ∷ xs) ys is = absurd (cc)
 

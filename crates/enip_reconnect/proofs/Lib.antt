@@ -3,7 +3,11 @@ pub mod ClientAnswers
 pub mod ClientPieces
 pub mod ClientReplies
 pub mod ClientSide
+pub mod Arriving
+pub mod ArrivingLate
 pub mod Connecting
 pub mod Flights
+pub mod Others
+pub mod Receiving
 pub mod Steps
 pub mod Tracking
