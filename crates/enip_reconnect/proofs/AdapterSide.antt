@@ -10,9 +10,13 @@ use Rattle.cip_bytes.specs.declared.protocol.TheConstants.{UNCONNECTED_LIMIT}
 use Rattle.cip_message.specs.PathReading.{path_of, class_of, instance_of, attribute_of, member_of, whole_of, segment_of}
 use Rattle.cip_message.specs.Request.{Request, request_of}
 use Rattle.cip_ledger.specs.declared.service.TheConstants as services
-use Rattle.cip_ledger.specs.Device.{exec_device}
+use Rattle.cip_ledger.specs.Device.{exec_device, run}
+use Rattle.cip_ledger.specs.Runs.{Request as LedgerRequest, next, node_after}
+use Rattle.cip_ledger.proofs.Devices.{run-ends}
+use Rattle.cip_objects.specs.Contents.{Contents}
 use Rattle.cip_ledger.specs.Requests.{Command}
 use Rattle.cip_commander.specs.CommanderRule.{do_once}
+use Rattle.cip_commander.specs.Worlds.{Event, Other, BothEnds, ends_step}
 use Rattle.enip_wire.specs.Bodies.{rr_body_bytes, rr_body_of}
 use Rattle.enip_wire.specs.Frames.{Frame, frame, IsFrame, end_after}
 use Rattle.enip_wire.specs.Stream.{Parsed, parsed, held_and_taken, bytes_taken, cleared}
@@ -25,24 +29,27 @@ use Rattle.enip_adapter.specs.declared.peer.Session.{Session}
 use Rattle.enip_adapter.specs.declared.shared.Shared.{Shared}
 use Rattle.enip_adapter.specs.declared.no_reply_reason.NoReplyReason.TheVariants.{NoFrame, NotServed}
 use Rattle.enip_adapter.specs.Calls.{AdapterState, Held, Call, Meaning, call_meaning, after_call, call_answer}
-use Rattle.enip_adapter.specs.Calls.{after_meaning, answer_of, bytes_held, bytes_found, events_of_parsed}
+use Rattle.enip_adapter.specs.declared.adapter.Full.{Full}
+use Rattle.enip_adapter.specs.declared.adapter.Full.TheVariants.{Places, Handles}
+use Rattle.enip_adapter.specs.Calls.{held_at_beginning, after_meaning, answer_of, bytes_held, bytes_found, events_of_parsed}
 use Rattle.enip_adapter.specs.Calls.Call.{Begins_peer, Feeds, Ends_peer, Ticks}
 use Rattle.enip_adapter.specs.Commands.{command_served}
 use Rattle.enip_adapter.specs.DeviceRuns.{device_requests, requests_of_calls, requests_by_session, requests_in_frame}
-use Rattle.enip_adapter.specs.DeviceRuns.{requests_in_rr, requests_by_route}
+use Rattle.enip_adapter.specs.DeviceRuns.{requests_in_rr, requests_by_route, objects_after, objects_answer}
 use Rattle.enip_adapter.specs.Lookup.{first_with, with_first}
 use Rattle.enip_adapter.specs.RegisterSession.{version_one}
 use Rattle.enip_adapter.specs.Replies.{Served, Reply as replies, leaving, answered, replied}
 use Rattle.enip_adapter.specs.Runs.{IsForOther}
 use Rattle.enip_adapter.specs.SendRRData.{Executes, route_of, route_by_request, route_by_path, routed_to, reply_to_body}
 use Rattle.enip_adapter.specs.Turn.{State, Answer, TurnResult, turned, turn, session_of, serve_found, at_moment}
-use Rattle.enip_adapter.specs.Turn.{session_after, shared_after, sent, new_session}
+use Rattle.enip_adapter.specs.Turn.{session_after, shared_after, sent, new_session, begun, with_peer}
 use Rattle.enip_adapter.specs.Turn.Event.{At, Framed}
-use Rattle.enip_adapter.specs.Turn.Output.{NoReply, Sends}
+use Rattle.enip_adapter.specs.Turn.Output.{NoReply, Sends, Begins, Refuses}
 use Rattle.enip_adapter.proofs.CutLemmas.{feed-open, shown}
-use Rattle.enip_adapter.proofs.ListLemmas.{first_with-number, first_with-set}
+use Rattle.enip_adapter.proofs.ListLemmas.{first_with-number, first_with-set, first_with-behind, next-none, numbers-none}
+use Rattle.enip_adapter.proofs.DeviceLemmas.{calls-end}
 use Rattle.enip_adapter.proofs.PeerLemmas.{at_state, held-call, session-call}
-use Rattle.enip_adapter.proofs.SoundLemmas.{IsSound, entry-of}
+use Rattle.enip_adapter.proofs.SoundLemmas.{IsSound, entry-of, no-entry}
 use Rattle.enip_client.specs.Frames.{register_frame, request_frame, sent as sent_frame}
 
 -- The adapter serves this peer: it has this session, which is not closed, and holds these bytes of its next frame.
@@ -407,3 +414,108 @@ reaches-device a now peer held piece number command sound below holds small is =
       requests = takes.requests ∙ request-reached shared peer number request least small (route_of-do_once command);
       holds = record { found = takes.found; alive = refl; held = takes.held };
     }
+
+-- ---- peers that begin and end
+
+-- A peer begins: no peer had its handle.
+pub record BeginsAs (a : AdapterState) (peer : ℕ) : Type 0 where
+  pub below : peer < 2 ^ 32
+  pub fresh : session_of a.state peer ≡ None
+  pub device : (after_call a Begins_peer).state.shared.objects ≡ a.state.shared.objects
+  pub holds : Holds (after_call a Begins_peer) peer (new_session peer) []
+
+-- The device after a call without a request.
+pub device-same : (a : AdapterState) (call : Call) → requests_of_calls a (call ∷ []) ≡ [] →
+    (after_call a call).state.shared.objects ≡ a.state.shared.objects
+device-same a call none = calls-end a (call ∷ []) ∙ ap (λ requests. (run a.state.shared.objects requests).after) none
+
+-- By whether all slots are taken, and whether all handles were assigned.
+abbrev begun_by : State → Bool → Bool → TurnResult
+begun_by s full late = cond full (turned s (Refuses Places) false)
+    (cond late (turned s (Refuses Handles) false) (turned (with_peer s) (Begins s.next_handle) false))
+
+-- The handle that was assigned, and the session of the peer.
+record IsAssigned (s : State) (peer : ℕ) (t : TurnResult) : Type 0 where
+  next : s.next_handle ≡ peer
+  below : peer < 2 ^ 32
+  found : session_of s peer ≡ None → session_of t.state peer ≡ Some (new_session peer)
+
+assigned-by : (s : State) (peer : ℕ) (full late : Bool) → ltb 0xffffffff s.next_handle ≡ late →
+    (begun_by s full late).answer.output ≡ Begins peer → IsAssigned s peer (begun_by s full late)
+assigned-by s peer true late e begins = absurd (cc)
+assigned-by s peer false true e begins = absurd (cc)
+assigned-by s peer false false e begins =
+    let same : s.next_handle ≡ peer = (let f : Begins s.next_handle ≡ Begins peer = begins in cc) in
+    record {
+      next = same;
+      below = omega (arith, same, ltb-false 0xffffffff s.next_handle e);
+      found = λ none. first_with-behind (λ (p : Session). p.handle) peer s.peers _ none
+          ∙ (ap (λ b. cond b (Some (new_session s.next_handle)) None) (eq-eqb s.next_handle peer same)
+          ∙ ap (λ n. Some (new_session n)) same);
+    }
+
+pub begins-as : (a : AdapterState) (peer : ℕ) → IsSound a → (call_answer a Begins_peer).output ≡ Begins peer →
+    BeginsAs a peer
+begins-as a peer sound output =
+    let is : IsAssigned a.state peer (begun a.state) =
+    assigned-by a.state peer (not (ltb (length a.state.peers) a.state.places)) (ltb 0xffffffff a.state.next_handle) refl
+    output in
+    let fresh : session_of a.state peer ≡ None =
+    subst (λ n. session_of a.state n ≡ None) is.next
+    (numbers-none (λ (p : Session). p.handle) a.state.next_handle a.state.peers
+    (next-none a.state.next_handle _ sound.drawn)) in
+    record {
+      below = is.below;
+      fresh = fresh;
+      device = device-same a Begins_peer refl;
+      holds = record {
+        found = is.found fresh;
+        alive = refl;
+        held = held-call peer a Begins_peer tt ∙ ap bytes_found (no-entry a peer sound.same fresh);
+      };
+    }
+
+abbrev left_begun : AdapterState → TurnResult → AdapterState
+left_begun a t = record { state = t.state; held = held_at_beginning a.held t.answer.output }
+
+refused-by : (a : AdapterState) (full : Full) (places late : Bool) →
+    (begun_by a.state places late).answer.output ≡ Refuses full → left_begun a (begun_by a.state places late) ≡ a
+refused-by a full true late refuses = refl
+refused-by a full false true refuses = refl
+refused-by a full false false refuses = absurd (cc)
+
+-- The adapter refuses a peer: nothing changes.
+pub begins-not : (a : AdapterState) (full : Full) → (call_answer a Begins_peer).output ≡ Refuses full →
+    after_call a Begins_peer ≡ a
+begins-not a full output =
+    refused-by a full (not (ltb (length a.state.peers) a.state.places)) (ltb 0xffffffff a.state.next_handle) output
+
+-- A peer ends, and another keeps what it has (`holds-other`). The device is as it was.
+pub device-ended : (a : AdapterState) (peer : ℕ) →
+    (after_call a (Ends_peer peer)).state.shared.objects ≡ a.state.shared.objects
+device-ended a peer = device-same a (Ends_peer peer) refl
+
+-- Two peers with sessions that differ have different handles, and a new one is different from those that are there.
+pub apart-fresh : (a : AdapterState) (old new : ℕ) (session : Session) (bytes : List ℕ) →
+    Holds a old session bytes → session_of a.state new ≡ None → new ≢ old
+apart-fresh a old new session bytes holds none same =
+    let bad : Some session ≡ None = sym holds.found ∙ (ap (session_of a.state) (sym same) ∙ none) in cc
+
+-- ---- calls for others
+
+-- The device after any call: a run of the requests in its frames.
+pub device-run : (a : AdapterState) (call : Call) → (after_call a call).state.shared.objects
+    ≡ node_after objects_after objects_answer a.state.shared.objects (requests_of_calls a (call ∷ []))
+device-run a call =
+    calls-end a (call ∷ []) ∙ run-ends a.state.shared.objects (requests_of_calls a (call ∷ []))
+
+-- Such a run, as events of another at both ends: the device alone changes.
+abbrev pub others_requests : List LedgerRequest → List Event
+others_requests requests = map (λ request. Other request.0 request.1) requests
+
+pub others-run : (ends : BothEnds Contents) (requests : List LedgerRequest) →
+    fold (ends_step objects_after objects_answer) ends (others_requests requests)
+    ≡ record ends { device = node_after objects_after objects_answer ends.device requests }
+others-run ends [] = refl
+others-run ends (request ∷ requests) =
+    others-run (record ends { device = next objects_after objects_answer ends.device request }) requests
