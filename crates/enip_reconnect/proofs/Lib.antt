@@ -1,0 +1,9 @@
+pub mod AdapterSide
+pub mod ClientAnswers
+pub mod ClientPieces
+pub mod ClientReplies
+pub mod ClientSide
+pub mod Connecting
+pub mod Flights
+pub mod Steps
+pub mod Tracking
