@@ -1,7 +1,7 @@
 -- What the adapter does with the bytes of one peer, with a new peer, and with calls for others.
-use Rattle.std.proofs.Common.{◌≡◌, ◌≢◌, ℕ, ◌+◌, ◌<◌, ◌≤◌, ◌^◌, min, inl, inr, Bool, true, false, not, cond, eqb, ltb}
-use Rattle.std.proofs.Common.{Option, Some, None, List, [], ◌∷◌, ◌++◌, length, take, map, fold, Ok, Err, Result}
-use Rattle.std.proofs.Common.{refl, ap, ap₂, sym, ◌∙◌, subst, arith, append_assoc, append-nil, length-append, ltb-false}
+use Rattle.std.proofs.Common.{◌≡◌, ◌≢◌, ℕ, ◌+◌, ◌<◌, ◌≤◌, ◌^◌, inl, inr, Bool, true, false, not, cond, eqb, ltb}
+use Rattle.std.proofs.Common.{Some, None, List, [], ◌∷◌, ◌++◌, length, take, map, fold, Ok}
+use Rattle.std.proofs.Common.{refl, ap, sym, ◌∙◌, subst, arith, append_assoc, append-nil, length-append, ltb-false}
 use Rattle.std.proofs.lemmas.Bool.{eq-eqb, le-ltb, cases_lt}
 use Rattle.std.proofs.lemmas.List.{take_all}
 use Rattle.cip_bytes.specs.Numbers.{le, number_at}
@@ -19,24 +19,26 @@ use Rattle.cip_commander.specs.CommanderRule.{do_once}
 use Rattle.cip_commander.specs.Worlds.{Event, Other, BothEnds, ends_step}
 use Rattle.enip_wire.specs.Bodies.{rr_body_bytes, rr_body_of}
 use Rattle.enip_wire.specs.Frames.{Frame, frame, IsFrame, end_after}
-use Rattle.enip_wire.specs.Stream.{Parsed, parsed, held_and_taken, bytes_taken, cleared}
-use Rattle.enip_wire.specs.Stream.Parsed.{Incomplete, WholeFrame}
+use Rattle.enip_wire.specs.Stream.{parsed, held_and_taken, bytes_taken, cleared}
+use Rattle.enip_wire.specs.Stream.Parsed.{Incomplete}
 use Rattle.enip_wire.proofs.FrameLemmas.{length-frame, number_at-append, number_at-frame, end_after-within}
 use Rattle.enip_wire.proofs.PieceLemmas.{parsed-written}
 use Rattle.enip_wire.proofs.WriteLemmas.{rr_again}
-use Rattle.enip_wire.proofs.RunningLemmas.{IsRunning, bytes_taken-short, bytes_taken-long, bytes_taken-within, parsed-running}
+use Rattle.enip_wire.proofs.RunningLemmas.{IsRunning, bytes_taken-short, bytes_taken-long, bytes_taken-within}
+use Rattle.enip_wire.proofs.RunningLemmas.{parsed-running}
 use Rattle.enip_adapter.specs.declared.peer.Session.{Session}
 use Rattle.enip_adapter.specs.declared.shared.Shared.{Shared}
 use Rattle.enip_adapter.specs.declared.no_reply_reason.NoReplyReason.TheVariants.{NoFrame, NotServed}
 use Rattle.enip_adapter.specs.Calls.{AdapterState, Held, Call, Meaning, call_meaning, after_call, call_answer}
 use Rattle.enip_adapter.specs.declared.adapter.Full.{Full}
 use Rattle.enip_adapter.specs.declared.adapter.Full.TheVariants.{Places, Handles}
-use Rattle.enip_adapter.specs.Calls.{held_at_beginning, after_meaning, answer_of, bytes_held, bytes_found, events_of_parsed}
-use Rattle.enip_adapter.specs.Calls.Call.{Begins_peer, Feeds, Ends_peer, Ticks}
+use Rattle.enip_adapter.specs.Calls.{after_meaning, answer_of, bytes_held, bytes_found, events_of_parsed}
+use Rattle.enip_adapter.specs.Calls.{held_at_beginning}
+use Rattle.enip_adapter.specs.Calls.Call.{Begins_peer, Feeds, Ends_peer}
 use Rattle.enip_adapter.specs.Commands.{command_served}
 use Rattle.enip_adapter.specs.DeviceRuns.{device_requests, requests_of_calls, requests_by_session, requests_in_frame}
 use Rattle.enip_adapter.specs.DeviceRuns.{requests_in_rr, requests_by_route, objects_after, objects_answer}
-use Rattle.enip_adapter.specs.Lookup.{first_with, with_first}
+use Rattle.enip_adapter.specs.Lookup.{with_first}
 use Rattle.enip_adapter.specs.RegisterSession.{version_one}
 use Rattle.enip_adapter.specs.Replies.{Served, Reply as replies, leaving, answered, replied}
 use Rattle.enip_adapter.specs.Runs.{IsForOther}
@@ -46,7 +48,8 @@ use Rattle.enip_adapter.specs.Turn.{session_after, shared_after, sent, new_sessi
 use Rattle.enip_adapter.specs.Turn.Event.{At, Framed}
 use Rattle.enip_adapter.specs.Turn.Output.{NoReply, Sends, Begins, Refuses}
 use Rattle.enip_adapter.proofs.CutLemmas.{feed-open, shown}
-use Rattle.enip_adapter.proofs.ListLemmas.{first_with-number, first_with-set, first_with-behind, next-none, numbers-none}
+use Rattle.enip_adapter.proofs.ListLemmas.{first_with-number, first_with-set, first_with-behind, next-none}
+use Rattle.enip_adapter.proofs.ListLemmas.{numbers-none}
 use Rattle.enip_adapter.proofs.DeviceLemmas.{calls-end}
 use Rattle.enip_adapter.proofs.PeerLemmas.{at_state, held-call, session-call}
 use Rattle.enip_adapter.proofs.SoundLemmas.{IsSound, entry-of, no-entry}
@@ -129,7 +132,8 @@ held-set a peer session bytes sound found =
 -- A part of a frame arrives: it is taken and kept, and nothing else happens.
 pub record TakesPart (a : AdapterState) (now peer : ℕ) (session : Session) (held piece : List ℕ) : Type 0 where
   pub taken : (call_meaning a (Feeds now peer piece)).taken ≡ length piece
-  pub answer : ◌≡◌ {A = Answer} (call_answer a (Feeds now peer piece)) (record { output = NoReply NoFrame; close = false })
+  pub answer : ◌≡◌ {A = Answer} (call_answer a (Feeds now peer piece))
+      (record { output = NoReply NoFrame; close = false })
   pub device : (after_call a (Feeds now peer piece)).state.shared.objects ≡ a.state.shared.objects
   pub requests : requests_of_calls a (Feeds now peer piece ∷ []) ≡ []
   pub holds : Holds (after_call a (Feeds now peer piece)) peer session (held ++ piece)
@@ -150,7 +154,8 @@ part-by a now peer session held piece sound holds all none =
       events = At now ∷ events_of_parsed peer x;
       held = with_first (λ (h : Held). h.peer) peer (record { peer = peer; bytes = cleared x (held ++ piece) }) a.held;
     } in m)) none in
-    let after : after_call a (Feeds now peer piece) ≡ waiting a now peer (held ++ piece) = ap (after_meaning a.state) meant in
+    let after : after_call a (Feeds now peer piece) ≡ waiting a now peer (held ++ piece) =
+    ap (after_meaning a.state) meant in
     record {
       taken = ap (λ (m : Meaning). m.taken) meant;
       answer = ap (answer_of a.state) meant;
@@ -269,7 +274,7 @@ register-served : (shared : Shared) (peer number : ℕ) →
 unfolding command_served
 register-served shared peer number = refl
 
-is-register : (number : ℕ) → IsFrame (register_frame number)
+pub is-register : (number : ℕ) → IsFrame (register_frame number)
 is-register number = record {
   fields = record {
     command = omega arith;
@@ -306,7 +311,8 @@ registers-peer a now peer held piece number sound holds is =
     }
 
 -- Do_Once goes to the device, by its path.
-path_of-ledger : path_of (0x20 ∷ 0x65 ∷ 0x24 ∷ 1 ∷ []) ≡ Ok (record { class = 0x65; instance = 1; attribute = None; member = None })
+path_of-ledger : path_of (0x20 ∷ 0x65 ∷ 0x24 ∷ 1 ∷ [])
+    ≡ Ok (record { class = 0x65; instance = 1; attribute = None; member = None })
 unfolding path_of class_of instance_of attribute_of member_of whole_of segment_of
 path_of-ledger = refl
 
@@ -405,8 +411,8 @@ reaches-device a now peer held piece number command sound below holds small is =
     let takes : TakesFrame a now peer (registered_session peer) piece f served =
     subst (TakesFrame a now peer (registered_session peer) piece f)
     (request-served shared peer number request least small (route_of-do_once command))
-    (takes-frame a now peer (registered_session peer) held piece f sound holds (is-request peer number request below small)
-    is) in
+    (takes-frame a now peer (registered_session peer) held piece f sound holds
+    (is-request peer number request below small) is) in
     record {
       taken = takes.taken;
       answer = takes.answer;
