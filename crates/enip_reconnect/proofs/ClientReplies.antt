@@ -1,0 +1,96 @@
+-- Every reply of a device is one that a client takes for the reply to its request.
+use Rattle.std.proofs.Common.{◌≡◌, ℕ, ◌+◌, ◌*◌, ◌≤◌, nat_lt, Bool, true, false, if◌then◌else◌, List, [], ◌∷◌, length, slice_index, Result, Ok, Err, refl, sym, ap, subst, ◌∙◌, arith}
+use Rattle.std.proofs.lemmas.Bool.{le-ltb, ltb-false}
+use Rattle.cip_bytes.specs.Reading.{◌>>=◌}
+use Rattle.cip_bytes.specs.Protocol.{general_status_number}
+use Rattle.cip_message.specs.Reply.{Reply, reply_of, reply_of_fields, reply_service}
+use Rattle.cip_objects.specs.Contents.{Contents}
+use Rattle.cip_objects.specs.Execution.{Outcome, outcome, Executed, with_reply, or_refusal, exec}
+use Rattle.cip_objects.specs.ExecutionLaws.{is_outcome}
+use Rattle.cip_objects.specs.Status.{completion_status, refusal_status}
+use Rattle.cip_ledger.specs.Device.{Device, exec_device}
+use Rattle.cip_ledger.specs.Services.{Replies, Executes, Frees}
+use Rattle.cip_ledger.specs.Status.{status_number}
+use Rattle.cip_ledger.specs.Turn.{Fate, Passed, Served, fate, turn_by}
+use Rattle.cip_ledger.proofs.Devices.{after, answer, exec_device-begins, exec_device-within}
+
+-- a reply without additional status words
+record IsPlain (text : List ℕ) : Type 0 where
+  service : ℕ
+  status : ℕ
+  content : List ℕ
+  spelled : text ≡ service ∷ 0 ∷ status ∷ 0 ∷ content
+
+exec-plain : (objects : Contents) (max_size : ℕ) (request : List ℕ) → IsPlain (answer objects max_size request)
+unfolding exec
+exec-plain objects max_size request = go (outcome objects request) (outcome objects request >>= with_reply max_size request) refl
+  where
+    go : (r : Result Outcome _) (q : Result Executed _) → (r >>= with_reply max_size request) ≡ q →
+        IsPlain (or_refusal objects request q).answer
+    go r (Err why) e = record {
+      service = reply_service (slice_index request 0);
+      status = general_status_number (refusal_status why);
+      content = [];
+      spelled = refl;
+    }
+    go r (Ok executed) e =
+        let done = is_outcome max_size request r executed e in
+        record {
+          service = reply_service (slice_index request 0);
+          status = general_status_number (completion_status done.made.status);
+          content = done.made.content;
+          spelled = done.answer;
+        }
+
+turn-plain : (f : Fate) (device : Device) (max_size : ℕ) (request : List ℕ) →
+    IsPlain (turn_by after answer f device.ledger device.router max_size request).answer
+turn-plain Passed device max_size request = exec-plain device.router max_size request
+turn-plain (Served service (Replies reply)) device max_size request =
+    record { service = reply_service service; status = status_number reply.status; content = reply.content; spelled = refl }
+turn-plain (Served service (Executes command)) device max_size request =
+    record { service = reply_service service; status = 0; content = _; spelled = refl }
+turn-plain (Served service (Frees originator)) device max_size request =
+    record { service = reply_service service; status = 0; content = []; spelled = refl }
+
+-- bit 7 of a reply's service is set
+bit7 : (service : ℕ) → 128 ≤ reply_service service
+bit7 service = go (nat_lt service 128) refl
+  where
+    go : (small : Bool) → nat_lt service 128 ≡ small → 128 ≤ (if small then service + 128 else service)
+    go true e = omega arith
+    go false e = ltb-false service 128 e
+
+plain-read : (service status : ℕ) (content : List ℕ) → 128 ≤ service →
+    reply_of (service ∷ 0 ∷ status ∷ 0 ∷ content) ≡ Ok (reply_of_fields service status [] content)
+unfolding reply_of
+plain-read service status content high =
+    let marked : nat_lt service 128 ≡ false = le-ltb _ _ high in
+    let whole : nat_lt (length content) (2 * 0) ≡ false = le-ltb _ _ (omega arith) in
+    rw (marked, whole) refl
+
+-- a reply to a request of this service that fits an unconnected message
+pub record IsTaken (service : ℕ) (text : List ℕ) : Type 0 where
+  pub reply : Reply
+  pub read : reply_of text ≡ Ok reply
+  pub service_is : reply.service ≡ reply_service service
+  pub within : length text ≤ 504
+
+plain-taken : (service : ℕ) (text : List ℕ) → IsPlain text → slice_index text 0 ≡ reply_service service → length text ≤ 504 →
+    IsTaken service text
+plain-taken service text plain first within =
+    let same : plain.service ≡ reply_service service = ap (λ t. slice_index t 0) (sym plain.spelled) ∙ first in
+    record {
+      reply = reply_of_fields plain.service plain.status [] plain.content;
+      read = ap reply_of plain.spelled
+          ∙ plain-read plain.service plain.status plain.content (subst (λ n. 128 ≤ n) (sym same) (bit7 service));
+      service_is = same;
+      within = within;
+    }
+
+pub exec_device-taken : (device : Device) (request : List ℕ) → 2 ≤ length request →
+    IsTaken (slice_index request 0) (exec_device device 504 request).answer
+exec_device-taken device request long =
+    plain-taken (slice_index request 0) (exec_device device 504 request).answer
+    (turn-plain (fate device.ledger 504 request) device 504 request)
+    (exec_device-begins device 504 request (omega arith) long).service
+    (exec_device-within device 504 request (omega arith))

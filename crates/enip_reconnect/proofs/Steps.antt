@@ -1,0 +1,133 @@
+-- What an event comes to in messages.
+use Rattle.std.proofs.Common.{◌≡◌, ◌≢◌, ℕ, Option, Some, None, List, [], ◌∷◌, ◌++◌, refl, ap, sym, ◌∙◌, append-nil}
+use Rattle.std.specs.Prelude.{fold}
+use Rattle.std.specs.List.{AllByRecursion}
+use Rattle.cip_commander.specs.CommanderRule.{command_refusal}
+use Rattle.cip_commander.specs.Laws.{IsOthers, requests_of}
+use Rattle.cip_commander.specs.Worlds.{BothEnds, gives}
+use Rattle.cip_commander.specs.Worlds as messages
+use Rattle.cip_ledger.specs.Device.{Device}
+use Rattle.cip_objects.specs.Contents.{Contents}
+use Rattle.enip_adapter.specs.Calls.{AdapterState, Call, after_call}
+use Rattle.enip_adapter.specs.DeviceRuns.{objects_after, objects_answer, requests_of_calls}
+use Rattle.enip_adapter.specs.Runs.{IsForOther}
+use Rattle.enip_adapter.proofs.ListLemmas.{first_with-number}
+use Rattle.enip_reconnect.specs.Events.{Event, NewCommand, Abandon}
+use Rattle.enip_reconnect.specs.Laws.{MessageEvent, decisions_in, decisions_in_messages}
+use Rattle.enip_reconnect.specs.World.{TcpConnection, BrokenConnection, Ends, broken_with, calls_at, ends_step}
+use Rattle.enip_reconnect.proofs.Flights.{carries-more, carries-other}
+use Rattle.enip_reconnect.proofs.Tracking.{Tracks, IsLate, in_messages}
+
+abbrev pub message_step : BothEnds Contents → MessageEvent → BothEnds Contents
+message_step ends event = messages.ends_step objects_after objects_answer ends event
+
+abbrev pub message_run : BothEnds Contents → List MessageEvent → BothEnds Contents
+message_run ends events = fold message_step ends events
+
+-- The commands that are given in messages, with their numbers.
+abbrev pub given_at : BothEnds Contents → MessageEvent → List (ℕ × List ℕ)
+given_at ends (messages.NewCommand request) = gives ends.commander request (command_refusal ends.commander request)
+given_at ends other = []
+
+abbrev pub given_by : BothEnds Contents → List MessageEvent → List (ℕ × List ℕ)
+given_by ends [] = []
+given_by ends (event ∷ events) = given_at ends event ++ given_by (message_step ends event) events
+
+-- Both ends come from before to after with these calls of the adapter and these decisions, as they do in messages.
+pub record Comes (own : ℕ) (before after : Ends) (calls : List Call) (decisions : List MessageEvent)
+    (sent back : List (ℕ × List ℕ)) : Type 0 where
+  pub more : List MessageEvent
+  pub new_sent : List (ℕ × List ℕ)
+  pub new_back : List (ℕ × List ℕ)
+  pub tracks : Tracks after new_sent new_back
+  pub image : message_run (in_messages before sent back) more ≡ in_messages after new_sent new_back
+  pub reached : requests_of_calls before.adapter calls
+      ≡ requests_of objects_after objects_answer (in_messages before sent back) more
+  pub decided : decisions ≡ decisions_in_messages more
+  pub given : after.given ≡ before.given ++ given_by (in_messages before sent back) more
+  pub others : AllByRecursion (IsOthers own) more
+
+abbrev pub StepComes : ℕ → Ends → Event → List (ℕ × List ℕ) → List (ℕ × List ℕ) → Type 0
+StepComes own before event sent back =
+    Comes own before (ends_step before event) (calls_at before event) (decisions_in (event ∷ [])) sent back
+
+-- Nothing happens in messages.
+pub stays : (own : ℕ) (before after : Ends) (calls : List Call) (sent back : List (ℕ × List ℕ)) → Tracks after sent back →
+    in_messages before sent back ≡ in_messages after sent back → requests_of_calls before.adapter calls ≡ [] →
+    after.given ≡ before.given → Comes own before after calls [] sent back
+stays own before after calls sent back tracks image none given = record {
+  more = [];
+  new_sent = sent;
+  new_back = back;
+  tracks = tracks;
+  image = image;
+  reached = none;
+  decided = refl;
+  given = given ∙ sym (append-nil before.given);
+  others = tt;
+}
+
+-- Both ends in messages, with this device.
+abbrev pub with_device : Ends → List (ℕ × List ℕ) → List (ℕ × List ℕ) → Device → BothEnds Contents
+with_device ends sent back device = record (in_messages ends sent back) { device = device }
+
+-- ---- the originator's decisions
+
+pub new-command : (own : ℕ) (ends : Ends) (sent back : List (ℕ × List ℕ)) (request : List ℕ) → Tracks ends sent back →
+    StepComes own ends (NewCommand request) sent back
+new-command own ends sent back request is = record {
+  more = messages.NewCommand request ∷ [];
+  new_sent = sent;
+  new_back = back;
+  tracks = record { sound = is.sound; connection = is.connection; broken = is.broken };
+  image = refl;
+  reached = refl;
+  decided = refl;
+  given = ap (λ more. ends.given ++ more)
+      (sym (append-nil (gives ends.commander request (command_refusal ends.commander request))));
+  others = (tt, tt);
+}
+
+pub abandon : (own : ℕ) (ends : Ends) (sent back : List (ℕ × List ℕ)) → Tracks ends sent back →
+    StepComes own ends Abandon sent back
+abandon own ends sent back is = record {
+  more = messages.Abandon ∷ [];
+  new_sent = sent;
+  new_back = back;
+  tracks = record { sound = is.sound; connection = is.connection; broken = is.broken };
+  image = refl;
+  reached = refl;
+  decided = refl;
+  given = sym (append-nil ends.given);
+  others = (tt, tt);
+}
+
+-- ---- broken connections
+
+abbrev pub AreLate : AdapterState → List (ℕ × List ℕ) → List BrokenConnection → Type 0
+AreLate a sent broken = (peer : ℕ) (b : BrokenConnection) → broken_with peer broken ≡ Some b → IsLate a sent b
+
+-- A call for others leaves them.
+pub late-call : (a : AdapterState) (call : Call) (sent : List (ℕ × List ℕ)) (broken : List BrokenConnection) →
+    ((peer : ℕ) (b : BrokenConnection) → broken_with peer broken ≡ Some b → IsForOther b.peer call) →
+    AreLate a sent broken → AreLate (after_call a call) sent broken
+late-call a call sent broken other late peer b found =
+    let is : IsLate a sent b = late peer b found in
+    record {
+      flight = is.flight;
+      carries = carries-other a call sent b.peer b.to_adapter is.flight (other peer b found) is.carries;
+    }
+
+pub late-more : (a : AdapterState) (sent more : List (ℕ × List ℕ)) (broken : List BrokenConnection) → AreLate a sent broken →
+    AreLate a (sent ++ more) broken
+late-more a sent more broken late peer b found =
+    let is : IsLate a sent b = late peer b found in
+    record { flight = is.flight; carries = carries-more a sent more b.peer b.to_adapter is.flight is.carries }
+
+-- A connection with a handle that none of them has is another.
+pub apart-broken : (broken : List BrokenConnection) (peer q : ℕ) (b : BrokenConnection) → broken_with peer broken ≡ None →
+    broken_with q broken ≡ Some b → peer ≢ b.peer
+apart-broken broken peer q b none found same =
+    let number : b.peer ≡ q = first_with-number (λ (x : BrokenConnection). x.peer) q b broken found in
+    let bad : Some b ≡ None = sym found ∙ (ap (λ n. broken_with n broken) (sym number ∙ sym same) ∙ none) in
+    cc

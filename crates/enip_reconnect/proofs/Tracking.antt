@@ -1,0 +1,158 @@
+-- Both ends over TCP connections, beside both ends in whole messages: what is in flight is always one whole frame or none.
+use Rattle.std.proofs.Common.{◌≡◌, ℕ, ◌<◌, ◌≤◌, ◌^◌, Bool, true, false, Option, Some, None, List, [], ◌∷◌, ◌++◌, length, slice_index}
+use Rattle.std.specs.Prelude.{⊤}
+use Rattle.std.specs.List.{slice_get}
+use Rattle.cip_bytes.specs.declared.protocol.TheConstants.{UNCONNECTED_LIMIT}
+use Rattle.cip_commander.specs.CommanderRule.{do_once}
+use Rattle.cip_commander.specs.Worlds.{BothEnds}
+use Rattle.cip_ledger.specs.Requests.{Command}
+use Rattle.cip_objects.specs.Contents.{Contents}
+use Rattle.enip_adapter.specs.declared.peer.Session.{Session}
+use Rattle.enip_adapter.specs.Calls.{AdapterState}
+use Rattle.enip_adapter.specs.Turn.{new_session}
+use Rattle.enip_adapter.proofs.SoundLemmas.{IsSound}
+use Rattle.enip_client.specs.Client.{ClientState}
+use Rattle.enip_client.specs.Frames.{register_frame, request_frame}
+use Rattle.enip_wire.specs.Frames.{frame}
+use Rattle.enip_reconnect.specs.World.{TcpConnection, BrokenConnection, Ends, broken_with}
+use Rattle.enip_reconnect.proofs.AdapterSide.{Holds, registered_session}
+use Rattle.enip_reconnect.proofs.ClientReplies.{IsTaken}
+use Rattle.enip_reconnect.proofs.ClientSide.{IsNew, IsRegistering, IsFree, IsAsking, registered_frame}
+
+-- ---- on the way to the adapter
+
+-- What is on its way to the adapter on one TCP connection: nothing, on a session that is registered or not; a
+-- RegisterSession with this context; or, with this context, the message at this position of all that were sent, with
+-- this command.
+pub data Flight : Type 0 where
+  Nothing : (registered : Bool) → Flight
+  Registration : (context : ℕ) → Flight
+  Message : (context position : ℕ) (command : Command) → Flight
+
+-- The session at the adapter meanwhile, and the bytes.
+abbrev pub session_in : ℕ → Flight → Session
+session_in peer (Nothing registered) = record { handle = peer; registered = registered; closed = false }
+session_in peer (Registration context) = new_session peer
+session_in peer (Message context position command) = registered_session peer
+
+abbrev pub bytes_in : ℕ → Flight → List ℕ
+bytes_in peer (Nothing registered) = []
+bytes_in peer (Registration context) = frame (register_frame context)
+bytes_in peer (Message context position command) = frame (request_frame peer context (do_once command))
+
+-- The message was sent.
+pub record IsSentAt (sent : List (ℕ × List ℕ)) (position : ℕ) (command : Command) : Type 0 where
+  pub at : slice_get sent position ≡ Some (command.number, do_once command)
+  pub small : length (do_once command) ≤ UNCONNECTED_LIMIT
+
+abbrev pub WasSent : List (ℕ × List ℕ) → Flight → Type 0
+WasSent sent (Nothing registered) = ⊤
+WasSent sent (Registration context) = ⊤
+WasSent sent (Message context position command) = IsSentAt sent position command
+
+-- The adapter holds a front of these bytes, and the others are in flight.
+pub record Carries (a : AdapterState) (sent : List (ℕ × List ℕ)) (peer : ℕ) (in_flight : List ℕ) (flight : Flight) : Type 0 where
+  pub below : peer < 2 ^ 32
+  pub held : List ℕ
+  pub holds : Holds a peer (session_in peer flight) held
+  pub stream : held ++ in_flight ≡ bytes_in peer flight
+  pub was_sent : WasSent sent flight
+
+-- ---- a TCP connection
+
+-- How far it is: new; a RegisterSession is on its way, or the reply to it; nothing is on its way; a command is on its way;
+-- or the reply to it, which is the answer at this position of all that were sent back.
+pub data Phase : Type 0 where
+  New : Phase
+  Registering : (context : ℕ) → Phase
+  Registered : (context : ℕ) → Phase
+  Free : Phase
+  Asking : (context position : ℕ) (command : Command) → Phase
+  Answered : (context position number : ℕ) (message answer : List ℕ) → Phase
+
+abbrev pub flight_in : Phase → Flight
+flight_in New = Nothing false
+flight_in (Registering context) = Registration context
+flight_in (Registered context) = Nothing true
+flight_in Free = Nothing true
+flight_in (Asking context position command) = Message context position command
+flight_in (Answered context position number message answer) = Nothing true
+
+-- What is on its way to the originator.
+abbrev pub back_in : ℕ → Phase → List ℕ
+back_in peer New = []
+back_in peer (Registering context) = []
+back_in peer (Registered context) = frame (registered_frame peer context)
+back_in peer Free = []
+back_in peer (Asking context position command) = []
+back_in peer (Answered context position number message answer) = frame (request_frame peer context answer)
+
+-- The command that was asked, and the client.
+abbrev pub asked_in : Phase → Option ℕ
+asked_in New = None
+asked_in (Registering context) = None
+asked_in (Registered context) = None
+asked_in Free = None
+asked_in (Asking context position command) = Some command.number
+asked_in (Answered context position number message answer) = Some number
+
+abbrev pub ClientIs : ClientState → ℕ → Phase → Type 0
+ClientIs c peer New = IsNew c
+ClientIs c peer (Registering context) = IsRegistering c context
+ClientIs c peer (Registered context) = IsRegistering c context
+ClientIs c peer Free = IsFree c peer
+ClientIs c peer (Asking context position command) = IsAsking c peer context (do_once command)
+ClientIs c peer (Answered context position number message answer) = IsAsking c peer context message
+
+-- The answer was sent back.
+pub record IsBackAt (back : List (ℕ × List ℕ)) (position number : ℕ) (message answer : List ℕ) : Type 0 where
+  pub at : slice_get back position ≡ Some (number, answer)
+  pub taken : IsTaken (slice_index message 0) answer
+
+abbrev pub WasBack : List (ℕ × List ℕ) → Phase → Type 0
+WasBack back New = ⊤
+WasBack back (Registering context) = ⊤
+WasBack back (Registered context) = ⊤
+WasBack back Free = ⊤
+WasBack back (Asking context position command) = ⊤
+WasBack back (Answered context position number message answer) = IsBackAt back position number message answer
+
+pub record Runs (a : AdapterState) (sent back : List (ℕ × List ℕ)) (connection : TcpConnection) (phase : Phase) : Type 0 where
+  pub carries : Carries a sent connection.peer connection.to_adapter (flight_in phase)
+  pub client : ClientIs connection.client connection.peer phase
+  pub stream : connection.client.held ++ connection.to_originator ≡ back_in connection.peer phase
+  pub asked : connection.asked ≡ asked_in phase
+  pub was_back : WasBack back phase
+
+-- ---- both ends
+
+-- The TCP connection is not a broken one too.
+pub record IsOn (a : AdapterState) (sent back : List (ℕ × List ℕ)) (broken : List BrokenConnection)
+    (connection : TcpConnection) : Type 0 where
+  pub phase : Phase
+  pub runs : Runs a sent back connection phase
+  pub apart : broken_with connection.peer broken ≡ None
+
+abbrev pub IsOnIfAny : AdapterState → List (ℕ × List ℕ) → List (ℕ × List ℕ) → List BrokenConnection → Option TcpConnection → Type 0
+IsOnIfAny a sent back broken None = ⊤
+IsOnIfAny a sent back broken (Some connection) = IsOn a sent back broken connection
+
+-- A broken one.
+pub record IsLate (a : AdapterState) (sent : List (ℕ × List ℕ)) (broken : BrokenConnection) : Type 0 where
+  pub flight : Flight
+  pub carries : Carries a sent broken.peer broken.to_adapter flight
+
+pub record Tracks (ends : Ends) (sent back : List (ℕ × List ℕ)) : Type 0 where
+  pub sound : IsSound ends.adapter
+  pub connection : IsOnIfAny ends.adapter sent back ends.broken ends.connection
+  pub broken : (peer : ℕ) (b : BrokenConnection) → broken_with peer ends.broken ≡ Some b → IsLate ends.adapter sent b
+
+-- Both ends in messages, with what was sent and sent back.
+abbrev pub in_messages : Ends → List (ℕ × List ℕ) → List (ℕ × List ℕ) → BothEnds Contents
+in_messages ends sent back = record {
+  device = ends.adapter.state.shared.objects;
+  commander = ends.commander;
+  sent = sent;
+  back = back;
+  accepted = ends.accepted;
+}

@@ -1,0 +1,26 @@
+-- What may happen to both ends and to the TCP connections between them.
+use Rattle.std.specs.Prelude.{ℕ, List}
+use Rattle.enip_adapter.specs.Calls.{Call}
+use Rattle.enip_client.specs.declared.wants.Wants.{Wants}
+
+-- The originator gives a command, or gives the pending one up. It opens a TCP connection with a new client, if it has
+-- none. It registers a session, or sends the pending command's message.
+--
+-- At this time at most `count` bytes in flight reach the adapter. At most `count` bytes in flight reach the originator.
+--
+-- The TCP connection breaks at the originator. Bytes that were in flight to the adapter then may still arrive there, on
+-- the broken connection that has this peer handle, until it ends at the adapter.
+--
+-- A call of the adapter's that is not for the originator's peers: bytes of other peers, their beginning and end, time.
+pub data Event : Type 0 where
+  NewCommand : (request : List ℕ) → Event
+  Abandon : Event
+  Connect : (wants : Wants) → Event
+  Register : Event
+  Send : Event
+  ToAdapter : (now count : ℕ) → Event
+  ToOriginator : (count : ℕ) → Event
+  Break : Event
+  Late : (now peer count : ℕ) → Event
+  End : (peer : ℕ) → Event
+  Other : (call : Call) → Event

@@ -1,0 +1,52 @@
+//! What follows for an adapter and an originator over TCP connections, over every list of events.
+//!
+//! The functions do nothing: each one's clause is the law. A list of events says which commands are given, when TCP
+//! connections begin and break, when frames are sent, and how many bytes arrive where and when. Commands are unconnected
+//! requests. The device's life begins with an empty ledger, and lasts.
+
+ghost use Rattle.enip_reconnect.specs.Laws.{messages_law, worlds_law, journal_law, rising_law, given_law};
+ghost use Rattle.enip_reconnect.specs.Laws.{accepted_law, accepted_once_law, never_again_law};
+
+/// Whatever happens in bytes and frames is what happens in whole messages between a commander and a device, over which
+/// `cip_commander` has its laws: the same requests reach the device in the same order, the same commands are given, and
+/// the same replies are accepted. The next seven laws hold for all such messages.
+pub fn runs_amount_to_messages()
+    ensures { messages_law }
+{}
+
+/// The whole adapter and the whole client show what the numbered world shows: the machine, the originator, and each
+/// accepted reply with its number.
+pub fn worlds_agree()
+    ensures { worlds_law }
+{}
+
+/// What the device executes for the originator, and its replies, are what the log of the numbered world says.
+pub fn log_is_the_journal()
+    ensures { journal_law }
+{}
+
+/// No command is executed twice, and commands are executed in the order in which they were given.
+pub fn executed_once()
+    ensures { rising_law }
+{}
+
+/// Each number is given to one command, and nothing else is executed with it.
+pub fn executed_as_given()
+    ensures { given_law }
+{}
+
+/// An accepted reply to a number is that of its execution, and it was executed exactly once.
+pub fn accepted_is_executed_once()
+    ensures { accepted_law }
+{}
+
+/// At most one reply to each number is accepted.
+pub fn accepted_once()
+    ensures { accepted_once_law }
+{}
+
+/// Once a reply to a number was accepted, only greater numbers are executed, however the run goes on. So a command that
+/// was abandoned before it was executed at most once, and never will be again.
+pub fn never_again()
+    ensures { never_again_law }
+{}

@@ -1,0 +1,11 @@
+//! Numbered commands over TCP connections that break: what a whole adapter and an originator with a whole client show.
+//!
+//! The originator is a commander (`cip_commander`) and a client (`enip_client`) on one TCP connection at a time. The
+//! adapter (`enip_adapter`) has a command ledger. TCP connections break and are made anew at any point, with bytes in
+//! flight lost or still arriving late, and other peers send what they like. Commands go as unconnected requests
+//! (SendRRData).
+//!
+//! [`laws`] states what follows. This crate has no other code.
+#![tactic(auto)]
+
+pub mod laws;
