@@ -1,5 +1,5 @@
-"""Gives a command to a device with a command ledger, and repeats it until the device answers. The device executes it once.
-If this program is killed, the same line continues. Copy it with enip.py, which says what FILE holds.
+"""Gives a command to a device with a command ledger, and repeats it until the device answers. The device executes it
+once. If this program is killed, the same line continues. Copy it with enip.py, which says what FILE holds.
 
     python3 command.py 127.0.0.1 44818 FILE                         adds 1 to the counter
     python3 command.py 127.0.0.1 44818 FILE 32022064240105000000    any request: this one adds 5

@@ -56,9 +56,9 @@ request_kept (Some c) = c.pending
 
 -- The commander's values are these.
 pub record HasValues (c : CommanderState) (life originator last_number : ℕ) : Type 0 where
-  pub life : life ≡ c.life
-  pub originator : originator ≡ c.originator
-  pub last_number : last_number ≡ c.last_number
+  pub is_life : life ≡ c.life
+  pub is_originator : originator ≡ c.originator
+  pub is_last_number : last_number ≡ c.last_number
 
 abbrev pub HasValuesKept : Option CommanderState → ℕ → ℕ → ℕ → Type 0
 HasValuesKept None life originator last_number = ⊥

@@ -242,7 +242,7 @@ fn receive(commander: &mut Commander, reply: &[u8], buffer: &mut [u8]) -> CComma
 }
 
 fn return_outcome(outcome: CommandOutcome<'_>, buffer: &mut [u8]) -> CCommandOutcome
-    requires { IsWithin (length buffer.old) (outcome_in outcome.entry) }
+    requires { IsWithin (length buffer.old) (outcome_in outcome) }
     ensures { record { outcome = result; buffer = buffer.new } ≡ returned_outcome (outcome_in outcome.entry) buffer.old }
 {
     match outcome {
