@@ -354,7 +354,9 @@ class Commander:
             reply = self._exchange(request)
             if reply is not None:
                 return reply
-        raise EnipTimeout("no answer: the command was executed once or not at all")
+        if self.pending is None:
+            raise EnipTimeout("no answer: no command was given")
+        raise EnipTimeout("no answer: the command may have been executed; the same line sends it again")
 
     def abandon(self):
         """Gives up the pending command: it is executed once or not at all."""
