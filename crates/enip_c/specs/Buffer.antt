@@ -24,6 +24,7 @@ status_number status.LongRequest = 15
 status_number status.GivenUp = 16
 status_number status.Abandoned = 17
 status_number status.Wants = 18
+status_number status.Numbers = 19
 
 -- Bytes at the front of a buffer, whose rest stays as it was.
 abbrev pub in_buffer : List ℕ → List ℕ → List ℕ

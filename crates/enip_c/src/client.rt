@@ -517,7 +517,7 @@ fn return_reply(taken: usize, kind: u32, reply: &[u8], buffer: &mut [u8]) -> Hea
     }
 }
 
-fn general_in(reply: &[u8]) -> u32
+pub(crate) fn general_in(reply: &[u8]) -> u32
     ensures { result ≡ general_in reply.now }
 {
     if reply.len() < 4 {
