@@ -21,6 +21,7 @@
 #include <stdio.h>
 #include <stdlib.h>
 #include <string.h>
+#include <sys/file.h>
 #include <sys/random.h>
 #include <sys/socket.h>
 #include <sys/time.h>
@@ -80,15 +81,15 @@ static void read_file(void) {
     int lock, fields;
     FILE *file;
     snprintf(name, sizeof name, "%s.lock", path);
-    if ((lock = open(name, O_RDWR | O_CREAT, 0600)) < 0 || lockf(lock, F_TLOCK, 0) != 0)
+    if ((lock = open(name, O_RDWR | O_CREAT, 0600)) < 0 || flock(lock, LOCK_EX | LOCK_NB) != 0)
         fail(name, strerror(errno));
     if ((file = fopen(path, "r")) != NULL) {
         fields = fscanf(file, "enip commands 1 originator %" SCNx64 " life %" SCNu64 " number %" SCNu32
-                        " pending %956[0-9a-f]", &originator, &life, &number, hex);
+                        " pending %956[0-9a-fno]", &originator, &life, &number, hex);
         fclose(file);
-        if (fields < 3)
+        if (fields != 4)
             fail(path, "not a file of commands");
-        if (fields == 4) {
+        if (strcmp(hex, "none") != 0) {
             check(path, enip_once_resume(life, originator, number, request, read_hex(hex, request), &once));
             return;
         }
@@ -113,10 +114,11 @@ static void write_file(void) {
     enip_once_values(once, &life, &originator, &number);
     fprintf(file, "enip commands 1\noriginator %016" PRIx64 "\nlife %" PRIu64 "\nnumber %" PRIu32 "\n", originator,
             life, number);
-    if (enip_once_request(once, request, sizeof request, &size) == ENIP_OK) {
-        fputs("pending ", file);
+    fputs("pending ", file);
+    if (enip_once_request(once, request, sizeof request, &size) == ENIP_OK)
         print_hex(file, request, size);
-    }
+    else
+        fputs("none\n", file);
     if (fflush(file) != 0 || fsync(fileno(file)) != 0 || fclose(file) != 0 || rename(name, path) != 0)
         fail(name, strerror(errno));
     if ((folder = open(dirname(name), O_RDONLY)) < 0 || fsync(folder) != 0 || close(folder) != 0)

@@ -327,7 +327,7 @@ class Commander:
         self._once = ctypes.c_void_p()
         # Only one process may use the file: two would use a number twice.
         self._lock = open(self._file + ".lock", "w")
-        fcntl.lockf(self._lock, fcntl.LOCK_EX | fcntl.LOCK_NB)
+        fcntl.flock(self._lock, fcntl.LOCK_EX | fcntl.LOCK_NB)
         self._life, self._originator, self.number, self.pending = 0, int.from_bytes(os.urandom(8), "little"), 0, None
         if os.path.exists(self._file):
             self._read()
@@ -422,8 +422,8 @@ class Commander:
             fields = dict(line.split(" ", 1) for line in file.read().splitlines())
         try:
             self._originator, self._life = int(fields["originator"], 16), int(fields["life"])
-            self.number, pending = int(fields["number"]), fields.get("pending")
-            self.pending = None if pending is None else bytes.fromhex(pending)
+            self.number, pending = int(fields["number"]), fields["pending"]
+            self.pending = None if pending == "none" else bytes.fromhex(pending)
         except (KeyError, ValueError) as error:
             raise EnipError(self._file + ": not a file of commands") from error
         values = self._life, self._originator, self.number
@@ -433,8 +433,7 @@ class Commander:
     def _store(self, life, number, pending):
         """Writes a new file, which takes the place of the old one. On return it is on the disk."""
         text = f"enip commands 1\noriginator {self._originator:016x}\nlife {life}\nnumber {number}\n"
-        if pending is not None:
-            text += f"pending {pending.hex()}\n"
+        text += f"pending {'none' if pending is None else pending.hex()}\n"
         with open(self._file + ".new", "w") as file:
             file.write(text)
             file.flush()
