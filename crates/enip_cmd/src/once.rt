@@ -26,11 +26,11 @@ use std::time::{Duration, Instant};
 
 const OUTPUT: &str = "standard output";
 
-/// How long to wait before a file in use is tried again (ours).
-const LOCK_INTERVAL: Duration = Duration::from_millis(20);
+/// How long to wait before a file in use is tried again, in milliseconds (ours).
+const LOCK_INTERVAL: u64 = 20;
 
-/// How long to wait before a device is tried again (ours).
-const RETRY_DELAY: Duration = Duration::from_millis(100);
+/// How long to wait before a device is tried again, in milliseconds (ours).
+const RETRY_DELAY: u64 = 100;
 
 /// The bytes of a sequence count, which precedes a request on a connection. (Volume 1, transport class 3.)
 const COUNT_SIZE: usize = 2;
@@ -65,6 +65,7 @@ impl<'a> OnceOptions<'a> {
 }
 
 /// A device, and the file of the commands that it is sent.
+#[derive(Drop)]
 struct OnceRun<'a, 'r> {
     rt: &'r HostRuntime,
     device: Device<'a>,
@@ -229,7 +230,7 @@ impl<'a> OnceRun<'a, '_> {
             match self.exchange_once(request, connected, reply) {
                 Err(error) if number != self.options.tries && error.may_pass() => {
                     print_reason(self.rt, &error.into_reason());
-                    thread::sleep(self.rt, RETRY_DELAY);
+                    thread::sleep(self.rt, Duration::from_millis(RETRY_DELAY));
                 }
                 ended => return ended,
             }
@@ -277,7 +278,7 @@ impl<'a> OnceRun<'a, '_> {
                     break;
                 }
             }
-            thread::sleep(self.rt, LOCK_INTERVAL);
+            thread::sleep(self.rt, Duration::from_millis(LOCK_INTERVAL));
         }
         Err(CommandError::of_reason(Reason::InUse(self.options.file)).with_note(Note::NotSent))
     }
