@@ -196,7 +196,8 @@ enip call [OPTIONS] <ADDRESS> <SERVICE> <CLASS> <INSTANCE> [HEX]
 pub(crate) const EXAMPLES_CALL: &str = "\
 Examples:
   enip call 127.0.0.1 50 100 1 05000000
-  enip call 127.0.0.1 51 100 1 --connected";
+  enip call 127.0.0.1 51 100 1 --connected
+  enip call 127.0.0.1 50 100 1 05000000 --once commands";
 
 pub(crate) const DETAILS_CALL: &str = "\
 The request has a session of its own, or with --connected a connection of its
@@ -224,6 +225,9 @@ Examples:
   enip call 127.0.0.1 51 100 1 --connected
       calls service 51 (0x33) on a class 3 connection; the demo device sets its
       counter to 0
+  enip call 127.0.0.1 50 100 1 05000000 --once commands
+      adds 5 exactly once, however often this line is run until it succeeds; the
+      device needs a command ledger
 
 For exit statuses, see `enip --help`.";
 
@@ -458,10 +462,10 @@ SHORT_STRING             up to 255 characters; \\xNN is a byte, \\\\ a
                          backslash";
 
 pub(crate) const ONCE_DETAILS: &str = "\
-Execute the command once, even if connections are lost. The device must
-have a command ledger. FILE, which is created if there is none, has who
-gives the commands, the number of the last one, and the command while
-it is pending. It is written before the command is sent. FILE.lock and
+Execute the command once, even if connections are lost. The device
+needs a command ledger. FILE has who gives the commands, the number of
+the last one, and the command while it is pending. It is created if
+there is none, and written before the command is sent. FILE.lock and
 FILE.new are files next to it";
 
 pub(crate) const TRIES_DETAILS: &str = "\
@@ -469,10 +473,11 @@ With --once, try up to N times, each on a new connection, until the
 device answers. 0 is for ever";
 
 pub(crate) const PENDING_DETAILS: &str = "\
-With --once, send the pending command of FILE, and not the one in the
+With --once, send the pending command of FILE and not the one in the
 arguments, which can be left out";
 
 pub(crate) const ABANDON_DETAILS: &str = "\
 With --once, give up the pending command of FILE, which is executed
-once or not at all. Then send the command in the arguments; if it is
-left out, send nothing";
+once or not at all, and send the one in the arguments as a new
+command. If it is left out, send nothing. If there is no answer, do
+not repeat this line: leave out --abandon";
