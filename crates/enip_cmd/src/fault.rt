@@ -25,6 +25,15 @@ pub enum Fault {
     /// An argument is not a value of the requested type.
     #[error("value")]
     Value,
+    /// The pending command of a command file is not the one in the arguments, or there is none.
+    #[error("pending")]
+    Pending,
+    /// The pending command of a command file was for another life of the device.
+    #[error("life")]
+    Life,
+    /// A line of a command file is refused: its number, from 1.
+    #[error("line {0}")]
+    CommandFile(u64),
     /// A client's request got no reply.
     #[error("{0}")]
     Request(RequestFailure),
@@ -36,9 +45,10 @@ impl Fault {
         ensures { result ≡ exit_status self }
     {
         match self {
-            Fault::Value => 2,
+            Fault::Value | Fault::Pending | Fault::Life => 2,
             Fault::Configuration(_) => 3,
             Fault::Setup => ReplayFailure::Setup.exit_status(),
+            Fault::CommandFile(_) => 4,
             Fault::Run(fault) => fault.exit_status(),
             Fault::Request(failure) => failure.exit_status(),
         }

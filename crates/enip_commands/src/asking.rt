@@ -228,16 +228,20 @@ pub fn ask_over<R: Source, W: Sink, O: Write + Drop>(
 {
     let mut output = BufWriter::new(alloc, output)?;
     let mut reply = ReplyBuf::new();
-    let asked = ask_once(alloc, reader, writer, request, connected, &mut reply);
+    let asked = exchange_over(alloc, reader, writer, request, connected, &mut reply);
     print_asked(alloc, &mut output, style, asked, reply.as_slice())
 }
 
-/// Sends one request with a new client.
+/// Sends one request over a reader and a writer with a new client, and leaves the router's reply in `reply`. If
+/// `connected` is set, the request is sent on a connection, which is opened before and closed afterwards.
 ///
 /// # Errors
 ///
-/// As for `ask_over`, and `Client` with `Refused` if the connection was not opened or not closed.
-fn ask_once<R: Source, W: Sink>(
+/// `Session` if the device refuses the session. `Client` with `Refused` if the connection was not opened or not closed,
+/// with `Request` if the request cannot be sent on it, with `Malformed` if the reply is malformed, or with another fault
+/// of the client. `Program` if the reader or the writer failed, the input ended, or memory was refused. If memory was
+/// refused, nothing was read or written.
+pub fn exchange_over<R: Source, W: Sink>(
     alloc: Global,
     reader: &mut R,
     writer: &mut W,
@@ -288,6 +292,27 @@ fn print_asked<O: Write>(
         }
         Err(stop) => return Err(stop),
     };
+    output.flush()?;
+    Ok(replied)
+}
+
+/// Prints a reply on `output` in a style, as `ask_over` does.
+///
+/// # Errors
+///
+/// `Client` with `Malformed` if the bytes are not a reply. `Shape` if its data are not values of the style's type.
+/// `Program` if the output failed or memory was refused.
+pub fn show_reply<O: Write + Drop>(
+    alloc: Global,
+    output: O,
+    style: Style,
+    bytes: &[u8],
+) -> Result<ReplyOutcome, RequestFailure>
+    ensures rendered { IfOk result (IsReplyPrinted bytes.now) }
+    ensures not_printed { IfErr result (IsNotPrinted style bytes.now) }
+{
+    let mut output = BufWriter::new(alloc, output)?;
+    let replied = print_reply(alloc, &mut output, style, bytes)?;
     output.flush()?;
     Ok(replied)
 }

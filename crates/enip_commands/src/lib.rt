@@ -8,6 +8,9 @@
 //! - [`list_over`] and [`identities_over`] ask a device for its identity or its services. [`print_devices`] and
 //!   [`print_device_objects`] print the answers to a broadcast.
 //!
+//! - [`exchange_over`] and [`show_reply`] are the two halves of it. Between them, [`begin_once`] and [`read_life`] are for
+//!   commands that are executed once, whose [`CommandFile`] is read by [`read_commander`].
+//!
 //! A command over lines is built from [`TakeLines`], [`read_lines`], [`decode`], [`decimal`] and [`Digits`].
 //! `enip_replay` uses them for scripts.
 //!
@@ -20,6 +23,7 @@
 
 mod answering;
 mod asking;
+mod command_file;
 mod digits;
 mod fault;
 mod identities;
@@ -28,6 +32,7 @@ mod json;
 mod line_fault;
 mod lines;
 mod listing;
+mod once;
 mod peer_number;
 mod reading;
 mod session;
@@ -36,7 +41,11 @@ mod style;
 mod typed;
 
 pub use answering::answer;
-pub use asking::{DeviceRequest, ReplyOutcome, RequestFailure, WANTS, ask_over, report_outcome};
+pub use asking::{
+    DeviceRequest, ReplyOutcome, RequestFailure, WANTS, ask_over, exchange_over, report_outcome,
+    show_reply,
+};
+pub use command_file::{CommandFile, CommandFileFault, read_commander, write_commander};
 pub use digits::{Digits, decode};
 pub use fault::ProgramFault;
 pub use identities::{identities_over, print_device_objects};
@@ -44,6 +53,10 @@ pub use input_lines::{TakeLines, read_lines};
 pub use line_fault::LineFault;
 pub use lines::decimal;
 pub use listing::{list_over, print_devices};
+pub use once::{
+    LIFE_REQUEST, LedgerRefusal, LifeFault, OnceRefusal, PendingChoice, begin_once, check_once,
+    read_life,
+};
 pub use reading::{Readings, print_reading};
 pub use session::DeviceSession;
 pub use showing::show_frames;
