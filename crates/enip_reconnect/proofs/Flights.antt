@@ -9,6 +9,7 @@ use Rattle.cip_ledger.specs.Device.{Device, exec_device}
 use Rattle.cip_ledger.specs.Requests.{Command}
 use Rattle.cip_ledger.specs.Runs.{Request}
 use Rattle.enip_adapter.specs.Calls.{AdapterState, Call, call_meaning, call_answer, after_call}
+use Rattle.enip_adapter.specs.Calls.Call.{Feeds}
 use Rattle.enip_adapter.specs.DeviceRuns.{requests_of_calls}
 use Rattle.enip_adapter.specs.Runs.{IsForOther}
 use Rattle.enip_adapter.specs.Serving.{output_bytes}
@@ -16,7 +17,6 @@ use Rattle.enip_adapter.specs.Turn.{Answer, new_session}
 use Rattle.enip_adapter.proofs.SoundLemmas.{IsSound}
 use Rattle.enip_client.specs.Frames.{register_frame, request_frame}
 use Rattle.enip_wire.specs.Frames.{Frame, frame, IsFrame}
-use Rattle.enip_reconnect.specs.World.{feed}
 use Rattle.enip_reconnect.proofs.AdapterSide.{Holds, holds-other, TakesPart, takes-part, takes-nothing, Registers, registers-peer, Reaches, reaches-device, registered_session, is-request}
 use Rattle.enip_reconnect.proofs.ClientSide.{registered_frame, register-framed}
 use Rattle.enip_reconnect.proofs.Tracking.{Flight, Nothing, Registration, Message, session_in, bytes_in, IsSentAt, WasSent, Carries}
@@ -74,15 +74,19 @@ carries-other a call sent peer in_flight flight other is = record {
 
 -- ---- what arrives
 
--- So many of the bytes in flight arrive. This is answered, the device has this state, these requests reached it, and this
+-- So many of the bytes in flight arrive.
+abbrev pub arrival : ℕ → ℕ → ℕ → List ℕ → Call
+arrival now peer count in_flight = Feeds now peer (take count in_flight)
+
+-- This is answered, the device has this state, these requests reached it, and this
 -- is still in flight.
 pub record Arrives (a : AdapterState) (sent : List (ℕ × List ℕ)) (now peer count : ℕ) (in_flight : List ℕ)
     (answer : List ℕ) (device : Device) (requests : List Request) (flight : Flight) : Type 0 where
-  pub answer_is : output_bytes (call_answer a (feed now peer count in_flight)).output ≡ answer
-  pub device_is : (after_call a (feed now peer count in_flight)).state.shared.objects ≡ device
-  pub requests_are : requests_of_calls a (feed now peer count in_flight ∷ []) ≡ requests
-  pub carries : Carries (after_call a (feed now peer count in_flight)) sent peer
-      (drop (call_meaning a (feed now peer count in_flight)).taken in_flight) flight
+  pub answer_is : output_bytes (call_answer a (arrival now peer count in_flight)).output ≡ answer
+  pub device_is : (after_call a (arrival now peer count in_flight)).state.shared.objects ≡ device
+  pub requests_are : requests_of_calls a (arrival now peer count in_flight ∷ []) ≡ requests
+  pub carries : Carries (after_call a (arrival now peer count in_flight)) sent peer
+      (drop (call_meaning a (arrival now peer count in_flight)).taken in_flight) flight
 
 -- Nothing happens but that the adapter holds more of it.
 abbrev pub Waits : AdapterState → List (ℕ × List ℕ) → ℕ → ℕ → ℕ → List ℕ → Flight → Type 0

@@ -1,14 +1,7 @@
 pub mod AdapterSide
-pub mod Arriving
-pub mod ArrivingLate
 pub mod ClientPieces
 pub mod ClientReplies
 pub mod ClientSide
-pub mod Connecting
-pub mod Corollaries
 pub mod Flights
-pub mod MessageRuns
-pub mod Others
-pub mod Receiving
 pub mod Steps
 pub mod Tracking

@@ -14,9 +14,9 @@ use Rattle.enip_adapter.specs.Runs.{IsForOther}
 use Rattle.enip_adapter.proofs.ListLemmas.{first_with-number}
 use Rattle.enip_reconnect.specs.Events.{Event, NewCommand, Abandon}
 use Rattle.enip_reconnect.specs.Laws.{MessageEvent, decisions_in, decisions_in_messages}
-use Rattle.enip_reconnect.specs.World.{TcpConnection, BrokenConnection, Ends, broken_with, calls_at, ends_step}
+use Rattle.enip_reconnect.specs.World.{Stream, Ends, stream_with, calls_at, ends_step}
 use Rattle.enip_reconnect.proofs.Flights.{carries-more, carries-other}
-use Rattle.enip_reconnect.proofs.Tracking.{Tracks, IsLate, in_messages}
+use Rattle.enip_reconnect.proofs.Tracking.{Tracks, IsFlying, AreFlying, in_messages}
 
 abbrev pub message_step : BothEnds Contents → MessageEvent → BothEnds Contents
 message_step ends event = messages.ends_step objects_after objects_answer ends event
@@ -79,7 +79,7 @@ new-command own ends sent back request is = record {
   more = messages.NewCommand request ∷ [];
   new_sent = sent;
   new_back = back;
-  tracks = record { sound = is.sound; connection = is.connection; broken = is.broken };
+  tracks = record { sound = is.sound; connection = is.connection; streams = is.streams };
   image = refl;
   reached = refl;
   decided = refl;
@@ -94,7 +94,7 @@ abandon own ends sent back is = record {
   more = messages.Abandon ∷ [];
   new_sent = sent;
   new_back = back;
-  tracks = record { sound = is.sound; connection = is.connection; broken = is.broken };
+  tracks = record { sound = is.sound; connection = is.connection; streams = is.streams };
   image = refl;
   reached = refl;
   decided = refl;
@@ -102,32 +102,25 @@ abandon own ends sent back is = record {
   others = (tt, tt);
 }
 
--- ---- broken connections
-
-abbrev pub AreLate : AdapterState → List (ℕ × List ℕ) → List BrokenConnection → Type 0
-AreLate a sent broken = (peer : ℕ) (b : BrokenConnection) → broken_with peer broken ≡ Some b → IsLate a sent b
+-- ---- streams
 
 -- A call for others leaves them.
-pub late-call : (a : AdapterState) (call : Call) (sent : List (ℕ × List ℕ)) (broken : List BrokenConnection) →
-    ((peer : ℕ) (b : BrokenConnection) → broken_with peer broken ≡ Some b → IsForOther b.peer call) →
-    AreLate a sent broken → AreLate (after_call a call) sent broken
-late-call a call sent broken other late peer b found =
-    let is : IsLate a sent b = late peer b found in
+pub flying-call : (a : AdapterState) (call : Call) (sent : List (ℕ × List ℕ)) (streams : List Stream) →
+    ((peer : ℕ) (s : Stream) → stream_with peer streams ≡ Some s → IsForOther s.peer call) →
+    AreFlying a sent streams → AreFlying (after_call a call) sent streams
+flying-call a call sent streams other flying peer s found =
+    let is : IsFlying a sent s = flying peer s found in
     record {
       flight = is.flight;
-      carries = carries-other a call sent b.peer b.to_adapter is.flight (other peer b found) is.carries;
+      carries = carries-other a call sent s.peer s.in_flight is.flight (other peer s found) is.carries;
     }
 
-pub late-more : (a : AdapterState) (sent more : List (ℕ × List ℕ)) (broken : List BrokenConnection) → AreLate a sent broken →
-    AreLate a (sent ++ more) broken
-late-more a sent more broken late peer b found =
-    let is : IsLate a sent b = late peer b found in
-    record { flight = is.flight; carries = carries-more a sent more b.peer b.to_adapter is.flight is.carries }
+pub flying-more : (a : AdapterState) (sent more : List (ℕ × List ℕ)) (streams : List Stream) → AreFlying a sent streams →
+    AreFlying a (sent ++ more) streams
+flying-more a sent more streams flying peer s found =
+    let is : IsFlying a sent s = flying peer s found in
+    record { flight = is.flight; carries = carries-more a sent more s.peer s.in_flight is.flight is.carries }
 
--- A connection with a handle that none of them has is another.
-pub apart-broken : (broken : List BrokenConnection) (peer q : ℕ) (b : BrokenConnection) → broken_with peer broken ≡ None →
-    broken_with q broken ≡ Some b → peer ≢ b.peer
-apart-broken broken peer q b none found same =
-    let number : b.peer ≡ q = first_with-number (λ (x : BrokenConnection). x.peer) q b broken found in
-    let bad : Some b ≡ None = sym found ∙ (ap (λ n. broken_with n broken) (sym number ∙ sym same) ∙ none) in
-    cc
+-- The stream that is found has the handle.
+pub stream-number : (streams : List Stream) (peer : ℕ) (s : Stream) → stream_with peer streams ≡ Some s → s.peer ≡ peer
+stream-number streams peer s found = first_with-number (λ (x : Stream). x.peer) peer s streams found

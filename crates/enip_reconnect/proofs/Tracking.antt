@@ -14,7 +14,7 @@ use Rattle.enip_adapter.proofs.SoundLemmas.{IsSound}
 use Rattle.enip_client.specs.Client.{ClientState}
 use Rattle.enip_client.specs.Frames.{register_frame, request_frame}
 use Rattle.enip_wire.specs.Frames.{frame}
-use Rattle.enip_reconnect.specs.World.{TcpConnection, BrokenConnection, Ends, broken_with}
+use Rattle.enip_reconnect.specs.World.{TcpConnection, Stream, Ends, stream_with}
 use Rattle.enip_reconnect.proofs.AdapterSide.{Holds, registered_session}
 use Rattle.enip_reconnect.proofs.ClientReplies.{IsTaken}
 use Rattle.enip_reconnect.proofs.ClientSide.{IsNew, IsRegistering, IsFree, IsAsking, registered_frame}
@@ -117,35 +117,43 @@ WasBack back Free = ⊤
 WasBack back (Asking context position command) = ⊤
 WasBack back (Answered context position number message answer) = IsBackAt back position number message answer
 
-pub record Runs (a : AdapterState) (sent back : List (ℕ × List ℕ)) (connection : TcpConnection) (phase : Phase) : Type 0 where
-  pub carries : Carries a sent connection.peer connection.to_adapter (flight_in phase)
+-- The originator's end, with what is on its way to it.
+pub record Runs (back : List (ℕ × List ℕ)) (connection : TcpConnection) (phase : Phase) : Type 0 where
   pub client : ClientIs connection.client connection.peer phase
-  pub stream : connection.client.held ++ connection.to_originator ≡ back_in connection.peer phase
+  pub stream : connection.client.held ++ connection.in_flight ≡ back_in connection.peer phase
   pub asked : connection.asked ≡ asked_in phase
   pub was_back : WasBack back phase
 
 -- ---- both ends
 
--- The TCP connection is not a broken one too.
-pub record IsOn (a : AdapterState) (sent back : List (ℕ × List ℕ)) (broken : List BrokenConnection)
-    (connection : TcpConnection) : Type 0 where
-  pub phase : Phase
-  pub runs : Runs a sent back connection phase
-  pub apart : broken_with connection.peer broken ≡ None
+-- What is on the way to the adapter on a stream.
+abbrev pub Flies : AdapterState → List (ℕ × List ℕ) → Stream → Flight → Type 0
+Flies a sent stream flight = Carries a sent stream.peer stream.in_flight flight
 
-abbrev pub IsOnIfAny : AdapterState → List (ℕ × List ℕ) → List (ℕ × List ℕ) → List BrokenConnection → Option TcpConnection → Type 0
-IsOnIfAny a sent back broken None = ⊤
-IsOnIfAny a sent back broken (Some connection) = IsOn a sent back broken connection
-
--- A broken one.
-pub record IsLate (a : AdapterState) (sent : List (ℕ × List ℕ)) (broken : BrokenConnection) : Type 0 where
+-- Something or nothing.
+pub record IsFlying (a : AdapterState) (sent : List (ℕ × List ℕ)) (stream : Stream) : Type 0 where
   pub flight : Flight
-  pub carries : Carries a sent broken.peer broken.to_adapter flight
+  pub carries : Flies a sent stream flight
+
+abbrev pub AreFlying : AdapterState → List (ℕ × List ℕ) → List Stream → Type 0
+AreFlying a sent streams = (peer : ℕ) (stream : Stream) → stream_with peer streams ≡ Some stream → IsFlying a sent stream
+
+-- If the TCP connection did not end at the adapter, its stream has what the phase says.
+pub record IsOn (a : AdapterState) (sent back : List (ℕ × List ℕ)) (streams : List Stream) (connection : TcpConnection)
+    : Type 0 where
+  pub below : connection.peer < 2 ^ 32
+  pub phase : Phase
+  pub runs : Runs back connection phase
+  pub flies : (stream : Stream) → stream_with connection.peer streams ≡ Some stream → Flies a sent stream (flight_in phase)
+
+abbrev pub IsOnIfAny : AdapterState → List (ℕ × List ℕ) → List (ℕ × List ℕ) → List Stream → Option TcpConnection → Type 0
+IsOnIfAny a sent back streams None = ⊤
+IsOnIfAny a sent back streams (Some connection) = IsOn a sent back streams connection
 
 pub record Tracks (ends : Ends) (sent back : List (ℕ × List ℕ)) : Type 0 where
   pub sound : IsSound ends.adapter
-  pub connection : IsOnIfAny ends.adapter sent back ends.broken ends.connection
-  pub broken : (peer : ℕ) (b : BrokenConnection) → broken_with peer ends.broken ≡ Some b → IsLate ends.adapter sent b
+  pub connection : IsOnIfAny ends.adapter sent back ends.streams ends.connection
+  pub streams : AreFlying ends.adapter sent ends.streams
 
 -- Both ends in messages, with what was sent and sent back.
 abbrev pub in_messages : Ends → List (ℕ × List ℕ) → List (ℕ × List ℕ) → BothEnds Contents
