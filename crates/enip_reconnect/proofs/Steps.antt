@@ -14,7 +14,7 @@ use Rattle.enip_adapter.specs.Runs.{IsForOther}
 use Rattle.enip_adapter.proofs.ListLemmas.{first_with-number}
 use Rattle.enip_reconnect.specs.Events.{Event, NewCommand, Abandon}
 use Rattle.enip_reconnect.specs.Laws.{MessageEvent, decisions_in, decisions_in_messages}
-use Rattle.enip_reconnect.specs.World.{Stream, Ends, stream_with, calls_at, ends_step}
+use Rattle.enip_reconnect.specs.World.{TcpConnection, Stream, Ends, stream_with, calls_at, ends_step}
 use Rattle.enip_reconnect.proofs.Flights.{carries-more, carries-other}
 use Rattle.enip_reconnect.proofs.Tracking.{Tracks, IsFlying, AreFlying, in_messages}
 
@@ -70,6 +70,10 @@ stays own before after calls sent back tracks image none given = record {
 -- Both ends in messages, with this device.
 abbrev pub with_device : Ends → List (ℕ × List ℕ) → List (ℕ × List ℕ) → Device → BothEnds Contents
 with_device ends sent back device = record (in_messages ends sent back) { device = device }
+
+-- The ends with this connection.
+abbrev pub on : Ends → Option TcpConnection → Ends
+on ends connection = record ends { connection = connection }
 
 -- ---- the originator's decisions
 
