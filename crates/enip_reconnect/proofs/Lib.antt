@@ -2,6 +2,9 @@ pub mod AdapterSide
 pub mod ClientPieces
 pub mod ClientReplies
 pub mod ClientSide
+pub mod Arriving
+pub mod Connecting
 pub mod Flights
 pub mod Steps
+pub mod Streams
 pub mod Tracking
