@@ -21,20 +21,20 @@ use Rattle.enip_reconnect.specs.World.{TcpConnection, Stream, Ends, stream_with,
 use Rattle.enip_reconnect.proofs.ClientReplies.{exec_device-taken}
 use Rattle.enip_reconnect.proofs.ClientSide.{registered_frame}
 use Rattle.enip_reconnect.proofs.Connecting.{behind-nothing}
-use Rattle.enip_reconnect.proofs.Flights.{Arrives, Waits, Whole, IsWhole, IsPart, nothing-arrives, registration-arrives, message-arrives, answer_at, device_at, carries-other, found-front, found-last}
+use Rattle.enip_reconnect.proofs.Flights.{Arrives, Waits, Whole, IsWhole, IsPart, nothing-arrives, registration-arrives, message-arrives, inquiry-arrives, RequestArrives, answer_at, device_at, carries-other, found-front, found-last}
 use Rattle.enip_reconnect.proofs.Steps.{Comes, StepComes, stays, with_device, message_run, on, stream-number}
 use Rattle.enip_reconnect.proofs.Streams.{IsReplaced, replaced, others-after, other-found}
-use Rattle.enip_reconnect.proofs.Tracking.{Flight, Nothing, Registration, Message, Phase, New, Registering, Registered, Free, Asking, Answered, flight_in, Runs, Flies, IsFlying, IsOn, IsOnIfAny, Tracks, WasBack, in_messages}
+use Rattle.enip_reconnect.proofs.Tracking.{Flight, Nothing, Registration, Message, Inquiry, IsInquiry, Phase, New, Registering, Registered, Free, Asking, Answered, Inquiring, Informed, flight_in, Runs, Flies, IsFlying, IsOn, IsOnIfAny, Tracks, WasBack, in_messages}
 
 -- ---- a message reaches the device
 
 abbrev answered_back : AdapterState → Command → ℕ × List ℕ
-answered_back a command = (command.number, answer_at a command)
+answered_back a command = (command.number, answer_at a (do_once command))
 
 -- Both ends in messages once it has.
 abbrev reached : Ends → List (ℕ × List ℕ) → List (ℕ × List ℕ) → Command → BothEnds Contents
 reached ends sent back command = record (in_messages ends sent back) {
-  device = device_at ends.adapter command;
+  device = device_at ends.adapter (do_once command);
   back = back ++ answered_back ends.adapter command ∷ [];
 }
 
@@ -47,7 +47,7 @@ reach-image ends sent back position command at =
 -- After a call of the adapter that has this message reach the device.
 reaches : (own : ℕ) (before after : Ends) (call : Call) (sent back : List (ℕ × List ℕ)) (position : ℕ) (command : Command) →
     slice_get sent position ≡ Some (command.number, do_once command) →
-    Tracks after sent (back ++ answered_back before.adapter command ∷ []) →
+    Tracks own after sent (back ++ answered_back before.adapter command ∷ []) →
     reached before sent back command ≡ in_messages after sent (back ++ answered_back before.adapter command ∷ []) →
     requests_of_calls before.adapter (call ∷ []) ≡ (UNCONNECTED_LIMIT, do_once command) ∷ [] →
     after.given ≡ before.given → Comes own before after (call ∷ []) [] sent back
@@ -63,12 +63,32 @@ reaches own before after call sent back position command at tracks image request
   others = (tt, tt);
 }
 
+-- After a call of the adapter that has another request reach it.
+informs : (own : ℕ) (before after : Ends) (call : Call) (sent back : List (ℕ × List ℕ)) (request : List ℕ) →
+    IsInquiry own request → Tracks own after sent back →
+    with_device before sent back (device_at before.adapter request) ≡ in_messages after sent back →
+    requests_of_calls before.adapter (call ∷ []) ≡ (UNCONNECTED_LIMIT, request) ∷ [] →
+    after.given ≡ before.given → Comes own before after (call ∷ []) [] sent back
+informs own before after call sent back request is tracks image requests given = record {
+  more = messages.Other UNCONNECTED_LIMIT request ∷ [];
+  new_sent = sent;
+  new_back = back;
+  tracks = tracks;
+  image = image;
+  reached = requests;
+  decided = refl;
+  given = given ∙ sym (append-nil before.given);
+  others = (is.others, tt);
+}
+
 was_back-more : (back more : List (ℕ × List ℕ)) (phase : Phase) → WasBack back phase → WasBack (back ++ more) phase
 was_back-more back more New is = tt
 was_back-more back more (Registering context) is = tt
 was_back-more back more (Registered context) is = tt
 was_back-more back more Free is = tt
 was_back-more back more (Asking context position command) is = tt
+was_back-more back more (Inquiring context request) is = tt
+was_back-more back more (Informed context request answer) is = is
 was_back-more back more (Answered context position number message answer) is =
     record { at = found-front back more position (number, answer) is.at; taken = is.taken }
 
@@ -102,17 +122,17 @@ module _ (own : ℕ) (ends : Ends) (sent back : List (ℕ × List ℕ)) (now pee
   there : stream_with stream.peer ends.streams ≡ Some stream
   there = ap (λ n. stream_with n ends.streams) (stream-number ends.streams peer stream found) ∙ found
 
-  replaced-by : (flight : Flight) (old : Option TcpConnection) → Tracks (before old) sent back →
-      Flies (after_call a this) sent (taken a this stream) flight →
-      IsReplaced (after_call a this) sent streams_after stream.peer flight
+  replaced-by : (flight : Flight) (old : Option TcpConnection) → Tracks own (before old) sent back →
+      Flies own (after_call a this) sent (taken a this stream) flight →
+      IsReplaced own (after_call a this) sent streams_after stream.peer flight
   replaced-by flight old is flies =
-      replaced (after_call a this) sent ends.streams stream (taken a this stream) flight there
-      (others-after a this sent ends.streams stream.peer (λ q other same. other (sym same)) is.streams) flies
+      replaced own (after_call a this) sent ends.streams stream (taken a this stream) flight there
+      (others-after own a this sent ends.streams stream.peer (λ q other same. other (sym same)) is.streams) flies
 
   -- Nothing reaches the device.
-  quiet : (old new : Option TcpConnection) (answer : List ℕ) (flight : Flight) → Tracks (before old) sent back →
-      Arrives a sent now stream.peer count stream.in_flight answer a.state.shared.objects [] flight →
-      IsOnIfAny (after_call a this) sent back streams_after new →
+  quiet : (old new : Option TcpConnection) (answer : List ℕ) (flight : Flight) → Tracks own (before old) sent back →
+      Arrives own a sent now stream.peer count stream.in_flight answer a.state.shared.objects [] flight →
+      IsOnIfAny own (after_call a this) sent back streams_after new →
       Comes own (before old) (after new) (this ∷ []) [] sent back
   quiet old new answer flight is arrives on_it =
       stays own (before old) (after new) (this ∷ []) sent back (record {
@@ -123,10 +143,10 @@ module _ (own : ℕ) (ends : Ends) (sent back : List (ℕ × List ℕ)) (now pee
 
   -- A message does.
   served : (old new : Option TcpConnection) (answer : List ℕ) (flight : Flight) (position : ℕ) (command : Command) →
-      Tracks (before old) sent back → slice_get sent position ≡ Some (command.number, do_once command) →
-      Arrives a sent now stream.peer count stream.in_flight answer (device_at a command)
+      Tracks own (before old) sent back → slice_get sent position ≡ Some (command.number, do_once command) →
+      Arrives own a sent now stream.peer count stream.in_flight answer (device_at a (do_once command))
       ((UNCONNECTED_LIMIT, do_once command) ∷ []) flight →
-      IsOnIfAny (after_call a this) sent (back ++ answered_back a command ∷ []) streams_after new →
+      IsOnIfAny own (after_call a this) sent (back ++ answered_back a command ∷ []) streams_after new →
       Comes own (before old) (after new) (this ∷ []) [] sent back
   served old new answer flight position command is at arrives on_it =
       reaches own (before old) (after new) this sent back position command at (record {
@@ -135,44 +155,71 @@ module _ (own : ℕ) (ends : Ends) (sent back : List (ℕ × List ℕ)) (now pee
         streams = (replaced-by flight old is arrives.carries).all;
       }) (ap (with_device ends sent (back ++ answered_back a command ∷ [])) (sym arrives.device_is)) arrives.requests_are refl
 
+  -- Another request does.
+  informed : (old new : Option TcpConnection) (answer : List ℕ) (flight : Flight) (request : List ℕ) → IsInquiry own request →
+      Tracks own (before old) sent back →
+      Arrives own a sent now stream.peer count stream.in_flight answer (device_at a request)
+      ((UNCONNECTED_LIMIT, request) ∷ []) flight →
+      IsOnIfAny own (after_call a this) sent back streams_after new →
+      Comes own (before old) (after new) (this ∷ []) [] sent back
+  informed old new answer flight request inquiry is arrives on_it =
+      informs own (before old) (after new) this sent back request inquiry (record {
+        sound = sound-call a this is.sound;
+        connection = on_it;
+        streams = (replaced-by flight old is arrives.carries).all;
+      }) (ap (with_device ends sent back) (sym arrives.device_is)) arrives.requests_are refl
+
   -- ---- not the stream of the originator's connection
 
   -- Whatever was on its way, the connection goes on.
-  on-another : (old new : Option TcpConnection) → Tracks (before old) sent back →
-      ((more : List (ℕ × List ℕ)) → IsOnIfAny (after_call a this) sent (back ++ more) streams_after new) →
-      (flight : Flight) → Flies a sent stream flight → Comes own (before old) (after new) (this ∷ []) [] sent back
+  on-another : (old new : Option TcpConnection) → Tracks own (before old) sent back →
+      ((more : List (ℕ × List ℕ)) → IsOnIfAny own (after_call a this) sent (back ++ more) streams_after new) →
+      (flight : Flight) → Flies own a sent stream flight → Comes own (before old) (after new) (this ∷ []) [] sent back
   on-another old new is on_it (Nothing registered) flies =
       quiet old new [] (Nothing registered) is
-      (nothing-arrives a sent now stream.peer count stream.in_flight registered is.sound flies) same
+      (nothing-arrives own a sent now stream.peer count stream.in_flight registered is.sound flies) same
     where
-      same : IsOnIfAny (after_call a this) sent back streams_after new
-      same = subst (λ b. IsOnIfAny (after_call a this) sent b streams_after new) (append-nil back) (on_it [])
+      same : IsOnIfAny own (after_call a this) sent back streams_after new
+      same = subst (λ b. IsOnIfAny own (after_call a this) sent b streams_after new) (append-nil back) (on_it [])
   on-another old new is on_it (Registration context) flies =
-      go (registration-arrives a sent now stream.peer count stream.in_flight context is.sound flies)
+      go (registration-arrives own a sent now stream.peer count stream.in_flight context is.sound flies)
     where
-      same : IsOnIfAny (after_call a this) sent back streams_after new
-      same = subst (λ b. IsOnIfAny (after_call a this) sent b streams_after new) (append-nil back) (on_it [])
+      same : IsOnIfAny own (after_call a this) sent back streams_after new
+      same = subst (λ b. IsOnIfAny own (after_call a this) sent b streams_after new) (append-nil back) (on_it [])
 
-      go : Whole a sent now stream.peer count stream.in_flight (frame (registered_frame stream.peer context))
+      go : Whole own a sent now stream.peer count stream.in_flight (frame (registered_frame stream.peer context))
           a.state.shared.objects [] (Nothing true) (Registration context) →
           Comes own (before old) (after new) (this ∷ []) [] sent back
       go (IsPart waits) = quiet old new [] (Registration context) is waits same
       go (IsWhole done) = quiet old new (frame (registered_frame stream.peer context)) (Nothing true) is done same
   on-another old new is on_it (Message context position command) flies =
-      go (message-arrives a sent now stream.peer count stream.in_flight context position command is.sound flies)
+      go (message-arrives own a sent now stream.peer count stream.in_flight context position command is.sound flies)
     where
-      go : Whole a sent now stream.peer count stream.in_flight (frame (request_frame stream.peer context (answer_at a command)))
-          (device_at a command) ((UNCONNECTED_LIMIT, do_once command) ∷ []) (Nothing true) (Message context position command) →
+      go : RequestArrives own a sent now stream.peer count stream.in_flight context (do_once command)
+          (Message context position command) →
           Comes own (before old) (after new) (this ∷ []) [] sent back
       go (IsPart waits) =
           quiet old new [] (Message context position command) is waits
-          (subst (λ b. IsOnIfAny (after_call a this) sent b streams_after new) (append-nil back) (on_it []))
+          (subst (λ b. IsOnIfAny own (after_call a this) sent b streams_after new) (append-nil back) (on_it []))
       go (IsWhole done) =
-          served old new (frame (request_frame stream.peer context (answer_at a command))) (Nothing true) position command is
+          served old new (frame (request_frame stream.peer context (answer_at a (do_once command)))) (Nothing true) position command is
           flies.was_sent.at done (on_it (answered_back a command ∷ []))
 
-  goes-on : (connection : TcpConnection) → connection.peer ≢ stream.peer → Tracks (before (Some connection)) sent back →
-      (more : List (ℕ × List ℕ)) → IsOn (after_call a this) sent (back ++ more) streams_after connection
+  on-another old new is on_it (Inquiry context request) flies =
+      go (inquiry-arrives own a sent now stream.peer count stream.in_flight context request is.sound flies)
+    where
+      same : IsOnIfAny own (after_call a this) sent back streams_after new
+      same = subst (λ b. IsOnIfAny own (after_call a this) sent b streams_after new) (append-nil back) (on_it [])
+
+      go : RequestArrives own a sent now stream.peer count stream.in_flight context request (Inquiry context request) →
+          Comes own (before old) (after new) (this ∷ []) [] sent back
+      go (IsPart waits) = quiet old new [] (Inquiry context request) is waits same
+      go (IsWhole done) =
+          informed old new (frame (request_frame stream.peer context (answer_at a request))) (Nothing true) request
+          flies.was_sent is done same
+
+  goes-on : (connection : TcpConnection) → connection.peer ≢ stream.peer → Tracks own (before (Some connection)) sent back →
+      (more : List (ℕ × List ℕ)) → IsOn own (after_call a this) sent (back ++ more) streams_after connection
   goes-on connection other is more = record {
     below = is.connection.below;
     phase = is.connection.phase;
@@ -186,14 +233,14 @@ module _ (own : ℕ) (ends : Ends) (sent back : List (ℕ × List ℕ)) (now pee
         let was : stream_with connection.peer ends.streams ≡ Some s =
         sym (other-found ends.streams (taken a this stream) connection.peer other) ∙ at in
         let number : s.peer ≡ connection.peer = stream-number ends.streams connection.peer s was in
-        carries-other a this sent s.peer s.in_flight (flight_in is.connection.phase)
+        carries-other own a this sent s.peer s.in_flight (flight_in is.connection.phase)
         (λ same. other (sym number ∙ sym same)) (is.connection.flies s was);
   }
 
   -- ---- the stream of the originator's connection
 
   module _ (connection : TcpConnection) (own_stream : connection.peer ≡ stream.peer)
-      (is : Tracks (before (Some connection)) sent back) where
+      (is : Tracks own (before (Some connection)) sent back) where
     -- The connection with the answer in flight.
     abbrev new : TcpConnection
     new = record connection { in_flight = connection.in_flight ++ out }
@@ -202,8 +249,8 @@ module _ (own : ℕ) (ends : Ends) (sent back : List (ℕ × List ℕ)) (now pee
     ThisComes = Comes own (before (Some connection)) (after (Some new)) (this ∷ []) [] sent back
 
     is-on : (phase : Phase) (more : List (ℕ × List ℕ)) → Runs (back ++ more) new phase →
-        Flies (after_call a this) sent (taken a this stream) (flight_in phase) →
-        IsOn (after_call a this) sent (back ++ more) streams_after new
+        Flies own (after_call a this) sent (taken a this stream) (flight_in phase) →
+        IsOn own (after_call a this) sent (back ++ more) streams_after new
     is-on phase more runs flies = record {
       below = is.connection.below;
       phase = phase;
@@ -212,15 +259,15 @@ module _ (own : ℕ) (ends : Ends) (sent back : List (ℕ × List ℕ)) (now pee
           (ap (λ n. stream_with n streams_after) (sym own_stream) ∙ at);
     }
 
-    still-on : (phase : Phase) → Runs back new phase → Flies (after_call a this) sent (taken a this stream) (flight_in phase) →
-        IsOn (after_call a this) sent back streams_after new
+    still-on : (phase : Phase) → Runs back new phase → Flies own (after_call a this) sent (taken a this stream) (flight_in phase) →
+        IsOn own (after_call a this) sent back streams_after new
     still-on phase runs flies =
-        subst (λ b. IsOn (after_call a this) sent b streams_after new) (append-nil back)
+        subst (λ b. IsOn own (after_call a this) sent b streams_after new) (append-nil back)
         (is-on phase [] (subst (λ b. Runs b new phase) (sym (append-nil back)) runs) flies)
 
     -- Nothing is answered.
     waits-on : (phase : Phase) → Runs back connection phase →
-        Waits a sent now stream.peer count stream.in_flight (flight_in phase) → ThisComes
+        Waits own a sent now stream.peer count stream.in_flight (flight_in phase) → ThisComes
     waits-on phase runs waits =
         quiet (Some connection) (Some new) [] (flight_in phase) is waits (still-on phase (record {
           client = runs.client;
@@ -236,13 +283,13 @@ module _ (own : ℕ) (ends : Ends) (sent back : List (ℕ × List ℕ)) (now pee
     answer-flies answer none is_out =
         behind-nothing connection.client.held connection.in_flight _ none ∙ (is_out ∙ ap answer (sym own_stream))
 
-    arrives-in : (phase : Phase) → Runs back connection phase → Flies a sent stream (flight_in phase) → ThisComes
+    arrives-in : (phase : Phase) → Runs back connection phase → Flies own a sent stream (flight_in phase) → ThisComes
     arrives-in New runs flies =
-        waits-on New runs (nothing-arrives a sent now stream.peer count stream.in_flight false is.sound flies)
+        waits-on New runs (nothing-arrives own a sent now stream.peer count stream.in_flight false is.sound flies)
     arrives-in (Registering context) runs flies =
-        go (registration-arrives a sent now stream.peer count stream.in_flight context is.sound flies)
+        go (registration-arrives own a sent now stream.peer count stream.in_flight context is.sound flies)
       where
-        go : Whole a sent now stream.peer count stream.in_flight (frame (registered_frame stream.peer context))
+        go : Whole own a sent now stream.peer count stream.in_flight (frame (registered_frame stream.peer context))
             a.state.shared.objects [] (Nothing true) (Registration context) → ThisComes
         go (IsPart waits) = waits-on (Registering context) runs waits
         go (IsWhole done) =
@@ -254,23 +301,22 @@ module _ (own : ℕ) (ends : Ends) (sent back : List (ℕ × List ℕ)) (now pee
               was_back = tt;
             }) done.carries)
     arrives-in (Registered context) runs flies =
-        waits-on (Registered context) runs (nothing-arrives a sent now stream.peer count stream.in_flight true is.sound flies)
+        waits-on (Registered context) runs (nothing-arrives own a sent now stream.peer count stream.in_flight true is.sound flies)
     arrives-in Free runs flies =
-        waits-on Free runs (nothing-arrives a sent now stream.peer count stream.in_flight true is.sound flies)
+        waits-on Free runs (nothing-arrives own a sent now stream.peer count stream.in_flight true is.sound flies)
     arrives-in (Asking context position command) runs flies =
-        go (message-arrives a sent now stream.peer count stream.in_flight context position command is.sound flies)
+        go (message-arrives own a sent now stream.peer count stream.in_flight context position command is.sound flies)
       where
-        go : Whole a sent now stream.peer count stream.in_flight
-            (frame (request_frame stream.peer context (answer_at a command))) (device_at a command)
-            ((UNCONNECTED_LIMIT, do_once command) ∷ []) (Nothing true) (Message context position command) → ThisComes
+        go : RequestArrives own a sent now stream.peer count stream.in_flight context (do_once command)
+            (Message context position command) → ThisComes
         go (IsPart waits) = waits-on (Asking context position command) runs waits
         go (IsWhole done) =
-            served (Some connection) (Some new) (frame (request_frame stream.peer context (answer_at a command))) (Nothing true)
+            served (Some connection) (Some new) (frame (request_frame stream.peer context (answer_at a (do_once command)))) (Nothing true)
             position command is flies.was_sent.at done
-            (is-on (Answered context (length back) command.number (do_once command) (answer_at a command))
+            (is-on (Answered context (length back) command.number (do_once command) (answer_at a (do_once command)))
             (answered_back a command ∷ []) (record {
               client = runs.client;
-              stream = answer-flies (λ peer. frame (request_frame peer context (answer_at a command))) runs.stream
+              stream = answer-flies (λ peer. frame (request_frame peer context (answer_at a (do_once command)))) runs.stream
                   done.answer_is;
               asked = runs.asked;
               was_back = record {
@@ -280,13 +326,33 @@ module _ (own : ℕ) (ends : Ends) (sent back : List (ℕ × List ℕ)) (now pee
             }) done.carries)
     arrives-in (Answered context position number message answer) runs flies =
         waits-on (Answered context position number message answer) runs
-        (nothing-arrives a sent now stream.peer count stream.in_flight true is.sound flies)
+        (nothing-arrives own a sent now stream.peer count stream.in_flight true is.sound flies)
+
+    arrives-in (Inquiring context request) runs flies =
+        go (inquiry-arrives own a sent now stream.peer count stream.in_flight context request is.sound flies)
+      where
+        go : RequestArrives own a sent now stream.peer count stream.in_flight context request (Inquiry context request) →
+            ThisComes
+        go (IsPart waits) = waits-on (Inquiring context request) runs waits
+        go (IsWhole done) =
+            informed (Some connection) (Some new) (frame (request_frame stream.peer context (answer_at a request)))
+            (Nothing true) request flies.was_sent is done
+            (still-on (Informed context request (answer_at a request)) (record {
+              client = runs.client;
+              stream = answer-flies (λ peer. frame (request_frame peer context (answer_at a request))) runs.stream
+                  done.answer_is;
+              asked = runs.asked;
+              was_back = exec_device-taken a.state.shared.objects request flies.was_sent.from;
+            }) done.carries)
+    arrives-in (Informed context request answer) runs flies =
+        waits-on (Informed context request answer) runs
+        (nothing-arrives own a sent now stream.peer count stream.in_flight true is.sound flies)
 
   -- By whether it is that stream.
-  arrives-on : (old : Option TcpConnection) → Tracks (before old) sent back →
+  arrives-on : (old : Option TcpConnection) → Tracks own (before old) sent back →
       Comes own (before old) (after (answered stream.peer out old)) (this ∷ []) [] sent back
   arrives-on None is =
-      let flying : IsFlying a sent stream = is.streams peer stream found in
+      let flying : IsFlying own a sent stream = is.streams peer stream found in
       on-another None None is (λ more. tt) flying.flight flying.carries
   arrives-on (Some connection) is = go (connection.peer == stream.peer) refl
     where
@@ -299,7 +365,7 @@ module _ (own : ℕ) (ends : Ends) (sent back : List (ℕ × List ℕ)) (now pee
           arrives-in connection same is is.connection.phase is.connection.runs
           (is.connection.flies stream (ap (λ n. stream_with n ends.streams) same ∙ there))
       go false e =
-          let flying : IsFlying a sent stream = is.streams peer stream found in
+          let flying : IsFlying own a sent stream = is.streams peer stream found in
           on-another (Some connection) (Some connection) is
           (goes-on connection (eqb-false connection.peer stream.peer e) is) flying.flight flying.carries
 
@@ -308,7 +374,7 @@ abbrev after_arrival : Ends → ℕ → ℕ → Option Stream → Ends
 after_arrival ends now count found =
     record (arrived ends now count found) { adapter = after_calls ends.adapter (feed_calls now count found) }
 
-pub arrives : (own : ℕ) (ends : Ends) (sent back : List (ℕ × List ℕ)) (now peer count : ℕ) → Tracks ends sent back →
+pub arrives : (own : ℕ) (ends : Ends) (sent back : List (ℕ × List ℕ)) (now peer count : ℕ) → Tracks own ends sent back →
     StepComes own ends (Arrive now peer count) sent back
 arrives own ends sent back now peer count is = go (stream_with peer ends.streams) refl
   where

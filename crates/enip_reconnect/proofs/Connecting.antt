@@ -1,12 +1,15 @@
 -- TCP connections begin, and frames are sent on them.
 use Rattle.std.proofs.Common.{◌≡◌, ℕ, ◌==◌, if◌then◌else◌, Bool, true, false, Option, Some, None, option_map, List, [], ◌∷◌, ◌++◌, length, Result, Ok, Err, refl, ap, sym, ◌∙◌, subst, append_assoc, append-nil}
 use Rattle.std.proofs.lemmas.Bool.{eq-eqb}
+use Rattle.cip_bytes.specs.declared.protocol.TheConstants.{UNCONNECTED_LIMIT}
 use Rattle.cip_commander.specs.CommanderRule.{CommanderState, do_once, command_with, message_of}
 use Rattle.cip_commander.specs.Worlds as messages
+use Rattle.cip_ledger.specs.Laws.{IsOfAnother}
 use Rattle.cip_ledger.specs.Requests.{Command}
 use Rattle.enip_adapter.specs.declared.peer.Session.{Session}
 use Rattle.enip_adapter.specs.Calls.{AdapterState, call_answer, after_call}
 use Rattle.enip_adapter.specs.Calls.Call.{Begins_peer}
+use Rattle.enip_adapter.specs.SendRRData.{Executes, route_of}
 use Rattle.enip_adapter.specs.Turn.{Output}
 use Rattle.enip_adapter.specs.Turn.Output.{NoReply, Sends, Begins, Refuses}
 use Rattle.enip_adapter.proofs.SoundLemmas.{sound-call}
@@ -16,14 +19,14 @@ use Rattle.enip_client.specs.Frames.{register_frame, request_frame}
 use Rattle.enip_client.specs.declared.fault.ClientFault.{ClientFault}
 use Rattle.enip_client.specs.declared.wants.Wants.{Wants}
 use Rattle.enip_wire.specs.Frames.{frame}
-use Rattle.enip_reconnect.specs.Events.{Connect, Register, Send}
+use Rattle.enip_reconnect.specs.Events.{Connect, Register, Send, Ask}
 use Rattle.enip_reconnect.specs.World.{TcpConnection, Stream, Ends, stream_with, begun, appended, sending}
 use Rattle.enip_reconnect.proofs.AdapterSide.{BeginsAs, begins-as, device-same}
 use Rattle.enip_reconnect.proofs.ClientSide.{new-is, registers-new, registers-registering, registers-free, registers-asking, Registers, asks-free, asks-other, asks-new, asks-registering, asks-asking, Asks, unconnected-short, IsShort}
 use Rattle.enip_reconnect.proofs.Flights.{found-last, carries-more}
 use Rattle.enip_reconnect.proofs.Steps.{Comes, StepComes, stays, with_device, on, flying-call, flying-more, stream-number}
 use Rattle.enip_reconnect.proofs.Streams.{IsReplaced, appends}
-use Rattle.enip_reconnect.proofs.Tracking.{Flight, Nothing, Registration, Message, bytes_in, Carries, Phase, New, Registering, Registered, Free, Asking, Answered, flight_in, ClientIs, Runs, IsOn, Flies, IsFlying, AreFlying, Tracks, in_messages}
+use Rattle.enip_reconnect.proofs.Tracking.{Flight, Nothing, Registration, Message, Inquiry, bytes_in, Carries, Phase, New, Registering, Registered, Free, Asking, Answered, Inquiring, Informed, flight_in, ClientIs, Runs, IsOn, Flies, IsFlying, AreFlying, Tracks, in_messages}
 
 -- ---- a connection begins
 
@@ -31,15 +34,15 @@ use Rattle.enip_reconnect.proofs.Tracking.{Flight, Nothing, Registration, Messag
 abbrev new_stream : ℕ → Stream
 new_stream handle = record { peer = handle; in_flight = [] }
 
-first-flies : (a : AdapterState) (sent : List (ℕ × List ℕ)) (handle q : ℕ) (streams : List Stream) →
-    Flies a sent (new_stream handle) (Nothing false) → AreFlying a sent streams →
-    AreFlying a sent (new_stream handle ∷ streams)
-first-flies a sent handle q streams flies flying peer s found = by (handle == peer) found
+first-flies : (own : ℕ) (a : AdapterState) (sent : List (ℕ × List ℕ)) (handle q : ℕ) (streams : List Stream) →
+    Flies own a sent (new_stream handle) (Nothing false) → AreFlying own a sent streams →
+    AreFlying own a sent (new_stream handle ∷ streams)
+first-flies own a sent handle q streams flies flying peer s found = by (handle == peer) found
   where
-    by : (same : Bool) → (if same then Some (new_stream handle) else stream_with peer streams) ≡ Some s → IsFlying a sent s
+    by : (same : Bool) → (if same then Some (new_stream handle) else stream_with peer streams) ≡ Some s → IsFlying own a sent s
     by true found =
         let it : new_stream handle ≡ s = cc in
-        subst (IsFlying a sent) it (record { flight = Nothing false; carries = flies })
+        subst (IsFlying own a sent) it (record { flight = Nothing false; carries = flies })
     by false found = flying peer s found
 
 first-found : (handle : ℕ) (streams : List Stream) (s : Stream) →
@@ -55,7 +58,7 @@ abbrev begun_on : Ends → Wants → Output → Ends
 begun_on ends wants output = record (begun ends wants output) { adapter = after_call ends.adapter Begins_peer }
 
 begins : (own : ℕ) (ends : Ends) (sent back : List (ℕ × List ℕ)) (wants : Wants) (output : Output) →
-    ((handle : ℕ) → output ≡ Begins handle → BeginsAs ends.adapter handle) → Tracks (on ends None) sent back →
+    ((handle : ℕ) → output ≡ Begins handle → BeginsAs ends.adapter handle) → Tracks own (on ends None) sent back →
     Comes own (on ends None) (begun_on (on ends None) wants output) (Begins_peer ∷ []) [] sent back
 begins own ends sent back wants output assigned is = by output assigned
   where
@@ -66,8 +69,8 @@ begins own ends sent back wants output assigned is = by output assigned
         ≡ with_device (on ends None) sent back (after_call ends.adapter Begins_peer).state.shared.objects
     same = ap (with_device (on ends None) sent back) (sym (device-same ends.adapter Begins_peer refl))
 
-    flying : AreFlying (after_call ends.adapter Begins_peer) sent ends.streams
-    flying = flying-call ends.adapter Begins_peer sent ends.streams (λ peer s found. tt) is.streams
+    flying : AreFlying own (after_call ends.adapter Begins_peer) sent ends.streams
+    flying = flying-call own ends.adapter Begins_peer sent ends.streams (λ peer s found. tt) is.streams
 
     nobody : (after : Ends) → after ≡ record (on ends None) { adapter = after_call ends.adapter Begins_peer } →
         Comes own (on ends None) after (Begins_peer ∷ []) [] sent back
@@ -86,7 +89,7 @@ begins own ends sent back wants output assigned is = by output assigned
     by (Refuses full) assigned = nobody _ refl
     by (Begins handle) assigned =
         let new : BeginsAs ends.adapter handle = assigned handle refl in
-        let flies : Flies (after_call ends.adapter Begins_peer) sent (new_stream handle) (Nothing false) =
+        let flies : Flies own (after_call ends.adapter Begins_peer) sent (new_stream handle) (Nothing false) =
         record { below = new.below; held = []; holds = new.holds; stream = refl; was_sent = tt } in
         stays own _ _ _ sent back (record {
           sound = sound-call ends.adapter Begins_peer is.sound;
@@ -94,14 +97,14 @@ begins own ends sent back wants output assigned is = by output assigned
             below = new.below;
             phase = New;
             runs = record { client = new-is wants; stream = refl; asked = refl; was_back = tt };
-            flies = λ s found. subst (λ x. Flies (after_call ends.adapter Begins_peer) sent x (Nothing false))
+            flies = λ s found. subst (λ x. Flies own (after_call ends.adapter Begins_peer) sent x (Nothing false))
                 (first-found handle ends.streams s found) flies;
           };
-          streams = first-flies (after_call ends.adapter Begins_peer) sent handle handle ends.streams flies flying;
+          streams = first-flies own (after_call ends.adapter Begins_peer) sent handle handle ends.streams flies flying;
         }) same refl refl
 
 pub connects : (own : ℕ) (ends : Ends) (sent back : List (ℕ × List ℕ)) (wants : Wants) (connection : Option TcpConnection) →
-    Tracks (on ends connection) sent back → StepComes own (on ends connection) (Connect wants) sent back
+    Tracks own (on ends connection) sent back → StepComes own (on ends connection) (Connect wants) sent back
 connects own ends sent back wants (Some connection) is = stays own _ _ _ sent back is refl refl refl
 connects own ends sent back wants None is =
     begins own ends sent back wants (call_answer ends.adapter Begins_peer).output
@@ -121,7 +124,7 @@ sending_on ends connection asked lent =
 -- The client refuses: nothing changes.
 refuses : (own : ℕ) (ends : Ends) (sent back : List (ℕ × List ℕ)) (connection : TcpConnection) (asked : Option ℕ)
     (lent : Result Lent ClientFault) (why : ClientFault) → lent ≡ Err why →
-    Tracks (on ends (Some connection)) sent back →
+    Tracks own (on ends (Some connection)) sent back →
     Comes own (on ends (Some connection)) (sending_on ends connection asked lent) [] [] sent back
 refuses own ends sent back connection asked lent why is tracks =
     subst (λ result. Comes own (on ends (Some connection)) (sending_on ends connection asked result) [] [] sent back) (sym is) (stays own _ _ _ sent back tracks refl refl refl)
@@ -131,16 +134,16 @@ RegisterComes own ends sent back connection lent =
     Comes own (on ends (Some connection)) (sending_on ends connection connection.asked lent) [] [] sent back
 
 registers-on : (own : ℕ) (ends : Ends) (sent back : List (ℕ × List ℕ)) (connection : TcpConnection) (phase : Phase) →
-    Tracks (on ends (Some connection)) sent back → Runs back connection phase →
-    ((s : Stream) → stream_with connection.peer ends.streams ≡ Some s → Flies ends.adapter sent s (flight_in phase)) →
+    Tracks own (on ends (Some connection)) sent back → Runs back connection phase →
+    ((s : Stream) → stream_with connection.peer ends.streams ≡ Some s → Flies own ends.adapter sent s (flight_in phase)) →
     RegisterComes own ends sent back connection (registers connection.client.state)
 registers-on own ends sent back connection New is runs flies =
     let number : ℕ = next_number connection.client.state in
     let done : Registers connection.client = registers-new connection.client runs.client in
-    let sent_on : IsReplaced ends.adapter sent
+    let sent_on : IsReplaced own ends.adapter sent
     (appended (frame (register_frame number)) ends.streams (stream_with connection.peer ends.streams)) connection.peer
     (Registration number) =
-    appends ends.adapter sent ends.streams connection.peer (frame (register_frame number)) (Registration number)
+    appends own ends.adapter sent ends.streams connection.peer (frame (register_frame number)) (Registration number)
     (stream_with connection.peer ends.streams) refl is.streams
     (λ s found. (let it = flies s found in record {
       below = it.below;
@@ -172,9 +175,15 @@ registers-on own ends sent back connection (Asking context position command) is 
 registers-on own ends sent back connection (Answered context position number message answer) is runs flies =
     refuses own ends sent back connection _ _ _
     (registers-asking connection.client connection.peer context message runs.client) is
+registers-on own ends sent back connection (Inquiring context request) is runs flies =
+    refuses own ends sent back connection _ _ _
+    (registers-asking connection.client connection.peer context request runs.client) is
+registers-on own ends sent back connection (Informed context request answer) is runs flies =
+    refuses own ends sent back connection _ _ _
+    (registers-asking connection.client connection.peer context request runs.client) is
 
 pub registers-session : (own : ℕ) (ends : Ends) (sent back : List (ℕ × List ℕ)) (connection : Option TcpConnection) →
-    Tracks (on ends connection) sent back → StepComes own (on ends connection) Register sent back
+    Tracks own (on ends connection) sent back → StepComes own (on ends connection) Register sent back
 registers-session own ends sent back None is = stays own _ _ _ sent back is refl refl refl
 registers-session own ends sent back (Some connection) is =
     registers-on own ends sent back connection is.connection.phase is is.connection.runs is.connection.flies
@@ -193,14 +202,14 @@ SendComes own ends sent back request connection lent =
 
 sends-nothing : (own : ℕ) (ends : Ends) (sent back : List (ℕ × List ℕ)) (request : List ℕ) (connection : TcpConnection)
     (why : ClientFault) → asks connection.client.state (message_of ends.commander request) ≡ Err why →
-    Tracks (pending_on ends (Some request) (Some connection)) sent back →
+    Tracks own (pending_on ends (Some request) (Some connection)) sent back →
     SendComes own ends sent back request connection (asks connection.client.state (message_of ends.commander request))
 sends-nothing own ends sent back request connection why refused is =
     refuses own (pending_on ends (Some request) None) sent back connection (Some ends.commander.last_number) _ why refused is
 
 sends-free : (own : ℕ) (ends : Ends) (sent back : List (ℕ × List ℕ)) (request : List ℕ) (connection : TcpConnection) →
-    Tracks (pending_on ends (Some request) (Some connection)) sent back → Runs back connection Free →
-    ((s : Stream) → stream_with connection.peer ends.streams ≡ Some s → Flies ends.adapter sent s (Nothing true)) →
+    Tracks own (pending_on ends (Some request) (Some connection)) sent back → Runs back connection Free →
+    ((s : Stream) → stream_with connection.peer ends.streams ≡ Some s → Flies own ends.adapter sent s (Nothing true)) →
     is_unconnected (message_of ends.commander request) ≡ true →
     SendComes own ends sent back request connection (asks connection.client.state (message_of ends.commander request))
 sends-free own ends sent back request connection is runs flies fits =
@@ -212,11 +221,11 @@ sends-free own ends sent back request connection is runs flies fits =
     let short : IsShort message = unconnected-short message fits in
     let more : List (ℕ × List ℕ) = (command.number, message) ∷ [] in
     let flight : Flight = Message context (length sent) command in
-    let sent_on : IsReplaced ends.adapter (sent ++ more)
+    let sent_on : IsReplaced own ends.adapter (sent ++ more)
     (appended (frame (request_frame connection.peer context message)) ends.streams
     (stream_with connection.peer ends.streams)) connection.peer flight =
-    appends ends.adapter (sent ++ more) ends.streams connection.peer (frame (request_frame connection.peer context message))
-    flight (stream_with connection.peer ends.streams) refl (flying-more ends.adapter sent more ends.streams is.streams)
+    appends own ends.adapter (sent ++ more) ends.streams connection.peer (frame (request_frame connection.peer context message))
+    flight (stream_with connection.peer ends.streams) refl (flying-more own ends.adapter sent more ends.streams is.streams)
     (λ s found. (let it = flies s found in record {
       below = it.below;
       held = it.held;
@@ -248,9 +257,9 @@ sends-free own ends sent back request connection is runs flies fits =
     })
 
 sends-on : (own : ℕ) (ends : Ends) (sent back : List (ℕ × List ℕ)) (request : List ℕ) (connection : TcpConnection) (phase : Phase) →
-    Tracks (pending_on ends (Some request) (Some connection)) sent back →
+    Tracks own (pending_on ends (Some request) (Some connection)) sent back →
     Runs back connection phase →
-    ((s : Stream) → stream_with connection.peer ends.streams ≡ Some s → Flies ends.adapter sent s (flight_in phase)) →
+    ((s : Stream) → stream_with connection.peer ends.streams ≡ Some s → Flies own ends.adapter sent s (flight_in phase)) →
     SendComes own ends sent back request connection (asks connection.client.state (message_of ends.commander request))
 sends-on own ends sent back request connection New is runs flies =
     sends-nothing own ends sent back request connection _
@@ -277,12 +286,99 @@ sends-on own ends sent back request connection (Asking context position command)
 sends-on own ends sent back request connection (Answered context position number message answer) is runs flies =
     sends-nothing own ends sent back request connection _
     (asks-asking connection.client connection.peer context message (message_of ends.commander request) runs.client) is
+sends-on own ends sent back request connection (Inquiring context other) is runs flies =
+    sends-nothing own ends sent back request connection _
+    (asks-asking connection.client connection.peer context other (message_of ends.commander request) runs.client) is
+sends-on own ends sent back request connection (Informed context other answer) is runs flies =
+    sends-nothing own ends sent back request connection _
+    (asks-asking connection.client connection.peer context other (message_of ends.commander request) runs.client) is
 
 pub sends-message : (own : ℕ) (ends : Ends) (sent back : List (ℕ × List ℕ)) (pending : Option (List ℕ))
-    (connection : Option TcpConnection) → Tracks (pending_on ends pending connection) sent back →
+    (connection : Option TcpConnection) → Tracks own (pending_on ends pending connection) sent back →
     StepComes own (pending_on ends pending connection) Send sent back
 sends-message own ends sent back None None is = stays own _ _ _ sent back is refl refl refl
 sends-message own ends sent back (Some request) None is = stays own _ _ _ sent back is refl refl refl
 sends-message own ends sent back None (Some connection) is = stays own _ _ _ sent back is refl refl refl
 sends-message own ends sent back (Some request) (Some connection) is =
     sends-on own ends sent back request connection is.connection.phase is is.connection.runs is.connection.flies
+
+-- ---- another request
+
+abbrev AskComes : ℕ → Ends → List (ℕ × List ℕ) → List (ℕ × List ℕ) → TcpConnection → Result Lent ClientFault → Type 0
+AskComes own ends sent back connection lent =
+    Comes own (on ends (Some connection)) (sending_on ends connection None lent) [] [] sent back
+
+inquires-free : (own : ℕ) (ends : Ends) (sent back : List (ℕ × List ℕ)) (request : List ℕ) (connection : TcpConnection) →
+    IsOfAnother own (UNCONNECTED_LIMIT, request) → route_of request ≡ Executes →
+    Tracks own (on ends (Some connection)) sent back → Runs back connection Free →
+    ((s : Stream) → stream_with connection.peer ends.streams ≡ Some s → Flies own ends.adapter sent s (Nothing true)) →
+    is_unconnected request ≡ true → AskComes own ends sent back connection (asks connection.client.state request)
+inquires-free own ends sent back request connection others routes is runs flies fits =
+    let context : ℕ = next_number connection.client.state in
+    let done : Asks connection.client connection.peer request =
+    asks-free connection.client connection.peer request runs.client fits in
+    let short : IsShort request = unconnected-short request fits in
+    let sent_on : IsReplaced own ends.adapter sent
+    (appended (frame (request_frame connection.peer context request)) ends.streams
+    (stream_with connection.peer ends.streams)) connection.peer (Inquiry context request) =
+    appends own ends.adapter sent ends.streams connection.peer (frame (request_frame connection.peer context request))
+    (Inquiry context request) (stream_with connection.peer ends.streams) refl is.streams
+    (λ s found. (let it = flies s found in record {
+      below = it.below;
+      held = it.held;
+      holds = it.holds;
+      stream = behind-nothing it.held s.in_flight _ it.stream
+          ∙ ap (λ peer. frame (request_frame peer context request)) (sym (stream-number ends.streams connection.peer s found));
+      was_sent = record { from = short.from; to = short.to; route = routes; others = others };
+    })) in
+    subst (AskComes own ends sent back connection) (sym done.lent)
+    (stays own _ _ _ sent back (record {
+      sound = is.sound;
+      connection = record {
+        below = is.connection.below;
+        phase = Inquiring context request;
+        runs = record { client = done.after; stream = runs.stream; asked = refl; was_back = tt };
+        flies = sent_on.this;
+      };
+      streams = sent_on.all;
+    }) refl refl refl)
+
+inquires-on : (own : ℕ) (ends : Ends) (sent back : List (ℕ × List ℕ)) (request : List ℕ) (connection : TcpConnection)
+    (phase : Phase) → IsOfAnother own (UNCONNECTED_LIMIT, request) → route_of request ≡ Executes →
+    Tracks own (on ends (Some connection)) sent back → Runs back connection phase →
+    ((s : Stream) → stream_with connection.peer ends.streams ≡ Some s → Flies own ends.adapter sent s (flight_in phase)) →
+    AskComes own ends sent back connection (asks connection.client.state request)
+inquires-on own ends sent back request connection New others routes is runs flies =
+    refuses own ends sent back connection _ _ _ (asks-new connection.client request runs.client) is
+inquires-on own ends sent back request connection (Registering context) others routes is runs flies =
+    refuses own ends sent back connection _ _ _ (asks-registering connection.client context request runs.client) is
+inquires-on own ends sent back request connection (Registered context) others routes is runs flies =
+    refuses own ends sent back connection _ _ _ (asks-registering connection.client context request runs.client) is
+inquires-on own ends sent back request connection Free others routes is runs flies = go (is_unconnected request) refl
+  where
+    go : (fits : Bool) → is_unconnected request ≡ fits →
+        AskComes own ends sent back connection (asks connection.client.state request)
+    go true fits = inquires-free own ends sent back request connection others routes is runs flies fits
+    go false fits =
+        refuses own ends sent back connection _ _ _
+        (asks-other connection.client connection.peer request runs.client fits) is
+inquires-on own ends sent back request connection (Asking context position command) others routes is runs flies =
+    refuses own ends sent back connection _ _ _
+    (asks-asking connection.client connection.peer context (do_once command) request runs.client) is
+inquires-on own ends sent back request connection (Answered context position number message answer) others routes is runs flies =
+    refuses own ends sent back connection _ _ _
+    (asks-asking connection.client connection.peer context message request runs.client) is
+inquires-on own ends sent back request connection (Inquiring context other) others routes is runs flies =
+    refuses own ends sent back connection _ _ _
+    (asks-asking connection.client connection.peer context other request runs.client) is
+inquires-on own ends sent back request connection (Informed context other answer) others routes is runs flies =
+    refuses own ends sent back connection _ _ _
+    (asks-asking connection.client connection.peer context other request runs.client) is
+
+pub inquires : (own : ℕ) (ends : Ends) (sent back : List (ℕ × List ℕ)) (request : List ℕ) (connection : Option TcpConnection) →
+    Tracks own (on ends connection) sent back → IsOfAnother own (UNCONNECTED_LIMIT, request) → route_of request ≡ Executes →
+    StepComes own (on ends connection) (Ask request) sent back
+inquires own ends sent back request None is others routes = stays own _ _ _ sent back is refl refl refl
+inquires own ends sent back request (Some connection) is others routes =
+    inquires-on own ends sent back request connection is.connection.phase others routes is is.connection.runs
+    is.connection.flies

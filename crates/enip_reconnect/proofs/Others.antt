@@ -25,23 +25,23 @@ use Rattle.enip_reconnect.proofs.Steps.{message_step, given_by}
 use Rattle.enip_reconnect.proofs.Tracking.{IsOnIfAny, Tracks, flight_in, in_messages}
 
 -- A call for others than the streams leaves the connection.
-on-other : (a : AdapterState) (call : Call) (sent back : List (ℕ × List ℕ)) (streams : List Stream)
+on-other : (own : ℕ) (a : AdapterState) (call : Call) (sent back : List (ℕ × List ℕ)) (streams : List Stream)
     (connection : Option TcpConnection) →
     ((peer : ℕ) (stream : Stream) → stream_with peer streams ≡ Some stream → IsForOther stream.peer call) →
-    IsOnIfAny a sent back streams connection → IsOnIfAny (after_call a call) sent back streams connection
-on-other a call sent back streams None other is = tt
-on-other a call sent back streams (Some c) other is = record {
+    IsOnIfAny own a sent back streams connection → IsOnIfAny own (after_call a call) sent back streams connection
+on-other own a call sent back streams None other is = tt
+on-other own a call sent back streams (Some c) other is = record {
   below = is.below;
   phase = is.phase;
   runs = is.runs;
   flies = λ stream found.
-      carries-other a call sent stream.peer stream.in_flight (flight_in is.phase) (other c.peer stream found)
+      carries-other own a call sent stream.peer stream.in_flight (flight_in is.phase) (other c.peer stream found)
       (is.flies stream found);
 }
 
 -- ---- the connection breaks
 
-pub breaks : (own : ℕ) (ends : Ends) (sent back : List (ℕ × List ℕ)) → Tracks ends sent back →
+pub breaks : (own : ℕ) (ends : Ends) (sent back : List (ℕ × List ℕ)) → Tracks own ends sent back →
     StepComes own ends Break sent back
 breaks own ends sent back is =
     stays own _ _ _ sent back (record { sound = is.sound; connection = tt; streams = is.streams }) refl refl refl
@@ -73,11 +73,11 @@ found-other peer q (first ∷ streams) stream found =
         let taken : cond (eqb first.peer q) (Some first) (stream_with q (other_streams peer streams)) ≡ Some stream = g in
         rest (ap (λ c. cond c (Some first) (stream_with q (other_streams peer streams))) (sym f) ∙ taken)
 
-on-ended : (a : AdapterState) (sent back : List (ℕ × List ℕ)) (streams : List Stream) (peer : ℕ)
-    (connection : Option TcpConnection) → IsOnIfAny a sent back streams connection →
-    IsOnIfAny a sent back (other_streams peer streams) connection
-on-ended a sent back streams peer None is = tt
-on-ended a sent back streams peer (Some c) is = record {
+on-ended : (own : ℕ) (a : AdapterState) (sent back : List (ℕ × List ℕ)) (streams : List Stream) (peer : ℕ)
+    (connection : Option TcpConnection) → IsOnIfAny own a sent back streams connection →
+    IsOnIfAny own a sent back (other_streams peer streams) connection
+on-ended own a sent back streams peer None is = tt
+on-ended own a sent back streams peer (Some c) is = record {
   below = is.below;
   phase = is.phase;
   runs = is.runs;
@@ -85,7 +85,7 @@ on-ended a sent back streams peer (Some c) is = record {
 }
 
 ended-as : (own : ℕ) (ends : Ends) (sent back : List (ℕ × List ℕ)) (peer : ℕ) (found : Option Stream) →
-    stream_with peer ends.streams ≡ found → Tracks ends sent back →
+    stream_with peer ends.streams ≡ found → Tracks own ends sent back →
     Comes own ends (record ends {
       streams = other_streams peer ends.streams;
       adapter = after_calls ends.adapter (end_calls found);
@@ -93,7 +93,7 @@ ended-as : (own : ℕ) (ends : Ends) (sent back : List (ℕ × List ℕ)) (peer 
 ended-as own ends sent back peer None none is =
     stays own _ _ _ sent back (record {
       sound = is.sound;
-      connection = on-ended ends.adapter sent back ends.streams peer ends.connection is.connection;
+      connection = on-ended own ends.adapter sent back ends.streams peer ends.connection is.connection;
       streams = λ q stream found. is.streams q stream (found-other peer q ends.streams stream found).0;
     }) refl refl refl
 ended-as own ends sent back peer (Some ended) there is =
@@ -108,14 +108,14 @@ ended-as own ends sent back peer (Some ended) there is =
     stays own _ _ _ sent back (record {
       sound = sound-call a call is.sound;
       connection =
-          on-other a call sent back (other_streams peer ends.streams) ends.connection other
-          (on-ended a sent back ends.streams peer ends.connection is.connection);
+          on-other own a call sent back (other_streams peer ends.streams) ends.connection other
+          (on-ended own a sent back ends.streams peer ends.connection is.connection);
       streams =
-          flying-call a call sent (other_streams peer ends.streams) other
+          flying-call own a call sent (other_streams peer ends.streams) other
           (λ q stream found. is.streams q stream (found-other peer q ends.streams stream found).0);
     }) (ap (with_device ends sent back) (sym (device-ended a ended.peer))) refl refl
 
-pub end : (own : ℕ) (ends : Ends) (sent back : List (ℕ × List ℕ)) (peer : ℕ) → Tracks ends sent back →
+pub end : (own : ℕ) (ends : Ends) (sent back : List (ℕ × List ℕ)) (peer : ℕ) → Tracks own ends sent back →
     StepComes own ends (End peer) sent back
 end own ends sent back peer is = ended-as own ends sent back peer (stream_with peer ends.streams) refl is
 
@@ -159,7 +159,7 @@ are-others own [] is = tt
 are-others own (request ∷ requests) is = (is.0, are-others own requests is.1)
 
 called : (own : ℕ) (ends : Ends) (sent back : List (ℕ × List ℕ)) (call : Call) (ours : Bool) →
-    is_for_originator ends call ≡ ours → Tracks ends sent back →
+    is_for_originator ends call ≡ ours → Tracks own ends sent back →
     AllByRecursion (IsOfAnother own) (requests_of_calls ends.adapter (cond ours [] (call ∷ []))) →
     Comes own ends (record ends { adapter = after_calls ends.adapter (cond ours [] (call ∷ [])) })
     (cond ours [] (call ∷ [])) [] sent back
@@ -176,8 +176,8 @@ called own ends sent back call false theirs is others =
       new_back = back;
       tracks = record {
         sound = sound-call a call is.sound;
-        connection = on-other a call sent back ends.streams ends.connection other is.connection;
-        streams = flying-call a call sent ends.streams other is.streams;
+        connection = on-other own a call sent back ends.streams ends.connection other is.connection;
+        streams = flying-call own a call sent ends.streams other is.streams;
       };
       image = others-run (in_messages ends sent back) requests
           ∙ ap (with_device ends sent back) (sym (device-run a call));
@@ -188,7 +188,7 @@ called own ends sent back call false theirs is others =
       others = are-others own requests others;
     }
 
-pub others-call : (own : ℕ) (ends : Ends) (sent back : List (ℕ × List ℕ)) (call : Call) → Tracks ends sent back →
+pub others-call : (own : ℕ) (ends : Ends) (sent back : List (ℕ × List ℕ)) (call : Call) → Tracks own ends sent back →
     IsOfOthers own ends (Other call) → StepComes own ends (Other call) sent back
 others-call own ends sent back call is others =
     called own ends sent back call (is_for_originator ends call) refl is others

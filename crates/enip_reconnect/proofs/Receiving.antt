@@ -14,7 +14,7 @@ use Rattle.enip_reconnect.proofs.ClientPieces.{keeps, hears_whole, Front, Whole,
 use Rattle.enip_reconnect.proofs.ClientSide.{HearsRegistered, hears-registered, HearsReplied, hears-replied, registered_frame, registered-framed, request-framed}
 use Rattle.enip_reconnect.proofs.Flights.{joined, left-over, take-none}
 use Rattle.enip_reconnect.proofs.Steps.{Comes, StepComes, stays, message_run, on}
-use Rattle.enip_reconnect.proofs.Tracking.{Phase, New, Registering, Registered, Free, Asking, Answered, flight_in, back_in, ClientIs, Runs, Flies, IsOn, Tracks, in_messages}
+use Rattle.enip_reconnect.proofs.Tracking.{Phase, New, Registering, Registered, Free, Asking, Answered, Inquiring, Informed, flight_in, back_in, ClientIs, Runs, Flies, IsOn, Tracks, in_messages}
 
 -- ---- nothing is heard
 
@@ -36,6 +36,18 @@ still-is c held peer (Asking context position command) is = record {
   fault = is.fault;
   fits = is.fits;
 }
+still-is c held peer (Inquiring context request) is = record {
+  has = record { registered = is.has.registered; begun = is.has.begun; handle = is.has.handle };
+  awaiting = is.awaiting;
+  fault = is.fault;
+  fits = is.fits;
+}
+still-is c held peer (Informed context request answer) is = record {
+  has = record { registered = is.has.registered; begun = is.has.begun; handle = is.has.handle };
+  awaiting = is.awaiting;
+  fault = is.fault;
+  fits = is.fits;
+}
 still-is c held peer (Answered context position number message answer) is = record {
   has = record { registered = is.has.registered; begun = is.has.begun; handle = is.has.handle };
   awaiting = is.awaiting;
@@ -51,7 +63,7 @@ nothing-fed c count [] fine none =
 nothing-fed c count (byte ∷ text) fine none = absurd (omega (arith, ap length none, length-append c.held (byte ∷ text)))
 
 module _ (own : ℕ) (ends : Ends) (sent back : List (ℕ × List ℕ)) (count : ℕ) (connection : TcpConnection)
-    (is : Tracks (on ends (Some connection)) sent back) where
+    (is : Tracks own (on ends (Some connection)) sent back) where
   abbrev text : List ℕ
   text = connection.in_flight
 
@@ -68,7 +80,7 @@ module _ (own : ℕ) (ends : Ends) (sent back : List (ℕ × List ℕ)) (count :
   -- the stream, if it did not end, has what this phase says
   abbrev HasStream : Phase → Type 0
   HasStream phase = (stream : Stream) → stream_with connection.peer ends.streams ≡ Some stream →
-      Flies ends.adapter sent stream (flight_in phase)
+      Flies own ends.adapter sent stream (flight_in phase)
 
   -- nothing is heard
   quiet : (phase : Phase) → HasStream phase → Runs back connection phase →
@@ -155,6 +167,27 @@ module _ (own : ℕ) (ends : Ends) (sent back : List (ℕ × List ℕ)) (count :
   abbrev free_on : TurnResult → TcpConnection
   free_on turned = record (left_on turned) { asked = None }
 
+  -- the reply to another request: the commander does not receive it
+  informed-comes : (context : ℕ) (request answer : List ℕ) (turned : TurnResult) →
+      HasStream (Informed context request answer) → Runs back connection (Informed context request answer) →
+      drop (length piece) text ≡ [] → HearsReplied connection.peer answer turned → ComesBy (heard_by turned)
+  informed-comes context request answer turned flies runs left reply =
+      subst (λ event. Comes own (on ends (Some connection))
+      (record (heard (on ends (Some connection)) (left_on turned) event) { adapter = ends.adapter }) [] [] sent back)
+      (sym reply.heard_event)
+      (subst (λ asked. Comes own (on ends (Some connection))
+      (record (replied (on ends (Some (free_on turned))) asked answer) { adapter = ends.adapter }) [] [] sent back)
+      (sym runs.asked) (stays own _ _ _ sent back (record {
+        sound = is.sound;
+        connection = record {
+          below = is.connection.below;
+          phase = Free;
+          runs = record { client = reply.after; stream = left; asked = refl; was_back = tt };
+          flies = flies;
+        };
+        streams = is.streams;
+      }) refl refl refl))
+
   answered-comes : (context position number : ℕ) (message answer : List ℕ) (turned : TurnResult) →
       HasStream (Answered context position number message answer) →
       Runs back connection (Answered context position number message answer) →
@@ -167,7 +200,7 @@ module _ (own : ℕ) (ends : Ends) (sent back : List (ℕ × List ℕ)) (count :
       (record (replied (on ends (Some (free_on turned))) asked answer) { adapter = ends.adapter }) [] [] sent back)
       (sym runs.asked) (by_test (awaits ends.commander number) refl))
     where
-      freed : IsOn ends.adapter sent back ends.streams (free_on turned)
+      freed : IsOn own ends.adapter sent back ends.streams (free_on turned)
       freed = record {
         below = is.connection.below;
         phase = Free;
@@ -230,8 +263,17 @@ module _ (own : ℕ) (ends : Ends) (sent back : List (ℕ × List ℕ)) (count :
       (hears connection.client.state (request_frame connection.peer context answer)) flies runs left
       (hears-replied connection.client connection.peer context message answer runs.client runs.was_back.taken))
 
+  comes (Inquiring context request) flies runs =
+      nothing-comes (Inquiring context request) flies runs runs.client.fault refl
+  comes (Informed context request answer) flies runs =
+      frame-comes (Informed context request answer) (request_frame connection.peer context answer) flies runs
+      runs.client.fault (request-framed connection.peer context answer is.connection.below runs.was_back.within) refl (λ left.
+      informed-comes context request answer
+      (hears connection.client.state (request_frame connection.peer context answer)) flies runs left
+      (hears-replied connection.client connection.peer context request answer runs.client runs.was_back))
+
 pub receives : (own : ℕ) (ends : Ends) (sent back : List (ℕ × List ℕ)) (count : ℕ) (connection : Option TcpConnection) →
-    Tracks (on ends connection) sent back → StepComes own (on ends connection) (Receive count) sent back
+    Tracks own (on ends connection) sent back → StepComes own (on ends connection) (Receive count) sent back
 receives own ends sent back count None is = stays own _ _ _ sent back is refl refl refl
 receives own ends sent back count (Some connection) is =
     comes own ends sent back count connection is is.connection.phase is.connection.flies is.connection.runs

@@ -39,7 +39,7 @@ pub record Comes (own : ℕ) (before after : Ends) (calls : List Call) (decision
   pub more : List MessageEvent
   pub new_sent : List (ℕ × List ℕ)
   pub new_back : List (ℕ × List ℕ)
-  pub tracks : Tracks after new_sent new_back
+  pub tracks : Tracks own after new_sent new_back
   pub image : message_run (in_messages before sent back) more ≡ in_messages after new_sent new_back
   pub reached : requests_of_calls before.adapter calls
       ≡ requests_of objects_after objects_answer (in_messages before sent back) more
@@ -52,7 +52,7 @@ StepComes own before event sent back =
     Comes own before (ends_step before event) (calls_at before event) (decisions_in (event ∷ [])) sent back
 
 -- Nothing happens in messages.
-pub stays : (own : ℕ) (before after : Ends) (calls : List Call) (sent back : List (ℕ × List ℕ)) → Tracks after sent back →
+pub stays : (own : ℕ) (before after : Ends) (calls : List Call) (sent back : List (ℕ × List ℕ)) → Tracks own after sent back →
     in_messages before sent back ≡ in_messages after sent back → requests_of_calls before.adapter calls ≡ [] →
     after.given ≡ before.given → Comes own before after calls [] sent back
 stays own before after calls sent back tracks image none given = record {
@@ -77,7 +77,7 @@ on ends connection = record ends { connection = connection }
 
 -- ---- the originator's decisions
 
-pub new-command : (own : ℕ) (ends : Ends) (sent back : List (ℕ × List ℕ)) (request : List ℕ) → Tracks ends sent back →
+pub new-command : (own : ℕ) (ends : Ends) (sent back : List (ℕ × List ℕ)) (request : List ℕ) → Tracks own ends sent back →
     StepComes own ends (NewCommand request) sent back
 new-command own ends sent back request is = record {
   more = messages.NewCommand request ∷ [];
@@ -92,7 +92,7 @@ new-command own ends sent back request is = record {
   others = (tt, tt);
 }
 
-pub abandon : (own : ℕ) (ends : Ends) (sent back : List (ℕ × List ℕ)) → Tracks ends sent back →
+pub abandon : (own : ℕ) (ends : Ends) (sent back : List (ℕ × List ℕ)) → Tracks own ends sent back →
     StepComes own ends Abandon sent back
 abandon own ends sent back is = record {
   more = messages.Abandon ∷ [];
@@ -109,21 +109,21 @@ abandon own ends sent back is = record {
 -- ---- streams
 
 -- A call for others leaves them.
-pub flying-call : (a : AdapterState) (call : Call) (sent : List (ℕ × List ℕ)) (streams : List Stream) →
+pub flying-call : (own : ℕ) (a : AdapterState) (call : Call) (sent : List (ℕ × List ℕ)) (streams : List Stream) →
     ((peer : ℕ) (s : Stream) → stream_with peer streams ≡ Some s → IsForOther s.peer call) →
-    AreFlying a sent streams → AreFlying (after_call a call) sent streams
-flying-call a call sent streams other flying peer s found =
-    let is : IsFlying a sent s = flying peer s found in
+    AreFlying own a sent streams → AreFlying own (after_call a call) sent streams
+flying-call own a call sent streams other flying peer s found =
+    let is : IsFlying own a sent s = flying peer s found in
     record {
       flight = is.flight;
-      carries = carries-other a call sent s.peer s.in_flight is.flight (other peer s found) is.carries;
+      carries = carries-other own a call sent s.peer s.in_flight is.flight (other peer s found) is.carries;
     }
 
-pub flying-more : (a : AdapterState) (sent more : List (ℕ × List ℕ)) (streams : List Stream) → AreFlying a sent streams →
-    AreFlying a (sent ++ more) streams
-flying-more a sent more streams flying peer s found =
-    let is : IsFlying a sent s = flying peer s found in
-    record { flight = is.flight; carries = carries-more a sent more s.peer s.in_flight is.flight is.carries }
+pub flying-more : (own : ℕ) (a : AdapterState) (sent more : List (ℕ × List ℕ)) (streams : List Stream) → AreFlying own a sent streams →
+    AreFlying own a (sent ++ more) streams
+flying-more own a sent more streams flying peer s found =
+    let is : IsFlying own a sent s = flying peer s found in
+    record { flight = is.flight; carries = carries-more own a sent more s.peer s.in_flight is.flight is.carries }
 
 -- The stream that is found has the handle.
 pub stream-number : (streams : List Stream) (peer : ℕ) (s : Stream) → stream_with peer streams ≡ Some s → s.peer ≡ peer

@@ -4,7 +4,7 @@ use Rattle.enip_adapter.specs.Calls.{Call}
 use Rattle.enip_client.specs.declared.wants.Wants.{Wants}
 
 -- The originator gives a command, or gives the pending one up. It opens a TCP connection with a new client, if it has
--- none. It registers a session, or sends the pending command's message.
+-- none. It registers a session, sends the pending command's message, or asks something else.
 --
 -- At this time at most `count` bytes in flight on the stream with this peer handle arrive at the adapter. At most `count`
 -- bytes in flight to the originator arrive there.
@@ -19,6 +19,7 @@ pub data Event : Type 0 where
   Connect : (wants : Wants) → Event
   Register : Event
   Send : Event
+  Ask : (request : List ℕ) → Event
   Arrive : (now peer count : ℕ) → Event
   Receive : (count : ℕ) → Event
   Break : Event

@@ -28,7 +28,7 @@ use Rattle.enip_client.specs.Hears.HeardEvent.{Replied}
 use Rattle.enip_client.specs.declared.fault.ClientFault.{ClientFault}
 use Rattle.enip_client.specs.declared.wants.Wants.{Wants}
 use Rattle.enip_wire.specs.Frames.{frame}
-use Rattle.enip_reconnect.specs.Events.{Event, NewCommand, Abandon, Connect, Register, Send, Arrive, Receive, Break, End, Other}
+use Rattle.enip_reconnect.specs.Events.{Event, NewCommand, Abandon, Connect, Register, Send, Ask, Arrive, Receive, Break, End, Other}
 
 -- The originator's end of a TCP connection: its client, its peer handle at the adapter, the number of the command that was
 -- last asked on it, if the reply was not heard yet, and the bytes in flight to the originator.
@@ -123,6 +123,7 @@ calls_at ends Abandon = []
 calls_at ends (Connect wants) = begin_calls ends.connection
 calls_at ends Register = []
 calls_at ends Send = []
+calls_at ends (Ask request) = []
 calls_at ends (Arrive now peer count) = feed_calls now count (stream_with peer ends.streams)
 calls_at ends (Receive count) = []
 calls_at ends Break = []
@@ -169,6 +170,11 @@ asking ends None connection = ends
 asking ends (Some message) None = ends
 asking ends (Some message) (Some connection) =
     sending ends connection (Some ends.commander.last_number) (asks connection.client.state message)
+
+-- Another request is no command, so no command is asked then.
+abbrev pub inquiring : Ends → List ℕ → Option TcpConnection → Ends
+inquiring ends request None = ends
+inquiring ends request (Some connection) = sending ends connection None (asks connection.client.state request)
 
 -- What the adapter takes is in flight no more. Its answer is on its way on the same TCP connection, or lost if that broke.
 abbrev pub answered : ℕ → List ℕ → Option TcpConnection → Option TcpConnection
@@ -227,6 +233,7 @@ moved ends Abandon = record ends { commander = abandoned ends.commander }
 moved ends (Connect wants) = connected ends wants ends.connection
 moved ends Register = registering ends ends.connection
 moved ends Send = asking ends (pending_message ends.commander) ends.connection
+moved ends (Ask request) = inquiring ends request ends.connection
 moved ends (Arrive now peer count) = arrived ends now count (stream_with peer ends.streams)
 moved ends (Receive count) = received_on ends count ends.connection
 moved ends Break = record ends { connection = None }
