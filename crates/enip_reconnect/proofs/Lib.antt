@@ -5,3 +5,4 @@ pub mod ClientSide
 pub mod Flights
 pub mod Steps
 pub mod Tracking
+pub mod Receiving
