@@ -136,7 +136,8 @@ module _ (own : ℕ) (ends : Ends) (sent back : List (ℕ × List ℕ)) (count :
   }
 
   registered-comes : (context : ℕ) (turned : TurnResult) → HasStream (Registered context) →
-      Runs back connection (Registered context) → drop (length piece) text ≡ [] → HearsRegistered connection.peer turned → ComesBy (heard_by turned)
+      Runs back connection (Registered context) → drop (length piece) text ≡ [] →
+      HearsRegistered connection.peer turned → ComesBy (heard_by turned)
   registered-comes context turned flies runs left reply =
       subst (λ event. Comes own (on ends (Some connection))
       (record (heard (on ends (Some connection)) (left_on turned) event) { adapter = ends.adapter }) [] [] sent back)
