@@ -1,8 +1,14 @@
 pub mod AdapterSide
+pub mod Arriving
 pub mod ClientPieces
 pub mod ClientReplies
 pub mod ClientSide
+pub mod Connecting
+pub mod Corollaries
 pub mod Flights
-pub mod Steps
-pub mod Tracking
+pub mod MessageRuns
+pub mod Others
 pub mod Receiving
+pub mod Steps
+pub mod Streams
+pub mod Tracking
