@@ -382,7 +382,7 @@ is-request peer number request below small =
       within = omega (arith, size, small);
     }
 
--- Do_Once on a registered session.
+-- A request to the device on a registered session.
 pub record Reaches (a : AdapterState) (now peer : ℕ) (piece : List ℕ) (number : ℕ) (request : List ℕ) : Type 0 where
   pub taken : (call_meaning a (Feeds now peer piece)).taken ≡ length piece
   pub answer : ◌≡◌ {A = Answer} (call_answer a (Feeds now peer piece)) (record {
@@ -395,29 +395,27 @@ pub record Reaches (a : AdapterState) (now peer : ℕ) (piece : List ℕ) (numbe
   pub requests : requests_of_calls a (Feeds now peer piece ∷ []) ≡ (UNCONNECTED_LIMIT, request) ∷ []
   pub holds : Holds (after_call a (Feeds now peer piece)) peer (registered_session peer) []
 
-pub reaches-device : (a : AdapterState) (now peer : ℕ) (held piece : List ℕ) (number : ℕ) (command : Command) →
+pub reaches-device : (a : AdapterState) (now peer : ℕ) (held piece : List ℕ) (number : ℕ) (request : List ℕ) →
     IsSound a → peer < 2 ^ 32 → Holds a peer (registered_session peer) held →
-    length (do_once command) ≤ UNCONNECTED_LIMIT → held ++ piece ≡ frame (request_frame peer number (do_once command)) →
-    Reaches a now peer piece number (do_once command)
-reaches-device a now peer held piece number command sound below holds small is =
-    let request : List ℕ = do_once command in
+    2 ≤ length request → length request ≤ UNCONNECTED_LIMIT → route_of request ≡ Executes →
+    held ++ piece ≡ frame (request_frame peer number request) → Reaches a now peer piece number request
+reaches-device a now peer held piece number request sound below holds least small routes is =
     let f : Frame = request_frame peer number request in
     let shared : Shared = at_moment a.state.shared now in
     let served : Served =
     leaving (record shared { objects = (exec_device shared.objects UNCONNECTED_LIMIT request).after })
     (answered (registered_session peer)
     (frame (request_frame peer number (exec_device shared.objects UNCONNECTED_LIMIT request).answer))) in
-    let least : 2 ≤ length request = omega arith in
     let takes : TakesFrame a now peer (registered_session peer) piece f served =
     subst (TakesFrame a now peer (registered_session peer) piece f)
-    (request-served shared peer number request least small (route_of-do_once command))
+    (request-served shared peer number request least small routes)
     (takes-frame a now peer (registered_session peer) held piece f sound holds
     (is-request peer number request below small) is) in
     record {
       taken = takes.taken;
       answer = takes.answer;
       device = ap (λ (x : Shared). x.objects) takes.shared;
-      requests = takes.requests ∙ request-reached shared peer number request least small (route_of-do_once command);
+      requests = takes.requests ∙ request-reached shared peer number request least small routes;
       holds = record { found = takes.found; alive = refl; held = takes.held };
     }
 

@@ -1,5 +1,6 @@
 -- The bytes of one frame at a client, in pieces: it hears nothing until the last of them, and then the frame.
-use Rattle.std.proofs.Common.{◌≡◌, ℕ, zero, suc, ◌+◌, ◌≤◌, inl, inr, None, Some, List, [], ◌∷◌, ◌++◌, length, take, drop, refl, sym, ap, ◌∙◌, arith, append-nil, append_assoc, length-append}
+use Rattle.std.proofs.Common.{◌≡◌, ℕ, ◌+◌, ◌≤◌, inl, inr, None, List, [], ◌∷◌, ◌++◌, length, take, drop, refl, sym, ap}
+use Rattle.std.proofs.Common.{◌∙◌, arith, append-nil, append_assoc, length-append}
 use Rattle.std.proofs.lemmas.Bool.{cases_lt}
 use Rattle.std.proofs.lemmas.List.{take_all, take-append-drop}
 use Rattle.cip_bytes.specs.Numbers.{number_at}
@@ -9,10 +10,10 @@ use Rattle.enip_wire.specs.Stream.Parsed.{Incomplete, WholeFrame}
 use Rattle.enip_wire.proofs.FrameLemmas.{number_at-frame, number_at-append, length-frame, end_after-within}
 use Rattle.enip_wire.proofs.PieceLemmas.{parsed-written}
 use Rattle.enip_wire.proofs.RunningLemmas.{bytes_taken-short, bytes_taken-long, parsed-running}
-use Rattle.enip_client.specs.declared.fault.ClientFault.{ClientFault}
 use Rattle.enip_client.specs.Client.{ClientState, Fed, fed, fed_unless, fed_parsed}
 use Rattle.enip_client.specs.Hears.{hears, hears_parsed}
 use Rattle.enip_client.specs.Hears.HeardEvent.{Nothing}
+use Rattle.enip_reconnect.proofs.Flights.{joined, left-over}
 
 -- ---- the bytes
 
@@ -52,7 +53,9 @@ module _ (held piece rest : List ℕ) (f : Frame) (ok : IsFrame f) (parts : (hel
       ]
 
   pub all-joined : held_and_taken held piece ≡ held ++ piece
-  all-joined = ap (λ n. held ++ take n piece) all-taken ∙ ap (λ xs. held ++ xs) (take_all (length piece) piece (omega arith))
+  all-joined =
+      ap (λ n. held ++ take n piece) all-taken
+      ∙ ap (λ taken. held ++ taken) (take_all (length piece) piece (omega arith))
 
   -- no frame is whole before its last byte
   pub not-yet : 1 ≤ length rest → parsed (held ++ piece) ≡ Incomplete
@@ -95,10 +98,11 @@ fed-shown c piece bytes taken x fine joined number seen =
 
 module _ (c : ClientState) (piece : List ℕ) (f : Frame) (fine : c.state.fault ≡ None) (ok : IsFrame f) where
   -- a piece that does not complete the frame
-  pub fed-front : (rest : List ℕ) → (c.held ++ piece) ++ rest ≡ frame f → 1 ≤ length rest → fed c piece ≡ keeps c piece
+  pub fed-front : (rest : List ℕ) → c.held ++ (piece ++ rest) ≡ frame f → 1 ≤ length rest → fed c piece ≡ keeps c piece
   fed-front rest parts more =
-      fed-shown c piece (c.held ++ piece) (length piece) Incomplete fine (all-joined c.held piece rest f ok parts)
-      (all-taken c.held piece rest f ok parts) (not-yet c.held piece rest f ok parts more)
+      let joined : (c.held ++ piece) ++ rest ≡ frame f = append_assoc c.held piece rest ∙ parts in
+      fed-shown c piece (c.held ++ piece) (length piece) Incomplete fine (all-joined c.held piece rest f ok joined)
+      (all-taken c.held piece rest f ok joined) (not-yet c.held piece rest f ok joined more)
 
   -- a piece that completes it
   pub fed-whole : c.held ++ piece ≡ frame f → fed c piece ≡ hears_whole c piece f
@@ -110,16 +114,11 @@ module _ (c : ClientState) (piece : List ℕ) (f : Frame) (fine : c.state.fault 
 -- no bytes at a client that holds none
 pub fed-nothing : (c : ClientState) → c.state.fault ≡ None → c.held ≡ [] → fed c [] ≡ keeps c []
 fed-nothing c fine blank =
-    fed-shown c [] [] 0 Incomplete fine (ap (λ held. held_and_taken held []) blank) (ap (λ held. bytes_taken held []) blank) refl
+    fed-shown c [] [] 0 Incomplete fine (ap (λ held. held_and_taken held []) blank)
+    (ap (λ held. bytes_taken held []) blank) refl
     ∙ ap (λ held. shown c (held ++ []) 0 Incomplete) (sym blank)
 
 -- ---- bytes in flight
-
--- as many bytes are left as were not taken
-left-over : (count : ℕ) (text : List ℕ) → drop (length (take count text)) text ≡ drop count text
-left-over zero text = refl
-left-over (suc count) [] = refl
-left-over (suc count) (byte ∷ text) = left-over count text
 
 -- The first so many of the bytes in flight arrive at a client, which are the rest of this frame. All that arrive are
 -- taken. Either some are still in flight, and the client hears nothing, or the client hears the frame.
@@ -134,25 +133,18 @@ pub delivered : (c : ClientState) (text : List ℕ) (count : ℕ) (f : Frame) �
     c.held ++ text ≡ frame f → Delivery c text count f
 delivered c text count f fine ok parts = by_rest (drop count text) refl
   where
-    joined : (c.held ++ take count text) ++ drop count text ≡ frame f
-    joined = append_assoc c.held (take count text) (drop count text)
-        ∙ ap (λ bytes. c.held ++ bytes) (take-append-drop count text) ∙ parts
+    parted : c.held ++ (take count text ++ drop count text) ≡ frame f
+    parted = ap (λ bytes. c.held ++ bytes) (take-append-drop count text) ∙ parts
+
+    whole : (c.held ++ take count text) ++ drop count text ≡ frame f
+    whole = joined c.held count text ∙ parts
 
     by_rest : (rest : List ℕ) → drop count text ≡ rest → Delivery c text count f
     by_rest [] none =
         Whole (fed-whole c (take count text) f fine ok
-        (sym (append-nil (c.held ++ take count text)) ∙ ap (λ rest. (c.held ++ take count text) ++ rest) (sym none) ∙ joined))
+        (sym (append-nil (c.held ++ take count text))
+        ∙ ap (λ rest. (c.held ++ take count text) ++ rest) (sym none) ∙ whole))
         (left-over count text ∙ none)
     by_rest (byte ∷ rest) some =
-        Front (fed-front c (take count text) f fine ok (drop count text) joined (omega (arith, ap length some)))
-        (left-over count text) joined
-
--- nothing is in flight
-pub delivered-nothing : (c : ClientState) (count : ℕ) → c.state.fault ≡ None → c.held ≡ [] → fed c (take count []) ≡ keeps c []
-delivered-nothing c zero fine blank = fed-nothing c fine blank
-delivered-nothing c (suc count) fine blank = fed-nothing c fine blank
-
--- once a fault lasts, nothing is taken
-pub fed-faulted : (c : ClientState) (piece : List ℕ) (fault : ClientFault) → c.state.fault ≡ Some fault →
-    fed c piece ≡ record { client = c; taken = 0; heard_event = Nothing }
-fed-faulted c piece fault lasts = ap (fed_unless c piece) lasts
+        Front (fed-front c (take count text) f fine ok (drop count text) parted (omega (arith, ap length some)))
+        (left-over count text) whole

@@ -1,5 +1,6 @@
 -- Every reply of a device is one that a client takes for the reply to its request.
-use Rattle.std.proofs.Common.{◌≡◌, ℕ, ◌+◌, ◌*◌, ◌≤◌, nat_lt, Bool, true, false, if◌then◌else◌, List, [], ◌∷◌, length, slice_index, Result, Ok, Err, refl, sym, ap, subst, ◌∙◌, arith}
+use Rattle.std.proofs.Common.{◌≡◌, ℕ, ◌+◌, ◌*◌, ◌≤◌, nat_lt, Bool, true, false, if◌then◌else◌, List, [], ◌∷◌, length}
+use Rattle.std.proofs.Common.{slice_index, Result, Ok, Err, refl, sym, ap, subst, ◌∙◌, arith}
 use Rattle.std.proofs.lemmas.Bool.{le-ltb, ltb-false}
 use Rattle.cip_bytes.specs.Reading.{◌>>=◌}
 use Rattle.cip_bytes.specs.Protocol.{general_status_number}
@@ -23,7 +24,8 @@ record IsPlain (text : List ℕ) : Type 0 where
 
 exec-plain : (objects : Contents) (max_size : ℕ) (request : List ℕ) → IsPlain (answer objects max_size request)
 unfolding exec
-exec-plain objects max_size request = go (outcome objects request) (outcome objects request >>= with_reply max_size request) refl
+exec-plain objects max_size request =
+    go (outcome objects request) (outcome objects request >>= with_reply max_size request) refl
   where
     go : (r : Result Outcome _) (q : Result Executed _) → (r >>= with_reply max_size request) ≡ q →
         IsPlain (or_refusal objects request q).answer
@@ -46,7 +48,12 @@ turn-plain : (f : Fate) (device : Device) (max_size : ℕ) (request : List ℕ) 
     IsPlain (turn_by after answer f device.ledger device.router max_size request).answer
 turn-plain Passed device max_size request = exec-plain device.router max_size request
 turn-plain (Served service (Replies reply)) device max_size request =
-    record { service = reply_service service; status = status_number reply.status; content = reply.content; spelled = refl }
+    record {
+      service = reply_service service;
+      status = status_number reply.status;
+      content = reply.content;
+      spelled = refl;
+    }
 turn-plain (Served service (Executes command)) device max_size request =
     record { service = reply_service service; status = 0; content = _; spelled = refl }
 turn-plain (Served service (Frees originator)) device max_size request =
@@ -75,8 +82,8 @@ pub record IsTaken (service : ℕ) (text : List ℕ) : Type 0 where
   pub service_is : reply.service ≡ reply_service service
   pub within : length text ≤ 504
 
-plain-taken : (service : ℕ) (text : List ℕ) → IsPlain text → slice_index text 0 ≡ reply_service service → length text ≤ 504 →
-    IsTaken service text
+plain-taken : (service : ℕ) (text : List ℕ) → IsPlain text → slice_index text 0 ≡ reply_service service →
+    length text ≤ 504 → IsTaken service text
 plain-taken service text plain first within =
     let same : plain.service ≡ reply_service service = ap (λ t. slice_index t 0) (sym plain.spelled) ∙ first in
     record {

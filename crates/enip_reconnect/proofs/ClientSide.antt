@@ -1,23 +1,25 @@
 -- A client on a line: what it sends, and what it hears in the frames that answer it.
-use Rattle.std.proofs.Common.{◌≡◌, ℕ, ◌+◌, ◌<◌, ◌≤◌, ◌^◌, ◌==◌, Bool, true, false, if◌then◌else◌, None, Some, option_map, List, [], length, slice_index, Ok, Err, refl, subst, sym, ap, ◌∙◌, arith, append-nil}
-use Rattle.std.specs.Prelude.{◌++◌}
-use Rattle.std.proofs.lemmas.Bool.{eq-eqb, le-leb, leb-true, and_from, and_left, and_right, and_parts}
+use Rattle.std.proofs.Common.{◌≡◌, ℕ, ◌+◌, ◌<◌, ◌≤◌, ◌^◌, ◌==◌, Bool, true, false, if◌then◌else◌, None, Some, Option}
+use Rattle.std.proofs.Common.{Result, option_map, List, [], ◌++◌, length, slice_index, Ok, Err, refl, subst, sym, ap}
+use Rattle.std.proofs.Common.{◌∙◌, arith, append-nil}
+use Rattle.std.proofs.lemmas.Bool.{eq-eqb, leb-true, and_from, and_left, and_right, and_parts}
 use Rattle.byteorder.specs.Numbers.{little_number-reads_back}
 use Rattle.cip_bytes.specs.Numbers.{le, number_at}
 use Rattle.cip_bytes.specs.Protocol.{command_number}
 use Rattle.cip_bytes.specs.declared.protocol.Command.{Command}
 use Rattle.cip_bytes.specs.declared.protocol.Command.TheVariants as commands
-use Rattle.cip_ledger.specs.Requests.{Command as Numbered}
-use Rattle.cip_commander.specs.CommanderRule.{do_once}
 use Rattle.enip_wire.specs.Bodies.{rr_body_bytes}
 use Rattle.enip_wire.specs.Frames.{Frame, IsFrame}
 use Rattle.enip_wire.proofs.WriteLemmas.{rr_again}
 use Rattle.enip_client.specs.declared.fault.ClientFault.TheVariants as faults
 use Rattle.enip_client.specs.declared.wants.Wants.{Wants}
-use Rattle.enip_client.specs.Calls.{lending, refusal, unless, registers, asks, next_number, can_register, can_ask, is_unconnected}
+use Rattle.enip_client.specs.declared.fault.ClientFault.{ClientFault}
+use Rattle.enip_client.specs.Calls.{Lent, lending, refusal, unless, registers, asks, next_number, can_register, can_ask}
+use Rattle.enip_client.specs.Calls.{is_unconnected}
 use Rattle.enip_client.specs.Client.{ClientState, new_client, with_state}
 use Rattle.enip_client.specs.Frames.{sent, register_frame, request_frame}
-use Rattle.enip_client.specs.Hears.{command_awaited, Answer, answer_read, answer_in, answer_to, TurnResult, hears, hears_awaiting, answer_turn, other_turn, reply_turn, faulted, shaped}
+use Rattle.enip_client.specs.Hears.{command_awaited, Answer, answer_read, answer_in, answer_to, TurnResult, hears}
+use Rattle.enip_client.specs.Hears.{hears_awaiting, answer_turn, other_turn, reply_turn, faulted, shaped}
 use Rattle.enip_client.specs.Hears.HeardEvent.{Registered, Replied}
 use Rattle.enip_client.specs.Runs.{Action, awaited_by}
 use Rattle.enip_client.specs.Runs.Action.{Register, Unconnected}
@@ -35,7 +37,8 @@ pub record IsNew (c : ClientState) : Type 0 where
 
 -- it awaits the reply to its RegisterSession with this number
 pub record IsRegistering (c : ClientState) (number : ℕ) : Type 0 where
-  pub awaiting : c.state.awaiting ≡ option_map (λ what. record { number = number; awaited = what }) (awaited_by Register)
+  pub awaiting : c.state.awaiting
+      ≡ option_map (λ what. record { number = number; awaited = what }) (awaited_by Register)
   pub fault : c.state.fault ≡ None
   pub fits : number < 2 ^ 64
 
@@ -65,8 +68,8 @@ new-is wants = record { fresh = refl; registered = refl; awaiting = refl; fault 
 -- ---- frames
 
 -- a frame with a command of the standard, as a client sends it, or an adapter
-is_sent : (command : Command) (session number : ℕ) (body : List ℕ) → command_number command < 2 ^ 16 → session < 2 ^ 32 →
-    length body ≤ 65511 → IsFrame (sent command session number body)
+is_sent : (command : Command) (session number : ℕ) (body : List ℕ) → command_number command < 2 ^ 16 →
+    session < 2 ^ 32 → length body ≤ 65511 → IsFrame (sent command session number body)
 is_sent command session number body c s l = record {
   fields = record {
     command = c;
@@ -111,6 +114,10 @@ after_sending c action = with_state c (record c.state {
   frames = next_number c.state;
 })
 
+abbrev registers_unless : ClientState → Option ClientFault → Result Lent ClientFault
+registers_unless c refused =
+    unless refused (Ok (lending (register_frame (next_number c.state)) (after_sending c Register).state))
+
 -- the client sends RegisterSession, and awaits the reply
 pub record Registers (c : ClientState) : Type 0 where
   pub lent : registers c.state
@@ -121,7 +128,7 @@ pub registers-new : (c : ClientState) → IsNew c → Registers c
 registers-new c is =
     let free : refusal c.state (can_register c.state) ≡ None = rw (is.fault, is.fresh, is.awaiting) refl in
     record {
-      lent = ap (λ o. unless o (Ok (lending (register_frame (next_number c.state)) (after_sending c Register).state))) free;
+      lent = ap (registers_unless c) free;
       after = record { awaiting = refl; fault = is.fault; fits = omega arith };
     }
 
@@ -131,22 +138,25 @@ pub record Asks (c : ClientState) (session : ℕ) (message : List ℕ) : Type 0 
       ≡ Ok (lending (request_frame session (next_number c.state) message) (after_sending c (Unconnected message)).state)
   pub after : IsAsking (after_sending c (Unconnected message)) session (next_number c.state) message
 
--- what a free client does with a message, by whether it is one that is sent unconnected
-asks-by : (c : ClientState) (session : ℕ) (message : List ℕ) (b : Bool) → IsFree c session → is_unconnected message ≡ b →
-    asks c.state message
-    ≡ (if b then Ok (lending (request_frame session (next_number c.state) message) (after_sending c (Unconnected message)).state)
-    else Err faults.Request)
-asks-by c session message b is e =
+-- a message of a client with this session is sent if it is one that is sent unconnected
+abbrev lends_message : ClientState → ℕ → List ℕ → Bool → Result Lent ClientFault
+lends_message c session message fits =
+    if fits then Ok (
+    lending (request_frame session (next_number c.state) message) (after_sending c (Unconnected message)).state
+    )
+    else Err faults.Request
+
+abbrev lends_unless : ClientState → List ℕ → Option ClientFault → Result Lent ClientFault
+lends_unless c message refused =
+    unless refused (lends_message c (session_in c.state.registration) message (is_unconnected message))
+
+asks-by : (c : ClientState) (session : ℕ) (message : List ℕ) (fits : Bool) → IsFree c session →
+    is_unconnected message ≡ fits → asks c.state message ≡ lends_message c session message fits
+asks-by c session message fits is e =
     let free : refusal c.state (can_ask c.state) ≡ None = rw (is.fault, is.has.registered, is.awaiting) refl in
-    ap (λ o. unless o (if is_unconnected message
-    then Ok (lending (request_frame (session_in c.state.registration) (next_number c.state) message) (after_sending c (Unconnected message)).state)
-    else Err faults.Request)) free
-    ∙ ap (λ t. if t
-    then Ok (lending (request_frame (session_in c.state.registration) (next_number c.state) message) (after_sending c (Unconnected message)).state)
-    else Err faults.Request) e
-    ∙ ap (λ n. if b
-    then Ok (lending (request_frame n (next_number c.state) message) (after_sending c (Unconnected message)).state)
-    else Err faults.Request) is.has.handle
+    ap (lends_unless c message) free
+    ∙ ap (lends_message c (session_in c.state.registration) message) e
+    ∙ ap (λ handle. lends_message c handle message fits) is.has.handle
 
 pub asks-free : (c : ClientState) (session : ℕ) (message : List ℕ) → IsFree c session → is_unconnected message ≡ true →
     Asks c session message
@@ -161,9 +171,22 @@ asks-free c session message is fits = record {
 }
 
 -- no other message is sent
-pub asks-other : (c : ClientState) (session : ℕ) (message : List ℕ) → IsFree c session → is_unconnected message ≡ false →
-    asks c.state message ≡ Err faults.Request
+pub asks-other : (c : ClientState) (session : ℕ) (message : List ℕ) → IsFree c session →
+    is_unconnected message ≡ false → asks c.state message ≡ Err faults.Request
 asks-other c session message is never = asks-by c session message false is never
+
+-- ---- messages
+
+-- a message that is sent unconnected has at least two bytes, and at most 504
+pub record IsShort (message : List ℕ) : Type 0 where
+  pub from : 2 ≤ length message
+  pub to : length message ≤ 504
+
+pub unconnected-short : (message : List ℕ) → is_unconnected message ≡ true → IsShort message
+unconnected-short message fits =
+    let (sizes, service) = and_parts _ _ fits in
+    let (from, to) = and_parts _ _ sizes in
+    record { from = leb-true _ _ from; to = leb-true _ _ to }
 
 -- ---- calls that are not possible now
 
@@ -174,19 +197,18 @@ refused-now c possible fine never = rw (fine, never) refl
 registers-refused : (c : ClientState) → c.state.fault ≡ None → can_register c.state ≡ false →
     registers c.state ≡ Err faults.State
 registers-refused c fine never =
-    ap (λ o. unless o (Ok (lending (register_frame (next_number c.state)) (after_sending c Register).state)))
-    (refused-now c (can_register c.state) fine never)
+    ap (registers_unless c) (refused-now c (can_register c.state) fine never)
 
 asks-refused : (c : ClientState) (message : List ℕ) → c.state.fault ≡ None → can_ask c.state ≡ false →
     asks c.state message ≡ Err faults.State
-asks-refused c message fine never =
-    ap (λ o. unless o (if is_unconnected message
-    then Ok (lending (request_frame (session_in c.state.registration) (next_number c.state) message) (after_sending c (Unconnected message)).state)
-    else Err faults.Request)) (refused-now c (can_ask c.state) fine never)
+asks-refused c message fine never = ap (lends_unless c message) (refused-now c (can_ask c.state) fine never)
 
 -- RegisterSession is sent once
-pub registers-registering : (c : ClientState) (number : ℕ) → IsRegistering c number → registers c.state ≡ Err faults.State
-registers-registering c number is = registers-refused c is.fault (and_right (is_not_registered c.state.registration) (is_free c.state) (rw is.awaiting refl))
+pub registers-registering : (c : ClientState) (number : ℕ) → IsRegistering c number →
+    registers c.state ≡ Err faults.State
+registers-registering c number is =
+    registers-refused c is.fault
+    (and_right (is_not_registered c.state.registration) (is_free c.state) (rw is.awaiting refl))
 
 pub registers-free : (c : ClientState) (session : ℕ) → IsFree c session → registers c.state ≡ Err faults.State
 registers-free c session is = registers-refused c is.fault (and_left _ _ is.has.begun)
@@ -201,19 +223,23 @@ asks-new c message is = asks-refused c message is.fault (and_left _ _ is.registe
 
 pub asks-registering : (c : ClientState) (number : ℕ) (message : List ℕ) → IsRegistering c number →
     asks c.state message ≡ Err faults.State
-asks-registering c number message is = asks-refused c message is.fault (and_right (is_registered c.state.registration) (is_free c.state) (rw is.awaiting refl))
+asks-registering c number message is =
+    asks-refused c message is.fault
+    (and_right (is_registered c.state.registration) (is_free c.state) (rw is.awaiting refl))
 
 pub asks-asking : (c : ClientState) (session number : ℕ) (other message : List ℕ) → IsAsking c session number other →
     asks c.state message ≡ Err faults.State
-asks-asking c session number other message is = asks-refused c message is.fault (and_right (is_registered c.state.registration) (is_free c.state) (rw is.awaiting refl))
+asks-asking c session number other message is =
+    asks-refused c message is.fault
+    (and_right (is_registered c.state.registration) (is_free c.state) (rw is.awaiting refl))
 
 -- ---- replies
 
 -- a frame with the awaited command and context is heard by its shape
 hears-awaited : (c : ClientState) (f : Frame) (number : ℕ) (what : _) →
     c.state.awaiting ≡ Some (record { number = number; awaited = what }) →
-    (f.header.command == command_number (command_awaited what)) ≡ true → f.header.context ≡ le 8 number → number < 2 ^ 64 →
-    f.header.status ≡ 0 → hears c.state f ≡ shaped c.state what f
+    (f.header.command == command_number (command_awaited what)) ≡ true → f.header.context ≡ le 8 number →
+    number < 2 ^ 64 → f.header.status ≡ 0 → hears c.state f ≡ shaped c.state what f
 hears-awaited c f number what awaits same context small status =
     let back : number_at 0 8 (le 8 number) ≡ number = little_number-reads_back 8 number [] small in
     let named : (number_at 0 8 f.header.context == number) ≡ true
@@ -254,8 +280,9 @@ read-again service bytes is =
     ∙ ap (λ b. if b then Some (let a : Answer = record { bytes = bytes; reply = is.reply } in a) else None)
     (eq-eqb _ _ is.service_is)
 
-pub hears-replied : (c : ClientState) (session number : ℕ) (message bytes : List ℕ) → IsAsking c session number message →
-    IsTaken (slice_index message 0) bytes → HearsReplied session bytes (hears c.state (request_frame session number bytes))
+pub hears-replied : (c : ClientState) (session number : ℕ) (message bytes : List ℕ) →
+    IsAsking c session number message → IsTaken (slice_index message 0) bytes →
+    HearsReplied session bytes (hears c.state (request_frame session number bytes))
 hears-replied c session number message bytes is taken =
     subst (HearsReplied session bytes)
     (sym (hears-awaited c (request_frame session number bytes) number _ is.awaiting refl refl is.fits refl
@@ -267,23 +294,3 @@ hears-replied c session number message bytes is taken =
         fault = is.fault;
       };
     })
-
--- ---- messages
-
--- a message that is sent unconnected has at least two bytes, and at most 504
-pub record IsShort (message : List ℕ) : Type 0 where
-  pub from : 2 ≤ length message
-  pub to : length message ≤ 504
-
-pub unconnected-short : (message : List ℕ) → is_unconnected message ≡ true → IsShort message
-unconnected-short message fits =
-    let (sizes, service) = and_parts _ _ fits in
-    let (from, to) = and_parts _ _ sizes in
-    record { from = leb-true _ _ from; to = leb-true _ _ to }
-
--- a command with an embedded request of at most 478 bytes
-pub once-unconnected : (command : Numbered) → length command.request ≤ 478 → is_unconnected (do_once command) ≡ true
-once-unconnected command short =
-    let from : 2 ≤ length (do_once command) = omega arith in
-    let to : length (do_once command) ≤ 504 = omega (arith, short) in
-    and_from _ _ (and_from _ _ (le-leb _ _ from) (le-leb _ _ to)) refl

@@ -1,15 +1,17 @@
 -- TCP connections begin, and frames are sent on them.
-use Rattle.std.proofs.Common.{◌≡◌, ℕ, ◌+◌, ◌<◌, ◌≤◌, ◌^◌, Bool, true, false, Option, Some, None, option_map, List, [], ◌∷◌, ◌++◌, length, Result, Ok, Err, refl, ap, sym, ◌∙◌, subst, append_assoc, append-nil}
-use Rattle.std.specs.Prelude.{⊤}
+use Rattle.std.proofs.Common.{◌≡◌, ℕ, ◌==◌, if◌then◌else◌, Bool, true, false, Option, Some, None, option_map, List, [], ◌∷◌, ◌++◌, length, Result, Ok, Err, refl, ap, sym, ◌∙◌, subst, append_assoc, append-nil}
+use Rattle.std.proofs.lemmas.Bool.{eq-eqb}
+use Rattle.cip_bytes.specs.declared.protocol.TheConstants.{UNCONNECTED_LIMIT}
 use Rattle.cip_commander.specs.CommanderRule.{CommanderState, do_once, command_with, message_of}
 use Rattle.cip_commander.specs.Worlds as messages
+use Rattle.cip_ledger.specs.Laws.{IsOfAnother}
 use Rattle.cip_ledger.specs.Requests.{Command}
 use Rattle.enip_adapter.specs.declared.peer.Session.{Session}
 use Rattle.enip_adapter.specs.Calls.{AdapterState, call_answer, after_call}
 use Rattle.enip_adapter.specs.Calls.Call.{Begins_peer}
+use Rattle.enip_adapter.specs.SendRRData.{Executes, route_of}
 use Rattle.enip_adapter.specs.Turn.{Output}
 use Rattle.enip_adapter.specs.Turn.Output.{NoReply, Sends, Begins, Refuses}
-use Rattle.enip_adapter.proofs.ListLemmas.{first_with-number}
 use Rattle.enip_adapter.proofs.SoundLemmas.{sound-call}
 use Rattle.enip_client.specs.Calls.{Lent, registers, asks, next_number, is_unconnected}
 use Rattle.enip_client.specs.Client.{ClientState, with_state}
@@ -17,59 +19,96 @@ use Rattle.enip_client.specs.Frames.{register_frame, request_frame}
 use Rattle.enip_client.specs.declared.fault.ClientFault.{ClientFault}
 use Rattle.enip_client.specs.declared.wants.Wants.{Wants}
 use Rattle.enip_wire.specs.Frames.{frame}
-use Rattle.enip_reconnect.specs.Events.{Connect, Register, Send}
-use Rattle.enip_reconnect.specs.World.{TcpConnection, BrokenConnection, Ends, broken_with, begun, sending}
-use Rattle.enip_reconnect.proofs.AdapterSide.{BeginsAs, begins-as, device-same, apart-fresh}
+use Rattle.enip_reconnect.specs.Events.{Connect, Register, Send, Ask}
+use Rattle.enip_reconnect.specs.World.{TcpConnection, Stream, Ends, stream_with, begun, appended, sending}
+use Rattle.enip_reconnect.proofs.AdapterSide.{BeginsAs, begins-as, device-same}
 use Rattle.enip_reconnect.proofs.ClientSide.{new-is, registers-new, registers-registering, registers-free, registers-asking, Registers, asks-free, asks-other, asks-new, asks-registering, asks-asking, Asks, unconnected-short, IsShort}
-use Rattle.enip_reconnect.proofs.Flights.{found-front, found-last, carries-more}
-use Rattle.enip_reconnect.proofs.Steps.{Comes, StepComes, stays, with_device, AreLate, late-call, late-more}
-use Rattle.enip_reconnect.proofs.Tracking.{Flight, Nothing, Registration, Message, bytes_in, Carries, Phase, New, Registering, Registered, Free, Asking, Answered, flight_in, ClientIs, Runs, IsOn, IsOnIfAny, IsLate, Tracks, IsSentAt, session_in}
-
-abbrev pub on : Ends → Option TcpConnection → Ends
-on ends connection = record ends { connection = connection }
+use Rattle.enip_reconnect.proofs.Flights.{found-last, carries-more}
+use Rattle.enip_reconnect.proofs.Steps.{Comes, StepComes, stays, with_device, on, flying-call, flying-more, stream-number}
+use Rattle.enip_reconnect.proofs.Streams.{IsReplaced, appends}
+use Rattle.enip_reconnect.proofs.Tracking.{Flight, Nothing, Registration, Message, Inquiry, bytes_in, Carries, Phase, New, Registering, Registered, Free, Asking, Answered, Inquiring, Informed, flight_in, ClientIs, Runs, IsOn, Flies, IsFlying, AreFlying, Tracks, in_messages}
 
 -- ---- a connection begins
 
-begun-is : (a : AdapterState) (sent back : List (ℕ × List ℕ)) (broken : List BrokenConnection) (wants : Wants) (output : Output) →
-    ((handle : ℕ) → output ≡ Begins handle → BeginsAs a handle) → AreLate a sent broken →
-    IsOnIfAny (after_call a Begins_peer) sent back broken (begun wants output)
-begun-is a sent back broken wants (NoReply why) begins late = tt
-begun-is a sent back broken wants (Sends bytes) begins late = tt
-begun-is a sent back broken wants (Refuses full) begins late = tt
-begun-is a sent back broken wants (Begins handle) begins late =
-    let is : BeginsAs a handle = begins handle refl in
-    record {
-      phase = New;
-      runs = record {
-        carries = record { below = is.below; held = []; holds = is.holds; stream = refl; was_sent = tt };
-        client = new-is wants;
-        stream = refl;
-        asked = refl;
-        was_back = tt;
-      };
-      apart = fresh (broken_with handle broken) refl;
-    }
+-- The stream of a connection that begins comes first.
+abbrev new_stream : ℕ → Stream
+new_stream handle = record { peer = handle; in_flight = [] }
+
+first-flies : (own : ℕ) (a : AdapterState) (sent : List (ℕ × List ℕ)) (handle q : ℕ) (streams : List Stream) →
+    Flies own a sent (new_stream handle) (Nothing false) → AreFlying own a sent streams →
+    AreFlying own a sent (new_stream handle ∷ streams)
+first-flies own a sent handle q streams flies flying peer s found = by (handle == peer) found
   where
-    fresh : (found : Option BrokenConnection) → broken_with handle broken ≡ found → broken_with handle broken ≡ None
-    fresh None is = is
-    fresh (Some b) is =
-        let old : IsLate a sent b = late handle b is in
-        let same : b.peer ≡ handle = first_with-number (λ (x : BrokenConnection). x.peer) handle b broken is in
-        absurd (apart-fresh a b.peer handle (session_in b.peer old.flight) old.carries.held old.carries.holds
-        (begins handle refl).fresh (sym same))
+    by : (same : Bool) → (if same then Some (new_stream handle) else stream_with peer streams) ≡ Some s → IsFlying own a sent s
+    by true found =
+        let it : new_stream handle ≡ s = cc in
+        subst (IsFlying own a sent) it (record { flight = Nothing false; carries = flies })
+    by false found = flying peer s found
+
+first-found : (handle : ℕ) (streams : List Stream) (s : Stream) →
+    stream_with handle (new_stream handle ∷ streams) ≡ Some s → new_stream handle ≡ s
+first-found handle streams s found =
+    let both : Some (new_stream handle) ≡ Some s =
+    sym (ap (λ same. if same then Some (new_stream handle) else stream_with handle streams) (eq-eqb handle handle refl))
+    ∙ found in
+    cc
+
+-- The ends once the adapter answered.
+abbrev begun_on : Ends → Wants → Output → Ends
+begun_on ends wants output = record (begun ends wants output) { adapter = after_call ends.adapter Begins_peer }
+
+begins : (own : ℕ) (ends : Ends) (sent back : List (ℕ × List ℕ)) (wants : Wants) (output : Output) →
+    ((handle : ℕ) → output ≡ Begins handle → BeginsAs ends.adapter handle) → Tracks own (on ends None) sent back →
+    Comes own (on ends None) (begun_on (on ends None) wants output) (Begins_peer ∷ []) [] sent back
+begins own ends sent back wants output assigned is = by output assigned
+  where
+    a : AdapterState
+    a = ends.adapter
+
+    same : in_messages (on ends None) sent back
+        ≡ with_device (on ends None) sent back (after_call ends.adapter Begins_peer).state.shared.objects
+    same = ap (with_device (on ends None) sent back) (sym (device-same ends.adapter Begins_peer refl))
+
+    flying : AreFlying own (after_call ends.adapter Begins_peer) sent ends.streams
+    flying = flying-call own ends.adapter Begins_peer sent ends.streams (λ peer s found. tt) is.streams
+
+    nobody : (after : Ends) → after ≡ record (on ends None) { adapter = after_call ends.adapter Begins_peer } →
+        Comes own (on ends None) after (Begins_peer ∷ []) [] sent back
+    nobody after it =
+        subst (λ after. Comes own (on ends None) after (Begins_peer ∷ []) [] sent back) (sym it)
+        (stays own _ _ _ sent back (record {
+          sound = sound-call ends.adapter Begins_peer is.sound;
+          connection = tt;
+          streams = flying;
+        }) same refl refl)
+
+    by : (output : Output) → ((handle : ℕ) → output ≡ Begins handle → BeginsAs ends.adapter handle) →
+        Comes own (on ends None) (begun_on (on ends None) wants output) (Begins_peer ∷ []) [] sent back
+    by (NoReply why) assigned = nobody _ refl
+    by (Sends bytes) assigned = nobody _ refl
+    by (Refuses full) assigned = nobody _ refl
+    by (Begins handle) assigned =
+        let new : BeginsAs ends.adapter handle = assigned handle refl in
+        let flies : Flies own (after_call ends.adapter Begins_peer) sent (new_stream handle) (Nothing false) =
+        record { below = new.below; held = []; holds = new.holds; stream = refl; was_sent = tt } in
+        stays own _ _ _ sent back (record {
+          sound = sound-call ends.adapter Begins_peer is.sound;
+          connection = record {
+            below = new.below;
+            phase = New;
+            runs = record { client = new-is wants; stream = refl; asked = refl; was_back = tt };
+            flies = λ s found. subst (λ x. Flies own (after_call ends.adapter Begins_peer) sent x (Nothing false))
+                (first-found handle ends.streams s found) flies;
+          };
+          streams = first-flies own (after_call ends.adapter Begins_peer) sent handle handle ends.streams flies flying;
+        }) same refl refl
 
 pub connects : (own : ℕ) (ends : Ends) (sent back : List (ℕ × List ℕ)) (wants : Wants) (connection : Option TcpConnection) →
-    Tracks (on ends connection) sent back → StepComes own (on ends connection) (Connect wants) sent back
+    Tracks own (on ends connection) sent back → StepComes own (on ends connection) (Connect wants) sent back
 connects own ends sent back wants (Some connection) is = stays own _ _ _ sent back is refl refl refl
 connects own ends sent back wants None is =
-    let a : AdapterState = ends.adapter in
-    stays own _ _ _ sent back (record {
-      sound = sound-call a Begins_peer is.sound;
-      connection =
-          begun-is a sent back ends.broken wants (call_answer a Begins_peer).output
-          (λ handle output. begins-as a handle is.sound output) is.broken;
-      broken = late-call a Begins_peer sent ends.broken (λ peer b found. tt) is.broken;
-    }) (ap (with_device (on ends None) sent back) (sym (device-same a Begins_peer refl))) refl refl
+    begins own ends sent back wants (call_answer ends.adapter Begins_peer).output
+    (λ handle output. begins-as ends.adapter handle is.sound output) is
 
 -- ---- RegisterSession
 
@@ -77,171 +116,269 @@ connects own ends sent back wants None is =
 pub behind-nothing : (held text more : List ℕ) → held ++ text ≡ [] → held ++ (text ++ more) ≡ more
 behind-nothing held text more none = sym (append_assoc held text more) ∙ ap (λ front. front ++ more) none
 
--- The client refuses: nothing changes.
-refuses : (a : AdapterState) (sent back : List (ℕ × List ℕ)) (broken : List BrokenConnection) (connection : TcpConnection)
-    (asked : Option ℕ) (lent : Result Lent ClientFault) (why : ClientFault) → lent ≡ Err why →
-    IsOn a sent back broken connection → IsOn a sent back broken (sending connection asked lent)
-refuses a sent back broken connection asked lent why is on =
-    subst (λ result. IsOn a sent back broken (sending connection asked result)) (sym is) on
+-- The ends after a call of the client.
+abbrev sending_on : Ends → TcpConnection → Option ℕ → Result Lent ClientFault → Ends
+sending_on ends connection asked lent =
+    record (sending (on ends (Some connection)) connection asked lent) { adapter = ends.adapter }
 
-registers-on : (a : AdapterState) (sent back : List (ℕ × List ℕ)) (broken : List BrokenConnection) (connection : TcpConnection)
-    (phase : Phase) → Runs a sent back connection phase → broken_with connection.peer broken ≡ None →
-    IsOn a sent back broken (sending connection connection.asked (registers connection.client.state))
-registers-on a sent back broken connection New runs apart =
+-- The client refuses: nothing changes.
+refuses : (own : ℕ) (ends : Ends) (sent back : List (ℕ × List ℕ)) (connection : TcpConnection) (asked : Option ℕ)
+    (lent : Result Lent ClientFault) (why : ClientFault) → lent ≡ Err why →
+    Tracks own (on ends (Some connection)) sent back →
+    Comes own (on ends (Some connection)) (sending_on ends connection asked lent) [] [] sent back
+refuses own ends sent back connection asked lent why is tracks =
+    subst (λ result. Comes own (on ends (Some connection)) (sending_on ends connection asked result) [] [] sent back) (sym is) (stays own _ _ _ sent back tracks refl refl refl)
+
+abbrev RegisterComes : ℕ → Ends → List (ℕ × List ℕ) → List (ℕ × List ℕ) → TcpConnection → Result Lent ClientFault → Type 0
+RegisterComes own ends sent back connection lent =
+    Comes own (on ends (Some connection)) (sending_on ends connection connection.asked lent) [] [] sent back
+
+registers-on : (own : ℕ) (ends : Ends) (sent back : List (ℕ × List ℕ)) (connection : TcpConnection) (phase : Phase) →
+    Tracks own (on ends (Some connection)) sent back → Runs back connection phase →
+    ((s : Stream) → stream_with connection.peer ends.streams ≡ Some s → Flies own ends.adapter sent s (flight_in phase)) →
+    RegisterComes own ends sent back connection (registers connection.client.state)
+registers-on own ends sent back connection New is runs flies =
+    let number : ℕ = next_number connection.client.state in
     let done : Registers connection.client = registers-new connection.client runs.client in
-    subst (λ result. IsOn a sent back broken (sending connection connection.asked result)) (sym done.lent) (record {
-      phase = Registering (next_number connection.client.state);
-      runs = record {
-        carries = record {
-          below = runs.carries.below;
-          held = runs.carries.held;
-          holds = runs.carries.holds;
-          stream = behind-nothing runs.carries.held connection.to_adapter _ runs.carries.stream;
-          was_sent = tt;
-        };
-        client = done.after;
-        stream = runs.stream;
-        asked = runs.asked;
-        was_back = tt;
+    let sent_on : IsReplaced own ends.adapter sent
+    (appended (frame (register_frame number)) ends.streams (stream_with connection.peer ends.streams)) connection.peer
+    (Registration number) =
+    appends own ends.adapter sent ends.streams connection.peer (frame (register_frame number)) (Registration number)
+    (stream_with connection.peer ends.streams) refl is.streams
+    (λ s found. (let it = flies s found in record {
+      below = it.below;
+      held = it.held;
+      holds = it.holds;
+      stream = behind-nothing it.held s.in_flight _ it.stream;
+      was_sent = tt;
+    })) in
+    subst (RegisterComes own ends sent back connection) (sym done.lent)
+    (stays own _ _ _ sent back (record {
+      sound = is.sound;
+      connection = record {
+        below = is.connection.below;
+        phase = Registering number;
+        runs = record { client = done.after; stream = runs.stream; asked = runs.asked; was_back = tt };
+        flies = sent_on.this;
       };
-      apart = apart;
-    })
-registers-on a sent back broken connection (Registering context) runs apart =
-    refuses a sent back broken connection _ _ _ (registers-registering connection.client context runs.client)
-    (record { phase = Registering context; runs = runs; apart = apart })
-registers-on a sent back broken connection (Registered context) runs apart =
-    refuses a sent back broken connection _ _ _ (registers-registering connection.client context runs.client)
-    (record { phase = Registered context; runs = runs; apart = apart })
-registers-on a sent back broken connection Free runs apart =
-    refuses a sent back broken connection _ _ _ (registers-free connection.client connection.peer runs.client)
-    (record { phase = Free; runs = runs; apart = apart })
-registers-on a sent back broken connection (Asking context position command) runs apart =
-    refuses a sent back broken connection _ _ _
-    (registers-asking connection.client connection.peer context (do_once command) runs.client)
-    (record { phase = Asking context position command; runs = runs; apart = apart })
-registers-on a sent back broken connection (Answered context position number message answer) runs apart =
-    refuses a sent back broken connection _ _ _
-    (registers-asking connection.client connection.peer context message runs.client)
-    (record { phase = Answered context position number message answer; runs = runs; apart = apart })
+      streams = sent_on.all;
+    }) refl refl refl)
+registers-on own ends sent back connection (Registering context) is runs flies =
+    refuses own ends sent back connection _ _ _ (registers-registering connection.client context runs.client) is
+registers-on own ends sent back connection (Registered context) is runs flies =
+    refuses own ends sent back connection _ _ _ (registers-registering connection.client context runs.client) is
+registers-on own ends sent back connection Free is runs flies =
+    refuses own ends sent back connection _ _ _ (registers-free connection.client connection.peer runs.client) is
+registers-on own ends sent back connection (Asking context position command) is runs flies =
+    refuses own ends sent back connection _ _ _
+    (registers-asking connection.client connection.peer context (do_once command) runs.client) is
+registers-on own ends sent back connection (Answered context position number message answer) is runs flies =
+    refuses own ends sent back connection _ _ _
+    (registers-asking connection.client connection.peer context message runs.client) is
+registers-on own ends sent back connection (Inquiring context request) is runs flies =
+    refuses own ends sent back connection _ _ _
+    (registers-asking connection.client connection.peer context request runs.client) is
+registers-on own ends sent back connection (Informed context request answer) is runs flies =
+    refuses own ends sent back connection _ _ _
+    (registers-asking connection.client connection.peer context request runs.client) is
 
 pub registers-session : (own : ℕ) (ends : Ends) (sent back : List (ℕ × List ℕ)) (connection : Option TcpConnection) →
-    Tracks (on ends connection) sent back → StepComes own (on ends connection) Register sent back
+    Tracks own (on ends connection) sent back → StepComes own (on ends connection) Register sent back
 registers-session own ends sent back None is = stays own _ _ _ sent back is refl refl refl
 registers-session own ends sent back (Some connection) is =
-    stays own _ _ _ sent back (record {
-      sound = is.sound;
-      connection =
-          registers-on ends.adapter sent back ends.broken connection is.connection.phase is.connection.runs
-          is.connection.apart;
-      broken = is.broken;
-    }) refl refl refl
+    registers-on own ends sent back connection is.connection.phase is is.connection.runs is.connection.flies
 
 -- ---- a message
 
--- the ends with this pending command, and this connection
+-- The ends with this pending command, and this connection.
 abbrev pub pending_on : Ends → Option (List ℕ) → Option TcpConnection → Ends
 pending_on ends pending connection =
     record ends { commander = record ends.commander { pending = pending }; connection = connection }
 
--- the connection once the message is asked, if the client does so
-abbrev asked_on : Ends → List ℕ → TcpConnection → TcpConnection
-asked_on ends request connection =
-    sending connection (Some ends.commander.last_number)
-    (asks connection.client.state (message_of ends.commander request))
+abbrev SendComes : ℕ → Ends → List (ℕ × List ℕ) → List (ℕ × List ℕ) → List ℕ → TcpConnection → Result Lent ClientFault → Type 0
+SendComes own ends sent back request connection lent =
+    Comes own (pending_on ends (Some request) (Some connection))
+    (sending_on (pending_on ends (Some request) None) connection (Some ends.commander.last_number) lent) [] [] sent back
 
 sends-nothing : (own : ℕ) (ends : Ends) (sent back : List (ℕ × List ℕ)) (request : List ℕ) (connection : TcpConnection)
     (why : ClientFault) → asks connection.client.state (message_of ends.commander request) ≡ Err why →
-    Tracks (pending_on ends (Some request) (Some connection)) sent back →
-    StepComes own (pending_on ends (Some request) (Some connection)) Send sent back
+    Tracks own (pending_on ends (Some request) (Some connection)) sent back →
+    SendComes own ends sent back request connection (asks connection.client.state (message_of ends.commander request))
 sends-nothing own ends sent back request connection why refused is =
-    stays own _ _ _ sent back (record {
-      sound = is.sound;
-      connection =
-          refuses ends.adapter sent back ends.broken connection (Some ends.commander.last_number)
-          (asks connection.client.state (message_of ends.commander request)) why refused is.connection;
-      broken = is.broken;
-    }) refl refl refl
+    refuses own (pending_on ends (Some request) None) sent back connection (Some ends.commander.last_number) _ why refused is
 
 sends-free : (own : ℕ) (ends : Ends) (sent back : List (ℕ × List ℕ)) (request : List ℕ) (connection : TcpConnection) →
-    Tracks (pending_on ends (Some request) (Some connection)) sent back →
-    Runs ends.adapter sent back connection Free → broken_with connection.peer ends.broken ≡ None →
+    Tracks own (pending_on ends (Some request) (Some connection)) sent back → Runs back connection Free →
+    ((s : Stream) → stream_with connection.peer ends.streams ≡ Some s → Flies own ends.adapter sent s (Nothing true)) →
     is_unconnected (message_of ends.commander request) ≡ true →
-    StepComes own (pending_on ends (Some request) (Some connection)) Send sent back
-sends-free own ends sent back request connection is runs apart fits =
+    SendComes own ends sent back request connection (asks connection.client.state (message_of ends.commander request))
+sends-free own ends sent back request connection is runs flies fits =
     let command : Command = command_with ends.commander request in
     let message : List ℕ = do_once command in
+    let context : ℕ = next_number connection.client.state in
     let done : Asks connection.client connection.peer message =
     asks-free connection.client connection.peer message runs.client fits in
     let short : IsShort message = unconnected-short message fits in
     let more : List (ℕ × List ℕ) = (command.number, message) ∷ [] in
-    record {
+    let flight : Flight = Message context (length sent) command in
+    let sent_on : IsReplaced own ends.adapter (sent ++ more)
+    (appended (frame (request_frame connection.peer context message)) ends.streams
+    (stream_with connection.peer ends.streams)) connection.peer flight =
+    appends own ends.adapter (sent ++ more) ends.streams connection.peer (frame (request_frame connection.peer context message))
+    flight (stream_with connection.peer ends.streams) refl (flying-more own ends.adapter sent more ends.streams is.streams)
+    (λ s found. (let it = flies s found in record {
+      below = it.below;
+      held = it.held;
+      holds = it.holds;
+      stream = behind-nothing it.held s.in_flight _ it.stream
+          ∙ ap (λ peer. frame (request_frame peer context message)) (sym (stream-number ends.streams connection.peer s found));
+      was_sent = record { at = found-last sent (command.number, message); small = short.to };
+    })) in
+    subst (SendComes own ends sent back request connection) (sym done.lent)
+    (record {
       more = messages.Send ∷ [];
       new_sent = sent ++ more;
       new_back = back;
       tracks = record {
         sound = is.sound;
-        connection =
-            subst (λ result. IsOn ends.adapter (sent ++ more) back ends.broken
-            (sending connection (Some command.number) result)) (sym done.lent) (record {
-              phase = Asking (next_number connection.client.state) (length sent) command;
-              runs = record {
-                carries = record {
-                  below = runs.carries.below;
-                  held = runs.carries.held;
-                  holds = runs.carries.holds;
-                  stream = behind-nothing runs.carries.held connection.to_adapter _ runs.carries.stream;
-                  was_sent = record { at = found-last sent (command.number, message); small = short.to };
-                };
-                client = done.after;
-                stream = runs.stream;
-                asked = refl;
-                was_back = tt;
-              };
-              apart = apart;
-            });
-        broken = late-more ends.adapter sent more ends.broken is.broken;
+        connection = record {
+          below = is.connection.below;
+          phase = Asking context (length sent) command;
+          runs = record { client = done.after; stream = runs.stream; asked = refl; was_back = tt };
+          flies = sent_on.this;
+        };
+        streams = sent_on.all;
       };
       image = refl;
       reached = refl;
       decided = refl;
       given = sym (append-nil ends.given);
       others = (tt, tt);
-    }
+    })
 
 sends-on : (own : ℕ) (ends : Ends) (sent back : List (ℕ × List ℕ)) (request : List ℕ) (connection : TcpConnection) (phase : Phase) →
-    Tracks (pending_on ends (Some request) (Some connection)) sent back →
-    Runs ends.adapter sent back connection phase → broken_with connection.peer ends.broken ≡ None →
-    StepComes own (pending_on ends (Some request) (Some connection)) Send sent back
-sends-on own ends sent back request connection New is runs apart =
+    Tracks own (pending_on ends (Some request) (Some connection)) sent back →
+    Runs back connection phase →
+    ((s : Stream) → stream_with connection.peer ends.streams ≡ Some s → Flies own ends.adapter sent s (flight_in phase)) →
+    SendComes own ends sent back request connection (asks connection.client.state (message_of ends.commander request))
+sends-on own ends sent back request connection New is runs flies =
     sends-nothing own ends sent back request connection _
     (asks-new connection.client (message_of ends.commander request) runs.client) is
-sends-on own ends sent back request connection (Registering context) is runs apart =
+sends-on own ends sent back request connection (Registering context) is runs flies =
     sends-nothing own ends sent back request connection _
     (asks-registering connection.client context (message_of ends.commander request) runs.client) is
-sends-on own ends sent back request connection (Registered context) is runs apart =
+sends-on own ends sent back request connection (Registered context) is runs flies =
     sends-nothing own ends sent back request connection _
     (asks-registering connection.client context (message_of ends.commander request) runs.client) is
-sends-on own ends sent back request connection Free is runs apart =
+sends-on own ends sent back request connection Free is runs flies =
     go (is_unconnected (message_of ends.commander request)) refl
   where
     go : (fits : Bool) → is_unconnected (message_of ends.commander request) ≡ fits →
-        StepComes own (pending_on ends (Some request) (Some connection)) Send sent back
-    go true fits = sends-free own ends sent back request connection is runs apart fits
+        SendComes own ends sent back request connection (asks connection.client.state (message_of ends.commander request))
+    go true fits = sends-free own ends sent back request connection is runs flies fits
     go false fits =
         sends-nothing own ends sent back request connection _
         (asks-other connection.client connection.peer (message_of ends.commander request) runs.client fits) is
-sends-on own ends sent back request connection (Asking context position command) is runs apart =
+sends-on own ends sent back request connection (Asking context position command) is runs flies =
     sends-nothing own ends sent back request connection _
     (asks-asking connection.client connection.peer context (do_once command) (message_of ends.commander request)
     runs.client) is
-sends-on own ends sent back request connection (Answered context position number message answer) is runs apart =
+sends-on own ends sent back request connection (Answered context position number message answer) is runs flies =
     sends-nothing own ends sent back request connection _
     (asks-asking connection.client connection.peer context message (message_of ends.commander request) runs.client) is
+sends-on own ends sent back request connection (Inquiring context other) is runs flies =
+    sends-nothing own ends sent back request connection _
+    (asks-asking connection.client connection.peer context other (message_of ends.commander request) runs.client) is
+sends-on own ends sent back request connection (Informed context other answer) is runs flies =
+    sends-nothing own ends sent back request connection _
+    (asks-asking connection.client connection.peer context other (message_of ends.commander request) runs.client) is
 
 pub sends-message : (own : ℕ) (ends : Ends) (sent back : List (ℕ × List ℕ)) (pending : Option (List ℕ))
-    (connection : Option TcpConnection) → Tracks (pending_on ends pending connection) sent back →
+    (connection : Option TcpConnection) → Tracks own (pending_on ends pending connection) sent back →
     StepComes own (pending_on ends pending connection) Send sent back
-sends-message own ends sent back pending None is = stays own _ _ _ sent back is refl refl refl
+sends-message own ends sent back None None is = stays own _ _ _ sent back is refl refl refl
+sends-message own ends sent back (Some request) None is = stays own _ _ _ sent back is refl refl refl
 sends-message own ends sent back None (Some connection) is = stays own _ _ _ sent back is refl refl refl
 sends-message own ends sent back (Some request) (Some connection) is =
-    sends-on own ends sent back request connection is.connection.phase is is.connection.runs is.connection.apart
+    sends-on own ends sent back request connection is.connection.phase is is.connection.runs is.connection.flies
+
+-- ---- another request
+
+abbrev AskComes : ℕ → Ends → List (ℕ × List ℕ) → List (ℕ × List ℕ) → TcpConnection → Result Lent ClientFault → Type 0
+AskComes own ends sent back connection lent =
+    Comes own (on ends (Some connection)) (sending_on ends connection None lent) [] [] sent back
+
+inquires-free : (own : ℕ) (ends : Ends) (sent back : List (ℕ × List ℕ)) (request : List ℕ) (connection : TcpConnection) →
+    IsOfAnother own (UNCONNECTED_LIMIT, request) → route_of request ≡ Executes →
+    Tracks own (on ends (Some connection)) sent back → Runs back connection Free →
+    ((s : Stream) → stream_with connection.peer ends.streams ≡ Some s → Flies own ends.adapter sent s (Nothing true)) →
+    is_unconnected request ≡ true → AskComes own ends sent back connection (asks connection.client.state request)
+inquires-free own ends sent back request connection others routes is runs flies fits =
+    let context : ℕ = next_number connection.client.state in
+    let done : Asks connection.client connection.peer request =
+    asks-free connection.client connection.peer request runs.client fits in
+    let short : IsShort request = unconnected-short request fits in
+    let sent_on : IsReplaced own ends.adapter sent
+    (appended (frame (request_frame connection.peer context request)) ends.streams
+    (stream_with connection.peer ends.streams)) connection.peer (Inquiry context request) =
+    appends own ends.adapter sent ends.streams connection.peer (frame (request_frame connection.peer context request))
+    (Inquiry context request) (stream_with connection.peer ends.streams) refl is.streams
+    (λ s found. (let it = flies s found in record {
+      below = it.below;
+      held = it.held;
+      holds = it.holds;
+      stream = behind-nothing it.held s.in_flight _ it.stream
+          ∙ ap (λ peer. frame (request_frame peer context request)) (sym (stream-number ends.streams connection.peer s found));
+      was_sent = record { from = short.from; to = short.to; route = routes; others = others };
+    })) in
+    subst (AskComes own ends sent back connection) (sym done.lent)
+    (stays own _ _ _ sent back (record {
+      sound = is.sound;
+      connection = record {
+        below = is.connection.below;
+        phase = Inquiring context request;
+        runs = record { client = done.after; stream = runs.stream; asked = refl; was_back = tt };
+        flies = sent_on.this;
+      };
+      streams = sent_on.all;
+    }) refl refl refl)
+
+inquires-on : (own : ℕ) (ends : Ends) (sent back : List (ℕ × List ℕ)) (request : List ℕ) (connection : TcpConnection)
+    (phase : Phase) → IsOfAnother own (UNCONNECTED_LIMIT, request) → route_of request ≡ Executes →
+    Tracks own (on ends (Some connection)) sent back → Runs back connection phase →
+    ((s : Stream) → stream_with connection.peer ends.streams ≡ Some s → Flies own ends.adapter sent s (flight_in phase)) →
+    AskComes own ends sent back connection (asks connection.client.state request)
+inquires-on own ends sent back request connection New others routes is runs flies =
+    refuses own ends sent back connection _ _ _ (asks-new connection.client request runs.client) is
+inquires-on own ends sent back request connection (Registering context) others routes is runs flies =
+    refuses own ends sent back connection _ _ _ (asks-registering connection.client context request runs.client) is
+inquires-on own ends sent back request connection (Registered context) others routes is runs flies =
+    refuses own ends sent back connection _ _ _ (asks-registering connection.client context request runs.client) is
+inquires-on own ends sent back request connection Free others routes is runs flies = go (is_unconnected request) refl
+  where
+    go : (fits : Bool) → is_unconnected request ≡ fits →
+        AskComes own ends sent back connection (asks connection.client.state request)
+    go true fits = inquires-free own ends sent back request connection others routes is runs flies fits
+    go false fits =
+        refuses own ends sent back connection _ _ _
+        (asks-other connection.client connection.peer request runs.client fits) is
+inquires-on own ends sent back request connection (Asking context position command) others routes is runs flies =
+    refuses own ends sent back connection _ _ _
+    (asks-asking connection.client connection.peer context (do_once command) request runs.client) is
+inquires-on own ends sent back request connection (Answered context position number message answer) others routes is runs flies =
+    refuses own ends sent back connection _ _ _
+    (asks-asking connection.client connection.peer context message request runs.client) is
+inquires-on own ends sent back request connection (Inquiring context other) others routes is runs flies =
+    refuses own ends sent back connection _ _ _
+    (asks-asking connection.client connection.peer context other request runs.client) is
+inquires-on own ends sent back request connection (Informed context other answer) others routes is runs flies =
+    refuses own ends sent back connection _ _ _
+    (asks-asking connection.client connection.peer context other request runs.client) is
+
+pub inquires : (own : ℕ) (ends : Ends) (sent back : List (ℕ × List ℕ)) (request : List ℕ) (connection : Option TcpConnection) →
+    Tracks own (on ends connection) sent back → IsOfAnother own (UNCONNECTED_LIMIT, request) → route_of request ≡ Executes →
+    StepComes own (on ends connection) (Ask request) sent back
+inquires own ends sent back request None is others routes = stays own _ _ _ sent back is refl refl refl
+inquires own ends sent back request (Some connection) is others routes =
+    inquires-on own ends sent back request connection is.connection.phase others routes is is.connection.runs
+    is.connection.flies

@@ -1,6 +1,5 @@
 pub mod AdapterSide
 pub mod Arriving
-pub mod ArrivingLate
 pub mod ClientPieces
 pub mod ClientReplies
 pub mod ClientSide
@@ -11,4 +10,5 @@ pub mod MessageRuns
 pub mod Others
 pub mod Receiving
 pub mod Steps
+pub mod Streams
 pub mod Tracking

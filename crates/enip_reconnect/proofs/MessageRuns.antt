@@ -13,12 +13,11 @@ use Rattle.cip_commander.proofs.Rising.{all_append}
 use Rattle.cip_objects.specs.Contents.{Contents}
 use Rattle.enip_adapter.specs.DeviceRuns.{objects_after, objects_answer, requests_of_calls}
 use Rattle.enip_adapter.proofs.SoundLemmas.{sound-new}
-use Rattle.enip_reconnect.specs.Events.{Event, NewCommand, Abandon, Connect, Register, Send, ToAdapter, ToOriginator, Break, Late, End, Other}
+use Rattle.enip_reconnect.specs.Events.{Event, NewCommand, Abandon, Connect, Register, Send, Ask, Arrive, Receive, Break, End, Other}
 use Rattle.enip_reconnect.specs.Laws.{IsOfOthers, AreOfOthers, MessageEvent, opening_in_messages, decisions_in, decisions_in_messages, requests_in, AmountsTo, messages_law}
 use Rattle.enip_reconnect.specs.World.{Ends, Opening, device_at, ends_at, calls_at, ends_step, ends_run}
 use Rattle.enip_reconnect.proofs.Arriving.{arrives}
-use Rattle.enip_reconnect.proofs.ArrivingLate.{arrives-late}
-use Rattle.enip_reconnect.proofs.Connecting.{connects, registers-session, sends-message}
+use Rattle.enip_reconnect.proofs.Connecting.{connects, registers-session, sends-message, inquires}
 use Rattle.enip_reconnect.proofs.Others.{breaks, end, others-call}
 use Rattle.enip_reconnect.proofs.Receiving.{receives}
 use Rattle.enip_reconnect.proofs.Steps.{Comes, StepComes, new-command, abandon, message_step, message_run, given_at, given_by}
@@ -26,17 +25,17 @@ use Rattle.enip_reconnect.proofs.Tracking.{Tracks, in_messages}
 
 -- ---- each event
 
-comes : (own : ℕ) (ends : Ends) (sent back : List (ℕ × List ℕ)) (event : Event) → Tracks ends sent back →
+comes : (own : ℕ) (ends : Ends) (sent back : List (ℕ × List ℕ)) (event : Event) → Tracks own ends sent back →
     IsOfOthers own ends event → StepComes own ends event sent back
 comes own ends sent back (NewCommand request) is others = new-command own ends sent back request is
 comes own ends sent back Abandon is others = abandon own ends sent back is
 comes own ends sent back (Connect wants) is others = connects own ends sent back wants ends.connection is
 comes own ends sent back Register is others = registers-session own ends sent back ends.connection is
 comes own ends sent back Send is others = sends-message own ends sent back ends.commander.pending ends.connection is
-comes own ends sent back (ToAdapter now count) is others = arrives own ends sent back now count ends.connection is
-comes own ends sent back (ToOriginator count) is others = receives own ends sent back count ends.connection is
+comes own ends sent back (Ask request) is others = inquires own ends sent back request ends.connection is others.0 others.1
+comes own ends sent back (Arrive now peer count) is others = arrives own ends sent back now peer count is
+comes own ends sent back (Receive count) is others = receives own ends sent back count ends.connection is
 comes own ends sent back Break is others = breaks own ends sent back is
-comes own ends sent back (Late now peer count) is others = arrives-late own ends sent back now peer count is
 comes own ends sent back (End peer) is others = end own ends sent back peer is
 comes own ends sent back (Other call) is others = others-call own ends sent back call is others
 
@@ -45,7 +44,7 @@ comes own ends sent back (Other call) is others = others-call own ends sent back
 -- A run, and what it comes to in messages.
 record RunsTo (own : ℕ) (ends : Ends) (events : List Event) (sent back : List (ℕ × List ℕ)) (more : List MessageEvent)
     (new_sent new_back : List (ℕ × List ℕ)) : Type 0 where
-  tracks : Tracks (ends_run ends events) new_sent new_back
+  tracks : Tracks own (ends_run ends events) new_sent new_back
   image : message_run (in_messages ends sent back) more ≡ in_messages (ends_run ends events) new_sent new_back
   reached : requests_in ends events ≡ requests_of objects_after objects_answer (in_messages ends sent back) more
   decided : decisions_in events ≡ decisions_in_messages more
@@ -85,10 +84,10 @@ decisions-append (Abandon ∷ events) later = ap (λ rest. messages.Abandon ∷ 
 decisions-append (Connect wants ∷ events) later = decisions-append events later
 decisions-append (Register ∷ events) later = decisions-append events later
 decisions-append (Send ∷ events) later = decisions-append events later
-decisions-append (ToAdapter now count ∷ events) later = decisions-append events later
-decisions-append (ToOriginator count ∷ events) later = decisions-append events later
+decisions-append (Ask request ∷ events) later = decisions-append events later
+decisions-append (Arrive now peer count ∷ events) later = decisions-append events later
+decisions-append (Receive count ∷ events) later = decisions-append events later
 decisions-append (Break ∷ events) later = decisions-append events later
-decisions-append (Late now peer count ∷ events) later = decisions-append events later
 decisions-append (End peer ∷ events) later = decisions-append events later
 decisions-append (Other call ∷ events) later = decisions-append events later
 
@@ -114,7 +113,7 @@ runs-two own ends events later sent back more further new_sent new_back last_sen
     fold-append ends_step ends events later in
     let start : BothEnds Contents = in_messages ends sent back in
     record {
-      tracks = subst (λ (x : Ends). Tracks x last_sent last_back) (sym joined) second.tracks;
+      tracks = subst (λ (x : Ends). Tracks own x last_sent last_back) (sym joined) second.tracks;
       image = fold-append message_step start more further
           ∙ (ap (λ (x : BothEnds Contents). message_run x further) first.image
           ∙ (second.image ∙ ap (λ (x : Ends). in_messages x last_sent last_back) (sym joined)));
@@ -143,7 +142,7 @@ record Amounts (own : ℕ) (ends : Ends) (events : List Event) (sent back : List
   new_back : List (ℕ × List ℕ)
   runs : RunsTo own ends events sent back more new_sent new_back
 
-amounts : (own : ℕ) (events : List Event) (ends : Ends) (sent back : List (ℕ × List ℕ)) → Tracks ends sent back →
+amounts : (own : ℕ) (events : List Event) (ends : Ends) (sent back : List (ℕ × List ℕ)) → Tracks own ends sent back →
     AreOfOthers own ends events → Amounts own ends events sent back
 amounts own [] ends sent back is others = record {
   more = [];
@@ -247,23 +246,23 @@ module _ (opening : Opening) (range : IsInRange opening.commander) where
 
 -- ---- the law
 
-opening-tracks : (opening : Opening) → Tracks (ends_at opening) [] []
+opening-tracks : (opening : Opening) → Tracks opening.commander.originator (ends_at opening) [] []
 opening-tracks opening = record {
   sound = sound-new (device_at opening) opening.listen opening.limits;
   connection = tt;
-  broken = λ peer b found. absurd (cc);
+  streams = λ peer stream found. absurd (cc);
 }
 
-others-first : (own : ℕ) (events later : List Event) (ends : Ends) → AreOfOthers own ends (events ++ later) →
-    AreOfOthers own ends events
-others-first own [] later ends others = tt
-others-first own (event ∷ events) later ends others =
-    (others.0, others-first own events later (ends_step ends event) others.1)
+others-first : (originator : ℕ) (events later : List Event) (ends : Ends) → AreOfOthers originator ends (events ++ later) →
+    AreOfOthers originator ends events
+others-first originator [] later ends others = tt
+others-first originator (event ∷ events) later ends others =
+    (others.0, others-first originator events later (ends_step ends event) others.1)
 
-others-later : (own : ℕ) (events later : List Event) (ends : Ends) → AreOfOthers own ends (events ++ later) →
-    AreOfOthers own (ends_run ends events) later
-others-later own [] later ends others = others
-others-later own (event ∷ events) later ends others = others-later own events later (ends_step ends event) others.1
+others-later : (originator : ℕ) (events later : List Event) (ends : Ends) → AreOfOthers originator ends (events ++ later) →
+    AreOfOthers originator (ends_run ends events) later
+others-later originator [] later ends others = others
+others-later originator (event ∷ events) later ends others = others-later originator events later (ends_step ends event) others.1
 
 pub messages_come : messages_law
 messages_come opening events later range others =

@@ -14,9 +14,9 @@ use Rattle.enip_adapter.specs.Runs.{IsForOther}
 use Rattle.enip_adapter.proofs.ListLemmas.{first_with-number}
 use Rattle.enip_reconnect.specs.Events.{Event, NewCommand, Abandon}
 use Rattle.enip_reconnect.specs.Laws.{MessageEvent, decisions_in, decisions_in_messages}
-use Rattle.enip_reconnect.specs.World.{TcpConnection, BrokenConnection, Ends, broken_with, calls_at, ends_step}
+use Rattle.enip_reconnect.specs.World.{TcpConnection, Stream, Ends, stream_with, calls_at, ends_step}
 use Rattle.enip_reconnect.proofs.Flights.{carries-more, carries-other}
-use Rattle.enip_reconnect.proofs.Tracking.{Tracks, IsLate, in_messages}
+use Rattle.enip_reconnect.proofs.Tracking.{Tracks, IsFlying, AreFlying, in_messages}
 
 abbrev pub message_step : BothEnds Contents → MessageEvent → BothEnds Contents
 message_step ends event = messages.ends_step objects_after objects_answer ends event
@@ -39,7 +39,7 @@ pub record Comes (own : ℕ) (before after : Ends) (calls : List Call) (decision
   pub more : List MessageEvent
   pub new_sent : List (ℕ × List ℕ)
   pub new_back : List (ℕ × List ℕ)
-  pub tracks : Tracks after new_sent new_back
+  pub tracks : Tracks own after new_sent new_back
   pub image : message_run (in_messages before sent back) more ≡ in_messages after new_sent new_back
   pub reached : requests_of_calls before.adapter calls
       ≡ requests_of objects_after objects_answer (in_messages before sent back) more
@@ -52,7 +52,7 @@ StepComes own before event sent back =
     Comes own before (ends_step before event) (calls_at before event) (decisions_in (event ∷ [])) sent back
 
 -- Nothing happens in messages.
-pub stays : (own : ℕ) (before after : Ends) (calls : List Call) (sent back : List (ℕ × List ℕ)) → Tracks after sent back →
+pub stays : (own : ℕ) (before after : Ends) (calls : List Call) (sent back : List (ℕ × List ℕ)) → Tracks own after sent back →
     in_messages before sent back ≡ in_messages after sent back → requests_of_calls before.adapter calls ≡ [] →
     after.given ≡ before.given → Comes own before after calls [] sent back
 stays own before after calls sent back tracks image none given = record {
@@ -71,15 +71,19 @@ stays own before after calls sent back tracks image none given = record {
 abbrev pub with_device : Ends → List (ℕ × List ℕ) → List (ℕ × List ℕ) → Device → BothEnds Contents
 with_device ends sent back device = record (in_messages ends sent back) { device = device }
 
+-- The ends with this connection.
+abbrev pub on : Ends → Option TcpConnection → Ends
+on ends connection = record ends { connection = connection }
+
 -- ---- the originator's decisions
 
-pub new-command : (own : ℕ) (ends : Ends) (sent back : List (ℕ × List ℕ)) (request : List ℕ) → Tracks ends sent back →
+pub new-command : (own : ℕ) (ends : Ends) (sent back : List (ℕ × List ℕ)) (request : List ℕ) → Tracks own ends sent back →
     StepComes own ends (NewCommand request) sent back
 new-command own ends sent back request is = record {
   more = messages.NewCommand request ∷ [];
   new_sent = sent;
   new_back = back;
-  tracks = record { sound = is.sound; connection = is.connection; broken = is.broken };
+  tracks = record { sound = is.sound; connection = is.connection; streams = is.streams };
   image = refl;
   reached = refl;
   decided = refl;
@@ -88,13 +92,13 @@ new-command own ends sent back request is = record {
   others = (tt, tt);
 }
 
-pub abandon : (own : ℕ) (ends : Ends) (sent back : List (ℕ × List ℕ)) → Tracks ends sent back →
+pub abandon : (own : ℕ) (ends : Ends) (sent back : List (ℕ × List ℕ)) → Tracks own ends sent back →
     StepComes own ends Abandon sent back
 abandon own ends sent back is = record {
   more = messages.Abandon ∷ [];
   new_sent = sent;
   new_back = back;
-  tracks = record { sound = is.sound; connection = is.connection; broken = is.broken };
+  tracks = record { sound = is.sound; connection = is.connection; streams = is.streams };
   image = refl;
   reached = refl;
   decided = refl;
@@ -102,32 +106,25 @@ abandon own ends sent back is = record {
   others = (tt, tt);
 }
 
--- ---- broken connections
-
-abbrev pub AreLate : AdapterState → List (ℕ × List ℕ) → List BrokenConnection → Type 0
-AreLate a sent broken = (peer : ℕ) (b : BrokenConnection) → broken_with peer broken ≡ Some b → IsLate a sent b
+-- ---- streams
 
 -- A call for others leaves them.
-pub late-call : (a : AdapterState) (call : Call) (sent : List (ℕ × List ℕ)) (broken : List BrokenConnection) →
-    ((peer : ℕ) (b : BrokenConnection) → broken_with peer broken ≡ Some b → IsForOther b.peer call) →
-    AreLate a sent broken → AreLate (after_call a call) sent broken
-late-call a call sent broken other late peer b found =
-    let is : IsLate a sent b = late peer b found in
+pub flying-call : (own : ℕ) (a : AdapterState) (call : Call) (sent : List (ℕ × List ℕ)) (streams : List Stream) →
+    ((peer : ℕ) (s : Stream) → stream_with peer streams ≡ Some s → IsForOther s.peer call) →
+    AreFlying own a sent streams → AreFlying own (after_call a call) sent streams
+flying-call own a call sent streams other flying peer s found =
+    let is : IsFlying own a sent s = flying peer s found in
     record {
       flight = is.flight;
-      carries = carries-other a call sent b.peer b.to_adapter is.flight (other peer b found) is.carries;
+      carries = carries-other own a call sent s.peer s.in_flight is.flight (other peer s found) is.carries;
     }
 
-pub late-more : (a : AdapterState) (sent more : List (ℕ × List ℕ)) (broken : List BrokenConnection) → AreLate a sent broken →
-    AreLate a (sent ++ more) broken
-late-more a sent more broken late peer b found =
-    let is : IsLate a sent b = late peer b found in
-    record { flight = is.flight; carries = carries-more a sent more b.peer b.to_adapter is.flight is.carries }
+pub flying-more : (own : ℕ) (a : AdapterState) (sent more : List (ℕ × List ℕ)) (streams : List Stream) → AreFlying own a sent streams →
+    AreFlying own a (sent ++ more) streams
+flying-more own a sent more streams flying peer s found =
+    let is : IsFlying own a sent s = flying peer s found in
+    record { flight = is.flight; carries = carries-more own a sent more s.peer s.in_flight is.flight is.carries }
 
--- A connection with a handle that none of them has is another.
-pub apart-broken : (broken : List BrokenConnection) (peer q : ℕ) (b : BrokenConnection) → broken_with peer broken ≡ None →
-    broken_with q broken ≡ Some b → peer ≢ b.peer
-apart-broken broken peer q b none found same =
-    let number : b.peer ≡ q = first_with-number (λ (x : BrokenConnection). x.peer) q b broken found in
-    let bad : Some b ≡ None = sym found ∙ (ap (λ n. broken_with n broken) (sym number ∙ sym same) ∙ none) in
-    cc
+-- The stream that is found has the handle.
+pub stream-number : (streams : List Stream) (peer : ℕ) (s : Stream) → stream_with peer streams ≡ Some s → s.peer ≡ peer
+stream-number streams peer s found = first_with-number (λ (x : Stream). x.peer) peer s streams found

@@ -4,12 +4,13 @@ use Rattle.enip_adapter.specs.Calls.{Call}
 use Rattle.enip_client.specs.declared.wants.Wants.{Wants}
 
 -- The originator gives a command, or gives the pending one up. It opens a TCP connection with a new client, if it has
--- none. It registers a session, or sends the pending command's message.
+-- none. It registers a session, sends the pending command's message, or asks something else.
 --
--- At this time at most `count` bytes in flight reach the adapter. At most `count` bytes in flight reach the originator.
+-- At this time at most `count` bytes in flight on the stream with this peer handle arrive at the adapter. At most `count`
+-- bytes in flight to the originator arrive there.
 --
--- The TCP connection breaks at the originator. Bytes that were in flight to the adapter then may still arrive there, on
--- the broken connection that has this peer handle, until it ends at the adapter.
+-- The TCP connection breaks at the originator. What is in flight to the adapter may still arrive there. A TCP connection
+-- ends at the adapter. What is in flight to the originator may still arrive there.
 --
 -- A call of the adapter's that is not for the originator's peers: bytes of other peers, their beginning and end, time.
 pub data Event : Type 0 where
@@ -18,9 +19,9 @@ pub data Event : Type 0 where
   Connect : (wants : Wants) → Event
   Register : Event
   Send : Event
-  ToAdapter : (now count : ℕ) → Event
-  ToOriginator : (count : ℕ) → Event
+  Ask : (request : List ℕ) → Event
+  Arrive : (now peer count : ℕ) → Event
+  Receive : (count : ℕ) → Event
   Break : Event
-  Late : (now peer count : ℕ) → Event
   End : (peer : ℕ) → Event
   Other : (call : Call) → Event

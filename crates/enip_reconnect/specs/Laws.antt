@@ -2,6 +2,7 @@
 -- in whole messages between a commander and a device (`Worlds` of `cip_commander`), whose laws follow.
 use Rattle.std.specs.Prelude.{◌≡◌, ⊤, ℕ, Option, Some, None, List, [], ◌∷◌, ◌++◌, map}
 use Rattle.std.specs.List.{slice_get, AllByRecursion}
+use Rattle.cip_bytes.specs.declared.protocol.TheConstants.{UNCONNECTED_LIMIT}
 use Rattle.cip_commander.specs.CommanderRule.{CommanderState, IsInRange}
 use Rattle.cip_commander.specs.Laws.{IsOthers, requests_of, numbers_in, Rises, WasGiven, GrowsAbove, IsExecutedOnce}
 use Rattle.cip_commander.specs.Laws.{executions_in, executions_of}
@@ -12,15 +13,19 @@ use Rattle.cip_ledger.specs.Laws.{IsOfAnother}
 use Rattle.cip_ledger.specs.Runs.{Request, journal}
 use Rattle.cip_objects.specs.Contents.{Contents}
 use Rattle.enip_adapter.specs.DeviceRuns.{objects_after, objects_answer, requests_of_calls}
-use Rattle.enip_reconnect.specs.Events.{Event, NewCommand, Abandon, Connect, Register, Send, ToAdapter, ToOriginator, Break, Late, End, Other}
+use Rattle.enip_adapter.specs.SendRRData.{Executes, route_of}
+use Rattle.enip_reconnect.specs.Events.{Event, NewCommand, Abandon, Connect, Register, Send, Ask, Arrive, Receive, Break, End, Other}
 use Rattle.enip_reconnect.specs.World.{Ends, Opening, device_at, ends_at, calls_at, ends_step, ends_after}
 
 -- ---- words on the premise
 
--- The frames of other peers have neither commands of this originator nor Forget of its slot.
+-- The frames of other peers have neither commands of this originator nor Forget of its slot. Nor have the other requests of
+-- the originator, and these are not for the Connection Manager.
 abbrev pub IsOfOthers : ℕ → Ends → Event → Type 0
 IsOfOthers originator ends (Other call) =
     AllByRecursion (IsOfAnother originator) (requests_of_calls ends.adapter (calls_at ends (Other call)))
+IsOfOthers originator ends (Ask request) =
+    IsOfAnother originator (UNCONNECTED_LIMIT, request) × (route_of request ≡ Executes)
 IsOfOthers originator ends own = ⊤
 
 abbrev pub AreOfOthers : ℕ → Ends → List Event → Type 0

@@ -3,7 +3,7 @@
 --
 -- The originator has one TCP connection at a time, with a client of its own, and its commands are unconnected requests
 -- (SendRRData). A TCP connection loses no byte and keeps the order, until it breaks.
-use Rattle.std.specs.Prelude.{ℕ, ◌==◌, ◌||◌, not, Bool, false, if◌then◌else◌, List, [], ◌∷◌, ◌++◌, take, drop, filter, fold}
+use Rattle.std.specs.Prelude.{ℕ, ◌==◌, not, Bool, false, if◌then◌else◌, List, [], ◌∷◌, ◌++◌, take, drop, filter, fold}
 use Rattle.std.specs.Prelude.{Option, Some, None, is_some, Result, Ok, Err}
 use Rattle.cip_commander.specs.CommanderRule.{CommanderState, command_refusal, abandoned, pending_message, outcome_of, after_outcome}
 use Rattle.cip_commander.specs.Outcome.{Outcome}
@@ -28,30 +28,30 @@ use Rattle.enip_client.specs.Hears.HeardEvent.{Replied}
 use Rattle.enip_client.specs.declared.fault.ClientFault.{ClientFault}
 use Rattle.enip_client.specs.declared.wants.Wants.{Wants}
 use Rattle.enip_wire.specs.Frames.{frame}
-use Rattle.enip_reconnect.specs.Events.{Event, NewCommand, Abandon, Connect, Register, Send, ToAdapter, ToOriginator, Break, Late, End, Other}
+use Rattle.enip_reconnect.specs.Events.{Event, NewCommand, Abandon, Connect, Register, Send, Ask, Arrive, Receive, Break, End, Other}
 
--- A TCP connection: its client, its peer handle at the adapter, the number of the command that was last asked on it, if
--- its reply was not heard yet, and the bytes in flight in each direction.
+-- The originator's end of a TCP connection: its client, its peer handle at the adapter, the number of the command that was
+-- last asked on it, if the reply was not heard yet, and the bytes in flight to the originator.
 pub record TcpConnection : Type 0 where
   pub client : ClientState
   pub peer : ℕ
   pub asked : Option ℕ
-  pub to_adapter : List ℕ
-  pub to_originator : List ℕ
+  pub in_flight : List ℕ
 
--- A TCP connection that broke at the originator: its peer handle, and the bytes that may still reach the adapter.
-pub record BrokenConnection : Type 0 where
+-- The adapter's end of a TCP connection: its peer handle, and the bytes in flight to the adapter.
+pub record Stream : Type 0 where
   pub peer : ℕ
-  pub to_adapter : List ℕ
+  pub in_flight : List ℕ
 
--- The adapter, the commander, the commands that were given, the TCP connection if there is one, the broken ones that have
--- not ended at the adapter, and the accepted replies. A command and a reply come with the command's number.
+-- The adapter, the commander, the commands that were given, the originator's end of its TCP connection, if it has one, the
+-- adapter's end of each of its connections that did not end there, and the accepted replies. A command and a reply come
+-- with the command's number.
 pub record Ends : Type 0 where
   pub adapter : AdapterState
   pub commander : CommanderState
   pub given : List (ℕ × List ℕ)
   pub connection : Option TcpConnection
-  pub broken : List BrokenConnection
+  pub streams : List Stream
   pub accepted : List (ℕ × List ℕ)
 
 -- How both ends begin: an adapter over these objects and an empty ledger of so many slots, in this life of the device,
@@ -73,28 +73,26 @@ ends_at opening = record {
   commander = opening.commander;
   given = sends opening.commander opening.commander.pending;
   connection = None;
-  broken = [];
+  streams = [];
   accepted = [];
 }
 
 -- ---- the adapter's calls
 
--- The broken connection with this peer handle, and the others.
-abbrev pub broken_with : ℕ → List BrokenConnection → Option BrokenConnection
-broken_with peer broken = first_with (λ (b : BrokenConnection). b.peer) peer broken
+-- The stream with this peer handle, the streams with a new one in its place, and the others.
+abbrev pub stream_with : ℕ → List Stream → Option Stream
+stream_with peer streams = first_with (λ (stream : Stream). stream.peer) peer streams
 
-abbrev pub other_broken : ℕ → List BrokenConnection → List BrokenConnection
-other_broken peer broken = filter (λ (b : BrokenConnection). not (b.peer == peer)) broken
+abbrev pub with_stream : Stream → List Stream → List Stream
+with_stream new streams = with_first (λ (stream : Stream). stream.peer) new.peer new streams
 
--- The handle is that of the originator's connection, or of a broken one.
-abbrev pub is_connected_as : ℕ → Option TcpConnection → Bool
-is_connected_as peer None = false
-is_connected_as peer (Some connection) = connection.peer == peer
-
-abbrev pub is_originators : Ends → ℕ → Bool
-is_originators ends peer = is_connected_as peer ends.connection || is_some (broken_with peer ends.broken)
+abbrev pub other_streams : ℕ → List Stream → List Stream
+other_streams peer streams = filter (λ (stream : Stream). not (stream.peer == peer)) streams
 
 -- The call is for one of the originator's peers.
+abbrev pub is_originators : Ends → ℕ → Bool
+is_originators ends peer = is_some (stream_with peer ends.streams)
+
 abbrev pub is_for_originator : Ends → Call → Bool
 is_for_originator ends Begins_peer = false
 is_for_originator ends (Feeds now peer piece) = is_originators ends peer
@@ -107,20 +105,16 @@ begin_calls None = Begins_peer ∷ []
 begin_calls (Some connection) = []
 
 -- Bytes that arrive at the adapter are fed.
-abbrev pub feed : ℕ → ℕ → ℕ → List ℕ → Call
-feed now peer count bytes = Feeds now peer (take count bytes)
+abbrev pub feed : ℕ → ℕ → Stream → Call
+feed now count stream = Feeds now stream.peer (take count stream.in_flight)
 
-abbrev pub arrival_calls : ℕ → ℕ → Option TcpConnection → List Call
-arrival_calls now count None = []
-arrival_calls now count (Some connection) = feed now connection.peer count connection.to_adapter ∷ []
+abbrev pub feed_calls : ℕ → ℕ → Option Stream → List Call
+feed_calls now count None = []
+feed_calls now count (Some stream) = feed now count stream ∷ []
 
-abbrev pub late_calls : ℕ → ℕ → Option BrokenConnection → List Call
-late_calls now count None = []
-late_calls now count (Some broken) = feed now broken.peer count broken.to_adapter ∷ []
-
-abbrev pub end_calls : Option BrokenConnection → List Call
+abbrev pub end_calls : Option Stream → List Call
 end_calls None = []
-end_calls (Some broken) = Ends_peer broken.peer ∷ []
+end_calls (Some stream) = Ends_peer stream.peer ∷ []
 
 -- The calls of the adapter at an event: at most one. A call of others is for their peers.
 abbrev pub calls_at : Ends → Event → List Call
@@ -129,79 +123,74 @@ calls_at ends Abandon = []
 calls_at ends (Connect wants) = begin_calls ends.connection
 calls_at ends Register = []
 calls_at ends Send = []
-calls_at ends (ToAdapter now count) = arrival_calls now count ends.connection
-calls_at ends (ToOriginator count) = []
+calls_at ends (Ask request) = []
+calls_at ends (Arrive now peer count) = feed_calls now count (stream_with peer ends.streams)
+calls_at ends (Receive count) = []
 calls_at ends Break = []
-calls_at ends (Late now peer count) = late_calls now count (broken_with peer ends.broken)
-calls_at ends (End peer) = end_calls (broken_with peer ends.broken)
+calls_at ends (End peer) = end_calls (stream_with peer ends.streams)
 calls_at ends (Other call) = if is_for_originator ends call then [] else call ∷ []
 
 -- ---- the originator and the bytes in flight
 
--- A TCP connection begins if the adapter accepts it. There is one connection at a time.
-abbrev pub begun : Wants → Output → Option TcpConnection
-begun wants (NoReply why) = None
-begun wants (Sends bytes) = None
-begun wants (Begins handle) = Some (record {
-  client = new_client wants;
-  peer = handle;
-  asked = None;
-  to_adapter = [];
-  to_originator = [];
-})
-begun wants (Refuses full) = None
+-- A TCP connection begins if the adapter accepts it.
+abbrev pub begun : Ends → Wants → Output → Ends
+begun ends wants (NoReply why) = ends
+begun ends wants (Sends bytes) = ends
+begun ends wants (Begins handle) = record ends {
+  connection = Some (record { client = new_client wants; peer = handle; asked = None; in_flight = [] });
+  streams = record { peer = handle; in_flight = [] } ∷ ends.streams;
+}
+begun ends wants (Refuses full) = ends
 
-abbrev pub connected : AdapterState → Wants → Option TcpConnection → Option TcpConnection
-connected adapter wants None = begun wants (call_answer adapter Begins_peer).output
-connected adapter wants (Some connection) = Some connection
+-- There is one connection at a time.
+abbrev pub connected : Ends → Wants → Option TcpConnection → Ends
+connected ends wants None = begun ends wants (call_answer ends.adapter Begins_peer).output
+connected ends wants (Some connection) = ends
+
+-- Bytes are sent on a stream, if it did not end.
+abbrev pub appended : List ℕ → List Stream → Option Stream → List Stream
+appended bytes streams None = streams
+appended bytes streams (Some stream) =
+    with_stream (record stream { in_flight = stream.in_flight ++ bytes }) streams
 
 -- A frame that the client lends is sent. If the client refuses the call, nothing changes.
-abbrev pub sending : TcpConnection → Option ℕ → Result Lent ClientFault → TcpConnection
-sending connection asked (Ok lent) = record connection {
-  client = with_state connection.client lent.state;
-  asked = asked;
-  to_adapter = connection.to_adapter ++ frame lent.frame;
+abbrev pub sending : Ends → TcpConnection → Option ℕ → Result Lent ClientFault → Ends
+sending ends connection asked (Ok lent) = record ends {
+  connection = Some (record connection { client = with_state connection.client lent.state; asked = asked });
+  streams = appended (frame lent.frame) ends.streams (stream_with connection.peer ends.streams);
 }
-sending connection asked (Err fault) = connection
+sending ends connection asked (Err fault) = ends
 
-abbrev pub registered : Option TcpConnection → Option TcpConnection
-registered None = None
-registered (Some connection) = Some (sending connection connection.asked (registers connection.client.state))
+abbrev pub registering : Ends → Option TcpConnection → Ends
+registering ends None = ends
+registering ends (Some connection) = sending ends connection connection.asked (registers connection.client.state)
 
-abbrev pub asking : CommanderState → Option (List ℕ) → TcpConnection → TcpConnection
-asking commander None connection = connection
-asking commander (Some message) connection =
-    sending connection (Some commander.last_number) (asks connection.client.state message)
+abbrev pub asking : Ends → Option (List ℕ) → Option TcpConnection → Ends
+asking ends None connection = ends
+asking ends (Some message) None = ends
+asking ends (Some message) (Some connection) =
+    sending ends connection (Some ends.commander.last_number) (asks connection.client.state message)
 
-abbrev pub sent : CommanderState → Option TcpConnection → Option TcpConnection
-sent commander None = None
-sent commander (Some connection) = Some (asking commander (pending_message commander) connection)
+-- Another request is no command, so no command is asked then.
+abbrev pub inquiring : Ends → List ℕ → Option TcpConnection → Ends
+inquiring ends request None = ends
+inquiring ends request (Some connection) = sending ends connection None (asks connection.client.state request)
 
--- What the adapter takes is in flight no more, and its answer is on its way.
-abbrev pub served : AdapterState → Call → TcpConnection → TcpConnection
-served adapter call connection = record connection {
-  to_adapter = drop (call_meaning adapter call).taken connection.to_adapter;
-  to_originator = connection.to_originator ++ output_bytes (call_answer adapter call).output;
+-- What the adapter takes is in flight no more. Its answer is on its way on the same TCP connection, or lost if that broke.
+abbrev pub answered : ℕ → List ℕ → Option TcpConnection → Option TcpConnection
+answered peer bytes None = None
+answered peer bytes (Some connection) =
+    Some (if connection.peer == peer then record connection { in_flight = connection.in_flight ++ bytes } else connection)
+
+abbrev pub taken : AdapterState → Call → Stream → Stream
+taken adapter call stream = record stream { in_flight = drop (call_meaning adapter call).taken stream.in_flight }
+
+abbrev pub arrived : Ends → ℕ → ℕ → Option Stream → Ends
+arrived ends now count None = ends
+arrived ends now count (Some stream) = record ends {
+  connection = answered stream.peer (output_bytes (call_answer ends.adapter (feed now count stream)).output) ends.connection;
+  streams = with_stream (taken ends.adapter (feed now count stream) stream) ends.streams;
 }
-
-abbrev pub arrived : AdapterState → ℕ → ℕ → Option TcpConnection → Option TcpConnection
-arrived adapter now count None = None
-arrived adapter now count (Some connection) =
-    Some (served adapter (feed now connection.peer count connection.to_adapter) connection)
-
--- The answer to late bytes is lost.
-abbrev pub late : AdapterState → Call → BrokenConnection → BrokenConnection
-late adapter call broken = record broken { to_adapter = drop (call_meaning adapter call).taken broken.to_adapter }
-
-abbrev pub arrived_late : AdapterState → ℕ → ℕ → List BrokenConnection → Option BrokenConnection → List BrokenConnection
-arrived_late adapter now count all None = all
-arrived_late adapter now count all (Some broken) =
-    with_first (λ (b : BrokenConnection). b.peer) broken.peer
-    (late adapter (feed now broken.peer count broken.to_adapter) broken) all
-
-abbrev pub broken_of : Option TcpConnection → List BrokenConnection
-broken_of None = []
-broken_of (Some connection) = record { peer = connection.peer; to_adapter = connection.to_adapter } ∷ []
 
 -- A reply is for the command that was asked last on its TCP connection. The commander receives it if that command is
 -- still pending.
@@ -226,13 +215,13 @@ abbrev pub received : Ends → TcpConnection → Fed → Ends
 received ends connection fed =
     heard ends (record connection {
       client = fed.client;
-      to_originator = drop fed.taken connection.to_originator;
+      in_flight = drop fed.taken connection.in_flight;
     }) fed.heard_event
 
 abbrev pub received_on : Ends → ℕ → Option TcpConnection → Ends
 received_on ends count None = ends
 received_on ends count (Some connection) =
-    received ends connection (fed connection.client (take count connection.to_originator))
+    received ends connection (fed connection.client (take count connection.in_flight))
 
 -- All but the adapter after an event.
 abbrev pub moved : Ends → Event → Ends
@@ -241,15 +230,14 @@ moved ends (NewCommand request) = record ends {
   given = ends.given ++ gives ends.commander request (command_refusal ends.commander request);
 }
 moved ends Abandon = record ends { commander = abandoned ends.commander }
-moved ends (Connect wants) = record ends { connection = connected ends.adapter wants ends.connection }
-moved ends Register = record ends { connection = registered ends.connection }
-moved ends Send = record ends { connection = sent ends.commander ends.connection }
-moved ends (ToAdapter now count) = record ends { connection = arrived ends.adapter now count ends.connection }
-moved ends (ToOriginator count) = received_on ends count ends.connection
-moved ends Break = record ends { connection = None; broken = broken_of ends.connection ++ ends.broken }
-moved ends (Late now peer count) =
-    record ends { broken = arrived_late ends.adapter now count ends.broken (broken_with peer ends.broken) }
-moved ends (End peer) = record ends { broken = other_broken peer ends.broken }
+moved ends (Connect wants) = connected ends wants ends.connection
+moved ends Register = registering ends ends.connection
+moved ends Send = asking ends (pending_message ends.commander) ends.connection
+moved ends (Ask request) = inquiring ends request ends.connection
+moved ends (Arrive now peer count) = arrived ends now count (stream_with peer ends.streams)
+moved ends (Receive count) = received_on ends count ends.connection
+moved ends Break = record ends { connection = None }
+moved ends (End peer) = record ends { streams = other_streams peer ends.streams }
 moved ends (Other call) = ends
 
 -- ---- runs
