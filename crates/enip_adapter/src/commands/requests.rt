@@ -34,17 +34,20 @@ impl<'a> Route<'a> {
     /// The route of a request with these bytes.
     #[inline(always)]
     fn of(request: &'a [u8]) -> Route<'a>
+        requires { 2 ≤ length request.now }
         ensures { route_in result ≡ route_of request.now }
     {
-        let Ok(request) = RequestView::read(request) else {
+        // The service first: it rules out most requests before the path is read.
+        let Some(service) = ManagerService::of(request[0]) else {
             return Route::Objects;
         };
-        match ManagerService::of(request.service) {
-            Some(service) if is_to_manager(request.path) => {
-                Route::Manager(service, request.data)
-            }
-            _ => Route::Objects,
+        let Ok(view) = RequestView::read(request) else {
+            return Route::Objects;
+        };
+        if !is_to_manager(view.path) {
+            return Route::Objects;
         }
+        Route::Manager(service, view.data)
     }
 }
 
