@@ -358,13 +358,7 @@ fn write_done(kept: &[u8], reply: &mut ReplyBuf)
     ensures reply { reply.new.items ≡ services.reply_to DO_ONCE (services.success (DONE ∷ kept.now)) }
     ensures fits { length reply.new.items ≤ LONGEST_DONE }
 {
-    let front = [
-        reply_service(DO_ONCE),
-        0,
-        Status::Success.number(),
-        0,
-        DONE,
-    ];
+    let front = [reply_service(DO_ONCE), 0, Status::Success.number(), 0, DONE];
     append(reply, &front);
     overwrite(reply.as_mut_slice(), &front, kept);
 }
