@@ -33,21 +33,24 @@ enum Route<'a> {
 impl<'a> Route<'a> {
     /// The route of a request with these bytes.
     #[inline(always)]
+    #[tactic(auto, using(crate::proofs::RouteLemmas::objects_by_service))]
     fn of(request: &'a [u8]) -> Route<'a>
         requires { 2 ≤ length request.now }
         ensures { route_in result ≡ route_of request.now }
     {
-        // The service first: it rules out most requests before the path is read.
-        let Some(service) = ManagerService::of(request[0]) else {
-            return Route::Objects;
-        };
-        let Ok(view) = RequestView::read(request) else {
-            return Route::Objects;
-        };
-        if !is_to_manager(view.path) {
+        // Most requests have none of its services. Their path is not read for this.
+        if ManagerService::of(request[0]).is_none() {
             return Route::Objects;
         }
-        Route::Manager(service, view.data)
+        let Ok(request) = RequestView::read(request) else {
+            return Route::Objects;
+        };
+        match ManagerService::of(request.service) {
+            Some(service) if is_to_manager(request.path) => {
+                Route::Manager(service, request.data)
+            }
+            _ => Route::Objects,
+        }
     }
 }
 
