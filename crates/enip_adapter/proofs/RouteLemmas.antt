@@ -8,20 +8,6 @@ use Rattle.cip_message.specs.PathReading.{path_of}
 use Rattle.cip_message.specs.Request.{Request, request_of}
 use Rattle.enip_adapter.specs.SendRRData.{Executes, by_service, is_manager, manager_service, route_by_path, route_by_request, route_of}
 
-<<<<<<< HEAD
-by_class : (q : Request) → manager_service_of q.service ≡ None → (is : Bool)
-    → (if is then manager_service q.service q.«data» else Executes) ≡ Executes
-by_class q e true = ap (by_service q.«data») e
-by_class q e false = refl
-
-by_path : (q : Request) → manager_service_of q.service ≡ None → (path : Result Path PathFault)
-    → route_by_path q path ≡ Executes
-by_path q e (Err fault) = refl
-by_path q e (Ok path) = by_class q e (is_manager path)
-
-by_size : (q : Request) → manager_service_of q.service ≡ None → (short : Bool)
-    → route_by_request (if short then Err PathSize else Ok q) ≡ Executes
-=======
 by_class : (q : Request) → manager_service_of q.service ≡ None → (is : Bool) →
     (if is then manager_service q.service q.data else Executes) ≡ Executes
 by_class q e true = ap (by_service q.data) e
@@ -34,7 +20,6 @@ by_path q e (Ok path) = by_class q e (is_manager path)
 
 by_size : (q : Request) → manager_service_of q.service ≡ None → (short : Bool) →
     route_by_request (if short then Err PathSize else Ok q) ≡ Executes
->>>>>>> d1a04719af571aa651deb05ec0f185c01e8edee5
 by_size q e true = refl
 by_size q e false = by_path q e (path_of q.path)
 
@@ -44,11 +29,6 @@ unfolding request_of
 objects_by_service [] e = refl
 objects_by_service (service ∷ []) e = refl
 objects_by_service (service ∷ words ∷ rest) e =
-<<<<<<< HEAD
-    by_size (record { service = service; path = take (2 * words) rest; «data» = drop (2 * words) rest }) e
-    (nat_lt (length rest) (2 * words))
-=======
     let path = take (2 * words) rest in
     let q : Request = record { service = service; path = path; «data» = drop (2 * words) rest } in
     by_size q e (nat_lt (length rest) (2 * words))
->>>>>>> d1a04719af571aa651deb05ec0f185c01e8edee5
