@@ -22,7 +22,7 @@ class Commands(Requests):
         return self.to_ledger(config) if self.seldom(share) else super().request(config)
 
     def to_ledger(self, config):
-        service = self.pick(*[DO_ONCE] * 9, *[GET_LAST, FORGET] * 2, *[GET] * 4, GET_LIST, SET)
+        service = self.pick(*[DO_ONCE] * 12, *[GET_LAST, FORGET] * 2, *[GET] * 4, GET_LIST, SET)
         path = self.right_path(LEDGER, self.pick(*[1] * 30, 0, 2, 65537))
         if service == DO_ONCE:
             data = self.command(config)
@@ -57,7 +57,7 @@ class Commands(Requests):
         originator, embedded = self.pick(*ORIGINATORS), self.embedded(config)
         if originator in self.last_commands:
             last, before = self.last_commands[originator]
-            kind = self.pick("next", "next", "again", "again", "other", "same bytes", "smaller", "gap")
+            kind = self.pick("next", "next", *["again"] * 3, "other", "same bytes", "smaller", "gap")
             embedded = before if kind in ("again", "same bytes") else embedded
             step = {"again": 0, "other": 0, "smaller": -self.pick(1, 1, 2**16), "gap": self.pick(2, 2**16, 2**30)}
             this = min(max(last + step.get(kind, 1), 0), LAST)
@@ -66,7 +66,7 @@ class Commands(Requests):
         if this >= last:
             self.last_commands[originator] = this, embedded
         data = number(8, self.life(config)) + number(8, originator) + number(4, this) + embedded
-        return data[: self.pick(19, 20, 21, 21, 22, 23, self.random.randrange(22))] if self.seldom(0.06) else data
+        return data[: self.pick(0, 19, 20, 21, 21, 22, 22, 23)] if self.seldom(0.08) else data
 
     def embedded(self, config):
         """An embedded request: to the objects, sometimes with a reply of about the limit, or one that is barred."""
@@ -78,7 +78,7 @@ class Commands(Requests):
         if kind < 0.12:
             return self.to_ledger(config)
         if kind < 0.2:
-            return self.listing(EMBEDDED_ROOM + self.pick(-1, 0, 0, 1, 2))
+            return self.listing(EMBEDDED_ROOM + self.pick(-1, 0, 1, 1, 2))
         return super().request(config)
 
     def forgotten(self):

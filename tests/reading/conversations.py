@@ -12,7 +12,7 @@ from reading.commands import Commands
 
 
 # T->O sizes at the edges of the ledger's reply limits: of kept replies of 4 and 8 bytes, and of a new command.
-AROUND_LEDGER = [10, 11, 14, 15, 18, 19, 486, 487]
+AROUND_LEDGER = [10, 10, 11, 14, 14, 15, 18, 19, 486, 486, 487, 487, 487]
 
 
 class Openings(Commands):
@@ -70,7 +70,8 @@ class Openings(Commands):
         multiplier = self.pick(8, 255) if "type" in faults and side == 2 else self.random.randrange(8)
         # a wrong multiplier is the only fault, or the type is wrong in both directions, too
         types = [] if side == 2 and self.seldom(0.5) else faults
-        o_t, t_o = [4, 12, 13, 34, 500, 511, 511, 511, 511], [10, 12, 13, 34, 500, 500, 511, 511, *AROUND_LEDGER]
+        o_t, t_o = [4, 12, 13, 34, 500, 511, 511, 511], [10, 12, 13, 34, 500, 500, 511, 511]
+        o_t, t_o = (o_t + [500, 511] * 4, t_o + AROUND_LEDGER) if config["ledger"] else (o_t, t_o)
         over = [4003, 4004, 0x2000 + 500, 0x8000, 0x8000 + 500, 0xFFFF] if large else []
         o_t, t_o = (o_t + [512, 1000, 4001, 4002], t_o + [512, 3906, 4001, 4002]) if large else (o_t, t_o)
         o_t = [0, 1, 2, 3] + over if "size" in faults and side != 1 else o_t
@@ -134,7 +135,8 @@ class Conversation(Openings):
         """A request for a connection. Sometimes its item has just the O->T size, or one byte more."""
         if self.seldom(0.06):
             return self.some(3)
-        request = self.request(self.configuration)
+        commands = self.configuration["ledger"] and self.seldom(0.4)
+        request = self.to_ledger(self.configuration) if commands else self.request(self.configuration)
         if self.seldom(0.15):
             size = o_t_size - 2 + self.pick(0, 1)
             return request[:size] + bytes(size - len(request[:size]))

@@ -1,4 +1,4 @@
-"""The second reading of the command ledger, and of a device: its objects, and a ledger before them if it has one."""
+"""The second reading of the command ledger, and of a device, which has objects and may have a ledger."""
 import collections
 import struct
 from dataclasses import dataclass
@@ -24,10 +24,10 @@ class Slot:
 
 
 class Ledger:
-    """The command ledger of a configuration before its objects, with its slots by their originators.
+    """The command ledger of a configuration, in front of its objects. `slots` has the slot of each originator.
 
-    Each service is a list of rows, of which the first that applies decides. A row is its text, whether it applies, its
-    general status, and the data of its reply if it has some. A statement between two rows takes effect only if no row
+    Each service is a list of rows. The first row that applies decides. A row has a name, whether it applies, the
+    general status, and the data of the reply if there are any. A statement between two rows takes effect only if no row
     above it applies."""
 
     def __init__(self, config, objects, reached):
@@ -71,16 +71,17 @@ class Ledger:
         yield "Do_Once: a greater number", True, SUCCESS, DONE + self.slots[originator].reply
 
     def embedded(self, request):
-        """The reply to an embedded request. The Connection Manager and the ledger get none."""
-        for kind in CONNECTION_MANAGER, LEDGER:
-            barred = class_of(request) == kind
-            self.reached["embedded: class %#04x" % kind] += barred
-            if barred:
-                return bytes([request[0] | 0x80, 0, SERVICE, 0])
-        reply = self.objects.execute(request, EMBEDDED_ROOM)
+        """The reply to an embedded request. One to the Connection Manager or to the ledger is refused."""
+        kind = class_of(request)
+        if kind in (CONNECTION_MANAGER, LEDGER):
+            reply = bytes([request[0] | 0x80, 0, SERVICE, 0])
+        else:
+            reply = self.objects.execute(request, EMBEDDED_ROOM)
+        self.reached["embedded: to the Connection Manager"] += kind == CONNECTION_MANAGER
+        self.reached["embedded: to the ledger"] += kind == LEDGER
         self.reached["embedded: executed"] += reply[2] == SUCCESS
         self.reached["embedded: the reply does not fit"] += reply[2] == TOO_LARGE
-        self.reached["embedded: refused"] += reply[2] not in (SUCCESS, TOO_LARGE)
+        self.reached["embedded: refused"] += reply[2] not in (SUCCESS, TOO_LARGE, SERVICE)
         return reply
 
     def get_last(self, data, room):
@@ -126,8 +127,8 @@ class Ledger:
 
 
 class Device:
-    """The device of a configuration. If it has a command ledger, requests to the ledger's class go there. `reached` has
-    the rows of the ledger that were looked at, and how often each applied."""
+    """The device of a configuration. If it has a command ledger, requests to the ledger's class go there. `reached`
+    counts how often each row of the ledger applied."""
 
     def __init__(self, config):
         self.objects, self.reached = Objects(config), collections.Counter()
