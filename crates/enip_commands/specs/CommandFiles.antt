@@ -1,5 +1,5 @@
 -- The file of a commander, and why a text is not one.
-use Rattle.std.specs.Prelude.{ℕ, ◌≡◌, ◌≢◌, ◌<◌, ◌^◌, ⊤, Option, Some, None, List, [], ◌∷◌, ◌++◌, codes}
+use Rattle.std.specs.Prelude.{ℕ, ◌≡◌, ◌≢◌, ◌==◌, ◌<◌, ◌≤◌, ◌^◌, ⊤, false, length, Option, Some, None, List, [], ◌∷◌, ◌++◌, codes}
 use Rattle.std.specs.Fmt.{decimal}
 use Rattle.std.specs.List.{list_any}
 use Rattle.std.specs.Int.{to_be_bytes, w64}
@@ -71,11 +71,11 @@ IsFault text Head = (rest : List ℕ) → text ≡ head_line ++ rest → ⊥
 IsFault text Originator = (rest : List ℕ) × (text ≡ head_line ++ rest) × LacksLine originator_line IsLong rest
 IsFault text Life = (originator : ℕ) × ((rest : List ℕ) × (IsLong originator
     × (text ≡ head_line ++ (originator_line originator ++ rest)) × LacksLine life_line IsLong rest))
-IsFault text Number = (originator life : ℕ) × ((rest : List ℕ) × (IsLong originator × IsLong life
-    × (text ≡ head_line ++ (originator_line originator ++ (life_line life ++ rest))) × LacksLine number_line IsShort rest))
-IsFault text Pending = (originator life number : ℕ) × ((rest : List ℕ) × (IsLong originator × IsLong life × IsShort number
+IsFault text Number = (originator : ℕ) × ((life : ℕ) × ((rest : List ℕ) × (IsLong originator × IsLong life
+    × (text ≡ head_line ++ (originator_line originator ++ (life_line life ++ rest))) × LacksLine number_line IsShort rest)))
+IsFault text Pending = (originator : ℕ) × ((life : ℕ) × ((number : ℕ) × ((rest : List ℕ) × (IsLong originator × IsLong life × IsShort number
     × (text ≡ head_line ++ (originator_line originator ++ (life_line life ++ (number_line number ++ rest))))
-    × LacksLine pending_line IsPending rest))
+    × LacksLine pending_line IsPending rest))))
 IsFault text End = (c : CommanderState) × ((rest : List ℕ) × (IsKept c × (text ≡ file_text c ++ rest) × (rest ≢ [])))
 
 abbrev pub fault_line : CommandFileFault → ℕ

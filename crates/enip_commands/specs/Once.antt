@@ -1,8 +1,9 @@
 -- Which command is sent to a ledger, and what its answers mean.
 use Rattle.std.specs.Prelude.{ℕ, ◌==◌, if◌then◌else◌, Option, Some, None, List, length, slice_get, unwrap_or}
-use Rattle.std.specs.Prelude.{Result, Ok, Err}
+use Rattle.std.specs.Prelude.{Bool, true, false, Result, Ok, Err}
 use Rattle.std.specs.Int.{from_le_bytes, w64}
 use Rattle.std.specs.Str.{bytes_eq}
+use Rattle.cip_bytes.specs.Reading.{map_ok}
 use Rattle.cip_message.specs.Reply.{Reply}
 use Rattle.cip_message.specs.declared.reply.ReplyFault.{ReplyFault}
 use Rattle.cip_commander.specs.declared.refusal.CommandRefused.{CommandRefused}
@@ -11,6 +12,8 @@ use Rattle.enip_commands.specs.declared.once.LifeFault.{LifeFault}
 use Rattle.enip_commands.specs.declared.once.LifeFault.TheVariants as faults
 use Rattle.enip_commands.specs.declared.once.PendingChoice.{PendingChoice}
 use Rattle.enip_commands.specs.declared.once.PendingChoice.TheVariants.{Same, Send, Abandon}
+use Rattle.enip_commands.specs.declared.once.OncePlan.{OncePlan}
+use Rattle.enip_commands.specs.declared.once.OncePlan.TheVariants.{Resend, Submit}
 use Rattle.enip_commands.specs.declared.once.OnceRefusal.{OnceRefusal}
 use Rattle.enip_commands.specs.declared.once.OnceRefusal.TheVariants as refusals
 use Rattle.enip_commands.specs.declared.once.LedgerRefusal.{LedgerRefusal}
@@ -48,18 +51,33 @@ submitted commander request life =
 abbrev pub resent : CommanderState → ℕ → Result CommanderState OnceRefusal
 resent commander life = if commander.life == life then Ok commander else Err refusals.OtherLife
 
--- the commander whose pending command is sent to a device in this life, or why nothing is sent
-abbrev pub begun_at : CommanderState → Option (List ℕ) → List ℕ → ℕ → PendingChoice → Result CommanderState OnceRefusal
-begun_at commander None request life Same = submitted commander request life
-begun_at commander None request life Send = Err refusals.NonePending
-begun_at commander None request life Abandon = submitted commander request life
-begun_at commander (Some pending) request life Same =
-    if bytes_eq pending request then resent commander life else Err refusals.Differs
-begun_at commander (Some pending) request life Send = resent commander life
-begun_at commander (Some pending) request life Abandon = submitted commander request life
+-- whether the pending command or the request is sent, or why neither is
+abbrev pub plan_of : Option (List ℕ) → List ℕ → PendingChoice → Result OncePlan OnceRefusal
+plan_of None request Same = Ok Submit
+plan_of None request Send = Err refusals.NonePending
+plan_of None request Abandon = Ok Submit
+plan_of (Some pending) request Same = if bytes_eq pending request then Ok Resend else Err refusals.Differs
+plan_of (Some pending) request Send = Ok Resend
+plan_of (Some pending) request Abandon = Ok Submit
 
+abbrev pub begun_by : CommanderState → List ℕ → ℕ → Result OncePlan OnceRefusal → Result CommanderState OnceRefusal
+begun_by commander request life (Ok Resend) = resent commander life
+begun_by commander request life (Ok Submit) = submitted commander request life
+begun_by commander request life (Err why) = Err why
+
+-- the commander whose pending command is sent to a device in this life, or why nothing is sent
 abbrev pub begun : CommanderState → List ℕ → ℕ → PendingChoice → Result CommanderState OnceRefusal
-begun commander request life choice = begun_at commander commander.pending request life choice
+begun commander request life choice = begun_by commander request life (plan_of commander.pending request choice)
+
+-- the same as far as it does not depend on the device's life
+abbrev pub checked : CommanderState → List ℕ → PendingChoice → Result (Unit {0}) OnceRefusal
+checked commander request choice = map_ok (λ _. tt) (begun commander request commander.life choice)
+
+abbrev pub once_refusal_status : OnceRefusal → ℕ
+once_refusal_status refusals.Differs = 2
+once_refusal_status refusals.NonePending = 2
+once_refusal_status refusals.OtherLife = 2
+once_refusal_status (refusals.Command why) = 7
 
 -- ---- what a refusal means
 
@@ -71,3 +89,12 @@ ledger_refusal status =
     else if status == 0x10 then answers.OtherLife
     else if status == 0x11 then answers.ReplyTooLarge
     else answers.Other status
+
+-- a ledger without a slot for an originator has executed none of its commands
+abbrev pub may_be_executed : LedgerRefusal → Bool
+may_be_executed answers.NoSlot = false
+may_be_executed answers.NoLedger = true
+may_be_executed answers.NumberPassed = true
+may_be_executed answers.OtherLife = true
+may_be_executed answers.ReplyTooLarge = true
+may_be_executed (answers.Other status) = true

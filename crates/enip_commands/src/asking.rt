@@ -3,7 +3,9 @@
 ghost use Rattle.std.specs.Prelude.{◌≡◌, ◌<◌, None, IfOk, IfErr};
 ghost use Rattle.cip_message.specs.PathWriting.{short};
 ghost use Rattle.cip_message.specs.Request.{request};
+ghost use Rattle.enip_client.specs.Asking.{ends};
 ghost use Rattle.enip_commands.specs.Asking.{IsRequested, IsReplyPrinted, IsNotPrinted, IsOfDevice, IsOfExchange};
+ghost use Rattle.enip_commands.specs.Asking.{IsExchanged, exchange_result};
 ghost use Rattle.enip_commands.specs.Digits.{bytes_spelled};
 ghost use Rattle.enip_commands.specs.Statuses.{asking_status, replied_status, request_failure_status};
 
@@ -251,7 +253,10 @@ pub fn exchange_over<R: Source, W: Sink>(
 ) -> Result<(), RequestFailure>
     requires reads { R.failures reader.old < u64.MAX }
     requires writes { W.failures writer.old < u64.MAX }
-    ensures { IfErr result IsOfExchange }
+    ensures exchanged { IsExchanged request.now connected
+        (λ client. ends client (R.left reader.old) (R.reads reader.old) (W.written writer.old) reply.old.items)
+        (λ client. ends client (R.left reader.new) (R.reads reader.new) (W.written writer.new) reply.new.items) result }
+    ensures failed { IfErr result IsOfExchange }
 {
     let mut client = match Client::new(alloc, &WANTS) {
         Ok(client) => client,
@@ -263,7 +268,8 @@ pub fn exchange_over<R: Source, W: Sink>(
 
 /// Why an exchange was not completed. If the session is not registered, a status is the answer to RegisterSession.
 fn session_refusal(asked: Result<(), AskFault>, is_registered: bool) -> Result<(), RequestFailure>
-    ensures { IfErr result IsOfExchange }
+    ensures reported { result ≡ exchange_result asked is_registered }
+    ensures failed { IfErr result IsOfExchange }
 {
     match asked {
         Ok(()) => Ok(()),

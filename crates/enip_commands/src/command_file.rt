@@ -1,14 +1,16 @@
 //! The file of `--once`: a commander as text, between two runs of the program.
 
-ghost use Rattle.std.specs.Prelude.{◌≡◌, ◌≤◌, ◌*◌, length, false, None, IfOk, IfErr, IfSome, IsTrue, IsErr, IsOkAnd, OnOk};
-ghost use Rattle.std.specs.Prelude.{List, ℕ, ◌++◌, ◌≢◌, []};
+ghost use Rattle.std.specs.Prelude.{◌≡◌, ◌≢◌, ◌<◌, ◌≤◌, ◌↔◌, length, slice_index, false, ℕ, Some, None, List, [], ◌++◌, IsTrue};
+ghost use Rattle.std.specs.Prelude.{IfOk, IfErr, IfSome, IsErr, IsOkAnd, OnOk};
+ghost use Rattle.std.specs.Fmt.{decimal};
 ghost use Rattle.std.specs.Io.KnownBytes.{Appends};
+ghost use Rattle.std.specs.Option.{option_copied, option_map};
 ghost use Rattle.hex.specs.Hex.{encode_lower};
 ghost use Rattle.cip_bytes.specs.Numbers.{AreBytes};
 ghost use Rattle.cip_commander.specs.CommanderRule.{CommanderState};
-ghost use Rattle.enip_commands.specs.CommandFiles.{IsKept, IsFault, IsLine, IsDecimal, IsPendingLine, LacksLine, IsLong};
-ghost use Rattle.enip_commands.specs.CommandFiles.{IsShort, IsSpelled, fault_line, file_text, head_line};
-ghost use Rattle.enip_commands.specs.CommandFiles.{originator_line, life_line, number_line, pending_line};
+ghost use Rattle.enip_commands.specs.CommandFiles.{file_text, head_line, originator_line, life_line, number_line};
+ghost use Rattle.enip_commands.specs.CommandFiles.{pending_line, IsKept, IsLong, IsShort, IsSpelling, IsLine};
+ghost use Rattle.enip_commands.specs.CommandFiles.{LacksLine, IsFault, fault_line};
 
 use crate::digits::Digits;
 use crate::lines::decimal;
@@ -137,19 +139,47 @@ pub fn read_commander(text: &[u8]) -> Result<Commander, CommandFileFault>
         → rest ≢ [] → IsErr result }
     ensures refused { IfErr result (IsFault text.now) }
 {
-    let lines = read_head(text).ok_or(CommandFileFault::Head)?;
-    let (originator, lines) = read_originator(lines).ok_or(CommandFileFault::Originator)?;
-    let (life, lines) = read_life(lines).ok_or(CommandFileFault::Life)?;
-    let (last_number, lines) = read_number(lines).ok_or(CommandFileFault::Number)?;
-    let (pending, lines) = read_pending(lines).ok_or(CommandFileFault::Pending)?;
-    let pending = pending.as_ref().map(|request| request.as_slice());
-    let Ok(commander) = Commander::resume(life, originator, last_number, pending) else {
+    read_lines(text)
+}
+
+/// The commander that these lines spell.
+fn read_lines(text: &[u8]) -> Result<Commander, CommandFileFault>
+    ensures read { IfOk result (λ commander. IsKept commander × (text.now ≡ file_text commander)) }
+    ensures refused { IfErr result (IsFault text.now) }
+{
+    let Some(lines) = read_head(text) else {
+        return Err(CommandFileFault::Head);
+    };
+    let Some((originator, lines)) = read_originator(lines) else {
+        return Err(CommandFileFault::Originator);
+    };
+    let Some((life, lines)) = read_life(lines) else {
+        return Err(CommandFileFault::Life);
+    };
+    let Some((last_number, lines)) = read_number(lines) else {
+        return Err(CommandFileFault::Number);
+    };
+    let Some((pending, lines)) = read_pending(lines) else {
+        return Err(CommandFileFault::Pending);
+    };
+    let request = lent(&pending);
+    let Ok(commander) = Commander::resume(life, originator, last_number, request) else {
         return Err(CommandFileFault::Pending);
     };
     if !lines.is_empty() {
         return Err(CommandFileFault::End);
     }
     Ok(commander)
+}
+
+/// Lends a request.
+fn lent(request: &Option<EmbeddedRequest>) -> Option<&[u8]>
+    ensures { option_copied result ≡ option_map (λ request. request.items) request.now }
+{
+    match request {
+        Some(request) => Some(request.as_slice()),
+        None => None,
+    }
 }
 
 /// The lines after the first.
@@ -163,6 +193,7 @@ fn read_head(text: &[u8]) -> Option<&[u8]>
 /// The originator, and the lines after it.
 fn read_originator(text: &[u8]) -> Option<(u64, &[u8])>
     ensures read { IfSome result (λ line. text.now ≡ originator_line line.0 ++ line.1.now) }
+    ensures fits { IfSome result (λ line. IsLong line.0) }
     ensures lacking { result ≡ None → LacksLine originator_line IsLong text.now }
 {
     let (digits, rest) = split_line(text, b"originator ")?;
@@ -176,6 +207,7 @@ fn read_originator(text: &[u8]) -> Option<(u64, &[u8])>
 /// The life, and the lines after it.
 fn read_life(text: &[u8]) -> Option<(u64, &[u8])>
     ensures read { IfSome result (λ line. text.now ≡ life_line line.0 ++ line.1.now) }
+    ensures fits { IfSome result (λ line. IsLong line.0) }
     ensures lacking { result ≡ None → LacksLine life_line IsLong text.now }
 {
     let (digits, rest) = split_line(text, b"life ")?;
@@ -185,11 +217,14 @@ fn read_life(text: &[u8]) -> Option<(u64, &[u8])>
 /// The last number, and the lines after it.
 fn read_number(text: &[u8]) -> Option<(u32, &[u8])>
     ensures read { IfSome result (λ line. text.now ≡ number_line line.0 ++ line.1.now) }
+    ensures fits { IfSome result (λ line. IsShort line.0) }
     ensures lacking { result ≡ None → LacksLine number_line IsShort text.now }
 {
     let (digits, rest) = split_line(text, b"number ")?;
-    let number = u32::try_from(read_decimal(digits)?).ok()?;
-    Some((number, rest))
+    match u32::try_from(read_decimal(digits)?) {
+        Ok(number) => Some((number, rest)),
+        Err(_) => None,
+    }
 }
 
 /// The pending request, or none, and the lines after it. The request is not yet checked.
@@ -218,18 +253,27 @@ fn split_line<'a>(text: &'a [u8], key: &[u8]) -> Option<(&'a [u8], &'a [u8])>
 /// The number that decimal digits without a leading zero spell.
 fn read_decimal(digits: &[u8]) -> Option<u64>
     ensures read { IfSome result (λ number. digits.now ≡ decimal number) }
+    ensures fits { IfSome result IsLong }
     ensures lacking { result ≡ None → (number : ℕ) → IsLong number → digits.now ≢ decimal number }
 {
-    match digits {
-        [b'0', _, ..] => None,
-        _ => decimal(digits),
+    if has_leading_zero(digits) {
+        return None;
     }
+    decimal(digits)
+}
+
+/// Whether more digits follow a zero.
+fn has_leading_zero(digits: &[u8]) -> bool
+    ensures { IsTrue result ↔ ((1 < length digits.now) × (slice_index digits.now 0 ≡ 48)) }
+{
+    digits.len() > 1 && digits[0] == b'0'
 }
 
 /// The request that lower-case hexadecimal digits spell.
 fn read_request(digits: &[u8]) -> Option<EmbeddedRequest>
     ensures read { IfSome result (λ request. digits.now ≡ encode_lower request.items) }
-    ensures lacking { result ≡ None → (request : List ℕ) → AreBytes request → length request ≤ LONGEST_EMBEDDED
+    ensures bytes { IfSome result (λ request. AreBytes request.items × (length request.items ≤ 478)) }
+    ensures lacking { result ≡ None → (request : List ℕ) → AreBytes request → length request ≤ 478
         → digits.now ≢ encode_lower request }
 {
     if digits.len() > LONGEST_DIGITS {
@@ -246,8 +290,9 @@ fn read_request(digits: &[u8]) -> Option<EmbeddedRequest>
 /// Decodes lower-case hexadecimal digits, two for each byte. Returns false if the text does not spell as many bytes;
 /// `bytes` is then unspecified.
 fn decode_lower(digits: &[u8], bytes: &mut [u8]) -> bool
-    requires { length bytes.old ≤ LONGEST_EMBEDDED }
+    requires { length bytes.old ≤ 478 }
     ensures read { IsTrue result → digits.now ≡ encode_lower bytes.new }
+    ensures bytes { AreBytes bytes.new }
     ensures lacking { result ≡ false → (given : List ℕ) → AreBytes given → length given ≡ length bytes.old
         → digits.now ≢ encode_lower given }
 {

@@ -4,10 +4,12 @@ ghost use Rattle.std.specs.Prelude.{◌≡◌, IfOk, IfErr, IfSome, OnOk, OnErr,
 ghost use Rattle.std.specs.Option.{option_copied};
 ghost use Rattle.cip_commander.specs.CommanderRule.{CommanderState};
 ghost use Rattle.cip_message.specs.Reply.{reply_of};
-ghost use Rattle.enip_commands.specs.Once.{life_of, plan_of, is_begun, begun, ledger_refusal};
+ghost use Rattle.enip_commands.specs.Once.{life_of, plan_of, submitted, begun, checked, once_refusal_status};
+ghost use Rattle.enip_commands.specs.Once.{ledger_refusal, may_be_executed};
 
 use cip_commander::{CommandRefused, Commander};
 use cip_message::{ReplyView, reply_service};
+use enip_client::ClientFault;
 use thiserror::Error;
 
 /// Get_Attribute_Single. (Volume 1, common services.)
@@ -62,23 +64,42 @@ pub enum PendingChoice {
     Abandon,
 }
 
-/// Why nothing is sent.
+/// Why nothing is sent. The text is the code for scripts on standard error.
 #[derive(Clone, Copy, Debug, PartialEq, Eq, Error)]
 pub enum OnceRefusal {
     /// The pending command has another request.
-    #[error("another command is pending")]
+    #[error("pending")]
     Differs,
     /// The pending command is to be sent, and there is none.
-    #[error("no command is pending")]
+    #[error("pending")]
     NonePending,
-    /// The pending command is for another life of the device.
-    #[error(
-        "the device was restarted, and the pending command may have been executed before that"
-    )]
+    /// The pending command is for another life of the device, so it may have been executed before the device was
+    /// restarted.
+    #[error("life")]
     OtherLife,
     /// The request cannot be a command.
-    #[error("{0}")]
+    #[error("fault {}", client_fault(*.0).number())]
     Command(CommandRefused),
+}
+
+impl OnceRefusal {
+    /// The exit status of the program: 2 or 7.
+    pub fn exit_status(self) -> u8
+        ensures { result ≡ once_refusal_status self }
+    {
+        match self {
+            OnceRefusal::Differs | OnceRefusal::NonePending | OnceRefusal::OtherLife => 2,
+            OnceRefusal::Command(_) => 7,
+        }
+    }
+}
+
+/// The client's fault that a refused command is reported as.
+fn client_fault(why: CommandRefused) -> ClientFault {
+    match why {
+        CommandRefused::NotARequest | CommandRefused::TooLong => ClientFault::Request,
+        CommandRefused::Pending | CommandRefused::NumbersExhausted => ClientFault::State,
+    }
 }
 
 /// What is sent.
@@ -100,6 +121,7 @@ pub fn check_once(
     request: &[u8],
     choice: PendingChoice,
 ) -> Result<(), OnceRefusal>
+    ensures { result ≡ checked commander.now request.now choice }
 {
     if let OncePlan::Submit = plan(commander.pending_request(), request, choice)? {
         submitted(commander, request, commander.life())?;
@@ -119,6 +141,10 @@ pub fn begin_once(
     life: u64,
     choice: PendingChoice,
 ) -> Result<(), OnceRefusal>
+    ensures begun { OnOk result (begun commander.old request.now life choice ≡ Ok commander.new) }
+    ensures pending { OnOk result (IsSome commander.new.pending × (commander.new.life ≡ life)) }
+    ensures refused { IfErr result (λ why. begun commander.old request.now life choice ≡ Err why) }
+    ensures unchanged { OnErr result (commander.new ≡ commander.old) }
 {
     match plan(commander.pending_request(), request, choice)? {
         OncePlan::Resend => {
@@ -137,6 +163,7 @@ fn plan(
     request: &[u8],
     choice: PendingChoice,
 ) -> Result<OncePlan, OnceRefusal>
+    ensures { result ≡ plan_of (option_copied pending.entry) request.now choice }
 {
     match (pending, choice) {
         (_, PendingChoice::Abandon) | (None, PendingChoice::Same) => Ok(OncePlan::Submit),
@@ -148,6 +175,7 @@ fn plan(
 
 /// The commander in a life, with the request as its next command. A pending one is given up.
 fn submitted(commander: &Commander, request: &[u8], life: u64) -> Result<Commander, OnceRefusal>
+    ensures { result ≡ submitted commander.now request.now life }
 {
     let mut renewed = Commander::new(life, commander.originator(), commander.last_number());
     match renewed.command(request) {
@@ -157,28 +185,26 @@ fn submitted(commander: &Commander, request: &[u8], life: u64) -> Result<Command
     Ok(renewed)
 }
 
-/// Why a ledger did not answer a command with a reply to its request. The command is still pending.
+/// What the general status says with which a ledger refuses a command. The command is still pending.
 #[derive(Clone, Copy, Debug, PartialEq, Eq, Error)]
 pub enum LedgerRefusal {
-    /// General status 0x02.
-    #[error("all slots of the ledger are taken, and the command was not executed")]
+    /// 0x02.
+    #[error("all slots of the command ledger are taken")]
     NoSlot,
-    /// General status 0x05.
-    #[error("the device has no command ledger any more, and the command may have been executed before")]
+    /// 0x05.
+    #[error("the device has no command ledger")]
     NoLedger,
-    /// General status 0x0c.
-    #[error(
-        "a later command of this originator was executed: this one may have been executed before, and will not be executed any more"
-    )]
+    /// 0x0c.
+    #[error("the ledger has a later command of this originator, and will not execute this one")]
     NumberPassed,
-    /// General status 0x10.
-    #[error("the device was restarted, and the command may have been executed before that")]
+    /// 0x10.
+    #[error("the device was restarted")]
     OtherLife,
-    /// General status 0x11.
-    #[error("the ledger's answer does not fit the connection, and the command may have been executed")]
+    /// 0x11.
+    #[error("the ledger's reply does not fit the connection")]
     ReplyTooLarge,
-    /// Another general status.
-    #[error("general status {0:#04x}, and the command may have been executed")]
+    /// Another one.
+    #[error("the ledger refused the command with general status {0:#04x}")]
     Other(u8),
 }
 
@@ -195,5 +221,13 @@ impl LedgerRefusal {
             0x11 => LedgerRefusal::ReplyTooLarge,
             _ => LedgerRefusal::Other(status),
         }
+    }
+
+    /// Whether the command may have been executed, when it was sent before. A ledger without a slot for an originator
+    /// has executed none of its commands.
+    pub fn may_be_executed(self) -> bool
+        ensures { result ≡ may_be_executed self }
+    {
+        !matches!(self, LedgerRefusal::NoSlot)
     }
 }
