@@ -129,26 +129,25 @@ impl<'a> OnceRun<'a, '_> {
             Some(commander) => commander,
             None => Commander::new(0, self.new_originator()?, 0),
         };
-        check_once(&commander, request, choice)
-            .map_err(|why| self.error_of_refusal(&commander, request, why))?;
+        check_once(&commander, request, choice).map_err(|why| self.error_of_refusal(
+            &commander, request, why,
+        ))?;
         let note = self.note_before(&commander);
         let life = match life {
             Some(life) => life,
             None => self.life(note)?,
         };
-        begin_once(&mut commander, request, life, choice)
-            .map_err(|why| self.error_of_refusal(&commander, request, why))?;
+        begin_once(&mut commander, request, life, choice).map_err(|why| self.error_of_refusal(
+            &commander, request, why,
+        ))?;
         self.check_size(&commander)?;
-        self.write(&file, &commander).map_err(|error| error.with_note(note))?;
+        self.write(&file, &commander)
+            .map_err(|error| error.with_note(note))?;
         self.finish(&file, &mut commander)
     }
 
     /// Sends the pending command until the device replies to it, prints the reply and settles the command.
-    fn finish(
-        &self,
-        file: &LockedFile,
-        commander: &mut Commander,
-    ) -> Result<u8, CommandError<'a>> {
+    fn finish(&self, file: &LockedFile, commander: &mut Commander) -> Result<u8, CommandError<'a>> {
         let mut reply = ReplyBuf::new();
         let message = commander.pending().unwrap_or(&[]);
         self.exchange(message, self.device.connected, &mut reply)
@@ -182,7 +181,9 @@ impl<'a> OnceRun<'a, '_> {
             }
             Err(failure) => {
                 let reason = output.reason(OUTPUT);
-                Err(error_of_failure(failure, self.device.address, reason).with_note(Note::Executed))
+                Err(error_of_failure(failure, self.device.address, reason).with_note(
+                    Note::Executed,
+                ))
             }
         }
     }
