@@ -113,20 +113,21 @@ impl Ledger {
         self.slots.position(originator)
     }
 
-    /// Do_Once: executes a command that is new, and replies to one that was executed as it was replied to then.
+    /// Do_Once: executes a command that is new, and replies to one that was executed as it was replied to then. The
+    /// arguments have the router's order.
     #[tactic(auto, unfolding(crate::specs::Services::do_once))]
     fn do_once<R: Router>(
-        &mut self,
         router: &mut R,
         data: &[u8],
         max_size: usize,
         reply: &mut ReplyBuf,
+        ledger: &mut Ledger,
     )
         requires max_size_from { 8 ≤ max_size }
         requires max_size_to { max_size ≤ REPLY_LIMIT }
-        ensures rule { turn_of (Some self.new) router.new reply.new.items
-            ≡ acted R.after R.answer (services.do_once self.old max_size «data».now) DO_ONCE
-            (Some self.old) router.old }
+        ensures rule { turn_of (Some ledger.new) router.new reply.new.items
+            ≡ acted R.after R.answer (services.do_once ledger.old max_size «data».now) DO_ONCE
+            (Some ledger.old) router.old }
         ensures fits { length reply.new.items ≤ max_size }
     {
         // two numbers of 64 bits, one of 32, a request: 0x13 (ledger, ours)
@@ -135,13 +136,13 @@ impl Ledger {
             return;
         }
         let command = Command::read(data);
-        let index = self.position(command.originator);
-        match self.verdict(command, index, max_size) {
+        let index = ledger.position(command.originator);
+        match ledger.verdict(command, index, max_size) {
             Verdict::Refuses(status) => begin(DO_ONCE, status, reply),
             Verdict::Repeats(kept) => answer(DO_ONCE, &[DONE], kept, max_size, reply),
             Verdict::Executes => {
                 let request = &data[Command::FRONT_SIZE..];
-                self.execute_command(router, command, request, index, reply);
+                ledger.execute_command(router, command, request, index, reply);
             }
         }
     }
@@ -239,7 +240,7 @@ impl Ledger {
         ensures fits { length reply.new.items ≤ max_size }
     {
         match request.service {
-            DO_ONCE => self.do_once(router, request.data, max_size, reply),
+            DO_ONCE => Ledger::do_once(router, request.data, max_size, reply, self),
             GET_LAST => self.get_last(request.data, max_size, reply),
             FORGET => self.forget(request.data, reply),
             GET_ATTRIBUTE_SINGLE => {
@@ -295,9 +296,29 @@ pub(crate) fn execute_by<R: Router>(
     ensures fits { length reply.new.items ≤ max_size }
 {
     if is_do_once(request) {
-        ledger.do_once(router, &request[SHORT_SIZE..], max_size, reply);
+        Ledger::do_once(router, &request[SHORT_SIZE..], max_size, reply, ledger);
         return;
     }
+    execute_any(router, request, max_size, reply, ledger);
+}
+
+/// Executes a request as `execute_by` does, however it is spelled. It is a function of its own, so that Do_Once saves
+/// no registers for it.
+#[inline(never)]
+fn execute_any<R: Router>(
+    router: &mut R,
+    request: &[u8],
+    max_size: usize,
+    reply: &mut ReplyBuf,
+    ledger: &mut Ledger,
+)
+    requires request { 2 ≤ length request.now }
+    requires max_size_from { 8 ≤ max_size }
+    requires max_size_to { max_size ≤ REPLY_LIMIT }
+    ensures rule { turn_of (Some ledger.new) router.new reply.new.items
+        ≡ turn R.after R.answer (Some ledger.old) router.old max_size request.now }
+    ensures fits { length reply.new.items ≤ max_size }
+{
     match LedgerRequest::read(request) {
         Some(own) => ledger.serve(router, own, max_size, reply),
         None => router.execute(request, max_size, reply),
