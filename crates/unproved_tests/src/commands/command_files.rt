@@ -339,6 +339,7 @@ fn lives_of_ledgers(rt: HostRuntime) {
 }
 
 /// A file, a request, a life and a choice; why nothing is sent, or the number and the request that are.
+#[derive(Clone, Copy)]
 struct Begun<'a> {
     name: &'a str,
     pending: Option<&'a [u8]>,

@@ -1,6 +1,6 @@
 use Rattle.std.proofs.Common.{◌≡◌, refl, sym, ap, ◌∙◌, rules, List, ℕ, Option}
-use Rattle.std.specs.Option.{option_map}
 use Rattle.cip_commander.specs.CommanderRule.{commander_at}
+use Rattle.enip_commands.specs.CommandFiles.{bytes_in}
 use Rattle.enip_commands.proofs.CommandFileLemmas.{two_lines, three_lines, four_lines, whole_text, no_more, lacks_embedded, lacks_allowed, commander_kept, is_nothing, is_something}
 use Rattle.enip_commands.proofs.command_file.read_lines.Goals as goal
 
@@ -76,7 +76,7 @@ returns-in_default-resume-clause-refused c = (
           c.in-Some-read_life.ensures.fits,
           c.in-Some-read_number.ensures.fits,
           four_lines _ _ _ _ _ _ _ _ c.in-Some.ensures.read c.in-Some-read_originator.ensures.read c.in-Some-read_life.ensures.read c.in-Some-read_number.ensures.read,
-          lacks_allowed c.in-Some-read_number.lines.now c.in-Some-read_pending.lines.now (option_map (λ request. request.items) c.in-Some-read_pending.pending)
+          lacks_allowed c.in-Some-read_number.lines.now c.in-Some-read_pending.lines.now (bytes_in c.in-Some-read_pending.pending)
               c.in_default-resume.field-0 c.in-Some-read_pending.ensures.read c.in-Some-read_pending.ensures.bytes (rw c.lent-request.ensures at c.in_default-resume.ensures.refused),
         ),
       ),
@@ -86,7 +86,7 @@ returns-in_default-resume-clause-refused c = (
 
 pub returns-then-not-is_empty-clause-refused : goal.returns-then-not-is_empty-clause-refused
 returns-then-not-is_empty-clause-refused c =
-    let pending = option_map (λ request. request.items) c.in-Some-read_pending.pending in
+    let pending = bytes_in c.in-Some-read_pending.pending in
     let is : c.in-Ok.commander ≡ commander_at c.in-Some-read_life.life c.in-Some-read_originator.originator c.in-Some-read_number.last_number pending =
     rw c.lent-request.ensures at c.in-Ok.ensures.resumed in
     let allowed = rw c.lent-request.ensures at c.in-Ok.ensures.allowed in (
@@ -103,7 +103,7 @@ returns-then-not-is_empty-clause-refused c =
 
 pub returns-clause-read : goal.returns-clause-read
 returns-clause-read c =
-    let pending = option_map (λ request. request.items) c.in-Some-read_pending.pending in
+    let pending = bytes_in c.in-Some-read_pending.pending in
     let is : c.in-Ok.commander ≡ commander_at c.in-Some-read_life.life c.in-Some-read_originator.originator c.in-Some-read_number.last_number pending =
     rw c.lent-request.ensures at c.in-Ok.ensures.resumed in
     let allowed = rw c.lent-request.ensures at c.in-Ok.ensures.allowed in (
