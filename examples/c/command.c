@@ -74,7 +74,7 @@ static void print_hex(FILE *file, const unsigned char *bytes, size_t size) {
 
 /* Makes the commander that FILE describes. Only one process may use FILE: two would use a number twice. */
 static void read_file(void) {
-    char hex[2 * LONGEST_REQUEST + 1], name[PATH_MAX];
+    char hex[2 * LONGEST_REQUEST + 1], name[PATH_MAX + 8], end;
     unsigned char request[LONGEST_REQUEST];
     uint64_t life = 0, originator = 0;
     uint32_t number = 0;
@@ -85,9 +85,9 @@ static void read_file(void) {
         fail(name, strerror(errno));
     if ((file = fopen(path, "r")) != NULL) {
         fields = fscanf(file, "enip commands 1 originator %" SCNx64 " life %" SCNu64 " number %" SCNu32
-                        " pending %956[0-9a-fno]", &originator, &life, &number, hex);
+                        " pending %956[0-9a-z]%c", &originator, &life, &number, hex, &end);
         fclose(file);
-        if (fields != 4)
+        if (fields != 5 || end != '\n')
             fail(path, "not a file of commands");
         if (strcmp(hex, "none") != 0) {
             check(path, enip_once_resume(life, originator, number, request, read_hex(hex, request), &once));
@@ -101,7 +101,7 @@ static void read_file(void) {
 
 /* Writes the commander to a new file, which takes the place of FILE. On return it is on the disk. */
 static void write_file(void) {
-    char name[PATH_MAX];
+    char name[PATH_MAX + 8];
     unsigned char request[LONGEST_REQUEST];
     uint64_t life, originator;
     uint32_t number;
@@ -112,9 +112,8 @@ static void write_file(void) {
     if ((file = fopen(name, "w")) == NULL)
         fail(name, strerror(errno));
     enip_once_values(once, &life, &originator, &number);
-    fprintf(file, "enip commands 1\noriginator %016" PRIx64 "\nlife %" PRIu64 "\nnumber %" PRIu32 "\n", originator,
-            life, number);
-    fputs("pending ", file);
+    fprintf(file, "enip commands 1\noriginator %016" PRIx64 "\nlife %" PRIu64 "\nnumber %" PRIu32 "\npending ",
+            originator, life, number);
     if (enip_once_request(once, request, sizeof request, &size) == ENIP_OK)
         print_hex(file, request, size);
     else
