@@ -286,11 +286,14 @@ fn outputs_that_fail(rt: HostRuntime) -> Result<(), Fail> {
     let commander = commander_in(PENDING)?;
     for room in 0..PENDING.len() {
         let mut text = Vec::new(alloc);
-        let mut writer = BrokenWriter {
-            text: &mut text,
-            room,
-        };
-        assert!(rt; write_commander(&mut writer, &commander).is_err(), "{room}");
+        let written = write_commander(
+            &mut BrokenWriter {
+                text: &mut text,
+                room,
+            },
+            &commander,
+        );
+        assert!(rt; written.is_err(), "{room}");
         assert_eq!(rt; text.as_slice(), &PENDING[..room]);
     }
     Ok(())
