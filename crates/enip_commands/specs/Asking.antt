@@ -1,5 +1,6 @@
 -- One request to a device, and how its reply is reported.
-use Rattle.std.specs.Prelude.{◌≡◌, ◌==◌, ◌⊎◌, ℕ, Bool, List, Some, Result, Ok, Err, ⊤, if◌then◌else◌, slice_get, unwrap_or}
+use Rattle.std.specs.Prelude.{⊤, ◌≡◌, ◌==◌, ◌⊎◌, ℕ, Bool, if◌then◌else◌, List, slice_get, Some, None, unwrap_or}
+use Rattle.std.specs.Prelude.{Result, Ok, Err}
 use Rattle.cip_message.specs.PathWriting.{short}
 use Rattle.cip_message.specs.Request.{request}
 use Rattle.cip_message.specs.Reply.{Reply, reply_of}
@@ -27,6 +28,12 @@ IsRequested q bytes = (given : List ℕ)
     × (bytes_spelled q.digits.now ≡ Some given)
     × (bytes ≡ request (record { service = q.service; path = short q.path; «data» = given }))
 
+-- Why a request was not made: its digits are not hexadecimal, or memory was refused.
+abbrev pub IsNotMade : DeviceRequest → RequestFailure → Type 0
+IsNotMade q Hex = bytes_spelled q.digits.now ≡ None
+IsNotMade q (Program Memory) = ⊤
+IsNotMade q failure = ⊥
+
 -- Why an exchange was not completed, as the program reports it.
 abbrev pub stop_of : AskFault → RequestFailure
 stop_of ask.Read = Program Device
@@ -49,7 +56,8 @@ abbrev pub IsWithoutClient : (ClientState → Ends) → (ClientState → Ends) �
 IsWithoutClient old new result = (result ≡ Err (Program Memory)) × (new (new_client WANTS) ≡ old (new_client WANTS))
 
 -- One exchange of a new client, whose ends are these for each state of the client.
-abbrev pub IsExchanged : List ℕ → Bool → (ClientState → Ends) → (ClientState → Ends) → Result (Unit {0}) RequestFailure → Type 0
+abbrev pub IsExchanged : List ℕ → Bool → (ClientState → Ends) → (ClientState → Ends)
+    → Result (Unit {0}) RequestFailure → Type 0
 IsExchanged request connected old new result =
     IsWithoutClient old new result
     ⊎ ((asked : Result (Unit {0}) AskFault) × ((left : ClientState)

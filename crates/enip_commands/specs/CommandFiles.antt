@@ -1,13 +1,17 @@
 -- The file of a commander, and why a text is not one.
-use Rattle.std.specs.Prelude.{ℕ, ◌≡◌, ◌≢◌, ◌==◌, ◌<◌, ◌≤◌, ◌^◌, ⊤, false, length, Option, Some, None, List, [], ◌∷◌, ◌++◌, codes}
+use Rattle.std.specs.Prelude.{⊤, ◌≡◌, ◌≢◌, ◌==◌, ◌<◌, ◌≤◌, ◌^◌, ℕ, false, Option, Some, None}
+use Rattle.std.specs.Prelude.{List, [], ◌++◌, codes, length}
 use Rattle.std.specs.Fmt.{decimal}
+use Rattle.std.specs.Option.{option_map}
 use Rattle.std.specs.List.{list_any}
 use Rattle.std.specs.Int.{to_be_bytes, w64}
+use Rattle.arrayvec.specs.ArrayVec.{ArrayVec}
 use Rattle.hex.specs.Hex.{encode_lower}
 use Rattle.cip_bytes.specs.Numbers.{AreBytes}
 use Rattle.cip_commander.specs.CommanderRule.{CommanderState, embedded_refusal}
 use Rattle.enip_commands.specs.declared.command_file.CommandFileFault.{CommandFileFault}
-use Rattle.enip_commands.specs.declared.command_file.CommandFileFault.TheVariants.{Head, Originator, Life, Number, Pending, End}
+use Rattle.enip_commands.specs.declared.command_file.CommandFileFault.TheVariants.{Head, Originator, Life, Number}
+use Rattle.enip_commands.specs.declared.command_file.CommandFileFault.TheVariants.{Pending, End}
 
 -- ---- the text
 
@@ -37,7 +41,8 @@ pending_line pending = line (codes "pending ") (pending_digits pending)
 
 abbrev pub file_text : CommanderState → List ℕ
 file_text c =
-    head_line ++ (originator_line c.originator ++ (life_line c.life ++ (number_line c.last_number ++ pending_line c.pending)))
+    head_line ++ (originator_line c.originator ++ (life_line c.life
+    ++ (number_line c.last_number ++ pending_line c.pending)))
 
 -- ---- what a file can hold
 
@@ -72,8 +77,10 @@ IsFault text Originator = (rest : List ℕ) × (text ≡ head_line ++ rest) × L
 IsFault text Life = (originator : ℕ) × ((rest : List ℕ) × (IsLong originator
     × (text ≡ head_line ++ (originator_line originator ++ rest)) × LacksLine life_line IsLong rest))
 IsFault text Number = (originator : ℕ) × ((life : ℕ) × ((rest : List ℕ) × (IsLong originator × IsLong life
-    × (text ≡ head_line ++ (originator_line originator ++ (life_line life ++ rest))) × LacksLine number_line IsShort rest)))
-IsFault text Pending = (originator : ℕ) × ((life : ℕ) × ((number : ℕ) × ((rest : List ℕ) × (IsLong originator × IsLong life × IsShort number
+    × (text ≡ head_line ++ (originator_line originator ++ (life_line life ++ rest)))
+    × LacksLine number_line IsShort rest)))
+IsFault text Pending = (originator : ℕ) × ((life : ℕ) × ((number : ℕ) × ((rest : List ℕ)
+    × (IsLong originator × IsLong life × IsShort number
     × (text ≡ head_line ++ (originator_line originator ++ (life_line life ++ (number_line number ++ rest))))
     × LacksLine pending_line IsPending rest))))
 IsFault text End = (c : CommanderState) × ((rest : List ℕ) × (IsKept c × (text ≡ file_text c ++ rest) × (rest ≢ [])))
@@ -92,6 +99,10 @@ fault_line End = 6
 pub record IsLine (key value rest text : List ℕ) : Type 0 where
   pub whole : text ≡ line key value ++ rest
   pub one : list_any (λ byte. byte == 10) value ≡ false
+
+-- What a buffer holds, if there is one.
+abbrev pub bytes_in : Option (ArrayVec ℕ) → Option (List ℕ)
+bytes_in held = option_map (λ bytes. bytes.items) held
 
 -- Bytes that fit a command's buffer, if there are any.
 abbrev pub IsSpelling : Option (List ℕ) → Type 0

@@ -30,7 +30,8 @@ abbrev pub life_of : Result Reply ReplyFault → Result ℕ LifeFault
 life_of (Err fault) = Err faults.Malformed
 life_of (Ok a) =
     if a.service == 0x8e
-    then (if a.status == 0 then life_in a.data else Err (faults.NoLedger a.status (unwrap_or (slice_get a.additional 0) 0)))
+    then (if a.status == 0 then life_in a.data
+    else Err (faults.NoLedger a.status (unwrap_or (slice_get a.additional 0) 0)))
     else Err faults.Malformed
 
 -- ---- what is sent

@@ -5,8 +5,7 @@ ghost use Rattle.cip_message.specs.PathWriting.{short};
 ghost use Rattle.cip_message.specs.Request.{request};
 ghost use Rattle.enip_client.specs.Asking.{ends};
 ghost use Rattle.enip_commands.specs.Asking.{IsRequested, IsReplyPrinted, IsNotPrinted, IsOfDevice, IsOfExchange};
-ghost use Rattle.enip_commands.specs.Asking.{IsExchanged, exchange_result};
-ghost use Rattle.enip_commands.specs.Digits.{bytes_spelled};
+ghost use Rattle.enip_commands.specs.Asking.{IsExchanged, IsNotMade, exchange_result};
 ghost use Rattle.enip_commands.specs.Statuses.{asking_status, replied_status, request_failure_status};
 
 use crate::digits::decode;
@@ -58,7 +57,7 @@ impl DeviceRequest<'_> {
     /// `Hex` if the digits are not hexadecimal. `Program` if memory was refused.
     pub fn request(&self, alloc: Global) -> Result<Vec<u8>, RequestFailure>
         ensures made { IfOk result (λ request. IsRequested self.now request.items) }
-        ensures hex { result ≡ Err RequestFailure.Hex → bytes_spelled self.now.digits.now ≡ None }
+        ensures refused { IfErr result (IsNotMade self.now) }
     {
         let mut digits = Vec::new(alloc);
         let mut data = Vec::new(alloc);
@@ -240,9 +239,9 @@ pub fn ask_over<R: Source, W: Sink, O: Write + Drop>(
 /// # Errors
 ///
 /// `Session` if the device refuses the session. `Client` with `Refused` if the connection was not opened or not closed,
-/// with `Request` if the request cannot be sent on it, with `Malformed` if the reply is malformed, or with another fault
-/// of the client. `Program` if the reader or the writer failed, the input ended, or memory was refused. If memory was
-/// refused, nothing was read or written.
+/// with `Request` if the request cannot be sent on it, with `Malformed` if the reply is malformed, or with another
+/// fault of the client. `Program` if the reader or the writer failed, the input ended, or memory was refused. If memory
+/// was refused, nothing was read or written.
 pub fn exchange_over<R: Source, W: Sink>(
     alloc: Global,
     reader: &mut R,

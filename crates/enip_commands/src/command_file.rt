@@ -1,16 +1,16 @@
 //! The file of `--once`: a commander as text, between two runs of the program.
 
-ghost use Rattle.std.specs.Prelude.{◌≡◌, ◌≢◌, ◌<◌, ◌≤◌, ◌↔◌, length, slice_index, false, ℕ, Some, None, List, [], ◌++◌, IsTrue};
-ghost use Rattle.std.specs.Prelude.{IfOk, IfErr, IfSome, IsErr, IsOkAnd, OnOk};
+ghost use Rattle.std.specs.Prelude.{◌≡◌, ◌≢◌, ◌<◌, ◌≤◌, ◌↔◌, ℕ, IsTrue, false, List, [], ◌++◌, length, slice_index};
+ghost use Rattle.std.specs.Prelude.{Some, None, IfOk, IfErr, IfSome, IsErr, IsOkAnd, OnOk};
 ghost use Rattle.std.specs.Fmt.{decimal};
 ghost use Rattle.std.specs.Io.KnownBytes.{Appends};
-ghost use Rattle.std.specs.Option.{option_copied, option_map};
+ghost use Rattle.std.specs.Option.{option_copied};
 ghost use Rattle.hex.specs.Hex.{encode_lower};
 ghost use Rattle.cip_bytes.specs.Numbers.{AreBytes};
 ghost use Rattle.cip_commander.specs.CommanderRule.{CommanderState};
 ghost use Rattle.enip_commands.specs.CommandFiles.{file_text, head_line, originator_line, life_line, number_line};
 ghost use Rattle.enip_commands.specs.CommandFiles.{pending_line, IsKept, IsLong, IsShort, IsSpelling, IsLine};
-ghost use Rattle.enip_commands.specs.CommandFiles.{LacksLine, IsFault, fault_line};
+ghost use Rattle.enip_commands.specs.CommandFiles.{LacksLine, IsFault, fault_line, bytes_in};
 
 use crate::digits::Digits;
 use crate::lines::decimal;
@@ -174,7 +174,7 @@ fn read_lines(text: &[u8]) -> Result<Commander, CommandFileFault>
 
 /// Lends a request.
 fn lent(request: &Option<EmbeddedRequest>) -> Option<&[u8]>
-    ensures { option_copied result ≡ option_map (λ request. request.items) request.now }
+    ensures { option_copied result ≡ bytes_in request.now }
 {
     match request {
         Some(request) => Some(request.as_slice()),
@@ -229,8 +229,8 @@ fn read_number(text: &[u8]) -> Option<(u32, &[u8])>
 
 /// The pending request, or none, and the lines after it. The request is not yet checked.
 fn read_pending(text: &[u8]) -> Option<(Option<EmbeddedRequest>, &[u8])>
-    ensures read { IfSome result (λ line. text.now ≡ pending_line (option_map (λ request. request.items) line.0) ++ line.1.now) }
-    ensures bytes { IfSome result (λ line. IsSpelling (option_map (λ request. request.items) line.0)) }
+    ensures read { IfSome result (λ line. text.now ≡ pending_line (bytes_in line.0) ++ line.1.now) }
+    ensures bytes { IfSome result (λ line. IsSpelling (bytes_in line.0)) }
     ensures lacking { result ≡ None → LacksLine pending_line IsSpelling text.now }
 {
     let (digits, rest) = split_line(text, b"pending ")?;

@@ -5,11 +5,11 @@
 //! - [`ask_over`] sends one request and prints the reply. A [`DeviceRequest`] or a [`TypedRequest`] makes the
 //!   request, and [`report_outcome`] gives the exit status. [`DeviceSession`], [`Readings`] and [`print_reading`] are
 //!   for repeated reads.
+//! - [`exchange_over`] and [`show_reply`] are the two halves of `ask_over`, for commands that are executed once:
+//!   [`read_commander`] and [`write_commander`] keep a commander in a file, [`read_life`] and [`begin_once`] say what is
+//!   sent, and a [`LedgerRefusal`] what a refusal means.
 //! - [`list_over`] and [`identities_over`] ask a device for its identity or its services. [`print_devices`] and
 //!   [`print_device_objects`] print the answers to a broadcast.
-//!
-//! - [`exchange_over`] and [`show_reply`] are the two halves of it. Between them, [`begin_once`] and [`read_life`] are for
-//!   commands that are executed once, whose [`CommandFile`] is read by [`read_commander`].
 //!
 //! A command over lines is built from [`TakeLines`], [`read_lines`], [`decode`], [`decimal`] and [`Digits`].
 //! `enip_replay` uses them for scripts.

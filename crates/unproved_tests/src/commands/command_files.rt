@@ -1,5 +1,6 @@
 //! The file of `--once`, and which command is sent.
 
+use super::streams::BrokenWriter;
 use cip_commander::{CommandOutcome, CommandRefused, Commander};
 use enip_commands::{
     CommandFileFault, LIFE_REQUEST, LedgerRefusal, LifeFault, OnceRefusal, PendingChoice,
@@ -8,8 +9,6 @@ use enip_commands::{
 use std::alloc::Global;
 use std::process::Abort;
 use std::test::Fail;
-
-use super::streams::BrokenWriter;
 
 /// A file with a pending command: Add of 5 to the counter.
 const PENDING: &[u8] = b"enip commands 1\noriginator 0123456789abcdef\nlife 1764187443000000\n\
@@ -137,11 +136,26 @@ fn faults_of_heads_and_originators(rt: HostRuntime) {
         (b"enip commands 1\n\n", CommandFileFault::Originator),
         (b"enip commands 1\nlife 1\n", CommandFileFault::Originator),
         // 15 and 17 digits, an upper-case one, one that is none, and a second space
-        (b"enip commands 1\noriginator 0123456789abcde\n", CommandFileFault::Originator),
-        (b"enip commands 1\noriginator 0123456789abcdef0\n", CommandFileFault::Originator),
-        (b"enip commands 1\noriginator 0123456789abcdeF\n", CommandFileFault::Originator),
-        (b"enip commands 1\noriginator 0123456789abcdeg\n", CommandFileFault::Originator),
-        (b"enip commands 1\noriginator  0123456789abcdef\n", CommandFileFault::Originator),
+        (
+            b"enip commands 1\noriginator 0123456789abcde\n",
+            CommandFileFault::Originator,
+        ),
+        (
+            b"enip commands 1\noriginator 0123456789abcdef0\n",
+            CommandFileFault::Originator,
+        ),
+        (
+            b"enip commands 1\noriginator 0123456789abcdeF\n",
+            CommandFileFault::Originator,
+        ),
+        (
+            b"enip commands 1\noriginator 0123456789abcdeg\n",
+            CommandFileFault::Originator,
+        ),
+        (
+            b"enip commands 1\noriginator  0123456789abcdef\n",
+            CommandFileFault::Originator,
+        ),
     ];
     check_faults(&rt, &rows);
 }
@@ -188,17 +202,35 @@ fn faults_of_requests_and_ends(rt: HostRuntime) -> Result<(), Fail> {
     let rows: [Row<'_>; 12] = [
         (b"life 0\nnumber 0\npending\n", CommandFileFault::Pending),
         (b"life 0\nnumber 0\npending \n", CommandFileFault::Pending),
-        (b"life 0\nnumber 0\npending nones\n", CommandFileFault::Pending),
+        (
+            b"life 0\nnumber 0\npending nones\n",
+            CommandFileFault::Pending,
+        ),
         // under 2 bytes, an odd digit, an upper-case one, a service with bit 7
         (b"life 0\nnumber 0\npending 32\n", CommandFileFault::Pending),
-        (b"life 0\nnumber 0\npending 32022\n", CommandFileFault::Pending),
-        (b"life 0\nnumber 0\npending 320A\n", CommandFileFault::Pending),
-        (b"life 0\nnumber 0\npending 8002\n", CommandFileFault::Pending),
+        (
+            b"life 0\nnumber 0\npending 32022\n",
+            CommandFileFault::Pending,
+        ),
+        (
+            b"life 0\nnumber 0\npending 320A\n",
+            CommandFileFault::Pending,
+        ),
+        (
+            b"life 0\nnumber 0\npending 8002\n",
+            CommandFileFault::Pending,
+        ),
         (b"life 0\nnumber 0\npending none", CommandFileFault::Pending),
-        (b"life 0\nnumber 0\npending none\r\n", CommandFileFault::Pending),
+        (
+            b"life 0\nnumber 0\npending none\r\n",
+            CommandFileFault::Pending,
+        ),
         (b"life 0\nnumber 0\npending none\n\n", CommandFileFault::End),
         (b"life 0\nnumber 0\npending none\nx", CommandFileFault::End),
-        (b"life 0\nnumber 0\npending 3202\npending 3202\n", CommandFileFault::End),
+        (
+            b"life 0\nnumber 0\npending 3202\npending 3202\n",
+            CommandFileFault::End,
+        ),
     ];
     check_faults_after_originator(&rt, rt.alloc(), &rows)
 }
@@ -224,8 +256,14 @@ fn lines_of_the_faults(rt: HostRuntime) -> Result<(), Fail> {
             CommandFileFault::Originator,
             "2: expected `originator` and 16 lower-case hexadecimal digits",
         ),
-        (CommandFileFault::Life, "3: expected `life` and 0 to 18446744073709551615"),
-        (CommandFileFault::Number, "4: expected `number` and 0 to 4294967295"),
+        (
+            CommandFileFault::Life,
+            "3: expected `life` and 0 to 18446744073709551615",
+        ),
+        (
+            CommandFileFault::Number,
+            "4: expected `number` and 0 to 4294967295",
+        ),
         (
             CommandFileFault::Pending,
             "5: expected `pending none`, or `pending` and a request in lower-case hexadecimal digits",
@@ -233,7 +271,10 @@ fn lines_of_the_faults(rt: HostRuntime) -> Result<(), Fail> {
         (CommandFileFault::End, "6: expected the end of the file"),
     ];
     for (fault, text) in rows {
-        assert_eq!(rt; format!(in rt.alloc(); "{}: {fault}", fault.line())?.as_str(), text);
+        assert_eq!(rt;
+            format!(in rt.alloc(); "{}: {fault}", fault.line())?.as_str(),
+            text
+        );
     }
     Ok(())
 }
@@ -259,16 +300,37 @@ fn outputs_that_fail(rt: HostRuntime) -> Result<(), Fail> {
 fn lives_of_ledgers(rt: HostRuntime) {
     assert_eq!(rt; LIFE_REQUEST, *b"\x0e\x03\x20\x65\x24\x01\x30\x03");
     let rows: [(&[u8], Result<u64, LifeFault>); 11] = [
-        (b"\x8e\0\0\0\x01\x02\x03\x04\x05\x06\x07\x08", Ok(0x0807_0605_0403_0201)),
+        (
+            b"\x8e\0\0\0\x01\x02\x03\x04\x05\x06\x07\x08",
+            Ok(0x0807_0605_0403_0201),
+        ),
         (b"\x8e\0\0\x01\xff\xff\x02\0\0\0\0\0\0\0", Ok(2)),
-        (b"\x8e\0\0\0\x01\x02\x03\x04\x05\x06\x07", Err(LifeFault::Malformed)),
-        (b"\x8e\0\0\0\x01\x02\x03\x04\x05\x06\x07\x08\x09", Err(LifeFault::Malformed)),
+        (
+            b"\x8e\0\0\0\x01\x02\x03\x04\x05\x06\x07",
+            Err(LifeFault::Malformed),
+        ),
+        (
+            b"\x8e\0\0\0\x01\x02\x03\x04\x05\x06\x07\x08\x09",
+            Err(LifeFault::Malformed),
+        ),
         (b"\x8e\0\0\0", Err(LifeFault::Malformed)),
         (b"\x8e\0\x05\0", Err(LifeFault::NoLedger(5, 0))),
-        (b"\x8e\0\x05\x01\x34\x12", Err(LifeFault::NoLedger(5, 0x1234))),
-        (b"\x8e\0\x05\0\x01\x02\x03\x04\x05\x06\x07\x08", Err(LifeFault::NoLedger(5, 0))),
-        (b"\x81\0\0\0\x01\x02\x03\x04\x05\x06\x07\x08", Err(LifeFault::Malformed)),
-        (b"\x0e\0\0\0\x01\x02\x03\x04\x05\x06\x07\x08", Err(LifeFault::Malformed)),
+        (
+            b"\x8e\0\x05\x01\x34\x12",
+            Err(LifeFault::NoLedger(5, 0x1234)),
+        ),
+        (
+            b"\x8e\0\x05\0\x01\x02\x03\x04\x05\x06\x07\x08",
+            Err(LifeFault::NoLedger(5, 0)),
+        ),
+        (
+            b"\x81\0\0\0\x01\x02\x03\x04\x05\x06\x07\x08",
+            Err(LifeFault::Malformed),
+        ),
+        (
+            b"\x0e\0\0\0\x01\x02\x03\x04\x05\x06\x07\x08",
+            Err(LifeFault::Malformed),
+        ),
         (b"", Err(LifeFault::Malformed)),
     ];
     for (number, (reply, life)) in rows.iter().enumerate() {
@@ -277,6 +339,7 @@ fn lives_of_ledgers(rt: HostRuntime) {
 }
 
 /// A file, a request, a life and a choice; why nothing is sent, or the number and the request that are.
+#[derive(Clone, Copy)]
 struct Begun<'a> {
     name: &'a str,
     pending: Option<&'a [u8]>,
@@ -301,7 +364,12 @@ fn check_begun<A: Abort>(rt: &A, alloc: Global, row: &Begun<'_>) -> Result<(), F
         }
         Err(why) => {
             assert_eq!(rt; begun, Err(why), "{}", row.name);
-            assert_eq!(rt; text_of(alloc, &commander)?.as_slice(), before.as_slice(), "{}", row.name);
+            assert_eq!(rt;
+                text_of(alloc, &commander)?.as_slice(),
+                before.as_slice(),
+                "{}",
+                row.name
+            );
         }
     }
     Ok(())
@@ -320,16 +388,86 @@ fn commands_that_begin(rt: HostRuntime) -> Result<(), Fail> {
     let rows = [
         begun("new", None, ADD, 7, PendingChoice::Same, Ok((13, ADD))),
         begun("new life", None, ADD, 8, PendingChoice::Same, Ok((13, ADD))),
-        begun("nothing to give up", None, ADD, 8, PendingChoice::Abandon, Ok((13, ADD))),
-        begun("nothing to send", None, ADD, 7, PendingChoice::Send, Err(OnceRefusal::NonePending)),
-        begun("again", Some(ADD), ADD, 7, PendingChoice::Same, Ok((12, ADD))),
-        begun("another", Some(ADD), ADD_SIX, 7, PendingChoice::Same, Err(OnceRefusal::Differs)),
-        begun("another, in its place", Some(ADD), ADD_SIX, 7, PendingChoice::Send, Ok((12, ADD))),
-        begun("given up", Some(ADD), ADD_SIX, 7, PendingChoice::Abandon, Ok((13, ADD_SIX))),
-        begun("the same, given up", Some(ADD), ADD, 7, PendingChoice::Abandon, Ok((13, ADD))),
-        begun("restarted", Some(ADD), ADD, 8, PendingChoice::Same, Err(OnceRefusal::OtherLife)),
-        begun("restarted, sent", Some(ADD), ADD, 8, PendingChoice::Send, Err(OnceRefusal::OtherLife)),
-        begun("restarted, given up", Some(ADD), ADD, 8, PendingChoice::Abandon, Ok((13, ADD))),
+        begun(
+            "nothing to give up",
+            None,
+            ADD,
+            8,
+            PendingChoice::Abandon,
+            Ok((13, ADD)),
+        ),
+        begun(
+            "nothing to send",
+            None,
+            ADD,
+            7,
+            PendingChoice::Send,
+            Err(OnceRefusal::NonePending),
+        ),
+        begun(
+            "again",
+            Some(ADD),
+            ADD,
+            7,
+            PendingChoice::Same,
+            Ok((12, ADD)),
+        ),
+        begun(
+            "another",
+            Some(ADD),
+            ADD_SIX,
+            7,
+            PendingChoice::Same,
+            Err(OnceRefusal::Differs),
+        ),
+        begun(
+            "another, in its place",
+            Some(ADD),
+            ADD_SIX,
+            7,
+            PendingChoice::Send,
+            Ok((12, ADD)),
+        ),
+        begun(
+            "given up",
+            Some(ADD),
+            ADD_SIX,
+            7,
+            PendingChoice::Abandon,
+            Ok((13, ADD_SIX)),
+        ),
+        begun(
+            "the same, given up",
+            Some(ADD),
+            ADD,
+            7,
+            PendingChoice::Abandon,
+            Ok((13, ADD)),
+        ),
+        begun(
+            "restarted",
+            Some(ADD),
+            ADD,
+            8,
+            PendingChoice::Same,
+            Err(OnceRefusal::OtherLife),
+        ),
+        begun(
+            "restarted, sent",
+            Some(ADD),
+            ADD,
+            8,
+            PendingChoice::Send,
+            Err(OnceRefusal::OtherLife),
+        ),
+        begun(
+            "restarted, given up",
+            Some(ADD),
+            ADD,
+            8,
+            PendingChoice::Abandon,
+            Ok((13, ADD)),
+        ),
         begun(
             "restarted, and another",
             Some(ADD),
@@ -366,10 +504,19 @@ fn commands_that_begin(rt: HostRuntime) -> Result<(), Fail> {
 fn numbers_that_are_exhausted(rt: HostRuntime) -> Result<(), Fail> {
     let exhausted = OnceRefusal::Command(CommandRefused::NumbersExhausted);
     let mut commander = Commander::new(7, 1, u32::MAX);
-    assert_eq!(rt; check_once(&commander, ADD, PendingChoice::Same), Err(exhausted));
-    assert_eq!(rt; begin_once(&mut commander, ADD, 7, PendingChoice::Same), Err(exhausted));
+    assert_eq!(rt;
+        check_once(&commander, ADD, PendingChoice::Same),
+        Err(exhausted)
+    );
+    assert_eq!(rt;
+        begin_once(&mut commander, ADD, 7, PendingChoice::Same),
+        Err(exhausted)
+    );
     let mut commander = Commander::new(7, 1, u32::MAX - 1);
-    assert_eq!(rt; begin_once(&mut commander, ADD, 7, PendingChoice::Same), Ok(()));
+    assert_eq!(rt;
+        begin_once(&mut commander, ADD, 7, PendingChoice::Same),
+        Ok(())
+    );
     assert_eq!(rt; commander.last_number(), u32::MAX);
     Ok(())
 }
@@ -382,13 +529,28 @@ fn checks_before_the_device_is_asked(rt: HostRuntime) -> Result<(), Fail> {
     let free = Commander::new(7, 1, 12);
     let pending = Commander::resume(7, 1, 12, Some(ADD))?;
     assert_eq!(rt; check_once(&free, ADD, PendingChoice::Same), Ok(()));
-    assert_eq!(rt; check_once(&free, ADD, PendingChoice::Send), Err(OnceRefusal::NonePending));
-    assert_eq!(rt; check_once(&free, long.as_slice(), PendingChoice::Same), Err(too_long));
+    assert_eq!(rt;
+        check_once(&free, ADD, PendingChoice::Send),
+        Err(OnceRefusal::NonePending)
+    );
+    assert_eq!(rt;
+        check_once(&free, long.as_slice(), PendingChoice::Same),
+        Err(too_long)
+    );
     assert_eq!(rt; check_once(&pending, ADD, PendingChoice::Same), Ok(()));
-    assert_eq!(rt; check_once(&pending, ADD_SIX, PendingChoice::Same), Err(OnceRefusal::Differs));
+    assert_eq!(rt;
+        check_once(&pending, ADD_SIX, PendingChoice::Same),
+        Err(OnceRefusal::Differs)
+    );
     assert_eq!(rt; check_once(&pending, ADD_SIX, PendingChoice::Send), Ok(()));
-    assert_eq!(rt; check_once(&pending, long.as_slice(), PendingChoice::Send), Ok(()));
-    assert_eq!(rt; check_once(&pending, long.as_slice(), PendingChoice::Abandon), Err(too_long));
+    assert_eq!(rt;
+        check_once(&pending, long.as_slice(), PendingChoice::Send),
+        Ok(())
+    );
+    assert_eq!(rt;
+        check_once(&pending, long.as_slice(), PendingChoice::Abandon),
+        Err(too_long)
+    );
     Ok(())
 }
 
@@ -399,9 +561,17 @@ fn refusals_of_the_program(rt: HostRuntime) -> Result<(), Fail> {
         (OnceRefusal::Differs, "pending", 2),
         (OnceRefusal::NonePending, "pending", 2),
         (OnceRefusal::OtherLife, "life", 2),
-        (OnceRefusal::Command(CommandRefused::NotARequest), "fault 7", 7),
+        (
+            OnceRefusal::Command(CommandRefused::NotARequest),
+            "fault 7",
+            7,
+        ),
         (OnceRefusal::Command(CommandRefused::TooLong), "fault 7", 7),
-        (OnceRefusal::Command(CommandRefused::NumbersExhausted), "fault 1", 7),
+        (
+            OnceRefusal::Command(CommandRefused::NumbersExhausted),
+            "fault 1",
+            7,
+        ),
     ];
     for (why, code, status) in rows {
         assert_eq!(rt; format!(in rt.alloc(); "{why}")?.as_str(), code);
@@ -430,7 +600,10 @@ fn refusals_of_a_ledger(rt: HostRuntime) -> Result<(), Fail> {
         assert_eq!(rt; refusal.may_be_executed(), may_be_executed);
     }
     let other = format!(in rt.alloc(); "{}", LedgerRefusal::of(0x13))?;
-    assert_eq!(rt; other.as_str(), "the ledger refused the command with general status 0x13");
+    assert_eq!(rt;
+        other.as_str(),
+        "the ledger refused the command with general status 0x13"
+    );
     Ok(())
 }
 
