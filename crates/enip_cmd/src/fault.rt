@@ -3,7 +3,7 @@
 ghost use Rattle.std.specs.Prelude.{◌≡◌};
 ghost use Rattle.enip_cmd.specs.Statuses.{exit_status};
 
-use enip_commands::RequestFailure;
+use enip_commands::{OnceRefusal, RequestFailure};
 use enip_config::ConfigurationRefusal;
 use enip_replay::ReplayFailure;
 use std::alloc::AllocError;
@@ -25,12 +25,9 @@ pub enum Fault {
     /// An argument is not a value of the requested type.
     #[error("value")]
     Value,
-    /// The pending command of a command file is not the one in the arguments, or there is none.
-    #[error("pending")]
-    Pending,
-    /// The pending command of a command file was for another life of the device.
-    #[error("life")]
-    Life,
+    /// A command that is executed once is not sent.
+    #[error("{0}")]
+    Once(OnceRefusal),
     /// A line of a command file is refused: its number, from 1.
     #[error("line {0}")]
     CommandFile(u64),
@@ -45,7 +42,8 @@ impl Fault {
         ensures { result ≡ exit_status self }
     {
         match self {
-            Fault::Value | Fault::Pending | Fault::Life => 2,
+            Fault::Value => 2,
+            Fault::Once(refusal) => refusal.exit_status(),
             Fault::Configuration(_) => 3,
             Fault::Setup => ReplayFailure::Setup.exit_status(),
             Fault::CommandFile(_) => 4,

@@ -255,8 +255,10 @@ impl<'a> OnceRun<'a, '_> {
         match exchange_over(alloc, &mut source, &mut sink, request, connected, reply) {
             Ok(()) => Ok(()),
             Err(failure) => {
-                let fault = source.fault().or(sink.fault());
-                let reason = fault.map(|fault| fault.reason(address, timeout));
+                let reason = match source.fault().or(sink.fault()) {
+                    Some(fault) => Some(fault.reason(address, timeout)),
+                    None => None,
+                };
                 Err(error_of_failure(failure, address, reason))
             }
         }
@@ -367,10 +369,13 @@ impl<'a> OnceRun<'a, '_> {
     /// The error of a command that the ledger refused with a general status.
     fn error_of_ledger(&self, status: u8) -> CommandError<'a> {
         let refusal = LedgerRefusal::of(status);
-        CommandError::new(
-            fault_of_status(status, 0),
-            Reason::Ledger(self.device.address, refusal),
-        )
+        let note = if refusal.may_be_executed() {
+            Note::StillPending
+        } else {
+            Note::NotExecuted
+        };
+        let reason = Reason::Ledger(self.device.address, refusal);
+        CommandError::new(fault_of_status(status, 0), reason).with_note(note)
     }
 
     /// The error of a command that is not sent because of the command file.
@@ -380,40 +385,34 @@ impl<'a> OnceRun<'a, '_> {
         request: &[u8],
         refusal: OnceRefusal,
     ) -> CommandError<'a> {
-        let made = match refusal {
-            OnceRefusal::Differs => self.error_of_other_pending(commander, request),
-            OnceRefusal::OtherLife => self.error_of_other_life(commander),
-            OnceRefusal::NonePending => Ok(CommandError::new(
-                Fault::Pending,
-                Reason::NonePending(self.options.file),
-            )),
-            OnceRefusal::Command(CommandRefused::TooLong) => Ok(too_long()),
-            OnceRefusal::Command(_) => Ok(CommandError::new(
-                Fault::Request(RequestFailure::Client(ClientFault::State)),
-                Reason::State,
-            )),
-        };
-        made.unwrap_or_else(|error| error)
+        match self.reason_of_refusal(commander, request, refusal) {
+            Ok(reason) => CommandError::new(Fault::Once(refusal), reason),
+            Err(error) => error,
+        }
     }
 
-    fn error_of_other_pending(
+    fn reason_of_refusal(
         &self,
         commander: &Commander,
         request: &[u8],
-    ) -> Result<CommandError<'a>, CommandError<'a>> {
-        let pending = self.digits_of_pending(commander)?;
-        let given = OwnedDigits::new(self.rt.alloc(), request)?;
-        let reason = Reason::OtherPending(self.options.file, pending, given);
-        Ok(CommandError::new(Fault::Pending, reason))
-    }
-
-    fn error_of_other_life(
-        &self,
-        commander: &Commander,
-    ) -> Result<CommandError<'a>, CommandError<'a>> {
-        let pending = self.digits_of_pending(commander)?;
-        let reason = Reason::OtherLife(self.options.file, pending);
-        Ok(CommandError::new(Fault::Life, reason))
+        refusal: OnceRefusal,
+    ) -> Result<Reason<'a>, CommandError<'a>> {
+        let file = self.options.file;
+        match refusal {
+            OnceRefusal::Differs => {
+                let pending = self.digits_of_pending(commander)?;
+                let given = OwnedDigits::new(self.rt.alloc(), request)?;
+                Ok(Reason::OtherPending(file, pending, given))
+            }
+            OnceRefusal::OtherLife => {
+                Ok(Reason::OtherLife(file, self.digits_of_pending(commander)?))
+            }
+            OnceRefusal::NonePending => Ok(Reason::NonePending(file)),
+            OnceRefusal::Command(CommandRefused::TooLong | CommandRefused::NotARequest) => {
+                Ok(Reason::Request)
+            }
+            OnceRefusal::Command(_) => Ok(Reason::State),
+        }
     }
 }
 

@@ -117,6 +117,12 @@ pub(crate) enum Note {
     /// The same, for a line that would give up the command if it were run again.
     #[error("the command may have been executed, and the same line without --abandon sends it again")]
     MaybeExecutedNew,
+    /// The ledger refused the command.
+    #[error("the command was not executed, and is still pending")]
+    NotExecuted,
+    /// The ledger refused the command, and it may have executed it before.
+    #[error("the command may have been executed, and is still pending")]
+    StillPending,
     /// The device has replied, and its reply could not be printed, or the command could not be settled.
     #[error("the command was executed, and `--pending` prints its reply again")]
     Executed,
