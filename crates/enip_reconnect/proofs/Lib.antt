@@ -9,6 +9,7 @@ pub mod Flights
 pub mod MessageRuns
 pub mod Others
 pub mod Receiving
+pub mod Retrying
 pub mod Steps
 pub mod Streams
 pub mod Tracking
