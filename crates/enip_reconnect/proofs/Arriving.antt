@@ -1,5 +1,6 @@
 -- Bytes arrive at the adapter.
-use Rattle.std.proofs.Common.{◌≡◌, ◌≢◌, ℕ, ◌==◌, if◌then◌else◌, Bool, true, false, Option, Some, None, List, [], ◌∷◌, ◌++◌, length, refl, ap, sym, ◌∙◌, subst, append-nil, arith}
+use Rattle.std.proofs.Common.{◌≡◌, ◌≢◌, ℕ, ◌==◌, if◌then◌else◌, Bool, true, false, Option, Some, None, List, [], ◌∷◌}
+use Rattle.std.proofs.Common.{◌++◌, length, refl, ap, sym, ◌∙◌, subst, append-nil, arith}
 use Rattle.std.specs.List.{slice_get}
 use Rattle.std.proofs.lemmas.Bool.{eqb-true, eqb-false}
 use Rattle.cip_bytes.specs.declared.protocol.TheConstants.{UNCONNECTED_LIMIT}
@@ -17,14 +18,20 @@ use Rattle.enip_adapter.proofs.SoundLemmas.{sound-call}
 use Rattle.enip_client.specs.Frames.{request_frame}
 use Rattle.enip_wire.specs.Frames.{frame}
 use Rattle.enip_reconnect.specs.Events.{Arrive}
-use Rattle.enip_reconnect.specs.World.{TcpConnection, Stream, Ends, stream_with, with_stream, feed, feed_calls, taken, answered, arrived}
+use Rattle.enip_reconnect.specs.World.{TcpConnection, Stream, Ends, stream_with, with_stream, feed, feed_calls, taken}
+use Rattle.enip_reconnect.specs.World.{answered, arrived}
 use Rattle.enip_reconnect.proofs.ClientReplies.{exec_device-taken}
 use Rattle.enip_reconnect.proofs.ClientSide.{registered_frame}
 use Rattle.enip_reconnect.proofs.Connecting.{behind-nothing}
-use Rattle.enip_reconnect.proofs.Flights.{Arrives, Waits, Whole, IsWhole, IsPart, nothing-arrives, registration-arrives, message-arrives, inquiry-arrives, RequestArrives, answer_at, device_at, carries-other, found-front, found-last}
+use Rattle.enip_reconnect.proofs.Flights.{Arrives, Waits, Whole, IsWhole, IsPart, nothing-arrives, registration-arrives}
+use Rattle.enip_reconnect.proofs.Flights.{message-arrives, inquiry-arrives, RequestArrives, answer_at, device_at}
+use Rattle.enip_reconnect.proofs.Flights.{carries-other, found-front, found-last}
 use Rattle.enip_reconnect.proofs.Steps.{Comes, StepComes, stays, with_device, message_run, on, stream-number}
 use Rattle.enip_reconnect.proofs.Streams.{IsReplaced, replaced, others-after, other-found}
-use Rattle.enip_reconnect.proofs.Tracking.{Flight, Nothing, Registration, Message, Inquiry, IsInquiry, Phase, New, Registering, Registered, Free, Asking, Answered, Inquiring, Informed, flight_in, Runs, Flies, IsFlying, IsOn, IsOnIfAny, Tracks, WasBack, in_messages}
+use Rattle.enip_reconnect.proofs.Tracking.{Flight, Nothing, Registration, Message, Inquiry, IsInquiry, Phase, New}
+use Rattle.enip_reconnect.proofs.Tracking.{Registering, Registered, Free, Asking, Answered, Inquiring, Informed}
+use Rattle.enip_reconnect.proofs.Tracking.{flight_in, Runs, Flies, IsFlying, IsOn, IsOnIfAny, Tracks, WasBack}
+use Rattle.enip_reconnect.proofs.Tracking.{in_messages}
 
 -- ---- a message reaches the device
 
@@ -204,7 +211,6 @@ module _ (own : ℕ) (ends : Ends) (sent back : List (ℕ × List ℕ)) (now pee
       go (IsWhole done) =
           served old new (frame (request_frame stream.peer context (answer_at a (do_once command)))) (Nothing true) position command is
           flies.was_sent.at done (on_it (answered_back a command ∷ []))
-
   on-another old new is on_it (Inquiry context request) flies =
       go (inquiry-arrives own a sent now stream.peer count stream.in_flight context request is.sound flies)
     where
@@ -327,7 +333,6 @@ module _ (own : ℕ) (ends : Ends) (sent back : List (ℕ × List ℕ)) (now pee
     arrives-in (Answered context position number message answer) runs flies =
         waits-on (Answered context position number message answer) runs
         (nothing-arrives own a sent now stream.peer count stream.in_flight true is.sound flies)
-
     arrives-in (Inquiring context request) runs flies =
         go (inquiry-arrives own a sent now stream.peer count stream.in_flight context request is.sound flies)
       where

@@ -1,12 +1,12 @@
 -- TCP connections begin, and frames are sent on them.
-use Rattle.std.proofs.Common.{◌≡◌, ℕ, ◌==◌, if◌then◌else◌, Bool, true, false, Option, Some, None, option_map, List, [], ◌∷◌, ◌++◌, length, Result, Ok, Err, refl, ap, sym, ◌∙◌, subst, append_assoc, append-nil}
+use Rattle.std.proofs.Common.{◌≡◌, ℕ, ◌==◌, if◌then◌else◌, Bool, true, false, Option, Some, None, List, [], ◌∷◌, ◌++◌}
+use Rattle.std.proofs.Common.{length, Result, Err, refl, ap, sym, ◌∙◌, subst, append_assoc, append-nil}
 use Rattle.std.proofs.lemmas.Bool.{eq-eqb}
 use Rattle.cip_bytes.specs.declared.protocol.TheConstants.{UNCONNECTED_LIMIT}
-use Rattle.cip_commander.specs.CommanderRule.{CommanderState, do_once, command_with, message_of}
+use Rattle.cip_commander.specs.CommanderRule.{do_once, command_with, message_of}
 use Rattle.cip_commander.specs.Worlds as messages
 use Rattle.cip_ledger.specs.Laws.{IsOfAnother}
 use Rattle.cip_ledger.specs.Requests.{Command}
-use Rattle.enip_adapter.specs.declared.peer.Session.{Session}
 use Rattle.enip_adapter.specs.Calls.{AdapterState, call_answer, after_call}
 use Rattle.enip_adapter.specs.Calls.Call.{Begins_peer}
 use Rattle.enip_adapter.specs.SendRRData.{Executes, route_of}
@@ -14,7 +14,6 @@ use Rattle.enip_adapter.specs.Turn.{Output}
 use Rattle.enip_adapter.specs.Turn.Output.{NoReply, Sends, Begins, Refuses}
 use Rattle.enip_adapter.proofs.SoundLemmas.{sound-call}
 use Rattle.enip_client.specs.Calls.{Lent, registers, asks, next_number, is_unconnected}
-use Rattle.enip_client.specs.Client.{ClientState, with_state}
 use Rattle.enip_client.specs.Frames.{register_frame, request_frame}
 use Rattle.enip_client.specs.declared.fault.ClientFault.{ClientFault}
 use Rattle.enip_client.specs.declared.wants.Wants.{Wants}
@@ -22,11 +21,16 @@ use Rattle.enip_wire.specs.Frames.{frame}
 use Rattle.enip_reconnect.specs.Events.{Connect, Register, Send, Ask}
 use Rattle.enip_reconnect.specs.World.{TcpConnection, Stream, Ends, stream_with, begun, appended, sending}
 use Rattle.enip_reconnect.proofs.AdapterSide.{BeginsAs, begins-as, device-same}
-use Rattle.enip_reconnect.proofs.ClientSide.{new-is, registers-new, registers-registering, registers-free, registers-asking, Registers, asks-free, asks-other, asks-new, asks-registering, asks-asking, Asks, unconnected-short, IsShort}
-use Rattle.enip_reconnect.proofs.Flights.{found-last, carries-more}
-use Rattle.enip_reconnect.proofs.Steps.{Comes, StepComes, stays, with_device, on, flying-call, flying-more, stream-number}
+use Rattle.enip_reconnect.proofs.ClientSide.{new-is, registers-new, registers-registering, registers-free}
+use Rattle.enip_reconnect.proofs.ClientSide.{registers-asking, Registers, asks-free, asks-other, asks-new}
+use Rattle.enip_reconnect.proofs.ClientSide.{asks-registering, asks-asking, Asks, unconnected-short, IsShort}
+use Rattle.enip_reconnect.proofs.Flights.{found-last}
+use Rattle.enip_reconnect.proofs.Steps.{Comes, StepComes, stays, with_device, on, flying-call, flying-more}
+use Rattle.enip_reconnect.proofs.Steps.{stream-number}
 use Rattle.enip_reconnect.proofs.Streams.{IsReplaced, appends}
-use Rattle.enip_reconnect.proofs.Tracking.{Flight, Nothing, Registration, Message, Inquiry, bytes_in, Carries, Phase, New, Registering, Registered, Free, Asking, Answered, Inquiring, Informed, flight_in, ClientIs, Runs, IsOn, Flies, IsFlying, AreFlying, Tracks, in_messages}
+use Rattle.enip_reconnect.proofs.Tracking.{Flight, Nothing, Registration, Message, Inquiry, Phase, New, Registering}
+use Rattle.enip_reconnect.proofs.Tracking.{Registered, Free, Asking, Answered, Inquiring, Informed, flight_in, Runs}
+use Rattle.enip_reconnect.proofs.Tracking.{Flies, IsFlying, AreFlying, Tracks, in_messages}
 
 -- ---- a connection begins
 

@@ -1,6 +1,6 @@
 -- What becomes of what is in flight to the adapter.
-use Rattle.std.proofs.Common.{◌≡◌, ◌≢◌, ℕ, zero, suc, ◌<◌, ◌≤◌, ◌^◌, Bool, true, false, Option, Some, None, List, [], ◌∷◌, ◌++◌, length, take, drop, refl, ap, sym, ◌∙◌, subst, arith, append_assoc, append-nil}
-use Rattle.std.specs.Prelude.{⊤}
+use Rattle.std.proofs.Common.{◌≡◌, ℕ, zero, suc, ◌<◌, ◌≤◌, ◌^◌, Bool, true, Some, List, [], ◌∷◌, ◌++◌, length, take}
+use Rattle.std.proofs.Common.{drop, refl, ap, sym, ◌∙◌, subst, arith, append_assoc, append-nil}
 use Rattle.std.specs.List.{slice_get}
 use Rattle.std.proofs.lemmas.List.{take-append-drop}
 use Rattle.cip_bytes.specs.declared.protocol.TheConstants.{UNCONNECTED_LIMIT}
@@ -14,13 +14,16 @@ use Rattle.enip_adapter.specs.DeviceRuns.{requests_of_calls}
 use Rattle.enip_adapter.specs.Runs.{IsForOther}
 use Rattle.enip_adapter.specs.SendRRData.{Executes, route_of}
 use Rattle.enip_adapter.specs.Serving.{output_bytes}
-use Rattle.enip_adapter.specs.Turn.{Answer, new_session}
+use Rattle.enip_adapter.specs.Turn.{Answer}
 use Rattle.enip_adapter.proofs.SoundLemmas.{IsSound}
 use Rattle.enip_client.specs.Frames.{register_frame, request_frame}
 use Rattle.enip_wire.specs.Frames.{Frame, frame, IsFrame}
-use Rattle.enip_reconnect.proofs.AdapterSide.{Holds, holds-other, TakesPart, takes-part, takes-nothing, Registers, registers-peer, Reaches, reaches-device, route_of-do_once, registered_session, is-request}
+use Rattle.enip_reconnect.proofs.AdapterSide.{Holds, holds-other, TakesPart, takes-part, takes-nothing, Registers}
+use Rattle.enip_reconnect.proofs.AdapterSide.{registers-peer, Reaches, reaches-device, route_of-do_once}
+use Rattle.enip_reconnect.proofs.AdapterSide.{registered_session, is-request}
 use Rattle.enip_reconnect.proofs.ClientSide.{registered_frame, register-framed}
-use Rattle.enip_reconnect.proofs.Tracking.{Flight, Nothing, Registration, Message, Inquiry, session_in, bytes_in, IsSentAt, WasSent, Carries}
+use Rattle.enip_reconnect.proofs.Tracking.{Flight, Nothing, Registration, Message, Inquiry, session_in, bytes_in}
+use Rattle.enip_reconnect.proofs.Tracking.{WasSent, Carries}
 
 -- ---- lists
 

@@ -1,11 +1,14 @@
 -- Every run of both ends over TCP connections amounts to messages.
-use Rattle.std.proofs.Common.{◌≡◌, ℕ, Bool, true, false, if◌then◌else◌, Option, Some, None, List, [], ◌∷◌, ◌++◌, refl, ap, sym, ◌∙◌, subst, append_assoc, append-nil}
+use Rattle.std.proofs.Common.{◌≡◌, ℕ, Bool, true, false, if◌then◌else◌, Option, Some, None, List, [], ◌∷◌, ◌++◌, refl}
+use Rattle.std.proofs.Common.{ap, sym, ◌∙◌, subst, append_assoc, append-nil}
 use Rattle.std.specs.Prelude.{fold}
 use Rattle.std.specs.List.{slice_get, AllByRecursion}
 use Rattle.std.proofs.lemmas.List.Sums.{fold-append}
-use Rattle.cip_commander.specs.CommanderRule.{CommanderState, IsInRange, command_refusal}
+use Rattle.cip_commander.specs.CommanderRule.{IsInRange}
 use Rattle.cip_commander.specs.Laws.{IsOthers, requests_of, request_of}
-use Rattle.cip_commander.specs.NumberedWorld.{NumberedWorld, world_at, world_step, world_reach, world_back, arrived, arrival, Arrival, Appended, Answered, Said, IsDone, IsRefused, said_of, device_after}
+use Rattle.cip_commander.specs.NumberedWorld.{NumberedWorld, world_at, world_step, world_reach, world_back, arrived}
+use Rattle.cip_commander.specs.NumberedWorld.{Arrival, Appended, Answered, Said, IsDone, IsRefused, said_of}
+use Rattle.cip_commander.specs.NumberedWorld.{device_after}
 use Rattle.cip_commander.specs.Worlds.{BothEnds, gives, awaits}
 use Rattle.cip_commander.specs.Worlds as messages
 use Rattle.cip_commander.proofs.Images.{IsSound, image, step-image, step-sound, opening-sound}
@@ -13,14 +16,16 @@ use Rattle.cip_commander.proofs.Rising.{all_append}
 use Rattle.cip_objects.specs.Contents.{Contents}
 use Rattle.enip_adapter.specs.DeviceRuns.{objects_after, objects_answer, requests_of_calls}
 use Rattle.enip_adapter.proofs.SoundLemmas.{sound-new}
-use Rattle.enip_reconnect.specs.Events.{Event, NewCommand, Abandon, Connect, Register, Send, Ask, Arrive, Receive, Break, End, Other}
-use Rattle.enip_reconnect.specs.Laws.{IsOfOthers, AreOfOthers, MessageEvent, opening_in_messages, decisions_in, decisions_in_messages, requests_in, AmountsTo, messages_law}
+use Rattle.enip_reconnect.specs.Events.{Event, NewCommand, Abandon, Connect, Register, Send, Ask, Arrive, Receive}
+use Rattle.enip_reconnect.specs.Events.{Break, End, Other}
+use Rattle.enip_reconnect.specs.Laws.{IsOfOthers, AreOfOthers, MessageEvent, opening_in_messages, decisions_in}
+use Rattle.enip_reconnect.specs.Laws.{decisions_in_messages, requests_in, AmountsTo, messages_law}
 use Rattle.enip_reconnect.specs.World.{Ends, Opening, device_at, ends_at, calls_at, ends_step, ends_run}
 use Rattle.enip_reconnect.proofs.Arriving.{arrives}
 use Rattle.enip_reconnect.proofs.Connecting.{connects, registers-session, sends-message, inquires}
 use Rattle.enip_reconnect.proofs.Others.{breaks, end, others-call}
 use Rattle.enip_reconnect.proofs.Receiving.{receives}
-use Rattle.enip_reconnect.proofs.Steps.{Comes, StepComes, new-command, abandon, message_step, message_run, given_at, given_by}
+use Rattle.enip_reconnect.proofs.Steps.{StepComes, new-command, abandon, message_step, message_run, given_at, given_by}
 use Rattle.enip_reconnect.proofs.Tracking.{Tracks, in_messages}
 
 -- ---- each event
@@ -275,6 +280,13 @@ messages_come opening events later range others =
     (others-later own events later start others) in
     let both : RunsTo own start (events ++ later) [] [] (first.more ++ second.more) second.new_sent second.new_back =
     runs-two own start events later [] [] first.more second.more first.new_sent first.new_back second.new_sent
-    second.new_back first.runs second.runs in
-    (first.more, (second.more, (amounts-to opening range events first.more first.new_sent first.new_back first.runs,
-    amounts-to opening range (events ++ later) (first.more ++ second.more) second.new_sent second.new_back both)))
+    second.new_back first.runs second.runs in (
+      first.more,
+      (
+        second.more,
+        (
+          amounts-to opening range events first.more first.new_sent first.new_back first.runs,
+          amounts-to opening range (events ++ later) (first.more ++ second.more) second.new_sent second.new_back both,
+        ),
+      ),
+    )

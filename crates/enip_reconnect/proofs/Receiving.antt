@@ -1,5 +1,6 @@
 -- Bytes arrive at the originator.
-use Rattle.std.proofs.Common.{◌≡◌, ℕ, zero, suc, arith, length-append, Bool, true, false, if◌then◌else◌, Option, Some, None, List, [], ◌∷◌, ◌++◌, length, take, drop, refl, ap, sym, ◌∙◌, subst, append_assoc, append-nil}
+use Rattle.std.proofs.Common.{◌≡◌, ℕ, arith, length-append, Bool, true, false, if◌then◌else◌, Option, Some, None, List}
+use Rattle.std.proofs.Common.{[], ◌∷◌, ◌++◌, length, take, drop, refl, ap, sym, ◌∙◌, subst, append_assoc, append-nil}
 use Rattle.std.proofs.lemmas.List.{take-append-drop}
 use Rattle.cip_commander.specs.CommanderRule.{outcome_of}
 use Rattle.cip_commander.specs.Worlds.{awaits}
@@ -11,10 +12,13 @@ use Rattle.enip_client.specs.Hears.{TurnResult, hears}
 use Rattle.enip_reconnect.specs.Events.{Receive}
 use Rattle.enip_reconnect.specs.World.{TcpConnection, Stream, Ends, stream_with, received, heard, replied, accepting}
 use Rattle.enip_reconnect.proofs.ClientPieces.{keeps, hears_whole, Front, Whole, delivered, fed-nothing}
-use Rattle.enip_reconnect.proofs.ClientSide.{HearsRegistered, hears-registered, HearsReplied, hears-replied, registered_frame, registered-framed, request-framed}
-use Rattle.enip_reconnect.proofs.Flights.{joined, left-over, take-none}
+use Rattle.enip_reconnect.proofs.ClientSide.{HearsRegistered, hears-registered, HearsReplied, hears-replied}
+use Rattle.enip_reconnect.proofs.ClientSide.{registered_frame, registered-framed, request-framed}
+use Rattle.enip_reconnect.proofs.Flights.{left-over, take-none}
 use Rattle.enip_reconnect.proofs.Steps.{Comes, StepComes, stays, message_run, on}
-use Rattle.enip_reconnect.proofs.Tracking.{Phase, New, Registering, Registered, Free, Asking, Answered, Inquiring, Informed, flight_in, back_in, ClientIs, Runs, Flies, IsOn, Tracks, in_messages}
+use Rattle.enip_reconnect.proofs.Tracking.{Phase, New, Registering, Registered, Free, Asking, Answered, Inquiring}
+use Rattle.enip_reconnect.proofs.Tracking.{Informed, flight_in, back_in, ClientIs, Runs, Flies, IsOn, Tracks}
+use Rattle.enip_reconnect.proofs.Tracking.{in_messages}
 
 -- ---- nothing is heard
 
@@ -262,7 +266,6 @@ module _ (own : ℕ) (ends : Ends) (sent back : List (ℕ × List ℕ)) (count :
       answered-comes context position number message answer
       (hears connection.client.state (request_frame connection.peer context answer)) flies runs left
       (hears-replied connection.client connection.peer context message answer runs.client runs.was_back.taken))
-
   comes (Inquiring context request) flies runs =
       nothing-comes (Inquiring context request) flies runs runs.client.fault refl
   comes (Informed context request answer) flies runs =

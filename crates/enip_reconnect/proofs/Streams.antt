@@ -1,10 +1,10 @@
 -- One stream of several is replaced.
-use Rattle.std.proofs.Common.{◌≡◌, ◌≢◌, ◌⊎◌, ℕ, inl, inr, Option, Some, None, List, [], ◌∷◌, ◌++◌, refl, ap, sym, ◌∙◌, subst}
+use Rattle.std.proofs.Common.{◌≡◌, ◌≢◌, ◌⊎◌, ℕ, inl, inr, Option, Some, None, List, ◌++◌, refl, ap, sym, ◌∙◌, subst}
 use Rattle.std.proofs.lemmas.Bool.{cases_eq}
 use Rattle.enip_adapter.specs.Calls.{AdapterState, Call, after_call}
 use Rattle.enip_adapter.specs.Runs.{IsForOther}
 use Rattle.enip_adapter.proofs.ListLemmas.{first_with-set, first_with-changed}
-use Rattle.enip_reconnect.specs.World.{TcpConnection, Stream, stream_with, with_stream, appended}
+use Rattle.enip_reconnect.specs.World.{Stream, stream_with, with_stream, appended}
 use Rattle.enip_reconnect.proofs.Flights.{carries-other}
 use Rattle.enip_reconnect.proofs.Steps.{stream-number}
 use Rattle.enip_reconnect.proofs.Tracking.{Flight, Flies, IsFlying, AreFlying}

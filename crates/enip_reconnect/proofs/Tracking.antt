@@ -1,5 +1,7 @@
--- Both ends over TCP connections, beside both ends in whole messages: what is in flight is always one whole frame or none.
-use Rattle.std.proofs.Common.{◌≡◌, ℕ, ◌<◌, ◌≤◌, ◌^◌, Bool, true, false, Option, Some, None, List, [], ◌∷◌, ◌++◌, length, slice_index}
+-- Both ends over TCP connections, beside both ends in whole messages: what is in flight is always one whole frame or
+-- none.
+use Rattle.std.proofs.Common.{◌≡◌, ℕ, ◌<◌, ◌≤◌, ◌^◌, Bool, true, false, Option, Some, None, List, [], ◌++◌, length}
+use Rattle.std.proofs.Common.{slice_index}
 use Rattle.std.specs.Prelude.{⊤}
 use Rattle.std.specs.List.{slice_get}
 use Rattle.cip_bytes.specs.declared.protocol.TheConstants.{UNCONNECTED_LIMIT}
@@ -73,8 +75,9 @@ pub record Carries (own : ℕ) (a : AdapterState) (sent : List (ℕ × List ℕ)
 
 -- ---- a TCP connection
 
--- How far it is: new; a RegisterSession is on its way, or the reply to it; nothing is on its way; a command is on its way;
--- the reply to it, which is the answer at this position of all that were sent back; another request, or the reply to it.
+-- How far it is: new; a RegisterSession is on its way, or the reply to it; nothing is on its way; a command is on its
+-- way; the reply to it, which is the answer at this position of all that were sent back; another request, or the reply
+-- to it.
 pub data Phase : Type 0 where
   New : Phase
   Registering : (context : ℕ) → Phase

@@ -1,11 +1,12 @@
--- Both ends of numbered commands as they run: a whole adapter, an originator with a commander and a whole client, and the
--- bytes between them.
+-- Both ends of numbered commands as they run: a whole adapter, an originator with a commander and a whole client, and
+-- the bytes between them.
 --
 -- The originator has one TCP connection at a time, with a client of its own, and its commands are unconnected requests
 -- (SendRRData). A TCP connection loses no byte and keeps the order, until it breaks.
 use Rattle.std.specs.Prelude.{ℕ, ◌==◌, not, Bool, false, if◌then◌else◌, List, [], ◌∷◌, ◌++◌, take, drop, filter, fold}
 use Rattle.std.specs.Prelude.{Option, Some, None, is_some, Result, Ok, Err}
-use Rattle.cip_commander.specs.CommanderRule.{CommanderState, command_refusal, abandoned, pending_message, outcome_of, after_outcome}
+use Rattle.cip_commander.specs.CommanderRule.{CommanderState, command_refusal, abandoned, pending_message, outcome_of}
+use Rattle.cip_commander.specs.CommanderRule.{after_outcome}
 use Rattle.cip_commander.specs.Outcome.{Outcome}
 use Rattle.cip_commander.specs.Worlds.{after_command, gives, sends, awaits, accepted_by}
 use Rattle.cip_ledger.specs.Device.{Device, device_of}
@@ -28,10 +29,11 @@ use Rattle.enip_client.specs.Hears.HeardEvent.{Replied}
 use Rattle.enip_client.specs.declared.fault.ClientFault.{ClientFault}
 use Rattle.enip_client.specs.declared.wants.Wants.{Wants}
 use Rattle.enip_wire.specs.Frames.{frame}
-use Rattle.enip_reconnect.specs.Events.{Event, NewCommand, Abandon, Connect, Register, Send, Ask, Arrive, Receive, Break, End, Other}
+use Rattle.enip_reconnect.specs.Events.{Event, NewCommand, Abandon, Connect, Register, Send, Ask, Arrive, Receive}
+use Rattle.enip_reconnect.specs.Events.{Break, End, Other}
 
--- The originator's end of a TCP connection: its client, its peer handle at the adapter, the number of the command that was
--- last asked on it, if the reply was not heard yet, and the bytes in flight to the originator.
+-- The originator's end of a TCP connection: its client, its peer handle at the adapter, the number of the command that
+-- was last asked on it, if the reply was not heard yet, and the bytes in flight to the originator.
 pub record TcpConnection : Type 0 where
   pub client : ClientState
   pub peer : ℕ
@@ -43,9 +45,9 @@ pub record Stream : Type 0 where
   pub peer : ℕ
   pub in_flight : List ℕ
 
--- The adapter, the commander, the commands that were given, the originator's end of its TCP connection, if it has one, the
--- adapter's end of each of its connections that did not end there, and the accepted replies. A command and a reply come
--- with the command's number.
+-- The adapter, the commander, the commands that were given, the originator's end of its TCP connection, if it has one,
+-- the adapter's end of each of its connections that did not end there, and the accepted replies. A command and a reply
+-- come with the command's number.
 pub record Ends : Type 0 where
   pub adapter : AdapterState
   pub commander : CommanderState
@@ -176,7 +178,8 @@ abbrev pub inquiring : Ends → List ℕ → Option TcpConnection → Ends
 inquiring ends request None = ends
 inquiring ends request (Some connection) = sending ends connection None (asks connection.client.state request)
 
--- What the adapter takes is in flight no more. Its answer is on its way on the same TCP connection, or lost if that broke.
+-- What the adapter takes is in flight no more. Its answer is on its way on the same TCP connection, or lost if that
+-- broke.
 abbrev pub answered : ℕ → List ℕ → Option TcpConnection → Option TcpConnection
 answered peer bytes None = None
 answered peer bytes (Some connection) =

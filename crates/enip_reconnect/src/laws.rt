@@ -1,8 +1,8 @@
 //! What follows for an adapter and an originator over TCP connections, over every list of events.
 //!
 //! The functions do nothing: each one's clause is the law. A list of events says which commands are given, when TCP
-//! connections begin and break, when frames are sent, and how many bytes arrive where and when. Commands are unconnected
-//! requests. The device's life begins with an empty ledger, and lasts.
+//! connections begin and break, when frames are sent, and how many bytes arrive where and when. Commands are
+//! unconnected requests. The device's life begins with an empty ledger, and lasts.
 
 ghost use Rattle.enip_reconnect.specs.Laws.{messages_law, worlds_law, journal_law, rising_law, given_law};
 ghost use Rattle.enip_reconnect.specs.Laws.{accepted_law, accepted_once_law, never_again_law};
