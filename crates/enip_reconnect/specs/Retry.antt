@@ -37,9 +37,9 @@ pub record IsAccepted (before after : Ends) : Type 0 where
 abbrev pub retry_law : Type 0
 retry_law = (opening : Opening) (events : List Event) (wants : Wants) (now peer : ℕ) (request : List ℕ) (ledger : LedgerState) →
     IsInRange opening.commander → AreOfOthers opening.commander.originator (ends_at opening) events →
-    opening.commander.life ≡ opening.life →
     let ends = ends_after opening events in
     ends.commander.pending ≡ Some request → length request ≤ LONGEST_EMBEDDED →
     (call_answer ends.adapter Begins_peer).output ≡ Begins peer →
-    ends.adapter.state.shared.objects.ledger ≡ Some ledger → HasSlotFor opening.commander.originator ledger →
+    ends.adapter.state.shared.objects.ledger ≡ Some ledger → opening.commander.life ≡ ledger.life →
+    HasSlotFor opening.commander.originator ledger →
     IsAccepted ends (ends_run ends (retry wants now peer))
