@@ -1,4 +1,5 @@
 pub mod AdapterSide
+pub mod Answering
 pub mod Arriving
 pub mod ClientPieces
 pub mod ClientReplies
@@ -9,6 +10,8 @@ pub mod Flights
 pub mod MessageRuns
 pub mod Others
 pub mod Receiving
+pub mod Retries
+pub mod Retrying
 pub mod Steps
 pub mod Streams
 pub mod Tracking

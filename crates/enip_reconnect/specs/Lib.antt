@@ -1,3 +1,4 @@
 pub mod Events
 pub mod Laws
+pub mod Retry
 pub mod World

@@ -6,6 +6,7 @@
 
 ghost use Rattle.enip_reconnect.specs.Laws.{messages_law, worlds_law, journal_law, rising_law, given_law};
 ghost use Rattle.enip_reconnect.specs.Laws.{accepted_law, accepted_once_law, never_again_law};
+ghost use Rattle.enip_reconnect.specs.Retry.{retry_law};
 
 /// Whatever happens in bytes and frames is what happens in whole messages between a commander and a device, over which
 /// `cip_commander` has its laws: the same requests reach the device in the same order, the same commands are given, and
@@ -49,4 +50,11 @@ pub fn accepted_once()
 /// was abandoned before it was executed at most once, and never will be again.
 pub fn never_again()
     ensures { never_again_law }
+{}
+
+/// Whatever happened before, one more try on a TCP connection that carries on is enough: the pending command is done, and
+/// its reply is accepted. The adapter must accept the connection, the commander must know the device's life, and the
+/// ledger must have a slot for the originator.
+pub fn retry_is_enough()
+    ensures { retry_law }
 {}
