@@ -10,7 +10,7 @@ ghost use Rattle.enip_commands.specs.Statuses.{asking_status, replied_status, re
 
 use crate::digits::decode;
 use crate::fault::ProgramFault;
-use crate::json::refusal_line;
+use crate::json_text::refusal_line;
 use crate::style::{Style, data_object, print_data};
 use arrayvec::ArrayVec;
 use cip_message::{Path, ReplyView, write_path};

@@ -10,7 +10,7 @@ ghost use Rattle.enip_commands.specs.Statuses.{IsOfDevices};
 
 use crate::asking::RequestFailure;
 use crate::fault::ProgramFault;
-use crate::json::identity_line;
+use crate::json_text::identity_line;
 use enip_client::{ListCommand, ListEntries, ListEntry, ask_list, read_list};
 use enip_wire::{FrameReader, Sink, Source};
 use std::alloc::Global;

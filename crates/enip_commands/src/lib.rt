@@ -28,7 +28,7 @@ mod digits;
 mod fault;
 mod identities;
 mod input_lines;
-mod json;
+mod json_text;
 mod line_fault;
 mod lines;
 mod listing;

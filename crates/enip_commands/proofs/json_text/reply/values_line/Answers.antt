@@ -4,7 +4,7 @@ use Rattle.serde_json.specs.Data.{depth}
 use Rattle.serde_json.specs.View.{view}
 use Rattle.cip_values.specs.Values.{value_in}
 use Rattle.enip_commands.proofs.JsonLemmas.{values_nest, values_line_from}
-use Rattle.enip_commands.proofs.json.reply.values_line.Goals as goal
+use Rattle.enip_commands.proofs.json_text.reply.values_line.Goals as goal
 
 pub returns : goal.returns
 returns c =

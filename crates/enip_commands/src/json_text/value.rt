@@ -6,7 +6,7 @@ ghost use Rattle.enip_commands.specs.Json.{IsJsonOf, AreJsonOf};
 ghost use Rattle.serde_json.specs.Data.{depth};
 ghost use Rattle.serde_json.specs.View.{view};
 
-use crate::json::latin::latin_text;
+use crate::json_text::latin::latin_text;
 use cip_values::{ElementaryType, Value, ValueType, ValuesText};
 use serde_json::Value as Json;
 use std::alloc::{AllocError, Global};

@@ -1,5 +1,5 @@
 use Rattle.enip_commands.proofs.JsonLemmas.{told_more, told_all}
-use Rattle.enip_commands.proofs.json.value.list_of.Goals as goal
+use Rattle.enip_commands.proofs.json_text.value.list_of.Goals as goal
 
 pub loop-value-preserved : goal.loop-value-preserved
 loop-value-preserved c =

@@ -6,7 +6,7 @@ ghost use Rattle.enip_commands.specs.Json.{identity_data, host_text};
 ghost use Rattle.serde_json.specs.View.{view};
 ghost use Rattle.serde_json.specs.Written.{compact_text};
 
-use crate::json::latin::latin_text;
+use crate::json_text::latin::latin_text;
 use enip_client::IdentityView;
 use serde_json::{Map, Value, put};
 use std::alloc::{AllocError, Global};
