@@ -111,10 +111,11 @@ module _ (opening : Opening) (range : IsInRange opening.commander) where
       let world : NumberedWorld = numbered_world opening events in
       let numbered = after-numbered objects_after objects_answer start events in
       let later = all_second (WasGiven world.given) is.earlier (Own number is.request ∷ is.later)
-      (subst (AllByRecursion (WasGiven world.given)) is.place numbered.log) in
-      (among-below world.commander.last_number world.given number is.request numbered.given.below later.0,
-      subst (λ r. length r ≤ KEPT_LIMIT) (sym is.reply_is)
-      (embedded-short (device_after objects_after objects_answer start is.earlier).router is.request))
+      (subst (AllByRecursion (WasGiven world.given)) is.place numbered.log) in (
+        among-below world.commander.last_number world.given number is.request numbered.given.below later.0,
+        subst (λ r. length r ≤ KEPT_LIMIT) (sym is.reply_is)
+            (embedded-short (device_after objects_after objects_answer start is.earlier).router is.request),
+      )
 
   -- The last number of the device is that of the log.
   abbrev IsLast : Option (ℕ × List ℕ) → List Entry → Type 0
