@@ -178,7 +178,8 @@ abbrev pub inquiring : Ends → List ℕ → Option TcpConnection → Ends
 inquiring ends request None = ends
 inquiring ends request (Some connection) = sending ends connection None (asks connection.client.state request)
 
--- What the adapter takes is in flight no more. Its answer is in flight on the same TCP connection, or lost if that broke.
+-- What the adapter takes is in flight no more. Its answer is in flight on the same TCP connection, or lost if that one
+-- broke.
 abbrev pub with_answer : List ℕ → TcpConnection → TcpConnection
 with_answer bytes connection = record connection { in_flight = connection.in_flight ++ bytes }
 
