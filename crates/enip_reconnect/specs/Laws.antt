@@ -1,6 +1,6 @@
 -- What holds of both ends over every list of events. Whatever happens in bytes, frames and TCP connections is what
 -- happens in whole messages between a commander and a device (`Worlds` of `cip_commander`), whose laws follow.
-use Rattle.std.specs.Prelude.{◌≡◌, ⊤, ℕ, Option, Some, None, List, [], ◌∷◌, ◌++◌, map}
+use Rattle.std.specs.Prelude.{◌≡◌, ⊤, ℕ, Some, List, [], ◌∷◌, ◌++◌, map}
 use Rattle.std.specs.List.{slice_get, AllByRecursion}
 use Rattle.cip_bytes.specs.declared.protocol.TheConstants.{UNCONNECTED_LIMIT}
 use Rattle.cip_commander.specs.CommanderRule.{CommanderState, IsInRange}

@@ -1,5 +1,5 @@
 -- A retry on one TCP connection that survives is enough.
-use Rattle.std.specs.Prelude.{◌≡◌, ◌≢◌, ◌⊎◌, ℕ, ◌<◌, ◌≤◌, Option, Some, None, List, [], ◌∷◌, ◌++◌, length}
+use Rattle.std.specs.Prelude.{◌≡◌, ◌≢◌, ◌⊎◌, ℕ, ◌<◌, ◌≤◌, Some, None, List, [], ◌∷◌, ◌++◌, length}
 use Rattle.cip_commander.specs.CommanderRule.{IsInRange, abandoned}
 use Rattle.cip_commander.specs.declared.refusal.TheConstants.{LONGEST_EMBEDDED}
 use Rattle.cip_ledger.specs.Ledger.{LedgerState, slot_of}
