@@ -17,6 +17,7 @@ enum { REFUSAL_LENGTH = 511 };
 #define ADAPTER_MARK UINT64_C(0x656e69702d616461)
 #define ENDINGS_MARK UINT64_C(0x656e69702d656e64)
 #define CLIENT_MARK UINT64_C(0x656e69702d636c69)
+#define ONCE_MARK UINT64_C(0x656e69702d6f6e63)
 
 /* The mark lies behind the bytes that an allocator overwrites in a freed block. */
 struct enip_adapter {
@@ -32,6 +33,12 @@ struct enip_endings {
 };
 
 struct enip_client {
+    struct kept kept;
+    uint64_t spare[2];
+    uint64_t mark;
+};
+
+struct enip_once {
     struct kept kept;
     uint64_t spare[2];
     uint64_t mark;
@@ -68,6 +75,15 @@ uint32_t enip_core_client_close(struct kept *, uint8_t *, size_t, size_t *);
 uint32_t enip_core_client_unregister(struct kept *, uint8_t *, size_t, size_t *);
 uint32_t enip_core_client_give_up(struct kept *);
 uint32_t enip_core_client_feed(struct kept *, const uint8_t *, size_t, uint8_t *, size_t, enip_heard *);
+uint32_t enip_core_once_new(struct kept *, uint64_t, uint64_t, uint32_t);
+uint32_t enip_core_once_resume(struct kept *, uint64_t, uint64_t, uint32_t, const uint8_t *, size_t);
+void enip_core_once_free(struct kept *);
+uint32_t enip_core_once_command(struct kept *, const uint8_t *, size_t, uint8_t *, size_t, size_t *);
+uint32_t enip_core_once_resend(struct kept *, uint8_t *, size_t, size_t *);
+uint32_t enip_core_once_receive(struct kept *, const uint8_t *, size_t, uint8_t *, size_t, enip_outcome *);
+uint32_t enip_core_once_abandon(struct kept *);
+void enip_core_once_values(struct kept *, uint64_t *, uint64_t *, uint32_t *);
+uint32_t enip_core_once_request(struct kept *, uint8_t *, size_t, size_t *);
 
 static inline int is_range(const void *bytes, size_t length) {
     return bytes != NULL && length - 1 < (size_t)PTRDIFF_MAX;
@@ -88,6 +104,10 @@ static int is_endings(const enip_endings *endings) {
 
 static int is_client(const enip_client *client) {
     return client != NULL && client->mark == CLIENT_MARK;
+}
+
+static int is_once(const enip_once *once) {
+    return once != NULL && once->mark == ONCE_MARK;
 }
 
 /* Whether a call may write to the buffer and to *count. */
@@ -340,4 +360,88 @@ int enip_client_feed(enip_client *client, const void *bytes, size_t length, void
     if (!is_client(client) || !is_call(bytes, length, buffer, size, heard, sizeof *heard))
         return ENIP_MISUSE;
     return (int)enip_core_client_feed(&client->kept, bytes, length, buffer, size, heard);
+}
+
+/* Gives the handle of a commander that was made, or frees it if none was made. */
+static int give_once(enip_once *made, uint32_t status, enip_once **once) {
+    if (status != ENIP_OK) {
+        free(made);
+        return (int)status;
+    }
+    made->mark = ONCE_MARK;
+    *once = made;
+    return ENIP_OK;
+}
+
+int enip_once_new(uint64_t life, uint64_t originator, uint32_t last_number, enip_once **once) {
+    enip_once *made;
+    if (once == NULL)
+        return ENIP_MISUSE;
+    if ((made = malloc(sizeof *made)) == NULL)
+        return ENIP_MEMORY;
+    made->kept.at = NULL;
+    return give_once(made, enip_core_once_new(&made->kept, life, originator, last_number), once);
+}
+
+int enip_once_resume(uint64_t life, uint64_t originator, uint32_t last_number, const void *request, size_t length,
+                     enip_once **once) {
+    enip_once *made;
+    if (!is_range(request, length) || once == NULL)
+        return ENIP_MISUSE;
+    if ((made = malloc(sizeof *made)) == NULL)
+        return ENIP_MEMORY;
+    made->kept.at = NULL;
+    return give_once(made, enip_core_once_resume(&made->kept, life, originator, last_number, request, length), once);
+}
+
+int enip_once_free(enip_once *once) {
+    if (once == NULL)
+        return ENIP_OK;
+    if (!is_once(once))
+        return ENIP_MISUSE;
+    enip_core_once_free(&once->kept);
+    *(volatile uint64_t *)&once->mark = 0;
+    free(once);
+    return ENIP_OK;
+}
+
+int enip_once_command(enip_once *once, const void *request, size_t length, void *buffer, size_t size, size_t *count) {
+    if (!is_once(once) || !is_call(request, length, buffer, size, count, sizeof *count))
+        return ENIP_MISUSE;
+    return (int)enip_core_once_command(&once->kept, request, length, buffer, size, count);
+}
+
+int enip_once_resend(const enip_once *once, void *buffer, size_t size, size_t *count) {
+    if (!is_once(once) || !is_output(buffer, size, count))
+        return ENIP_MISUSE;
+    return (int)enip_core_once_resend(kept_to_read(&once->kept), buffer, size, count);
+}
+
+int enip_once_receive(enip_once *once, const void *reply, size_t length, void *buffer, size_t size,
+                      enip_outcome *outcome) {
+    if (!is_once(once) || !is_call(reply, length, buffer, size, outcome, sizeof *outcome))
+        return ENIP_MISUSE;
+    return (int)enip_core_once_receive(&once->kept, reply, length, buffer, size, outcome);
+}
+
+int enip_once_abandon(enip_once *once) {
+    if (!is_once(once))
+        return ENIP_MISUSE;
+    return (int)enip_core_once_abandon(&once->kept);
+}
+
+int enip_once_values(const enip_once *once, uint64_t *life, uint64_t *originator, uint32_t *last_number) {
+    if (!is_once(once) || life == NULL || originator == NULL || last_number == NULL
+        || !are_apart(life, sizeof *life, originator, sizeof *originator)
+        || !are_apart(life, sizeof *life, last_number, sizeof *last_number)
+        || !are_apart(originator, sizeof *originator, last_number, sizeof *last_number))
+        return ENIP_MISUSE;
+    enip_core_once_values(kept_to_read(&once->kept), life, originator, last_number);
+    return ENIP_OK;
+}
+
+int enip_once_request(const enip_once *once, void *buffer, size_t size, size_t *count) {
+    if (!is_once(once) || !is_output(buffer, size, count))
+        return ENIP_MISUSE;
+    return (int)enip_core_once_request(kept_to_read(&once->kept), buffer, size, count);
 }

@@ -9,11 +9,20 @@ If no reply comes, a call raises `EnipTimeout`, and the client can be used again
 not at all. A request on the connection (`submit`, `set`) is sent again before that; a device with this project's
 adapter still executes it only once.
 
+`Commander` is for a device with a command ledger. It connects for each command, and again until the device answers. The
+command is executed once, even if connections break or this program is killed:
+
+    from enip import Commander
+    with Commander("127.0.0.1", "file") as commander:
+        print(commander.command(bytes.fromhex("32022064240105000000")))
+
 LIBENIP names the library's file if the loader does not find libenip.so.0.
 """
 
 import ctypes
+import fcntl
 import os
+import re
 import socket
 import struct
 import sys
@@ -25,6 +34,9 @@ NOTHING, REGISTERED, OPENED, REPLY, ACCEPTED, REFUSED, CLOSED = range(7)
 OF_CALL, OF_NO_REPLY, OF_GENERAL, OF_EXTENDED = range(4)
 OK, ABSENT, FAILED, TOO_LONG, MALFORMED = 0, 7, 9, 11, 12
 GET_ATTRIBUTE_SINGLE, SET_ATTRIBUTE_SINGLE = 0x0E, 0x10
+MESSAGE_ROOM = 504
+ONCE_DONE, ONCE_REFUSED = 1, 3
+LEDGER, UNKNOWN_CLASS = 0x65, 0x05
 
 
 class Wants(ctypes.Structure):
@@ -53,6 +65,12 @@ class Heard(ctypes.Structure):
         ("general", ctypes.c_uint32),
         ("extended", ctypes.c_uint32),
     ]
+
+
+class Outcome(ctypes.Structure):
+    """What a reply says about a command: `enip_outcome`."""
+
+    _fields_ = [("reply", ctypes.c_size_t), ("kind", ctypes.c_uint32), ("general", ctypes.c_uint32)]
 
 
 WANTS = Wants(
@@ -88,6 +106,21 @@ for _name in ("register", "open", "resend", "close", "unregister"):
     getattr(library, "enip_client_" + _name).argtypes = [ctypes.c_void_p] + _buffer
 for _name in ("ask", "submit"):
     getattr(library, "enip_client_" + _name).argtypes = [ctypes.c_void_p, ctypes.c_char_p, ctypes.c_size_t] + _buffer
+_new = [ctypes.c_uint64, ctypes.c_uint64, ctypes.c_uint32]
+library.enip_once_new.argtypes = _new + [ctypes.POINTER(ctypes.c_void_p)]
+library.enip_once_resume.argtypes = _new + [ctypes.c_char_p, ctypes.c_size_t, ctypes.POINTER(ctypes.c_void_p)]
+library.enip_once_free.argtypes = [ctypes.c_void_p]
+library.enip_once_command.argtypes = [ctypes.c_void_p, ctypes.c_char_p, ctypes.c_size_t] + _buffer
+library.enip_once_resend.argtypes = [ctypes.c_void_p] + _buffer
+library.enip_once_abandon.argtypes = [ctypes.c_void_p]
+library.enip_once_receive.argtypes = [
+    ctypes.c_void_p,
+    ctypes.c_char_p,
+    ctypes.c_size_t,
+    ctypes.c_void_p,
+    ctypes.c_size_t,
+    ctypes.POINTER(Outcome),
+]
 
 
 def text_of(kind, number):
@@ -103,6 +136,18 @@ class EnipError(Exception):
 
 class EnipTimeout(EnipError):
     """No reply came: the request was executed once or not at all."""
+
+
+class EnipLost(EnipError):
+    """The connection is lost: the request was executed once or not at all."""
+
+
+class EnipRefused(EnipError):
+    """The reply to a request has a general status other than 0. `reply` is the whole reply."""
+
+    def __init__(self, text, reply):
+        super().__init__(text)
+        self.reply = reply
 
 
 class Client:
@@ -208,7 +253,7 @@ class Client:
     def _gone(self, why):
         """Drops the client, and returns the error to raise."""
         self._drop()
-        return EnipError(why)
+        return EnipLost(why)
 
     def _send(self, call, *request):
         """Sends the frame that a call of the library writes."""
@@ -248,9 +293,10 @@ class Client:
                 continue
             if heard.kind == REFUSED:
                 raise EnipError(text_of(OF_EXTENDED, heard.extended))
+            reply = self._reply.raw[: heard.reply]
             if heard.general != 0:
-                raise EnipError(text_of(OF_GENERAL, heard.general))
-            return self._reply.raw[: heard.reply]
+                raise EnipRefused(text_of(OF_GENERAL, heard.general), reply)
+            return reply
 
     def _feed(self, piece):
         """Passes a piece of the stream to the library, and returns what it heard, if anything."""
@@ -266,6 +312,144 @@ class Client:
                 heard = now
             piece = piece[now.taken :]
         return heard
+
+
+class Commander:
+    """Commands to a device with a command ledger, which executes each of them once.
+
+    A file holds what a kill must not lose: the originator, the device's life, the number of the last command and, while
+    it is pending, its request. If there is no file, it is created with a random originator. Each try is a connection of
+    its own, and waits for `timeout` seconds. No answer of a closed connection is ever taken.
+    """
+
+    def __init__(self, host, file, port=44818, timeout=1.0, tries=20, pause=0.1):
+        self._address, self._timeout, self._tries, self._pause = (host, port), timeout, tries, pause
+        self._file = os.path.abspath(file)
+        self._once = ctypes.c_void_p()
+        # Only one process may use the file: two would use a number twice.
+        self._lock = open(self._file + ".lock", "w")
+        fcntl.flock(self._lock, fcntl.LOCK_EX | fcntl.LOCK_NB)
+        self._life, self._originator, self.number, self.pending = 0, int.from_bytes(os.urandom(8), "little"), 0, None
+        if os.path.exists(self._file):
+            self._read()
+
+    def __enter__(self):
+        return self
+
+    def __exit__(self, *_):
+        self.close()
+
+    def close(self):
+        """Frees the commander. A pending command stays in the file."""
+        library.enip_once_free(self._once)
+        self._once = ctypes.c_void_p()
+        self._lock.close()
+
+    def command(self, request):
+        """Gives a command, or goes on with it if it is pending. Returns the reply to its request."""
+        if self.pending not in (None, request):
+            raise EnipError("another command is pending")
+        for tries in range(self._tries):
+            if tries > 0:
+                time.sleep(self._pause)
+            reply = self._exchange(request)
+            if reply is not None:
+                return reply
+        if self.pending is None:
+            raise EnipTimeout("no answer: no command was given")
+        raise EnipTimeout("no answer: the command may have been executed; the same line sends it again")
+
+    def abandon(self):
+        """Gives up the pending command: it is executed once or not at all."""
+        if self.pending is not None:
+            library.enip_once_abandon(self._once)
+            self._store(self._life, self.number, None)
+
+    def _exchange(self, request):
+        """Sends the command over a new connection. Returns the reply to its request, or None if it is not done."""
+        try:
+            client = Client(*self._address, self._timeout)
+        except (EnipTimeout, EnipLost, OSError):
+            return None
+        with client:
+            try:
+                self._give(self._life_at(client), request)
+                return self._send(client)
+            except (EnipTimeout, EnipLost):
+                return None
+
+    @staticmethod
+    def _life_at(client):
+        try:
+            return int.from_bytes(client.get(LEDGER, 1, 3), "little")
+        except EnipRefused as error:
+            if error.reply[2] == UNKNOWN_CLASS:
+                raise EnipError("the device has no command ledger") from error
+            raise
+
+    def _give(self, life, request):
+        """Gives the command, unless it is pending. It is in the file before the first byte of it is sent."""
+        if self.pending is not None:
+            if self._life != life:
+                raise EnipError("the device was started again, and may have executed the pending command before")
+            return
+        buffer, count = ctypes.create_string_buffer(MESSAGE_ROOM), ctypes.c_size_t()
+        library.enip_once_free(self._once)
+        self._once = ctypes.c_void_p()
+        check(library.enip_once_new(life, self._originator, self.number, ctypes.byref(self._once)))
+        check(library.enip_once_command(self._once, request, len(request), buffer, MESSAGE_ROOM, ctypes.byref(count)))
+        self._store(life, self.number + 1, request)
+
+    def _send(self, client):
+        """Sends the pending command. Returns the reply to its request, or None if it is not done."""
+        buffer, count = ctypes.create_string_buffer(MESSAGE_ROOM), ctypes.c_size_t()
+        check(library.enip_once_resend(self._once, buffer, MESSAGE_ROOM, ctypes.byref(count)))
+        try:
+            answer = client.ask(buffer.raw[: count.value])
+        except EnipRefused as refused:
+            answer = refused.reply
+        outcome, reply = Outcome(), ctypes.create_string_buffer(len(answer))
+        check(library.enip_once_receive(self._once, answer, len(answer), reply, len(answer), ctypes.byref(outcome)))
+        if outcome.kind == ONCE_REFUSED:
+            raise EnipError("the device refused the command: " + text_of(OF_GENERAL, outcome.general))
+        if outcome.kind != ONCE_DONE:
+            return None
+        self._store(self._life, self.number, None)
+        return reply.raw[: outcome.reply]
+
+    def _read(self):
+        """Makes the commander that the file describes."""
+        with open(self._file) as file:
+            text = file.read()
+        lines = r"enip commands 1\noriginator ([0-9a-f]{16})\nlife (\d+)\nnumber (\d+)\npending (none|([0-9a-f]{2})+)\n"
+        found = re.fullmatch(lines, text)
+        if found is None:
+            raise EnipError(self._file + ": not a file of commands")
+        self._originator, self._life, self.number = int(found[1], 16), int(found[2]), int(found[3])
+        if found[4] != "none":
+            self.pending = bytes.fromhex(found[4])
+            values = self._life, self._originator, self.number
+            check(library.enip_once_resume(*values, self.pending, len(self.pending), ctypes.byref(self._once)))
+
+    def _store(self, life, number, pending):
+        """Writes a new file, which takes the place of the old one. On return it is on the disk."""
+        request = "none" if pending is None else pending.hex()
+        text = f"enip commands 1\noriginator {self._originator:016x}\nlife {life}\nnumber {number}\npending {request}\n"
+        with open(self._file + ".new", "w") as file:
+            file.write(text)
+            file.flush()
+            os.fsync(file.fileno())
+        os.replace(self._file + ".new", self._file)
+        folder = os.open(os.path.dirname(self._file), os.O_RDONLY)
+        os.fsync(folder)
+        os.close(folder)
+        self._life, self.number, self.pending = life, number, pending
+
+
+def check(status):
+    """Raises the error of a call's status."""
+    if status != OK:
+        raise EnipError(text_of(OF_CALL, status))
 
 
 def request_of(service, class_code, instance, attribute):

@@ -3,7 +3,7 @@
  *
  * You pass bytes and times in and get bytes back. No call opens a socket, reads a clock, starts a thread, blocks,
  * prints or ends the program. No call allocates memory, except the calls that make an object (enip_adapter_new,
- * enip_endings_new, enip_client_new).
+ * enip_endings_new, enip_client_new, enip_once_new, enip_once_resume).
  *
  * Use an object in one call at a time, also if the calls only read it. Objects share nothing: two threads may use two
  * objects at once.
@@ -56,10 +56,11 @@ enum {
     ENIP_MALFORMED = 12,    /* an awaited reply was malformed: the client has failed for good */
     ENIP_REQUEST = 13,      /* the bytes are not a request */
     ENIP_WAITING = 14,      /* another request is waiting for its reply */
-    ENIP_LONG_REQUEST = 15, /* the request is longer than the connection's size allows */
+    ENIP_LONG_REQUEST = 15, /* the request is longer than the connection's size, or a command, allows */
     ENIP_GIVEN_UP = 16,     /* a request was given up */
     ENIP_ABANDONED = 17,    /* 65,535 requests were submitted since the last accepted reply */
-    ENIP_WANTS = 18         /* a connection size in enip_wants is out of range */
+    ENIP_WANTS = 18,        /* a connection size in enip_wants is out of range */
+    ENIP_NUMBERS = 19       /* no command number is left for this originator */
 };
 
 /* The smallest buffer for the answer of enip_adapter_feed, in bytes. */
@@ -71,12 +72,15 @@ enum {
 /* The smallest buffer for a reply of enip_client_feed, in bytes. */
 #define ENIP_REPLY_ROOM 65535
 
+/* The smallest buffer for the message of enip_once_command, in bytes. */
+#define ENIP_MESSAGE_ROOM 504
+
 /* Returns the version of the library in use; ENIP_VERSION is the version of this header. Never NULL, never freed. */
 ENIP_API const char *enip_version(void);
 
 /* The kinds of numbers that enip_status_text explains. */
 enum {
-    ENIP_OF_CALL = 0,     /* the status of a call: ENIP_OK to ENIP_WANTS */
+    ENIP_OF_CALL = 0,     /* the status of a call: ENIP_OK to ENIP_NUMBERS */
     ENIP_OF_NO_REPLY = 1, /* why a frame got no answer: ENIP_NO_REPLY_INCOMPLETE and the following */
     ENIP_OF_GENERAL = 2,  /* the general status of a reply, 0x00 to 0xff */
     ENIP_OF_EXTENDED = 3, /* the extended status of the Connection Manager, 0x0000 to 0xffff */
@@ -351,6 +355,98 @@ ENIP_API int enip_client_give_up(enip_client *client);
  */
 ENIP_API int enip_client_feed(enip_client *client, const void *bytes, size_t length, void *buffer, size_t size,
                               enip_heard *heard);
+
+/* ---- commands that are executed once, even if connections are lost ---- */
+
+typedef struct enip_once enip_once;
+
+/*
+ * The general statuses of a device's command ledger (docs/PROTOCOL.md, "The command ledger"). A message that is
+ * answered with one of them executes nothing, but an earlier copy of it may have.
+ */
+enum {
+    ENIP_LEDGER_SLOTS = 0x02,     /* other originators have all slots */
+    ENIP_LEDGER_NUMBER = 0x0c,    /* a greater number was executed: this one never will be */
+    ENIP_LEDGER_LIFE = 0x10,      /* the device has another life: it was started again */
+    ENIP_LEDGER_SIZE = 0x11,      /* the reply does not fit: the connection's T->O size is too small */
+    ENIP_LEDGER_ORIGINATOR = 0x16 /* the originator has no slot (Get_Last) */
+};
+
+/* What enip_once_receive learned about the pending command. */
+enum {
+    ENIP_ONCE_NOTHING = 0,  /* no command is pending */
+    ENIP_ONCE_DONE = 1,     /* the command was executed, once; it is not pending any more */
+    ENIP_ONCE_PENDING = 2,  /* the device has taken the command and not executed it yet */
+    ENIP_ONCE_REFUSED = 3,  /* the device refused the command; it is still pending */
+    ENIP_ONCE_MALFORMED = 4 /* not a reply to a command; it is still pending */
+};
+
+/* The result of enip_once_receive. */
+typedef struct enip_outcome {
+    size_t reply;     /* ENIP_ONCE_DONE: the number of bytes in the buffer that are the reply to the request */
+    uint32_t kind;    /* one of ENIP_ONCE_NOTHING and the following */
+    uint32_t general; /* the general status of that reply (DONE) or of the refusal (REFUSED), otherwise 0 */
+} enip_outcome;
+
+/*
+ * Makes the originator's end of numbered commands: life is the device's (attribute 3 of class 0x65, instance 1),
+ * originator a number that nobody else uses at this device, and last_number that of the last command, 0 if there was
+ * none. Allocates all the memory that it will ever need. Free *once with enip_once_free.
+ * ENIP_OK, ENIP_MEMORY, ENIP_MISUSE.
+ */
+ENIP_API int enip_once_new(uint64_t life, uint64_t originator, uint32_t last_number, enip_once **once);
+
+/*
+ * The same from values that you stored while a command was pending: last_number is its number, and request, of length
+ * bytes, what enip_once_request gave. The command is pending again, with the same message.
+ * ENIP_OK; ENIP_REQUEST, ENIP_LONG_REQUEST if no command can have this request; ENIP_MEMORY; ENIP_MISUSE.
+ */
+ENIP_API int enip_once_resume(uint64_t life, uint64_t originator, uint32_t last_number, const void *request,
+                              size_t length, enip_once **once);
+
+/* Frees it. If once is NULL, does nothing. ENIP_OK, ENIP_MISUSE. */
+ENIP_API int enip_once_free(enip_once *once);
+
+/*
+ * Gives a command: a request of 2 to 478 bytes takes the next number and is pending until it is done or given up.
+ * Writes its message to buffer, whose size is at least ENIP_MESSAGE_ROOM, and its length to *count. Store the values of
+ * enip_once_values and the request before you pass the message to enip_client_ask or enip_client_submit.
+ * ENIP_OK; ENIP_WAITING if another command is pending; ENIP_REQUEST if bit 7 of the service is set or the request is
+ * too short; ENIP_LONG_REQUEST; ENIP_NUMBERS after 2^32 - 1 commands; ENIP_ROOM; ENIP_MISUSE.
+ */
+ENIP_API int enip_once_command(enip_once *once, const void *request, size_t length, void *buffer, size_t size,
+                               size_t *count);
+
+/*
+ * Writes the message of the pending command again, for a new connection: the same bytes each time.
+ * ENIP_OK; ENIP_ABSENT if no command is pending; ENIP_ROOM; ENIP_MISUSE.
+ */
+ENIP_API int enip_once_resend(const enip_once *once, void *buffer, size_t size, size_t *count);
+
+/*
+ * Takes the reply to the message, length bytes as enip_client_feed wrote them, and describes it in *outcome. If the
+ * command is done, writes the reply to its request to buffer, whose size is at least length. Otherwise the command is
+ * pending as before. A reply has no number: pass only what answers a message of this command, and nothing that a closed
+ * connection may still have brought.
+ * ENIP_OK, ENIP_ROOM, ENIP_MISUSE.
+ */
+ENIP_API int enip_once_receive(enip_once *once, const void *reply, size_t length, void *buffer, size_t size,
+                               enip_outcome *outcome);
+
+/*
+ * Gives up the pending command: it is executed once or not at all. Once a later command is done, it will not be
+ * executed any more. ENIP_OK; ENIP_ABSENT if no command is pending; ENIP_MISUSE.
+ */
+ENIP_API int enip_once_abandon(enip_once *once);
+
+/* Gives the device's life, the originator, and the number of the last command. ENIP_OK, ENIP_MISUSE. */
+ENIP_API int enip_once_values(const enip_once *once, uint64_t *life, uint64_t *originator, uint32_t *last_number);
+
+/*
+ * Writes the request of the pending command, without its number, to buffer, and its length to *count.
+ * ENIP_OK; ENIP_ABSENT if no command is pending; ENIP_ROOM; ENIP_MISUSE.
+ */
+ENIP_API int enip_once_request(const enip_once *once, void *buffer, size_t size, size_t *count);
 
 #ifdef __cplusplus
 }

@@ -1,10 +1,10 @@
-// Preloaded into the program by tests/calls. Replaces system calls as the environment variable RULES says. Each observed
+// Preloaded into the program by tests/calls and tests/once. Replaces system calls as the environment variable RULES says. Each observed
 // call writes a line to the file that CALLS_LOG names: the call, its peer, and its arguments or its result.
 //
 // RULES is a list of `NAME PEER FIRST COUNT KIND NUMBER;`. A rule applies to the calls of this name on the socket of the
 // PEER-th accepted connection, or on any socket if PEER is 0. Of these it takes COUNT calls from the FIRST one on, or all
 // if COUNT is 0. KIND is e: the call fails with this error; n: it transfers at most this many bytes; r: it is not made,
-// and returns this number; p: it is not made, and returns success at once.
+// and returns this number; p: it is not made, and returns success at once; k: the program is killed before it.
 #define _GNU_SOURCE
 #include <dlfcn.h>
 #include <errno.h>
@@ -12,11 +12,14 @@
 #include <netinet/in.h>
 #include <netinet/tcp.h>
 #include <poll.h>
+#include <signal.h>
 #include <stdarg.h>
 #include <stdio.h>
 #include <stdlib.h>
 #include <string.h>
 #include <sys/epoll.h>
+#include <sys/file.h>
+#include <sys/random.h>
 #include <sys/socket.h>
 #include <sys/syscall.h>
 #include <sys/time.h>
@@ -75,6 +78,7 @@ static struct rule *rule_of(const char *name, int socket) {
         if (!found && number >= r->first && (!r->count || number < r->first + r->count)) found = r;
     }
     if (found) log_line("%s %d %c %ld\n", name, peer_of(socket), found->kind, found->number);
+    if (found && found->kind == 'k') kill(getpid(), SIGKILL);
     return found;
 }
 
@@ -125,6 +129,32 @@ ssize_t write(int file, const void *from, size_t size) {
 
 ssize_t __write(int file, const void *from, size_t size) {
     return write(file, from, size);
+}
+
+int fsync(int file) {
+    NEXT(fsync);
+    long answer;
+    log_line("syncs\n");
+    return answers(rule_of("fsync", -1), &answer) ? (int)answer : next(file);
+}
+
+int rename(const char *from, const char *to) {
+    NEXT(rename);
+    long answer;
+    log_line("renames\n");
+    return answers(rule_of("rename", -1), &answer) ? (int)answer : next(from, to);
+}
+
+int flock(int file, int operation) {
+    NEXT(flock);
+    long answer;
+    return answers(rule_of("flock", -1), &answer) ? (int)answer : next(file, operation);
+}
+
+int getentropy(void *into, size_t size) {
+    NEXT(getentropy);
+    long answer;
+    return answers(rule_of("getentropy", -1), &answer) ? (int)answer : next(into, size);
 }
 
 ssize_t recvfrom(int socket, void *restrict into, size_t size, int flags,

@@ -5,7 +5,7 @@ from reading.protocol import (
     CONNECTED_ADDRESS, CONNECTED_DATA, IDENTITY, LAST, LIST_IDENTITY, LIST_INTERFACES, LIST_SERVICES, NOP,
     NULL_ADDRESS, REGISTER, ROOM, SEND_RR_DATA, SEND_UNIT_DATA, UNCONNECTED_DATA, UNREGISTER, number, to_manager,
 )
-from reading.objects import Objects
+from reading.ledger import Device
 from reading.manager import Manager
 
 
@@ -53,10 +53,10 @@ class Peer:
 
 
 class Adapter:
-    """The adapter of a configuration: its peers by their digit, its connections, its objects and its time."""
+    """The adapter of a configuration: its peers by their digit, its connections, its device and its time."""
 
     def __init__(self, config):
-        self.config, self.objects, self.manager = config, Objects(config), Manager(config)
+        self.config, self.device, self.manager = config, Device(config), Manager(config)
         self.given, self.now, self.next_handle, self.peers = 0, 0, config["first_handle"], {}
 
     def update_time(self):
@@ -137,7 +137,7 @@ class Adapter:
             kind, item = 0x0100, number(2, 1) + number(2, 0x0020) + b"Communications\0\0"
         else:
             socket_address = struct.pack(">HH", 2, config["port"]) + bytes(config["address"]) + bytes(8)
-            identity = b"".join(self.objects.attribute(IDENTITY, 1, attribute) for attribute in range(1, 9))
+            identity = b"".join(self.device.objects.attribute(IDENTITY, 1, attribute) for attribute in range(1, 9))
             kind, item = 0x000C, number(2, 1) + socket_address + identity
         return number(2, 1) + number(2, kind) + number(2, len(item)) + item
 
@@ -160,14 +160,14 @@ class Adapter:
         if to_manager(message):
             reply = self.manager.execute(self.now, session, message)
         else:
-            reply = self.objects.execute(message, ROOM)
+            reply = self.device.execute(message, ROOM)
         return 0, body_of((NULL_ADDRESS, b""), (UNCONNECTED_DATA, reply)), session
 
     def connected(self, session, data):
         found = connected_of(data)
         for one in self.manager.connections if found else []:
             if (one.session, one.o_t_id) == (session, found[0]):
-                item = one.item(self.objects, self.now, found[1])
+                item = one.item(self.device, self.now, found[1])
                 address = CONNECTED_ADDRESS, number(4, one.t_o_id)
                 return item and (0, body_of(address, (CONNECTED_DATA, item)), session)
         return None

@@ -1,153 +1,21 @@
-"""Random configurations and conversations, with and without faults."""
-import random
+"""Random conversations, with and without faults."""
 import struct
 
 from reading.protocol import (
-    ADD, ASSEMBLY, CLEAR, CONNECTED_ADDRESS, CONNECTED_DATA, CONNECTION_MANAGER, COUNTER, DEFAULTS, FORWARD_CLOSE,
-    FORWARD_OPEN, GET, GET_ALL, GET_LIST, GET_MEMBER, IDENTITY, LARGE_FORWARD_OPEN, LARGEST_ASSEMBLY, LARGEST_SIZE,
-    LAST, LAST_MOMENT, LIST_IDENTITY, LIST_INTERFACES, LIST_SERVICES, NOP, NULL_ADDRESS, ORDER, REGISTER, SEGMENTS,
-    SEND_RR_DATA, SEND_UNIT_DATA, SET, SET_MEMBER, TEN_SECONDS, UNCONNECTED_DATA, UNREGISTER, number,
+    ASSEMBLY, CONNECTED_ADDRESS, CONNECTED_DATA, CONNECTION_MANAGER, COUNTER, FORWARD_CLOSE, FORWARD_OPEN, GET,
+    IDENTITY, LARGE_FORWARD_OPEN, LARGEST_SIZE, LAST, LAST_MOMENT, LEDGER, LIST_IDENTITY, LIST_INTERFACES,
+    LIST_SERVICES, NOP, NULL_ADDRESS, REGISTER, SEND_RR_DATA, SEND_UNIT_DATA, TEN_SECONDS, UNCONNECTED_DATA,
+    UNREGISTER, number,
 )
 from reading.adapter import Adapter, body_of
+from reading.commands import Commands
 
 
-class Chooser:
-    """Chooses from a seed."""
-
-    def __init__(self, seed):
-        self.random = random.Random(seed)
-
-    def pick(self, *ones):
-        return self.random.choice(ones)
-
-    def seldom(self, share=0.03):
-        return self.random.random() < share
-
-    def some(self, count):
-        return self.random.randbytes(self.random.randrange(count))
+# T->O sizes at the edges of the ledger's reply limits: of kept replies of 4 and 8 bytes, and of a new command.
+AROUND_LEDGER = [10, 10, 11, 14, 14, 15, 18, 19, 486, 486, 487, 487, 487]
 
 
-class Configurations(Chooser):
-    """Makes configurations."""
-
-    def assembly(self, instance):
-        sizes = [self.random.randint(1, self.pick(1, 2, 7)) for _ in range(self.pick(1, 2, 3, 5, 64))]
-        sizes = [self.random.randint(1, self.pick(480, LARGEST_ASSEMBLY))] if self.seldom(0.15) else sizes
-        while sum(sizes) > LARGEST_ASSEMBLY:
-            sizes.pop()
-        return {"instance": instance, "settable": not self.seldom(0.3), "members": sizes}
-
-    def config(self):
-        """A configuration. `omitted` are keys with their default that its text leaves out."""
-        below = self.random.randrange
-        instances = [1, 2, 99, 100, 255, 256, 1000, 65535] + list(range(400, 420))
-        instances = self.random.sample(instances, self.pick(0, 1, 2, 3, 16))
-        letters = [chr(code) for code in range(0x20, 0x7F) if chr(code) not in '"\\']
-        limit = self.pick(0, 1, 100, 1000, LAST, below(2**32))
-        config = {
-            "vendor": below(65536), "device_type": below(65536), "product_code": below(65536),
-            "major": 1 + below(127), "minor": self.pick(0, 5, below(256)), "serial": below(2**32),
-            "name": "".join(self.random.choices(letters, k=below(33))), "status": below(65536), "state": below(256),
-            "address": list(self.random.randbytes(4)), "port": below(65536),
-            "peers": self.pick(1, 2, 2, 3, 3, 4, 4, 9, 16), "connections": self.pick(1, 2, 2, 3, 3, 4, 16, 64),
-            "first_handle": self.first(), "first_id": self.first(), "limit": limit, "value": below(limit + 1),
-            "assemblies": [self.assembly(instance) for instance in instances],
-        }
-        omitted = [key for key in DEFAULTS if self.seldom(0.15)]
-        omitted += ["value"] if "limit" not in omitted and self.seldom(0.2) else []
-        config.update({key: DEFAULTS[key] for key in omitted})
-        config["omitted"] = omitted
-        return config
-
-    def first(self):
-        """A first number, sometimes one near the last."""
-        return self.pick(1, 1, 1 + self.random.randrange(LAST), LAST - self.random.randrange(24))
-
-
-class Requests(Configurations):
-    """Makes message router requests, with and without faults."""
-
-    # whether the counter was cleared, and its additions have not been read since
-    cleared = False
-
-    def segment(self, kind, value):
-        wide = [first for first, (name, width) in SEGMENTS.items() if name == kind and value < 256**width]
-        first = self.random.choice(wide)
-        width = SEGMENTS[first][1]
-        return bytes([first, value]) if width == 1 else bytes([first]) + self.random.randbytes(1) + number(width, value)
-
-    def right_path(self, *values):
-        return b"".join(self.segment(kind, value) for kind, value in zip(ORDER, values))
-
-    def any_path(self, config):
-        kind = self.pick(*[IDENTITY, ASSEMBLY, ASSEMBLY, COUNTER, COUNTER] * 5, CONNECTION_MANAGER, 2, 0x104)
-        ones = [one["instance"] for one in config["assemblies"]] * 3 if kind == ASSEMBLY else [1] * 9
-        text = self.right_path(kind, self.pick(*ones, 0, 77, 65537))
-        attribute = self.pick(None, *range(1, 10), 3, 3, 3, 3, 259)
-        member = self.pick(None, None, 0, 1, 1, 2, 3, 64, 65)
-        text += b"" if attribute is None else self.segment("attribute", attribute)
-        text += b"" if member is None else self.segment("member", member)
-        if self.seldom():
-            place = self.random.randrange(len(text))
-            text = text[:place] + self.random.randbytes(1) + text[place + 1 :]
-        text = text[: self.random.randrange(len(text))] if self.seldom() else text
-        return text + bytes(len(text) % 2)
-
-    def any_data(self, config):
-        shape = self.pick("none", "none", "number", "content", "content", "list", "list")
-        if shape == "number":
-            return number(4, self.pick(0, 1, 5, 100, self.random.randrange(2**32)))
-        if shape == "content" and config["assemblies"]:
-            sizes = self.random.choice(config["assemblies"])["members"]
-            return self.random.randbytes(self.pick(sum(sizes), *sizes) + self.pick(0, 0, 0, 1, -1))
-        if shape == "list":
-            listed = [self.pick(1, 2, 3, 4, 5, 6, 7, 8, 9, 300) for _ in range(self.pick(0, 1, 2, 3, 8, 130, 250))]
-            text = b"".join(number(2, one) for one in [len(listed)] + listed)
-            return text[:-1] if self.seldom() else text + bytes(self.pick(0, 0, 0, 1))
-        return b""
-
-    def any_request(self, config):
-        known = [GET_ALL, GET_LIST, GET, SET, GET_MEMBER, SET_MEMBER, ADD, CLEAR]
-        services = (FORWARD_CLOSE, FORWARD_OPEN, LARGE_FORWARD_OPEN)
-        service = self.pick(*known * 3, *services, 0x8E, self.random.randrange(256))
-        path = self.any_path(config)
-        words = self.pick(255, len(path) // 2 + 1) if self.seldom() else len(path) // 2
-        return bytes([service, words]) + path + self.any_data(config)
-
-    def right_request(self, config):
-        """A request that is mostly executed."""
-        if config["assemblies"] and self.seldom(0.3):
-            one = self.random.choice(config["assemblies"])
-            member = self.random.randint(1, len(one["members"]))
-            service = self.pick(GET, SET, GET_MEMBER, SET_MEMBER)
-            values = ASSEMBLY, one["instance"], 3, member
-            size = {SET: sum(one["members"]), SET_MEMBER: one["members"][member - 1]}.get(service, 0)
-            path, data = self.right_path(*values[: 3 if service in (GET, SET) else 4]), self.random.randbytes(size)
-        elif self.seldom(0.2):
-            service, path, data = GET_ALL, self.right_path(IDENTITY, 1), b""
-        elif self.cleared and self.seldom(0.5):
-            # the next request reads what Clear leaves
-            self.cleared = False
-            service, path, data = GET, self.right_path(COUNTER, 1, 3), b""
-        else:
-            service = self.pick(ADD, ADD, ADD, ADD, GET, GET, CLEAR, SET)
-            self.cleared |= service == CLEAR
-            path = self.right_path(COUNTER, 1) + (self.segment("attribute", 2) if service == SET else b"")
-            path += self.segment("attribute", self.pick(1, 1, 2, 3)) if service == GET else b""
-            amount = self.pick(0, 1, 5, config["limit"] // 9) if service == ADD else config["limit"]
-            data = number(4, amount) if service in (ADD, SET) else b""
-        return bytes([service, len(path) // 2]) + path + data
-
-    def request(self, config):
-        return self.right_request(config) if self.seldom(0.6) else self.any_request(config)
-
-    def manager_path(self):
-        path = self.right_path(CONNECTION_MANAGER, 1)
-        path += self.segment(self.pick("attribute", "member"), self.pick(1, 3)) if self.seldom() else b""
-        return bytes([len(path) // 2]) + path
-
-
-class Openings(Requests):
+class Openings(Commands):
     """Makes openings and closings, right ones and ones with a fault, or with two faults whose checks are neighbours."""
 
     FAULTS = ["short", "long", "path", "key", "target", "transport", "type", "size", "interval", "numbers"]
@@ -203,6 +71,7 @@ class Openings(Requests):
         # a wrong multiplier is the only fault, or the type is wrong in both directions, too
         types = [] if side == 2 and self.seldom(0.5) else faults
         o_t, t_o = [4, 12, 13, 34, 500, 511, 511, 511], [10, 12, 13, 34, 500, 500, 511, 511]
+        o_t, t_o = (o_t + [500, 511] * 4, t_o + AROUND_LEDGER) if config["ledger"] else (o_t, t_o)
         over = [4003, 4004, 0x2000 + 500, 0x8000, 0x8000 + 500, 0xFFFF] if large else []
         o_t, t_o = (o_t + [512, 1000, 4001, 4002], t_o + [512, 3906, 4001, 4002]) if large else (o_t, t_o)
         o_t = [0, 1, 2, 3] + over if "size" in faults and side != 1 else o_t
@@ -266,7 +135,8 @@ class Conversation(Openings):
         """A request for a connection. Sometimes its item has just the O->T size, or one byte more."""
         if self.seldom(0.06):
             return self.some(3)
-        request = self.request(self.configuration)
+        commands = self.configuration["ledger"] and self.seldom(0.4)
+        request = self.to_ledger(self.configuration) if commands else self.request(self.configuration)
         if self.seldom(0.15):
             size = o_t_size - 2 + self.pick(0, 1)
             return request[:size] + bytes(size - len(request[:size]))
@@ -416,13 +286,14 @@ class Conversation(Openings):
     def read_attributes(self):
         """A conversation that reads each attribute of each object and class, and some that do not exist."""
         config = self.config()
-        while not config["assemblies"]:
+        while not (config["assemblies"] and config["ledger"]):
             config = self.config()
         self.begin(config)
         handle = min(self.adapter.next_handle, LAST)
         texts = [struct.pack("<HHII", REGISTER, 4, 0, 0) + bytes(12) + b"\1\0\0\0"]
         assemblies = [one["instance"] for one in config["assemblies"]]
-        for kind, instances in (IDENTITY, [1]), (ASSEMBLY, assemblies), (COUNTER, [1]), (CONNECTION_MANAGER, [1]):
+        objects = (IDENTITY, [1]), (ASSEMBLY, assemblies), (COUNTER, [1]), (LEDGER, [1]), (CONNECTION_MANAGER, [1])
+        for kind, instances in objects:
             for instance in [0, *instances]:
                 for attribute in range(12):
                     path = self.right_path(kind, instance, attribute)

@@ -23,13 +23,13 @@ class Connection:
     count: bytes = b""
     reply: bytes = b""
 
-    def item(self, objects, now, item):
+    def item(self, device, now, item):
         """The count and reply that answer an item, or None if it is dropped."""
         if not 4 <= len(item) <= self.o_t_size:
             return None
         self.deadline = min(now + self.time, LAST_MOMENT)
         if item[:2] != self.count:
-            self.count, self.reply = item[:2], objects.execute(item[2:], self.t_o_size - 2)
+            self.count, self.reply = item[:2], device.execute(item[2:], self.t_o_size - 2)
         return self.count + self.reply
 
 

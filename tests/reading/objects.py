@@ -8,6 +8,21 @@ from reading.protocol import (
 )
 
 
+def listed(value_of, data):
+    """The general status and the data of a reply to Get_Attribute_List. `value_of` gives an attribute, or None."""
+    check(len(data) >= 2, SHORT)
+    count = int.from_bytes(data[:2], "little")
+    check_length(data, 2 + 2 * count)
+    status, reply = 0, data[:2]
+    for (attribute,) in struct.iter_unpack("<H", data[2:]):
+        value = value_of(attribute)
+        if value is None:
+            status, reply = LIST, reply + number(2, attribute) + number(2, ATTRIBUTE)
+        else:
+            reply += number(2, attribute) + number(2, 0) + value
+    return status, reply
+
+
 class Objects:
     """Identity, Assembly and the counter of a configuration."""
 
@@ -67,7 +82,7 @@ class Objects:
             check_length(data, 0)
             return 0, b"".join(self.attribute(kind, instance, place) for place in range(1, 8))
         if service == GET_LIST:
-            return self.listed(kind, instance, data)
+            return listed(lambda attribute: self.attribute(kind, instance, attribute), data)
         if service == ADD:
             return 0, self.added(data)
         if service == CLEAR:
@@ -82,19 +97,6 @@ class Objects:
             check_length(data, 0)
             return 0, value
         return 0, self.set(kind, instance, path["attribute"], len(value), data)
-
-    def listed(self, kind, instance, data):
-        check(len(data) >= 2, SHORT)
-        count = int.from_bytes(data[:2], "little")
-        check_length(data, 2 + 2 * count)
-        status, reply = 0, data[:2]
-        for (attribute,) in struct.iter_unpack("<H", data[2:]):
-            value = self.attribute(kind, instance, attribute)
-            if value is None:
-                status, reply = LIST, reply + number(2, attribute) + number(2, ATTRIBUTE)
-            else:
-                reply += number(2, attribute) + number(2, 0) + value
-        return status, reply
 
     def set(self, kind, instance, attribute, length, data):
         settable = attribute == 2 if kind == COUNTER else attribute == 3 and self.assemblies[instance]["settable"]

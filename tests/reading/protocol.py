@@ -1,10 +1,12 @@
 """What the second reading uses of the standard: numbers, statuses, and the layout of a request and its path."""
 
-IDENTITY, ASSEMBLY, CONNECTION_MANAGER, COUNTER = 0x01, 0x04, 0x06, 0x64
+IDENTITY, ASSEMBLY, CONNECTION_MANAGER, COUNTER, LEDGER = 0x01, 0x04, 0x06, 0x64, 0x65
 GET_ALL, GET_LIST, GET, SET, GET_MEMBER, SET_MEMBER, ADD, CLEAR = 0x01, 0x03, 0x0E, 0x10, 0x18, 0x19, 0x32, 0x33
+DO_ONCE, GET_LAST, FORGET = 0x4B, 0x4C, 0x4D
 FORWARD_CLOSE, FORWARD_OPEN, LARGE_FORWARD_OPEN = 0x4E, 0x54, 0x5B
 PATH_SEGMENT, DESTINATION, SERVICE, VALUE, LIST, NOT_SETTABLE = 0x04, 0x05, 0x08, 0x09, 0x0A, 0x0E
 TOO_LARGE, SHORT, ATTRIBUTE, LONG, PARAMETER, PATH_SIZE, MEMBER = 0x11, 0x13, 0x14, 0x15, 0x20, 0x26, 0x28
+NO_SLOT, NOT_NEW, OTHER_LIFE, UNKNOWN_ORIGINATOR = 0x02, 0x0C, 0x10, 0x16
 CONNECTION_FAILURE = 0x01
 NOP, LIST_SERVICES, LIST_IDENTITY, LIST_INTERFACES = 0x0000, 0x0004, 0x0063, 0x0064
 REGISTER, UNREGISTER, SEND_RR_DATA, SEND_UNIT_DATA = 0x0065, 0x0066, 0x006F, 0x0070
@@ -71,11 +73,21 @@ def request_of(request):
     return request[0], path, request[end:]
 
 
+def path_read(request):
+    """The path of a request, or None if it can't be read."""
+    try:
+        return request_of(request)[1]
+    except Refusal:
+        return None
+
+
+def class_of(request):
+    """The class that the path of a request names, or None if the path can't be read."""
+    path = path_read(request)
+    return path and path["class"]
+
+
 def to_manager(request):
     """Whether a request is an opening or a closing at the Connection Manager."""
-    try:
-        service, path, _ = request_of(request)
-    except Refusal:
-        return False
-    services = (FORWARD_OPEN, LARGE_FORWARD_OPEN, FORWARD_CLOSE)
-    return service in services and (path["class"], path["instance"]) == (CONNECTION_MANAGER, 1)
+    path, services = path_read(request), (FORWARD_OPEN, LARGE_FORWARD_OPEN, FORWARD_CLOSE)
+    return path is not None and request[0] in services and (path["class"], path["instance"]) == (CONNECTION_MANAGER, 1)

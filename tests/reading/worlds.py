@@ -1,8 +1,8 @@
 """The world in which requests have numbers, and random scripts for it."""
 
-from reading.protocol import GET_LIST, IDENTITY, LAST, LAST_MOMENT, MOST, ROOM, number
-from reading.objects import Objects
-from reading.conversations import Requests
+from reading.protocol import LAST, LAST_MOMENT, MOST, ROOM
+from reading.ledger import Device
+from reading.commands import Commands
 
 
 class NumberedWorld:
@@ -21,14 +21,14 @@ class NumberedWorld:
         return self.config["peers"] < 2 or self.config["first_handle"] == LAST
 
     def run(self, until=None):
-        """The objects after the log, and the reply to the request with the number `until`."""
-        objects, reply = Objects(self.config), None
+        """The device after the log, and the reply to the request with the number `until`."""
+        device, reply = Device(self.config), None
         for entry in self.log:
             own = isinstance(entry, int)
             request, room = (self.submits[entry], self.T_O_SIZE - 2) if own else (entry, ROOM)
-            got = objects.execute(request, room)
+            got = device.execute(request, room)
             reply = got if own and entry == until else reply
-        return objects, reply
+        return device, reply
 
     def refusal(self, request):
         if len(self.submits) - self.after_accepted == MOST:
@@ -91,7 +91,7 @@ class NumberedWorld:
         return "giveup"
 
     def ending(self):
-        objects, _ = self.run()
+        objects = self.run()[0].objects
         yield "counter %d %d %d" % (objects.value, objects.limit, objects.additions)
         for instance, content in sorted(objects.contents.items()):
             yield "assembly %d %s" % (instance, content.hex())
@@ -99,20 +99,13 @@ class NumberedWorld:
         yield "client " + ("given up" if self.given_up else waiting)
 
 
-class Script(Requests):
+class Script(Commands):
     """Makes the lines of a script, and the output that is expected."""
 
     KINDS = ["submit", "other"] * 2 + ["reach", "back"] * 5 + ["resend", "end", "remark"]
 
     def begin(self, config):
         self.configuration, self.world, self.lines, self.wanted = config, NumberedWorld(config), [], []
-
-    def listing(self, size):
-        """A request for a list of unknown attributes and attributes of one byte, whose reply has this size."""
-        known = (size - 6) % 4
-        listed = [number(2, 300)] * ((size - 6) // 4 - known) + [number(2, 8)] * known
-        path = self.right_path(IDENTITY, 1)
-        return bytes([GET_LIST, len(path) // 2]) + path + number(2, len(listed)) + b"".join(listed)
 
     def bytes(self, limit):
         """A request. Sometimes its length or that of its reply is about the limit, or it has a byte or two, or none."""

@@ -9,6 +9,7 @@ use Rattle.cip_message.specs.declared.request.RequestFault.{RequestFault}
 use Rattle.cip_message.specs.PathReading.{path_of}
 use Rattle.cip_message.specs.Request.{Request, request_of}
 use Rattle.cip_ledger.specs.declared.request.TheConstants.{LEDGER}
+use Rattle.cip_ledger.specs.declared.service.TheConstants.{DO_ONCE}
 
 -- a request to the ledger's class; the member of its path is ignored
 pub record LedgerRequest : Type 0 where
@@ -42,6 +43,10 @@ pub record IsShort (text : List ℕ) : Type 0 where
   pub class_first : slice_index text 2 ≡ 0x20
   pub class : slice_index text 3 ≡ LEDGER
   pub instance_first : slice_index text 4 ≡ 0x24
+
+-- Do_Once at the instance, with these data
+abbrev pub do_once_with : List ℕ → LedgerRequest
+do_once_with bytes = record { service = DO_ONCE; instance = 1; attribute = None; «data» = bytes }
 
 -- a command: the device's life that it is for, who gives it, its number, and the request that it embeds
 pub record Command : Type 0 where

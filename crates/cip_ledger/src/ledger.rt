@@ -1,5 +1,5 @@
 //! The ledger: what it does with each request.
-ghost use Rattle.std.specs.Prelude.{◌≡◌, ◌<◌, ◌≤◌, ◌∷◌, length, Some, None, IfOk};
+ghost use Rattle.std.specs.Prelude.{◌≡◌, ◌<◌, ◌≤◌, ◌∷◌, ◌++◌, ◌+◌, length, Some, None, IfOk};
 ghost use Rattle.cip_ledger.specs.Ledger.{empty_ledger, slot_of};
 ghost use Rattle.cip_ledger.specs.Requests as requests;
 ghost use Rattle.cip_ledger.specs.Services.{do_command, Executes, KEPT_LIMIT};
@@ -12,13 +12,14 @@ ghost use Rattle.cip_ledger.specs.AttributeValue.{values_in};
 
 use crate::attributes::{Attributes, class_value, write_single};
 use crate::reply::{HEAD_SIZE, answer, begin, size_fault};
-use crate::request::{Command, LedgerRequest, is_barred};
+use crate::request::{Command, LedgerRequest, SHORT_SIZE, is_barred, is_do_once};
 use crate::service::{DO_ONCE, FORGET, GET_ATTRIBUTE_LIST, GET_ATTRIBUTE_SINGLE, GET_LAST};
 use crate::slot::KEPT_LIMIT;
 use crate::slots::{MOST_ORIGINATORS, Slots};
 use crate::status::Status;
 use byteorder::{ByteOrder, LittleEndian};
 use cip_bytes::append;
+use cip_message::reply_service;
 use cip_objects::{REPLY_LIMIT, ReplyBuf, Router};
 use std::alloc::{AllocError, Global};
 use std::marker::Model;
@@ -112,20 +113,21 @@ impl Ledger {
         self.slots.position(originator)
     }
 
-    /// Do_Once: executes a command that is new, and replies to one that was executed as it was replied to then.
+    /// Do_Once: executes a command that is new, and replies to one that was executed as it was replied to then. The
+    /// arguments have the router's order.
     #[tactic(auto, unfolding(crate::specs::Services::do_once))]
     fn do_once<R: Router>(
-        &mut self,
         router: &mut R,
         data: &[u8],
         max_size: usize,
         reply: &mut ReplyBuf,
+        ledger: &mut Ledger,
     )
         requires max_size_from { 8 ≤ max_size }
         requires max_size_to { max_size ≤ REPLY_LIMIT }
-        ensures rule { turn_of (Some self.new) router.new reply.new.items
-            ≡ acted R.after R.answer (services.do_once self.old max_size «data».now) DO_ONCE
-            (Some self.old) router.old }
+        ensures rule { turn_of (Some ledger.new) router.new reply.new.items
+            ≡ acted R.after R.answer (services.do_once ledger.old max_size «data».now) DO_ONCE
+            (Some ledger.old) router.old }
         ensures fits { length reply.new.items ≤ max_size }
     {
         // two numbers of 64 bits, one of 32, a request: 0x13 (ledger, ours)
@@ -134,30 +136,35 @@ impl Ledger {
             return;
         }
         let command = Command::read(data);
-        let index = self.position(command.originator);
-        match self.verdict(command, index, max_size) {
+        let index = ledger.position(command.originator);
+        match ledger.verdict(command, index, max_size) {
             Verdict::Refuses(status) => begin(DO_ONCE, status, reply),
             Verdict::Repeats(kept) => answer(DO_ONCE, &[DONE], kept, max_size, reply),
-            Verdict::Executes => self.execute_command(router, command, index, reply),
+            Verdict::Executes => {
+                let request = &data[Command::FRONT_SIZE..];
+                ledger.execute_command(router, command, request, index, reply);
+            }
         }
     }
 
-    /// Executes a command that is new, and keeps its reply.
+    /// Executes a command that is new, and keeps its reply. `request` is the command's own.
     fn execute_command<R: Router>(
         &mut self,
         router: &mut R,
         command: Command<'_>,
+        request: &[u8],
         index: Option<usize>,
         reply: &mut ReplyBuf,
     )
         requires found { IsFound self.old.taken command.originator index }
         requires free { slot_of command.originator self.old.taken ≡ None → length self.old.taken < self.old.slots }
-        requires request { 2 ≤ length command.request.now }
+        requires own { request.now ≡ command.request.now }
+        requires request { 2 ≤ length request.now }
         ensures rule { turn_of (Some self.new) router.new reply.new.items
             ≡ acted R.after R.answer (Executes (command_in command.entry)) DO_ONCE (Some self.old) router.old }
         ensures fits { length reply.new.items ≤ LONGEST_DONE }
     {
-        execute_embedded(router, command.request, reply);
+        execute_embedded(router, request, reply);
         let index = self.slots.keep(index, command.originator, command.number, reply.as_slice());
         write_done(self.slots.reply(index), reply);
     }
@@ -233,7 +240,7 @@ impl Ledger {
         ensures fits { length reply.new.items ≤ max_size }
     {
         match request.service {
-            DO_ONCE => self.do_once(router, request.data, max_size, reply),
+            DO_ONCE => Ledger::do_once(router, request.data, max_size, reply, self),
             GET_LAST => self.get_last(request.data, max_size, reply),
             FORGET => self.forget(request.data, reply),
             GET_ATTRIBUTE_SINGLE => {
@@ -269,27 +276,52 @@ impl Ledger {
             _ => begin(request.service, Status::PathDestinationUnknown, reply),
         }
     }
+}
 
-    /// Executes a request that may be one to the ledger's class, and leaves its reply in `reply`.
-    #[inline(never)]
-    pub(crate) fn execute<R: Router>(
-        &mut self,
-        router: &mut R,
-        request: &[u8],
-        max_size: usize,
-        reply: &mut ReplyBuf,
-    )
-        requires request { 2 ≤ length request.now }
-        requires max_size_from { 8 ≤ max_size }
-        requires max_size_to { max_size ≤ REPLY_LIMIT }
-        ensures rule { turn_of (Some self.new) router.new reply.new.items
-            ≡ turn R.after R.answer (Some self.old) router.old max_size request.now }
-        ensures fits { length reply.new.items ≤ max_size }
-    {
-        match LedgerRequest::read(request) {
-            Some(own) => self.serve(router, own, max_size, reply),
-            None => router.execute(request, max_size, reply),
-        }
+/// Executes a request that may be one to the ledger's class, and leaves its reply in `reply`. The arguments have the
+/// router's order, so that a request which is the router's is passed on as it is.
+#[inline(never)]
+pub(crate) fn execute_by<R: Router>(
+    router: &mut R,
+    request: &[u8],
+    max_size: usize,
+    reply: &mut ReplyBuf,
+    ledger: &mut Ledger,
+)
+    requires request { 2 ≤ length request.now }
+    requires max_size_from { 8 ≤ max_size }
+    requires max_size_to { max_size ≤ REPLY_LIMIT }
+    ensures rule { turn_of (Some ledger.new) router.new reply.new.items
+        ≡ turn R.after R.answer (Some ledger.old) router.old max_size request.now }
+    ensures fits { length reply.new.items ≤ max_size }
+{
+    if is_do_once(request) {
+        Ledger::do_once(router, &request[SHORT_SIZE..], max_size, reply, ledger);
+        return;
+    }
+    execute_any(router, request, max_size, reply, ledger);
+}
+
+/// Executes a request as `execute_by` does, however it is spelled. It is a function of its own, so that Do_Once saves
+/// no registers for it.
+#[inline(never)]
+fn execute_any<R: Router>(
+    router: &mut R,
+    request: &[u8],
+    max_size: usize,
+    reply: &mut ReplyBuf,
+    ledger: &mut Ledger,
+)
+    requires request { 2 ≤ length request.now }
+    requires max_size_from { 8 ≤ max_size }
+    requires max_size_to { max_size ≤ REPLY_LIMIT }
+    ensures rule { turn_of (Some ledger.new) router.new reply.new.items
+        ≡ turn R.after R.answer (Some ledger.old) router.old max_size request.now }
+    ensures fits { length reply.new.items ≤ max_size }
+{
+    match LedgerRequest::read(request) {
+        Some(own) => ledger.serve(router, own, max_size, reply),
+        None => router.execute(request, max_size, reply),
     }
 }
 
@@ -340,13 +372,24 @@ fn execute_embedded<R: Router>(router: &mut R, request: &[u8], reply: &mut Reply
     router.execute(request, KEPT_LIMIT, reply);
 }
 
-/// Replies that a command is done, with the reply to its embedded request.
+/// Replies that a command is done: writes the head, the state and the reply that is kept over that reply.
 fn write_done(kept: &[u8], reply: &mut ReplyBuf)
-    requires { length kept.now ≤ KEPT_LIMIT }
+    requires fits { length kept.now ≤ KEPT_LIMIT }
+    requires size { length reply.old.items ≡ length kept.now }
     ensures reply { reply.new.items ≡ services.reply_to DO_ONCE (services.success (DONE ∷ kept.now)) }
     ensures fits { length reply.new.items ≤ LONGEST_DONE }
 {
-    begin(DO_ONCE, Status::Success, reply);
-    reply.push(DONE);
-    append(reply, kept);
+    let front = [reply_service(DO_ONCE), 0, Status::Success.number(), 0, DONE];
+    append(reply, &front);
+    overwrite(reply.as_mut_slice(), &front, kept);
+}
+
+/// Writes two parts over bytes that are as many.
+fn overwrite(text: &mut [u8], front: &[u8], rest: &[u8])
+    requires { length text.old ≡ length front.now + length rest.now }
+    ensures { text.new ≡ front.now ++ rest.now }
+{
+    let (start, end) = text.split_at_mut(front.len());
+    start.copy_from_slice(front);
+    end.copy_from_slice(rest);
 }

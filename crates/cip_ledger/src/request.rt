@@ -1,8 +1,9 @@
 //! Requests to the ledger's class, and the command that Do_Once gives.
-ghost use Rattle.std.specs.Prelude.{◌≡◌, ◌≤◌, length, true, false, option_map, None};
+ghost use Rattle.std.specs.Prelude.{◌≡◌, ◌≤◌, length, true, false, option_map, Some, None, drop};
 ghost use Rattle.cip_message.specs.PathReading.{path_of};
-ghost use Rattle.cip_ledger.specs.Requests.{ledger_request, IsShort, command_of, is_barred, bars_class};
+ghost use Rattle.cip_ledger.specs.Requests.{ledger_request, do_once_with, IsShort, command_of, is_barred, bars_class};
 
+use crate::service::DO_ONCE;
 use byteorder::{ByteOrder, LittleEndian};
 use cip_bytes::protocol::CONNECTION_MANAGER;
 use cip_message::{RequestView, read_path};
@@ -17,6 +18,10 @@ const CLASS_8_BITS: u8 = 0x20;
 const CLASS_16_BITS: u8 = 0x21;
 
 const INSTANCE_8_BITS: u8 = 0x24;
+
+/// The size of a request whose path is short, up to its data: the service, the path size, a class and an instance of 8
+/// bits.
+pub(crate) const SHORT_SIZE: usize = 6;
 
 /// A request to the ledger's class.
 #[derive(Clone, Copy)]
@@ -103,6 +108,21 @@ fn is_short(request: &[u8]) -> bool
     request[4] == INSTANCE_8_BITS
 }
 
+/// Whether a request is Do_Once at the instance, with a short path.
+#[inline(always)]
+pub(crate) fn is_do_once(request: &[u8]) -> bool
+    ensures size { result ≡ true → 6 ≤ length request.now }
+    ensures is { result ≡ true → ledger_request request.now ≡ Some (do_once_with (drop 6 request.now)) }
+{
+    if !is_short(request) {
+        return false;
+    }
+    if request[0] != DO_ONCE {
+        return false;
+    }
+    request[5] == 1
+}
+
 /// Whether a request can't be embedded in a command: it goes to the Connection Manager or to the ledger.
 pub(crate) fn is_barred(request: &[u8]) -> bool
     ensures { result ≡ is_barred request.now }
@@ -165,20 +185,23 @@ pub(crate) struct Command<'a> {
 impl<'a> Command<'a> {
     ghost use Rattle.cip_ledger.specs.Views.{command_in};
 
-    /// The smallest data of Do_Once, in bytes: a life, an originator, a number and the smallest request.
+    /// The size of what is before the embedded request, in bytes: a life, an originator and a number.
+    pub(crate) const FRONT_SIZE: usize = 20;
+
+    /// The smallest data of Do_Once, in bytes: with the smallest request.
     pub(crate) const SMALLEST: usize = 22;
 
     /// Reads the data of Do_Once.
     pub(crate) fn read(data: &'a [u8]) -> Command<'a>
         requires { 22 ≤ length «data».now }
         ensures command { command_in result ≡ command_of «data».now }
-        ensures request { 2 ≤ length result.request.now }
+        ensures embedded { result.request.now ≡ drop 20 «data».now }
     {
         Command {
             life: LittleEndian::read_u64(data),
             originator: LittleEndian::read_u64(&data[8..]),
             number: LittleEndian::read_u32(&data[16..]),
-            request: &data[20..],
+            request: &data[Command::FRONT_SIZE..],
         }
     }
 }

@@ -2,7 +2,7 @@
 ghost use Rattle.std.specs.Prelude.{◌≡◌, ◌≤◌, length};
 ghost use Rattle.cip_ledger.specs.Turn.{turn, turn_of};
 
-use crate::ledger::Ledger;
+use crate::ledger::{Ledger, execute_by};
 use crate::request::may_be_to_ledger;
 use cip_objects::{REPLY_LIMIT, ReplyBuf, Router};
 
@@ -61,7 +61,7 @@ fn execute<R: Router>(
         return;
     }
     match ledger {
-        Some(ledger) => ledger.execute(router, request, max_size, reply),
+        Some(ledger) => execute_by(router, request, max_size, reply, ledger),
         None => router.execute(request, max_size, reply),
     }
 }

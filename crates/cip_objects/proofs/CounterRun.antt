@@ -67,13 +67,13 @@ equal : (a b : ℕ) → eqb a b ≡ true → a ≡ b
 equal a b e = grind (arith, nat_tests)
 
 -- only the counter's instance can be added to or cleared
-add_place : (shapes : List Shape) (class instance : ℕ) (s : Service) → service_at shapes class instance 0x32 ≡ Ok s → (class ≡ 100) × (instance ≡ 1)
+pub add_place : (shapes : List Shape) (class instance : ℕ) (s : Service) → service_at shapes class instance 0x32 ≡ Ok s → (class ≡ 100) × (instance ≡ 1)
 unfolding service_at services_of
 add_place shapes class instance s e =
     let t = table_add (eqb class 1) (eqb class 4) (eqb class 6) (eqb class 100) (eqb instance 0) (eqb instance 1) (shape_at instance shapes) s e in
     (equal class 100 t.0, equal instance 1 t.1)
 
-clear_place : (shapes : List Shape) (class instance : ℕ) (s : Service) → service_at shapes class instance 0x33 ≡ Ok s → (class ≡ 100) × (instance ≡ 1)
+pub clear_place : (shapes : List Shape) (class instance : ℕ) (s : Service) → service_at shapes class instance 0x33 ≡ Ok s → (class ≡ 100) × (instance ≡ 1)
 unfolding service_at services_of
 clear_place shapes class instance s e =
     let t = table_clear (eqb class 1) (eqb class 4) (eqb class 6) (eqb class 100) (eqb instance 0) (eqb instance 1) (shape_at instance shapes) s e in
@@ -95,7 +95,7 @@ pub record Effect (m : Contents) (text : List ℕ) (o : Outcome) : Type 0 where
 to_other : (code : ℕ) (text : List ℕ) (q : Request) → request_of text ≡ Ok q → eqb q.service code ≡ false → to_counter code (request_of text) ≡ None
 to_other code text q e h = ap (to_counter code) e ∙ ap (λ t. cond (t && is_counter (path_of q.path)) (Some q.data) None) h
 
-to_it : (code : ℕ) (text : List ℕ) (q : Request) (p : Path) → request_of text ≡ Ok q → path_of q.path ≡ Ok p → eqb q.service code ≡ true → p.class ≡ 100 → p.instance ≡ 1 → to_counter code (request_of text) ≡ Some q.data
+pub to_it : (code : ℕ) (text : List ℕ) (q : Request) (p : Path) → request_of text ≡ Ok q → path_of q.path ≡ Ok p → eqb q.service code ≡ true → p.class ≡ 100 → p.instance ≡ 1 → to_counter code (request_of text) ≡ Some q.data
 to_it code text q p e f h c i =
     ap (to_counter code) e
     ∙ ap (λ r. cond (eqb q.service code && is_counter r) (Some q.data) None) f

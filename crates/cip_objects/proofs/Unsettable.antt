@@ -1,5 +1,7 @@
 -- What is never set does not change, over every list of requests.
-use Rattle.std.proofs.Common.{◌≡◌, ℕ, ◌+◌, ◌⊎◌, inl, inr, eqb, false, ◌&&◌, List, [], ◌∷◌, length, Some, None, Result, Ok, refl, sym, ap, ◌∙◌, arith, ◌^◌, ◌%◌}
+use Rattle.std.proofs.Common.{◌≡◌, ℕ, ◌+◌, ◌⊎◌, inl, inr, eqb, true, false, ◌&&◌, ◌||◌, is_some, subst, List, [], ◌∷◌}
+use Rattle.std.proofs.Common.{length, Some, None, Result, Ok, refl, sym, ap, ◌∙◌, arith, ◌^◌, ◌%◌}
+use Rattle.std.proofs.lemmas.Bool.{both_ways, eq-eqb, or_right}
 use Rattle.std.proofs.lemmas.Bool.Decides.{nat_tests}
 use Rattle.std.specs.Option.{ok_or}
 use Rattle.byteorder.specs.Endian.{little_number}
@@ -7,16 +9,23 @@ use Rattle.cip_message.specs.declared.path.Path.{Path}
 use Rattle.cip_bytes.specs.Numbers.{le}
 use Rattle.cip_objects.specs.declared.assembly.Span.{Span}
 use Rattle.cip_objects.specs.declared.service.Service.{Service}
-use Rattle.cip_objects.specs.declared.service.Service.TheVariants.{GetAttributesAll, GetAttributeList, GetAttributeSingle, SetAttributeSingle, GetMember, SetMember, Add, Clear}
+use Rattle.cip_objects.specs.declared.service.Service.TheVariants.{GetAttributesAll, GetAttributeList}
+use Rattle.cip_objects.specs.declared.service.Service.TheVariants.{GetAttributeSingle, SetAttributeSingle, GetMember}
+use Rattle.cip_objects.specs.declared.service.Service.TheVariants.{SetMember, Add, Clear}
 use Rattle.cip_objects.specs.declared.status.Refusal.{Refusal}
 use Rattle.cip_objects.specs.Check.{check_size}
 use Rattle.cip_objects.specs.Contents.{Contents, value_at, bytes_at, udint_at, with_change}
-use Rattle.cip_objects.specs.ReadServices.{named_member, get_attribute_single, get_attributes_all, get_attribute_list, get_member}
-use Rattle.cip_objects.specs.ChangeServices.{Change, after_add, with_bytes_at, set_attribute_single, set_member, add, clear}
+use Rattle.cip_objects.specs.ReadServices.{service_at, named_member, get_attribute_single, get_attributes_all}
+use Rattle.cip_objects.specs.ReadServices.{get_attribute_list, get_member}
+use Rattle.cip_objects.specs.ChangeServices.{Change, after_add, with_bytes_at, set_attribute_single, set_member, add}
+use Rattle.cip_objects.specs.ChangeServices.{clear}
 use Rattle.cip_objects.specs.Execution.{Outcome, perform, outcome, exec, run}
-use Rattle.cip_objects.specs.Laws.{unsettable_law}
+use Rattle.cip_objects.specs.Laws.{is_add, is_clear, changes_unsettable, unsettable_law}
+use Rattle.cip_objects.specs.Service.{service_code}
 use Rattle.cip_objects.specs.Tables.{Shape, settable_size}
-use Rattle.cip_objects.proofs.Effects.{goes, bound, after_check, found_some, set_effect, add_effect, clear_effect, read_effect, change_effect}
+use Rattle.cip_objects.proofs.CounterRun.{add_place, clear_place, to_it}
+use Rattle.cip_objects.proofs.Effects.{Goes, goes, chosen_code, bound, after_check, found_some, set_effect, add_effect}
+use Rattle.cip_objects.proofs.Effects.{clear_effect, read_effect, change_effect}
 use Rattle.cip_objects.proofs.ReadAfterSet.{value_at-other}
 use Rattle.cip_objects.proofs.Settable.{exact_size}
 use Rattle.cip_objects.proofs.Refuses.{exec_left}
@@ -49,11 +58,19 @@ splices m path content c e =
       leaves = sym (ap (λ z. z.after) (same_ok _ c x.1));
     }
 
--- this key is not one that a service changes
-record IsKept (shapes : List Shape) (class instance attribute : ℕ) : Type 0 where
+-- the counter's value, and its additions
+abbrev IsValue : ℕ → ℕ → ℕ → Type 0
+IsValue class instance attribute = (class ≡ 100) × (instance ≡ 1) × (attribute ≡ 1)
+
+abbrev IsAdditions : ℕ → ℕ → ℕ → Type 0
+IsAdditions class instance attribute = (class ≡ 100) × (instance ≡ 1) × (attribute ≡ 3)
+
+-- this key is not one that the service with this code changes
+record IsKept (shapes : List Shape) (class instance attribute code : ℕ) : Type 0 where
   unsettable : settable_size shapes class instance attribute ≡ None
-  no_value : (class ≡ 100) × (instance ≡ 1) × (attribute ≡ 1) → ⊥
-  no_additions : (class ≡ 100) × (instance ≡ 1) × (attribute ≡ 3) → ⊥
+  not_added : code ≡ 0x32 → IsValue class instance attribute → ⊥
+  not_counted : code ≡ 0x32 → IsAdditions class instance attribute → ⊥
+  not_cleared : code ≡ 0x33 → IsValue class instance attribute → ⊥
 
 -- the tables and the value at the key are unchanged
 record Keeps (m n : Contents) (class instance attribute : ℕ) : Type 0 where
@@ -81,19 +98,19 @@ not_settable shapes c i a n d j b can stuck k =
     ∙ ap (λ x. settable_size shapes c x b) k.1 ∙ ap (λ x. settable_size shapes c i x) k.2 in
     cc
 
-add_kept : (m n : Contents) (total d j b : ℕ) → n ≡ after_add m total → IsKept m.shapes d j b → Keeps m n d j b
+add_kept : (m n : Contents) (total d j b : ℕ) → n ≡ after_add m total → IsKept m.shapes d j b 0x32 → Keeps m n d j b
 add_kept m n total d j b e h =
     let first = with_change m 100 1 1 (le 4 total) in
     let more = le 4 ((udint_at m 100 1 3 + 1) % 2 ^ 32) in
     record {
       shapes = ap (λ x. x.shapes) e;
       value = ap (λ x. value_at x d j b) e
-          ∙ value_at-other first 100 1 3 more d j b (other_key d 100 j 1 b 3 h.no_additions)
-          ∙ value_at-other m 100 1 1 (le 4 total) d j b (other_key d 100 j 1 b 1 h.no_value);
+          ∙ value_at-other first 100 1 3 more d j b (other_key d 100 j 1 b 3 (h.not_counted refl))
+          ∙ value_at-other m 100 1 1 (le 4 total) d j b (other_key d 100 j 1 b 1 (h.not_added refl));
     }
 
 perform_kept : (m : Contents) (s : Service) (path : Path) (content : List ℕ) (o : Outcome) (d j b : ℕ)
-    → perform m s path content ≡ Ok o → IsKept m.shapes d j b → Keeps m o.after d j b
+    → perform m s path content ≡ Ok o → IsKept m.shapes d j b (service_code s) → Keeps m o.after d j b
 perform_kept m GetAttributesAll path content o d j b e h = all_kept m o.after d j b
     (read_effect m (get_attributes_all m path content) o e)
 perform_kept m GetAttributeList path content o d j b e h = all_kept m o.after d j b
@@ -119,36 +136,77 @@ perform_kept m Add path content o d j b e h =
 perform_kept m Clear path content o d j b e h =
     let c = change_effect (clear m content) o e in
     let x = clear_effect m content c.change c.first in
-    other_kept m o.after 100 1 1 (le 4 0) d j b (c.after ∙ x.leaves) h.no_value
+    other_kept m o.after 100 1 1 (le 4 0) d j b (c.after ∙ x.leaves) (h.not_cleared refl)
 
-either_kept : (m n : Contents) (text : List ℕ) (d j b : ℕ) → IsKept m.shapes d j b
+-- a request that may not change the key spares it
+not_added : (d j b : ℕ) (text : List ℕ) → is_add text ≡ true → changes_unsettable d j b text ≡ false → IsValue d j b → ⊥
+not_added d j b text adds spared k =
+    let changes : changes_unsettable d j b text ≡ true
+    = ap (λ x. changes_unsettable x j b text) k.0
+    ∙ (ap (λ x. changes_unsettable 100 x b text) k.1
+    ∙ (ap (λ x. changes_unsettable 100 1 x text) k.2 ∙ ap (λ t. (t || is_clear text) || false) adds)) in
+    both_ways _ spared changes
+
+not_counted : (d j b : ℕ) (text : List ℕ) → is_add text ≡ true → changes_unsettable d j b text ≡ false → IsAdditions d j b → ⊥
+not_counted d j b text adds spared k =
+    let changes : changes_unsettable d j b text ≡ true
+    = ap (λ x. changes_unsettable x j b text) k.0
+    ∙ (ap (λ x. changes_unsettable 100 x b text) k.1 ∙ (ap (λ x. changes_unsettable 100 1 x text) k.2 ∙ adds)) in
+    both_ways _ spared changes
+
+not_cleared : (d j b : ℕ) (text : List ℕ) → is_clear text ≡ true → changes_unsettable d j b text ≡ false → IsValue d j b → ⊥
+not_cleared d j b text clears spared k =
+    let changes : changes_unsettable d j b text ≡ true
+    = ap (λ x. changes_unsettable x j b text) k.0
+    ∙ (ap (λ x. changes_unsettable 100 x b text) k.1
+    ∙ (ap (λ x. changes_unsettable 100 1 x text) k.2
+    ∙ ap (λ t. t || false) (or_right (is_add text) (is_clear text) clears))) in
+    both_ways _ spared changes
+
+-- the request of a service that only the counter has leads to the counter
+adds-to : (m : Contents) (text : List ℕ) (o : Outcome) (g : Goes m text o) → service_code g.service ≡ 0x32 → is_add text ≡ true
+adds-to m text o g add =
+    let code : g.request.service ≡ 0x32 = sym (chosen_code m.shapes g.path.class g.path.instance g.request.service g.service g.is_chosen) ∙ add in
+    let place = add_place m.shapes g.path.class g.path.instance g.service
+    (subst (λ n. service_at m.shapes g.path.class g.path.instance n ≡ Ok g.service) code g.is_chosen) in
+    ap (λ bytes. is_some bytes)
+    (to_it 0x32 text g.request g.path g.is_request g.is_path (eq-eqb g.request.service 0x32 code) place.0 place.1)
+
+clears-it : (m : Contents) (text : List ℕ) (o : Outcome) (g : Goes m text o) → service_code g.service ≡ 0x33 → is_clear text ≡ true
+clears-it m text o g clear =
+    let code : g.request.service ≡ 0x33 = sym (chosen_code m.shapes g.path.class g.path.instance g.request.service g.service g.is_chosen) ∙ clear in
+    let place = clear_place m.shapes g.path.class g.path.instance g.service
+    (subst (λ n. service_at m.shapes g.path.class g.path.instance n ≡ Ok g.service) code g.is_chosen) in
+    ap (λ bytes. is_some bytes)
+    (to_it 0x33 text g.request g.path g.is_request g.is_path (eq-eqb g.request.service 0x33 code) place.0 place.1)
+
+kept_by : (m : Contents) (text : List ℕ) (o : Outcome) (d j b : ℕ) (g : Goes m text o) → settable_size m.shapes d j b ≡ None
+    → changes_unsettable d j b text ≡ false → IsKept m.shapes d j b (service_code g.service)
+kept_by m text o d j b g fixed spared = record {
+  unsettable = fixed;
+  not_added = λ add. not_added d j b text (adds-to m text o g add) spared;
+  not_counted = λ add. not_counted d j b text (adds-to m text o g add) spared;
+  not_cleared = λ clear. not_cleared d j b text (clears-it m text o g clear) spared;
+}
+
+either_kept : (m n : Contents) (text : List ℕ) (d j b : ℕ) → settable_size m.shapes d j b ≡ None
+    → changes_unsettable d j b text ≡ false
     → (n ≡ m) ⊎ ((o : Outcome) × (outcome m text ≡ Ok o) × (n ≡ o.after)) → Keeps m n d j b
-either_kept m n text d j b h (inl same) = all_kept m n d j b same
-either_kept m n text d j b h (inr x) =
+either_kept m n text d j b fixed spared (inl same) = all_kept m n d j b same
+either_kept m n text d j b fixed spared (inr x) =
     let g = goes m text x.0 x.1 in
-    let k = perform_kept m g.service g.path g.request.data x.0 d j b g.is_performed h in
+    let k = perform_kept m g.service g.path g.request.data x.0 d j b g.is_performed (kept_by m text x.0 d j b g fixed spared) in
     record { shapes = ap (λ y. y.shapes) x.2 ∙ k.shapes; value = ap (λ y. value_at y d j b) x.2 ∙ k.value }
 
-exec_kept : (m : Contents) (max_size : ℕ) (text : List ℕ) (d j b : ℕ) → IsKept m.shapes d j b
-    → Keeps m (exec m max_size text).after d j b
-exec_kept m max_size text d j b h = either_kept m (exec m max_size text).after text d j b h (exec_left m max_size text)
-
-kept_over : (m : Contents) (requests : List (ℕ × List ℕ)) (d j b : ℕ) → IsKept m.shapes d j b
-    → value_at (run m requests).after d j b ≡ value_at m d j b
-kept_over m [] d j b h = refl
-kept_over m (r ∷ requests) d j b h =
-    let n = (exec m r.0 r.1).after in
-    let k = exec_kept m r.0 r.1 d j b h in
-    kept_over n requests d j b
-    (record {
-      unsettable = ap (λ s. settable_size s d j b) k.shapes
-          ∙ h.unsettable;
-      no_value = h.no_value;
-      no_additions = h.no_additions;
-    })
-    ∙ k.value
+exec_kept : (m : Contents) (max_size : ℕ) (text : List ℕ) (d j b : ℕ) → settable_size m.shapes d j b ≡ None
+    → changes_unsettable d j b text ≡ false → Keeps m (exec m max_size text).after d j b
+exec_kept m max_size text d j b fixed spared =
+    either_kept m (exec m max_size text).after text d j b fixed spared (exec_left m max_size text)
 
 pub unsettable : unsettable_law
-unsettable m requests class instance attribute fixed value additions =
-    kept_over m requests class instance attribute
-    (record { unsettable = fixed; no_value = value; no_additions = additions })
+unsettable m [] class instance attribute fixed spared = refl
+unsettable m (r ∷ requests) class instance attribute fixed spared =
+    let k = exec_kept m r.0 r.1 class instance attribute fixed spared.0 in
+    unsettable (exec m r.0 r.1).after requests class instance attribute
+    (ap (λ s. settable_size s class instance attribute) k.shapes ∙ fixed) spared.1
+    ∙ k.value

@@ -1,5 +1,7 @@
 -- What holds of executions, in terms of objects, attributes and requests.
-use Rattle.std.specs.Prelude.{◌≡◌, ℕ, ◌+◌, ◌≤◌, List, [], ◌∷◌, length, Some, None, Ok}
+use Rattle.std.specs.Prelude.{◌≡◌, ℕ, ◌+◌, ◌≤◌, ◌==◌, ◌&&◌, ◌||◌, Bool, false, List, [], ◌∷◌, length, Some, None, is_some}
+use Rattle.std.specs.Prelude.{Ok}
+use Rattle.std.specs.List.{AllByRecursion}
 use Rattle.cip_message.specs.declared.path.Path.{Path}
 use Rattle.cip_message.specs.PathReading.{path_of}
 use Rattle.cip_message.specs.Request.{request_of}
@@ -11,6 +13,7 @@ use Rattle.cip_bytes.specs.declared.protocol.GeneralStatus.TheVariants.{Success}
 use Rattle.cip_objects.specs.Contents.{Contents, value_at}
 use Rattle.cip_objects.specs.Execution.{Outcome, perform, reply_to, exec, run}
 use Rattle.cip_objects.specs.Router.{general_status, REPLY_TOO_LARGE}
+use Rattle.cip_objects.specs.Run.{to_counter}
 use Rattle.cip_objects.specs.Status.{completion_status}
 use Rattle.cip_objects.specs.Tables.{settable_size}
 use Rattle.cip_bytes.specs.declared.protocol.TheConstants.{COUNTER}
@@ -70,12 +73,25 @@ abbrev pub any_max_size_law : Type 0
 any_max_size_law = (m : Contents) (max_size other : ℕ) (text : List ℕ) → 8 ≤ max_size → 8 ≤ other
     → (exec m max_size text).after ≡ (exec m other text).after
 
--- Whatever requests are executed, attributes that are not settable do not change, except the counter's value and
--- additions.
+-- An Add, and a Clear, of the counter.
+abbrev pub is_add : List ℕ → Bool
+is_add text = is_some (to_counter 0x32 (request_of text))
+
+abbrev pub is_clear : List ℕ → Bool
+is_clear text = is_some (to_counter 0x33 (request_of text))
+
+-- The request may change an attribute that is not settable: an Add the counter's value and its additions, a Clear its
+-- value.
+abbrev pub changes_unsettable : ℕ → ℕ → ℕ → List ℕ → Bool
+changes_unsettable class instance attribute text =
+    (class == COUNTER) && (instance == 1)
+    && (((attribute == 1) && (is_add text || is_clear text)) || ((attribute == 3) && is_add text))
+
+-- Whatever requests are executed, an attribute that is not settable does not change, unless one of them is such an Add
+-- or Clear.
 abbrev pub unsettable_law : Type 0
 unsettable_law =
     (m : Contents) (requests : List (ℕ × List ℕ)) (class instance attribute : ℕ)
     → settable_size m.shapes class instance attribute ≡ None
-    → ((class ≡ COUNTER) × (instance ≡ 1) × (attribute ≡ 1) → ⊥)
-    → ((class ≡ COUNTER) × (instance ≡ 1) × (attribute ≡ 3) → ⊥)
+    → AllByRecursion (λ (request : ℕ × List ℕ). changes_unsettable class instance attribute request.1 ≡ false) requests
     → value_at (run m requests).after class instance attribute ≡ value_at m class instance attribute

@@ -66,8 +66,8 @@ pub fn data_stay_whole()
     ensures { whole_law }
 {}
 
-/// Whatever requests are executed, attributes that are not settable do not change, except the counter's value and
-/// additions.
+/// Whatever requests are executed, attributes that are not settable do not change, except by an Add or a Clear of the
+/// counter: both may change its value, and an Add its additions.
 pub fn unsettable_stays()
     ensures { unsettable_law }
 {}

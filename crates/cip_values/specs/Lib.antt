@@ -1,4 +1,4 @@
 pub mod Types
 pub mod Values
-pub mod Parsing
 pub mod Texts
+pub mod Parsing

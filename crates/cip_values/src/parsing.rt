@@ -6,7 +6,7 @@ ghost use Rattle.std.specs.List.{list_all};
 ghost use Rattle.std.specs.Str.Parse.{IsNumeral, digits_value};
 ghost use Rattle.cip_values.specs.Types.{IsSized, form_of};
 ghost use Rattle.cip_values.specs.Values.{Real, value_in, IsOf, IsSignedOf, IsUnsignedOf};
-ghost use Rattle.cip_values.specs.Parsing.{ParsesAs, IsParseFault, IsWordFault, Clamps, ParsesAsInteger, ParsesAsBits};
+ghost use Rattle.cip_values.specs.Parsing.{has_digit, ParsesAs, IsParseFault, IsWordFault, Clamps, ParsesAsInteger, ParsesAsBits};
 
 use crate::element::{ElementaryType, Form};
 use crate::fault::ValueFault;
@@ -183,8 +183,15 @@ fn real(word: &str) -> Result<u32, ParseFault>
     let Ok(number) = word.parse::<f32>() else {
         return Err(ParseFault::Form);
     };
-    if number.is_infinite() && word.bytes().any(|byte| byte.is_ascii_digit()) {
+    if number.is_infinite() && has_digit(word) {
         return Err(ParseFault::Range);
     }
     Ok(f32_to_bits_with_nan(number))
+}
+
+/// Whether the word has a decimal digit.
+fn has_digit(word: &str) -> bool
+    ensures { result ≡ has_digit word.now }
+{
+    word.as_bytes().iter().any(|byte| is_digit(*byte, 10))
 }

@@ -1,6 +1,8 @@
 //! Values as text.
 
-ghost use Rattle.std.specs.Prelude.{◌<◌, length, IfSome};
+ghost use Rattle.std.specs.Prelude.{◌≡◌, ◌<◌, [], length, option_map, IfOk, IfSome, MatchOption};
+ghost use Rattle.cip_values.specs.Texts.{unquoted, first_byte, escaped_byte, byte_of_digits, seen};
+ghost use Rattle.cip_values.specs.Texts.{Unescapes, IsBadlyEscaped};
 
 use crate::element::{ElementaryType, ValueType};
 use crate::value::Value;
@@ -131,21 +133,23 @@ impl fmt::Display for Escaped<'_> {
 }
 
 /// The word without its quotes, or the whole word if it is not in quotes.
-pub(crate) fn unquoted(word: &str) -> &str {
-    match word.strip_prefix("\"") {
-        Some(behind) => match behind.strip_suffix("\"") {
-            Some(inner) => inner,
-            None => word,
-        },
-        None => word,
+pub(crate) fn unquoted(word: &[u8]) -> &[u8]
+    ensures { result.now ≡ unquoted word.now }
+{
+    match word {
+        [b'"', inner @ .., b'"'] => inner,
+        _ => word,
     }
 }
 
 /// The bytes of an escaped text, or `None` if a backslash is followed by anything but a backslash, a quote, or `x`
 /// and two hexadecimal digits.
-pub(crate) fn unescaped(alloc: Global, text: &str) -> Result<Option<Vec<u8>>, AllocError> {
+pub(crate) fn unescaped(alloc: Global, text: &[u8]) -> Result<Option<Vec<u8>>, AllocError>
+    ensures { IfOk result (λ read. MatchOption read (IsBadlyEscaped text.now)
+        (λ bytes. Unescapes text.now bytes.items [])) }
+{
     let mut bytes = Vec::new(alloc);
-    let mut rest = text.as_bytes();
+    let mut rest = text;
     while !rest.is_empty() {
         let Some((byte, behind)) = first_byte(rest) else {
             return Ok(None);
@@ -158,7 +162,8 @@ pub(crate) fn unescaped(alloc: Global, text: &str) -> Result<Option<Vec<u8>>, Al
 
 /// The first byte of an escaped text, unescaped, and the rest.
 fn first_byte(text: &[u8]) -> Option<(u8, &[u8])>
-    ensures { IfSome result (λ read. length read.1.now < length text.now) }
+    ensures is { option_map seen result ≡ first_byte text.now }
+    ensures shorter { IfSome result (λ read. length read.1.now < length text.now) }
 {
     match text {
         [b'\\', escaped @ ..] => escaped_byte(escaped),
@@ -169,10 +174,11 @@ fn first_byte(text: &[u8]) -> Option<(u8, &[u8])>
 
 /// The byte that is escaped after a backslash, and the rest.
 fn escaped_byte(text: &[u8]) -> Option<(u8, &[u8])>
-    ensures { IfSome result (λ read. length read.1.now < length text.now) }
+    ensures is { option_map seen result ≡ escaped_byte text.now }
+    ensures shorter { IfSome result (λ read. length read.1.now < length text.now) }
 {
     match text {
-        [b'x', high, low, rest @ ..] => Some((hexadecimal(*high, *low)?, rest)),
+        [b'x', high, low, rest @ ..] => Some((byte_of_digits(*high, *low)?, rest)),
         [b'\\', rest @ ..] => Some((b'\\', rest)),
         [b'"', rest @ ..] => Some((b'"', rest)),
         _ => None,
@@ -180,7 +186,9 @@ fn escaped_byte(text: &[u8]) -> Option<(u8, &[u8])>
 }
 
 /// The byte with these two hexadecimal digits.
-fn hexadecimal(high: u8, low: u8) -> Option<u8> {
+fn byte_of_digits(high: u8, low: u8) -> Option<u8>
+    ensures { result ≡ byte_of_digits high low }
+{
     let high = char::from(high).to_digit(16)?;
     let low = char::from(low).to_digit(16)?;
     Some((16 * high + low) as u8)

@@ -3,7 +3,7 @@
 ghost use Rattle.std.specs.Prelude.{◌≡◌, ◌≢◌, ◌≤◌, [], ◌++◌, List, map, length, IfOk, IfErr, OnOk, ⊤};
 ghost use Rattle.cip_values.specs.Types.{IsSized, form_of};
 ghost use Rattle.cip_values.specs.Values.{value_in, BeginsWithAll, AreBytesOf, IsSingleFault, IsListFault, IsReadFault};
-ghost use Rattle.cip_values.specs.Parsing.{Appends, IsAppended, AreWritten, IsWriteFault, IsWordFault};
+ghost use Rattle.cip_values.specs.Parsing.{Appends, IsAppended, AreWritten, IsWriteFault, IsRefusedWord, IsTextFault};
 
 use crate::element::{Form, ValueType};
 use crate::fault::ValueFault;
@@ -90,7 +90,7 @@ pub fn write_values<'a>(
     words: &[&'a str],
 ) -> Result<Vec<u8>, ValueFault<'a>>
     ensures written { IfOk result (λ bytes. AreWritten value_type (map (λ word. word.now) words.now) bytes.items) }
-    ensures refused { IfErr result (IsWriteFault value_type (length words.now)) }
+    ensures refused { IfErr result (IsWriteFault value_type (map (λ word. word.now) words.now)) }
 {
     if !value_type.is_list && words.len() != 1 {
         return Err(ValueFault::Count(value_type.element, words.len()));
@@ -112,8 +112,8 @@ fn append_word<'a>(
     word: &'a str,
     out: &mut Vec<u8>,
 ) -> Result<(), ValueFault<'a>>
-    ensures written { OnOk result (Appends value_type.element word.now out.old.items out.new.items) }
-    ensures refused { IfErr result (IsWordFault value_type.element word.now) }
+    ensures written { OnOk result (Appends value_type word.now out.old.items out.new.items) }
+    ensures refused { IfErr result (IsRefusedWord value_type word.now) }
 {
     let element = value_type.element;
     match element.form() {
@@ -133,15 +133,15 @@ fn append_text<'a>(
     out: &mut Vec<u8>,
 ) -> Result<(), ValueFault<'a>>
     requires { form_of value_type.element ≡ Form.Text }
-    ensures written { OnOk result (Appends value_type.element word.now out.old.items out.new.items) }
-    ensures refused { IfErr result (IsWordFault value_type.element word.now) }
+    ensures written { OnOk result (Appends value_type word.now out.old.items out.new.items) }
+    ensures refused { IfErr result (IsTextFault value_type word.now) }
 {
-    let inner = if value_type.is_list {
-        unquoted(word)
+    let escaped = if value_type.is_list {
+        unquoted(word.as_bytes())
     } else {
-        word
+        word.as_bytes()
     };
-    let Some(text) = unescaped(alloc, inner)? else {
+    let Some(text) = unescaped(alloc, escaped)? else {
         return Err(ValueFault::Form(word, value_type.element));
     };
     if text.len() > LONGEST_STRING {

@@ -19,3 +19,4 @@ pub mod ActionLemmas
 pub mod DiscoveryLemmas
 pub mod EndingLemmas
 pub mod DeviceLemmas
+pub mod RouteLemmas

@@ -2,3 +2,4 @@ pub mod LooseValues
 pub mod KeptWalks
 pub mod KeptPlaces
 pub mod ClientLemmas
+pub mod CommanderLemmas

@@ -3,3 +3,4 @@ pub mod Buffer
 pub mod AdapterCalls
 pub mod ClientCalls
 pub mod DeviceCalls
+pub mod CommanderCalls

@@ -53,8 +53,8 @@ pub enum Status {
     /// Another request is waiting for its reply.
     #[error("another request is waiting for its reply")]
     Waiting = 14,
-    /// The request is longer than the connection's size allows.
-    #[error("the request is longer than the connection's size allows")]
+    /// The request is longer than the connection's size, or a command, allows.
+    #[error("the request is longer than the connection's size, or a command, allows")]
     LongRequest = 15,
     /// A request was given up.
     #[error("a request was given up")]
@@ -65,6 +65,9 @@ pub enum Status {
     /// A connection size in `enip_wants` is out of range.
     #[error("a connection size in enip_wants is out of range")]
     Wants = 18,
+    /// No command number is left for this originator.
+    #[error("no command number is left for this originator")]
+    Numbers = 19,
 }
 
 impl Status {

@@ -41,7 +41,7 @@ impl Kind {
 }
 
 /// The statuses of calls, in the order of their numbers.
-static STATUSES: [Status; 19] = [
+static STATUSES: [Status; 20] = [
     Status::Done,
     Status::Misuse,
     Status::Room,
@@ -61,6 +61,7 @@ static STATUSES: [Status; 19] = [
     Status::GivenUp,
     Status::Abandoned,
     Status::Wants,
+    Status::Numbers,
 ];
 
 /// Writes the text of a number of this kind. Returns its length, 0 if there is none or it does not fit.

@@ -4,7 +4,8 @@
 //! than 80 columns.
 
 use crate::texts::{
-    COUNT_DETAILS, EVERY_DETAILS, PRINTED_TYPE_DETAILS, WAIT_DETAILS, WRITTEN_TYPE_DETAILS,
+    ABANDON_DETAILS, COUNT_DETAILS, EVERY_DETAILS, ONCE_DETAILS, PENDING_DETAILS,
+    PRINTED_TYPE_DETAILS, TRIES_DETAILS, WAIT_DETAILS, WRITTEN_TYPE_DETAILS,
 };
 use clap::{Arg, ArgAction, value_parser};
 use std::alloc::{AllocError, Global};
@@ -22,12 +23,14 @@ pub(crate) enum Argument {
     Log,
     DeviceAddress,
     NetworkAddress,
-    Service,
     Class,
     Instance,
-    Attribute,
     OptionalAttribute,
-    Data,
+    CommandService,
+    CommandClass,
+    CommandInstance,
+    CommandAttribute,
+    CommandData,
     OptionalData,
     PrintedType,
     WrittenType,
@@ -38,7 +41,14 @@ pub(crate) enum Argument {
     Connected,
     Timeout,
     DiscoveryTime,
+    Once,
+    Tries,
+    Pending,
+    Abandon,
 }
+
+/// The options with which a command of FILE takes the place of the request in the arguments.
+const COMMAND_OF_FILE: [&str; 2] = ["pending", "abandon"];
 
 impl Argument {
     /// The argument as `clap` takes it.
@@ -54,16 +64,18 @@ impl Argument {
             Argument::Log => log(alloc),
             Argument::DeviceAddress => device_address(alloc),
             Argument::NetworkAddress => network_address(alloc),
-            Argument::Service => service(alloc),
-            Argument::Class => class(alloc),
-            Argument::Instance => instance(alloc),
-            Argument::Attribute => attribute(alloc)
-                .required(true)
-                .help("Attribute to write, 0 to 65535"),
+            Argument::Class => class(alloc).required(true),
+            Argument::Instance => instance(alloc).required(true),
             Argument::OptionalAttribute => attribute(alloc).help(
                 "Attribute to read, 0 to 65535; all attributes if left out",
             ),
-            Argument::Data => data(alloc),
+            Argument::CommandService => of_command(service(alloc))?,
+            Argument::CommandClass => of_command(class(alloc))?,
+            Argument::CommandInstance => of_command(instance(alloc))?,
+            Argument::CommandAttribute => {
+                of_command(attribute(alloc).help("Attribute to write, 0 to 65535"))?
+            }
+            Argument::CommandData => of_command(data(alloc))?,
             Argument::OptionalData => optional_data(alloc),
             Argument::PrintedType => printed_type(alloc),
             Argument::WrittenType => written_type(alloc),
@@ -74,8 +86,17 @@ impl Argument {
             Argument::Connected => connected(alloc),
             Argument::Timeout => timeout(alloc),
             Argument::DiscoveryTime => discovery_time(alloc),
+            Argument::Once => once(alloc),
+            Argument::Tries => tries(alloc)?,
+            Argument::Pending => pending(alloc)?,
+            Argument::Abandon => abandon(alloc)?,
         })
     }
+}
+
+/// An argument of a request that can be left out if FILE has the command.
+fn of_command<'a>(argument: Arg<'a>) -> Result<Arg<'a>, AllocError> {
+    argument.required_unless_present_any(&COMMAND_OF_FILE)
 }
 
 fn config<'a>(alloc: Global) -> Arg<'a> {
@@ -166,21 +187,18 @@ fn network_address<'a>(alloc: Global) -> Arg<'a> {
 fn service<'a>(alloc: Global) -> Arg<'a> {
     // Message router: bit 7 of a service marks a reply.
     Arg::new(alloc, "SERVICE")
-        .required(true)
         .value_parser(value_parser!(u8).range(..0x80))
         .help("Service code, 0 to 127")
 }
 
 fn class<'a>(alloc: Global) -> Arg<'a> {
     Arg::new(alloc, "CLASS")
-        .required(true)
         .value_parser(value_parser!(u16))
         .help("Class of the object, 0 to 65535")
 }
 
 fn instance<'a>(alloc: Global) -> Arg<'a> {
     Arg::new(alloc, "INSTANCE")
-        .required(true)
         .value_parser(value_parser!(u32))
         .help("Instance of the object, 0 to 4294967295; 0 is the class itself")
 }
@@ -199,7 +217,6 @@ fn optional_data<'a>(alloc: Global) -> Arg<'a> {
 
 fn data<'a>(alloc: Global) -> Arg<'a> {
     Arg::new(alloc, "HEX")
-        .required(true)
         .num_args(1..)
         .allow_negative_numbers(true)
         .help("Data in hexadecimal, as one argument; with --as, values")
@@ -284,4 +301,42 @@ fn discovery_time<'a>(alloc: Global) -> Arg<'a> {
         .long_help(
             "Collect answers for so long: seconds, 0 to 3600, with up to six\ndecimals. 0 is no limit",
         )
+}
+
+fn once<'a>(alloc: Global) -> Arg<'a> {
+    Arg::new(alloc, "once")
+        .long("once")
+        .value_name("FILE")
+        .help("Execute once, even if connections are lost")
+        .long_help(ONCE_DETAILS)
+}
+
+fn tries<'a>(alloc: Global) -> Result<Arg<'a>, AllocError> {
+    Arg::new(alloc, "tries")
+        .long("tries")
+        .value_name("N")
+        .value_parser(value_parser!(u32))
+        .default_value("3")
+        .hide_short_help(true)
+        .help(TRIES_DETAILS)
+        .requires_arg("once")
+}
+
+fn pending<'a>(alloc: Global) -> Result<Arg<'a>, AllocError> {
+    Arg::new(alloc, "pending")
+        .long("pending")
+        .action(ArgAction::SetTrue)
+        .hide_short_help(true)
+        .help(PENDING_DETAILS)
+        .requires_arg("once")?
+        .conflicts_with("abandon")
+}
+
+fn abandon<'a>(alloc: Global) -> Result<Arg<'a>, AllocError> {
+    Arg::new(alloc, "abandon")
+        .long("abandon")
+        .action(ArgAction::SetTrue)
+        .hide_short_help(true)
+        .help(ABANDON_DETAILS)
+        .requires_arg("once")
 }

@@ -6,6 +6,7 @@ use crate::texts::{
     DETAILS_REPLAY, DETAILS_SERVE, DETAILS_SERVICES, DETAILS_SET, DETAILS_SHOW, EXAMPLES_ANSWER,
     EXAMPLES_CALL, EXAMPLES_CHECK, EXAMPLES_DISCOVER, EXAMPLES_GET, EXAMPLES_IDENTITY,
     EXAMPLES_REPLAY, EXAMPLES_SERVE, EXAMPLES_SERVICES, EXAMPLES_SET, EXAMPLES_SHOW, EXIT_STATUSES,
+    USAGE_CALL, USAGE_SET,
 };
 use clap::Command;
 use std::alloc::{AllocError, Global};
@@ -20,6 +21,8 @@ struct Row {
     name: &'static str,
     /// What it does, in a line.
     about: &'static str,
+    /// The usage, if it is not that of the arguments.
+    usage: Option<&'static str>,
     /// The end of its help under `-h`.
     examples: &'static str,
     /// The end of its help under `--help`.
@@ -32,6 +35,7 @@ static COMMANDS: [Row; 11] = [
     Row {
         name: "serve",
         about: "Serve a device over TCP to several clients at once",
+        usage: None,
         examples: EXAMPLES_SERVE,
         details: DETAILS_SERVE,
         arguments: &[
@@ -46,6 +50,7 @@ static COMMANDS: [Row; 11] = [
     Row {
         name: "check",
         about: "Check a configuration, and print the device that it describes",
+        usage: None,
         examples: EXAMPLES_CHECK,
         details: DETAILS_CHECK,
         arguments: &[Argument::Config],
@@ -53,6 +58,7 @@ static COMMANDS: [Row; 11] = [
     Row {
         name: "get",
         about: "Read an attribute of an object, once or again and again",
+        usage: None,
         examples: EXAMPLES_GET,
         details: DETAILS_GET,
         arguments: &[
@@ -72,38 +78,49 @@ static COMMANDS: [Row; 11] = [
     Row {
         name: "set",
         about: "Write an attribute of an object",
+        usage: Some(USAGE_SET),
         examples: EXAMPLES_SET,
         details: DETAILS_SET,
         arguments: &[
             Argument::DeviceAddress,
-            Argument::Class,
-            Argument::Instance,
-            Argument::Attribute,
-            Argument::Data,
+            Argument::CommandClass,
+            Argument::CommandInstance,
+            Argument::CommandAttribute,
+            Argument::CommandData,
             Argument::WrittenType,
             Argument::Connected,
             Argument::Timeout,
+            Argument::Once,
+            Argument::Tries,
+            Argument::Pending,
+            Argument::Abandon,
         ],
     },
     Row {
         name: "call",
         about: "Call a service of an object",
+        usage: Some(USAGE_CALL),
         examples: EXAMPLES_CALL,
         details: DETAILS_CALL,
         arguments: &[
             Argument::DeviceAddress,
-            Argument::Service,
-            Argument::Class,
-            Argument::Instance,
+            Argument::CommandService,
+            Argument::CommandClass,
+            Argument::CommandInstance,
             Argument::OptionalData,
             Argument::Json,
             Argument::Connected,
             Argument::Timeout,
+            Argument::Once,
+            Argument::Tries,
+            Argument::Pending,
+            Argument::Abandon,
         ],
     },
     Row {
         name: "identity",
         about: "Print what a device is",
+        usage: None,
         examples: EXAMPLES_IDENTITY,
         details: DETAILS_IDENTITY,
         arguments: &[Argument::DeviceAddress, Argument::Json, Argument::Timeout],
@@ -111,6 +128,7 @@ static COMMANDS: [Row; 11] = [
     Row {
         name: "discover",
         about: "Find the devices of a network",
+        usage: None,
         examples: EXAMPLES_DISCOVER,
         details: DETAILS_DISCOVER,
         arguments: &[
@@ -122,6 +140,7 @@ static COMMANDS: [Row; 11] = [
     Row {
         name: "services",
         about: "Print the encapsulation services that a device offers",
+        usage: None,
         examples: EXAMPLES_SERVICES,
         details: DETAILS_SERVICES,
         arguments: &[Argument::DeviceAddress, Argument::Timeout],
@@ -129,6 +148,7 @@ static COMMANDS: [Row; 11] = [
     Row {
         name: "answer",
         about: "Answer frames that are given as lines of hexadecimal digits",
+        usage: None,
         examples: EXAMPLES_ANSWER,
         details: DETAILS_ANSWER,
         arguments: &[Argument::Config],
@@ -136,6 +156,7 @@ static COMMANDS: [Row; 11] = [
     Row {
         name: "show",
         about: "Print the fields of frames given as lines of hexadecimal digits",
+        usage: None,
         examples: EXAMPLES_SHOW,
         details: DETAILS_SHOW,
         arguments: &[],
@@ -143,6 +164,7 @@ static COMMANDS: [Row; 11] = [
     Row {
         name: "replay",
         about: "Run a client and an adapter by a script of losses and repeats",
+        usage: None,
         examples: EXAMPLES_REPLAY,
         details: DETAILS_REPLAY,
         arguments: &[Argument::Config, Argument::Script, Argument::Ladder],
@@ -169,6 +191,9 @@ fn command<'a>(alloc: Global, row: &Row) -> Result<Command<'a>, AllocError> {
         .about(row.about)
         .after_help(row.examples)
         .after_long_help(row.details);
+    if let Some(usage) = row.usage {
+        command = command.override_usage(usage);
+    }
     for argument in row.arguments {
         command = command.arg(argument.arg(alloc)?)?;
     }

@@ -5,10 +5,12 @@ mod arguments;
 mod command_line;
 mod commands;
 mod file;
+mod locked_file;
 mod seconds;
 mod texts;
 
 pub use command_line::{OsArg, os_args};
 pub use commands::{PROGRAM, program};
-pub use file::read_file;
+pub use file::{exists, file_name, read_file};
+pub use locked_file::LockedFile;
 pub use seconds::microseconds_of;

@@ -16,9 +16,13 @@ before it starts with `enip: ` and gives the reason.
   2                     the arguments are refused; the text gives the reason
   2  hex                HEX is not hexadecimal
   2  value              an argument is not a value of TYPE, or is out of range
+  2  pending            --once: the pending command of FILE is another one, or
+                        there is none
+  2  life               --once: the device has restarted since the pending
+                        command was sent
   3  configuration N    the configuration is refused
   4  line N             line N of the input or the script is refused; the lines
-                        before it were run
+                        before it were run. --once: line N of FILE is refused
   5  device             a file, a stream or the network failed, or the device
                         did not answer in time
   5  memory             out of memory
@@ -41,9 +45,11 @@ fault N:
 
   1    the request is not possible
   2    the device answered with an encapsulation error status
+  3    --once: the device refused the command, or it has no command ledger
   4    a frame was too long
   6    the reply is malformed, or its data are not values of TYPE
-  7    the request is too long: over 504 bytes, or 498 with --connected";
+  7    the request is too long: over 504 bytes, or 498 with --connected; with
+       --once 478 or 472";
 
 pub(crate) const EXAMPLES_SERVE: &str = "\
 Examples:
@@ -149,6 +155,10 @@ Examples:
 
 For exit statuses, see `enip --help`.";
 
+pub(crate) const USAGE_SET: &str = "\
+enip set [OPTIONS] <ADDRESS> <CLASS> <INSTANCE> <ATTRIBUTE> <HEX>...
+       enip set <ADDRESS> --once <FILE> <--pending|--abandon>";
+
 pub(crate) const EXAMPLES_SET: &str = "\
 Examples:
   enip set 127.0.0.1 4 100 3 01020304
@@ -165,6 +175,11 @@ Output:
   refused 0xGG           the device refused: the general status
   refused 0xGG 0xEEEE    the same, with the first additional status word
 
+With --once, the device executes the command once, whatever connections break,
+if it has a command ledger. FILE keeps the command until the device has
+answered: exit status 0 or 6. After any other status the same command line goes
+on with it.
+
 Examples:
   enip set 127.0.0.1 4 100 3 01020304
       sets the data of an assembly (class 4, instance 100, attribute 3) to the
@@ -174,10 +189,15 @@ Examples:
 
 For exit statuses, see `enip --help`.";
 
+pub(crate) const USAGE_CALL: &str = "\
+enip call [OPTIONS] <ADDRESS> <SERVICE> <CLASS> <INSTANCE> [HEX]
+       enip call <ADDRESS> --once <FILE> <--pending|--abandon>";
+
 pub(crate) const EXAMPLES_CALL: &str = "\
 Examples:
   enip call 127.0.0.1 50 100 1 05000000
-  enip call 127.0.0.1 51 100 1 --connected";
+  enip call 127.0.0.1 51 100 1 --connected
+  enip call 127.0.0.1 50 100 1 05000000 --once commands";
 
 pub(crate) const DETAILS_CALL: &str = "\
 The request has a session of its own, or with --connected a connection of its
@@ -193,6 +213,11 @@ Output:
 With --json it is an object instead: `status` 0 and `data`; or for a refusal,
 `status` and `extended`, the first additional status word or 0.
 
+With --once, the device executes the command once, whatever connections break,
+if it has a command ledger. FILE keeps the command until the device has
+answered: exit status 0 or 6. After any other status the same command line goes
+on with it.
+
 Examples:
   enip call 127.0.0.1 50 100 1 05000000
       calls service 50 (0x32) of class 100, instance 1, with the data
@@ -200,6 +225,9 @@ Examples:
   enip call 127.0.0.1 51 100 1 --connected
       calls service 51 (0x33) on a class 3 connection; the demo device sets its
       counter to 0
+  enip call 127.0.0.1 50 100 1 05000000 --once commands
+      adds 5 exactly once, however often this line is run until it succeeds; the
+      device needs a command ledger
 
 For exit statuses, see `enip --help`.";
 
@@ -432,3 +460,24 @@ REAL                     a decimal number, with or without exponent,
                          inf, -inf or NaN
 SHORT_STRING             up to 255 characters; \\xNN is a byte, \\\\ a
                          backslash";
+
+pub(crate) const ONCE_DETAILS: &str = "\
+Execute the command once, even if connections are lost. The device
+needs a command ledger. FILE has who gives the commands, the number of
+the last one, and the command while it is pending. It is created if
+there is none, and written before the command is sent. FILE.lock and
+FILE.new are files next to it";
+
+pub(crate) const TRIES_DETAILS: &str = "\
+With --once, try up to N times, each on a new connection, until the
+device answers. 0 is for ever";
+
+pub(crate) const PENDING_DETAILS: &str = "\
+With --once, send the pending command of FILE and not the one in the
+arguments, which can be left out";
+
+pub(crate) const ABANDON_DETAILS: &str = "\
+With --once, give up the pending command of FILE, which is executed
+once or not at all, and send the one in the arguments as a new
+command. If it is left out, send nothing. If there is no answer, do
+not repeat this line: leave out --abandon";

@@ -10,14 +10,18 @@ use Rattle.enip_replay.specs.declared.replaying.ReplayFailure.{ReplayFailure}
 use Rattle.enip_replay.specs.declared.replaying.ReplayFailure.TheVariants as failures
 use Rattle.enip_replay.specs.Replay.{IsOpeningRefused as refuses_opening}
 use Rattle.enip_commands.specs.Statuses.{exit_status as run_status, request_failure_status}
+use Rattle.enip_commands.specs.Once.{once_refusal_status}
 use Rattle.enip_cmd.specs.declared.fault.Fault.{Fault}
-use Rattle.enip_cmd.specs.declared.fault.Fault.TheVariants.{Configuration as Refused, Setup, Run, Value, Request}
+use Rattle.enip_cmd.specs.declared.fault.Fault.TheVariants.{Configuration as Refused, Setup, Run, Value}
+use Rattle.enip_cmd.specs.declared.fault.Fault.TheVariants.{Once, CommandFile, Request}
 
 -- The exit status of a fault.
 abbrev pub exit_status : Fault → ℕ
 exit_status (Refused check) = 3
 exit_status Setup = 6
 exit_status Value = 2
+exit_status (Once refusal) = once_refusal_status refusal
+exit_status (CommandFile line) = 4
 exit_status (Run fault) = run_status fault
 exit_status (Request failure) = request_failure_status failure
 
@@ -45,6 +49,8 @@ abbrev pub IsFaultOf : List ℕ → Fault → Type 0
 IsFaultOf text (Refused refusal) = IsRefused text refusal
 IsFaultOf text Setup = ⊥
 IsFaultOf text Value = ⊥
+IsFaultOf text (Once refusal) = ⊥
+IsFaultOf text (CommandFile line) = ⊥
 IsFaultOf text (Request failure) = ⊥
 IsFaultOf text (Run (program.Line number why)) = IsAccepted text
 IsFaultOf text (Run _) = ⊤

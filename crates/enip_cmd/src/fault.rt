@@ -3,7 +3,7 @@
 ghost use Rattle.std.specs.Prelude.{◌≡◌};
 ghost use Rattle.enip_cmd.specs.Statuses.{exit_status};
 
-use enip_commands::RequestFailure;
+use enip_commands::{OnceRefusal, RequestFailure};
 use enip_config::ConfigurationRefusal;
 use enip_replay::ReplayFailure;
 use std::alloc::AllocError;
@@ -25,6 +25,12 @@ pub enum Fault {
     /// An argument is not a value of the requested type.
     #[error("value")]
     Value,
+    /// A command that is executed once is not sent.
+    #[error("{0}")]
+    Once(OnceRefusal),
+    /// A line of a command file is refused: its number, from 1.
+    #[error("line {0}")]
+    CommandFile(u64),
     /// A client's request got no reply.
     #[error("{0}")]
     Request(RequestFailure),
@@ -37,8 +43,10 @@ impl Fault {
     {
         match self {
             Fault::Value => 2,
+            Fault::Once(refusal) => refusal.exit_status(),
             Fault::Configuration(_) => 3,
             Fault::Setup => ReplayFailure::Setup.exit_status(),
+            Fault::CommandFile(_) => 4,
             Fault::Run(fault) => fault.exit_status(),
             Fault::Request(failure) => failure.exit_status(),
         }

@@ -159,6 +159,8 @@ impl<R: Eprint + Clock> Wire for LoggedWire<'_, R> {
 
     ghost written = { λ _. None };
 
+    ghost known = { λ _. None };
+
     ghost counts = { λ w. w.wire.counts };
 
     fn read(&mut self, into: &mut [u8]) -> ReadOutcome {

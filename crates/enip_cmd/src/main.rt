@@ -17,6 +17,7 @@ mod listing;
 mod logged_wire;
 mod named_file;
 mod observer;
+mod once;
 mod polling;
 mod readiness;
 mod reason;
@@ -46,11 +47,12 @@ use listing::{run_discovery, run_list};
 use mio::net::UdpSocket;
 use named_file::{NamedFile, error_of_run};
 use observer::NoObserver;
+use once::{OnceOptions, run_once};
 use polling::{PollOptions, run_polling};
 use reason::{CLOCK, CommandError, Reason};
 use replay::{draw, replay};
 use report::Reported;
-use request::{Request, run_request};
+use request::{Device, Request, run_request};
 use serve::{ServeOptions, Sockets, serve_connections};
 use show::show;
 use std::io;
@@ -96,9 +98,9 @@ fn run_command<'a>(
         "identity" => return run_query(rt, Query::List(ListCommand::Identity), matches),
         "services" => return run_query(rt, Query::List(ListCommand::Services), matches),
         "discover" => return run_query(rt, Query::Discovery, matches),
-        "get" => return run_client(rt, Some(service_of_get(matches)), matches),
-        "set" => return run_client(rt, Some(SET_ATTRIBUTE_SINGLE), matches),
-        "call" => return run_client(rt, matches.get_one("SERVICE"), matches),
+        "get" => return run_client(rt, args, Some(service_of_get(matches)), matches),
+        "set" => return run_client(rt, args, Some(SET_ATTRIBUTE_SINGLE), matches),
+        "call" => return run_client(rt, args, matches.get_one("SERVICE"), matches),
         _ => {}
     }
     Ok(ARGUMENTS_REFUSED)
@@ -230,12 +232,20 @@ fn run_check<'a>(
     }
 }
 
-/// `enip get`, `enip set` and `enip call`: sends a request for a service once, or again and again.
+/// `enip get`, `enip set` and `enip call`: sends a request for a service once, again and again, or until it is executed
+/// once.
 fn run_client<'a>(
     rt: &HostRuntime,
+    args: &[OsArg],
     service: Option<u8>,
     matches: &ArgMatches<'a>,
 ) -> Result<u8, CommandError<'a>> {
+    if let Some(options) = OnceOptions::from_matches(matches) {
+        return match command_of(service, matches) {
+            Ok((device, request)) => run_once(rt, args, device, request, options),
+            Err(error) => Ok(print_argument_error(rt, error)),
+        };
+    }
     match request_of(service, matches) {
         Ok((request, None)) => run_request(rt, request),
         Ok((request, Some(options))) => run_polling(rt, request, options),
@@ -251,6 +261,20 @@ fn request_of<'a, 'm>(
     let timeout = Timeout::parse(matches.get_str("timeout").unwrap_or(""))?;
     let options = PollOptions::from_matches(matches)?;
     Ok((Request::from_matches(service, matches, timeout)?, options))
+}
+
+/// The device and the request that the arguments describe. No request if all its arguments are left out.
+fn command_of<'a, 'm>(
+    service: Option<u8>,
+    matches: &'m ArgMatches<'a>,
+) -> Result<(Device<'a>, Option<Request<'a, 'm>>), ArgumentError<'a>> {
+    let timeout = Timeout::parse(matches.get_str("timeout").unwrap_or(""))?;
+    let is_left_out = !matches.contains_id("SERVICE") && !matches.contains_id("CLASS");
+    if is_left_out {
+        return Ok((Device::from_matches(service, matches, timeout)?, None));
+    }
+    let request = Request::from_matches(service, matches, timeout)?;
+    Ok((request.device, Some(request)))
 }
 
 /// Prints why an argument is refused. Returns the exit status.

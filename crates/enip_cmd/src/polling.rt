@@ -106,6 +106,7 @@ pub(crate) fn run_polling<'a>(
                 thread::sleep(
                     rt,
                     request
+                        .device
                         .timeout
                         .limit()
                         .unwrap_or(Duration::from_secs(RECONNECT_DELAY)),
@@ -120,9 +121,9 @@ pub(crate) fn run_polling<'a>(
 impl<'a> Poller<'a, '_, '_> {
     /// Sends the request in one session until all replies were taken, or once if the interval is too long for a session.
     fn run_session(&mut self) -> Result<(), SessionEnd<'a>> {
-        let device = HostPort::parse(self.request.address).map_err(SessionEnd::Fatal)?;
+        let device = HostPort::parse(self.request.device.address).map_err(SessionEnd::Fatal)?;
         let stream = device
-            .connect(self.rt, self.request.timeout)
+            .connect(self.rt, self.request.device.timeout)
             .map_err(session_end_of)?;
         let mut source = SocketSource::new(&stream, self.rt, self.start);
         let mut sink = SocketSink::new(&stream);
@@ -130,7 +131,7 @@ impl<'a> Poller<'a, '_, '_> {
             self.rt.alloc(),
             &mut source,
             &mut sink,
-            self.request.connected,
+            self.request.device.connected,
         );
         let mut session = match begun {
             Ok(session) => session,
@@ -167,7 +168,7 @@ impl<'a> Poller<'a, '_, '_> {
         let printed = print_reading(
             self.rt.alloc(),
             &mut output,
-            self.request.style,
+            self.request.device.style,
             moment,
             reply,
         );
@@ -181,7 +182,7 @@ impl<'a> Poller<'a, '_, '_> {
             }
             Err(failure) => Err(SessionEnd::Fatal(error_of_failure(
                 failure,
-                self.request.address,
+                self.request.device.address,
                 output.reason(OUTPUT),
             ))),
         }
@@ -195,10 +196,10 @@ impl<'a> Poller<'a, '_, '_> {
         sink: &SocketSink<'_>,
     ) -> SessionEnd<'a> {
         let reason = source.fault().or(sink.fault()).map(|fault| fault.reason(
-            self.request.address,
-            self.request.timeout,
+            self.request.device.address,
+            self.request.device.timeout,
         ));
-        session_end_of(error_of_failure(failure, self.request.address, reason))
+        session_end_of(error_of_failure(failure, self.request.device.address, reason))
     }
 }
 

@@ -3,8 +3,12 @@
 use crate::fault::Fault;
 use cip_bytes::StatusText;
 use cip_values::{ValueFault, ValueType};
-use enip_commands::LineFault;
+use enip_client::ClientFault;
+use enip_commands::{
+    CommandFileFault, Digits, LedgerRefusal, LineFault, ProgramFault, RequestFailure,
+};
 use enip_config::Explanation;
+use std::alloc::{AllocError, Global};
 use std::fmt;
 use std::io::{self, ErrorKind};
 use thiserror::Error;
@@ -69,9 +73,77 @@ pub(crate) enum Reason<'a> {
     /// The device refused the request with this general status.
     #[error("{0}")]
     Refused(StatusText),
+    /// A line of a command file is refused.
+    #[error("{0}, line {1}: {2}")]
+    CommandFile(&'a str, u64, CommandFileFault),
+    /// Another process uses the command file.
+    #[error("{0}: another process uses it")]
+    InUse(&'a str),
+    /// The command file has no pending command.
+    #[error("{0}: no command is pending")]
+    NonePending(&'a str),
+    /// The command file has this pending command, and the arguments have that one.
+    #[error("{0}: another command is pending: {1}, not {2} (see --pending and --abandon)")]
+    OtherPending(&'a str, OwnedDigits, OwnedDigits),
+    /// The pending command of the command file was for another life of the device.
+    #[error("{0}: the device has restarted, and may have executed the pending command {1} before (see --abandon)")]
+    OtherLife(&'a str, OwnedDigits),
+    /// The pending command of the command file was given up.
+    #[error("{0}: gave up the command {1}, which is executed at most once")]
+    GivenUp(&'a str, OwnedDigits),
+    /// The device has no command ledger: it refused with this general status.
+    #[error("{0}: the device has no command ledger ({1})")]
+    NoLedger(&'a str, StatusText),
+    /// The ledger of the device refused the command.
+    #[error("{0}: {1}")]
+    Ledger(&'a str, LedgerRefusal),
+    /// The device has taken the command, and has not executed it yet.
+    #[error("{0}: the device has not executed the command yet")]
+    StillPending(&'a str),
     /// Memory was refused.
     #[error("out of memory")]
     Memory,
+}
+
+/// What became of a command that is executed once, if the program fails. It ends the line of the reason.
+#[derive(Clone, Copy, Debug, Error)]
+pub(crate) enum Note {
+    /// Nothing was sent.
+    #[error("the command was not sent")]
+    NotSent,
+    /// The command was sent, now or earlier, and the device has not replied.
+    #[error("the command may have been executed, and the same line sends it again")]
+    MaybeExecuted,
+    /// The same, for a line that would give up the command if it were run again.
+    #[error("the command may have been executed, and the same line without --abandon sends it again")]
+    MaybeExecutedNew,
+    /// The ledger refused the command.
+    #[error("the command was not executed, and is still pending")]
+    NotExecuted,
+    /// The ledger refused the command, and it may have executed it before.
+    #[error("the command may have been executed, and is still pending")]
+    StillPending,
+    /// The device has replied, and its reply could not be printed, or the command could not be settled.
+    #[error("the command was executed, and `--pending` prints its reply again")]
+    Executed,
+}
+
+/// Bytes in hexadecimal, for a message.
+#[derive(Debug, Drop)]
+pub(crate) struct OwnedDigits(Vec<u8>);
+
+impl OwnedDigits {
+    pub(crate) fn new(alloc: Global, bytes: &[u8]) -> Result<OwnedDigits, AllocError> {
+        let mut owned = Vec::new(alloc);
+        owned.extend_from_slice(bytes)?;
+        Ok(OwnedDigits(owned))
+    }
+}
+
+impl fmt::Display for OwnedDigits {
+    fn fmt<W: fmt::Write>(&self, f: &mut fmt::Formatter<W>) -> fmt::Result {
+        fmt::Display::fmt(&Digits(self.0.as_slice()), f)
+    }
 }
 
 /// An error of the system, as text.
@@ -107,11 +179,37 @@ pub(crate) const CLOCK: &str = "the clock";
 pub(crate) struct CommandError<'a> {
     fault: Fault,
     reason: Reason<'a>,
+    note: Option<Note>,
 }
 
 impl<'a> CommandError<'a> {
     pub(crate) fn new(fault: Fault, reason: Reason<'a>) -> CommandError<'a> {
-        CommandError { fault, reason }
+        CommandError {
+            fault,
+            reason,
+            note: None,
+        }
+    }
+
+    /// The same error, with what became of the command.
+    pub(crate) fn with_note(self, note: Note) -> CommandError<'a> {
+        CommandError {
+            note: Some(note),
+            ..self
+        }
+    }
+
+    /// Whether the same exchange with the device may succeed later: there was no reply, or no session or connection.
+    pub(crate) fn may_pass(&self) -> bool {
+        matches!(
+            self.fault,
+            Fault::Run(ProgramFault::Device)
+                | Fault::Request(
+                    RequestFailure::Program(ProgramFault::Device)
+                        | RequestFailure::Session(_)
+                        | RequestFailure::Client(ClientFault::Refused(..))
+                )
+        )
     }
 
     /// The system reports an error of a file, a stream or an address of this name.
@@ -142,7 +240,12 @@ impl<'a> CommandError<'a> {
 
     /// Prints both lines on standard error. Returns the exit status.
     pub(crate) fn print<E: Eprint>(self, rt: &E) -> u8 {
-        print_reason(rt, &self.reason);
+        match self.note {
+            Some(note) => {
+                let _ = eprintln!(rt; "enip: {}; {note}", self.reason);
+            }
+            None => print_reason(rt, &self.reason),
+        }
         let _ = eprintln!(rt; "{}", self.fault);
         self.fault.exit_status()
     }

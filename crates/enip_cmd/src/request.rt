@@ -25,16 +25,42 @@ enum RequestData<'a, 'm> {
     Values(ValueType, &'m [&'a str]),
 }
 
-/// A request as the arguments describe it: to which device, which service, and how to print the reply.
+/// The device that a request goes to, how it is sent, and how the reply is printed.
 #[derive(Clone, Copy)]
-pub(crate) struct Request<'a, 'm> {
+pub(crate) struct Device<'a> {
     pub(crate) address: &'a str,
-    service: u8,
-    path: Path,
-    data: RequestData<'a, 'm>,
     pub(crate) connected: bool,
     pub(crate) style: Style,
     pub(crate) timeout: Timeout<'a>,
+}
+
+impl<'a> Device<'a> {
+    /// The device in the arguments, for a service.
+    pub(crate) fn from_matches(
+        service: Option<u8>,
+        matches: &ArgMatches<'a>,
+        timeout: Timeout<'a>,
+    ) -> Result<Device<'a>, ArgumentError<'a>> {
+        let value_type = parse_type(matches.get_str("as"))?;
+        Ok(Device {
+            address: matches.get_str("ADDRESS").unwrap_or(""),
+            connected: matches.get_flag("connected"),
+            style: Style {
+                value_type: printed_type(service, value_type),
+                is_json: matches.get_flag("json"),
+            },
+            timeout,
+        })
+    }
+}
+
+/// A request as the arguments describe it: to which device, which service, and with which data.
+#[derive(Clone, Copy)]
+pub(crate) struct Request<'a, 'm> {
+    pub(crate) device: Device<'a>,
+    service: u8,
+    path: Path,
+    data: RequestData<'a, 'm>,
 }
 
 impl<'a: 'm, 'm> Request<'a, 'm> {
@@ -47,23 +73,15 @@ impl<'a: 'm, 'm> Request<'a, 'm> {
         let value_type = parse_type(matches.get_str("as"))?;
         let data = match matches.get_strs("HEX") {
             Some(arguments) => data_of(value_type, arguments)?,
+            None if service == Some(SET_ATTRIBUTE_SINGLE) => return Err(ArgumentError::Missing),
             None => RequestData::Hex(""),
         };
-        match path_of(matches) {
-            Some(path) => Ok(Request {
-                address: matches.get_str("ADDRESS").unwrap_or(""),
-                service: service.ok_or(ArgumentError::Missing)?,
-                path,
-                data,
-                connected: matches.get_flag("connected"),
-                style: Style {
-                    value_type: printed_type(service, value_type),
-                    is_json: matches.get_flag("json"),
-                },
-                timeout,
-            }),
-            None => Err(ArgumentError::Missing),
-        }
+        Ok(Request {
+            device: Device::from_matches(service, matches, timeout)?,
+            service: service.ok_or(ArgumentError::Missing)?,
+            path: path_of(matches).ok_or(ArgumentError::Missing)?,
+            data,
+        })
     }
 
     /// The bytes of the router request.
@@ -81,7 +99,7 @@ impl<'a: 'm, 'm> Request<'a, 'm> {
                         Fault::Request(RequestFailure::Hex),
                         Reason::Hex(digits),
                     )),
-                    Err(failure) => Err(error_of_failure(failure, self.address, None)),
+                    Err(failure) => Err(error_of_failure(failure, self.device.address, None)),
                 }
             }
             RequestData::Values(value_type, words) => {
@@ -142,7 +160,7 @@ pub(crate) fn run_request<'a>(
     request: Request<'a, '_>,
 ) -> Result<u8, CommandError<'a>> {
     let bytes = request.bytes(rt.alloc())?;
-    let outcome = send_request(rt, request, bytes.as_slice())?;
+    let outcome = send_request(rt, request.device, bytes.as_slice())?;
     print_refusal(rt, outcome);
     Ok(outcome.exit_status())
 }
@@ -157,12 +175,12 @@ pub(crate) fn print_refusal(rt: &HostRuntime, outcome: ReplyOutcome) {
 /// Connects to the device, sends the request, and prints the reply.
 fn send_request<'a>(
     rt: &HostRuntime,
-    request: Request<'a, '_>,
+    device: Device<'a>,
     bytes: &[u8],
 ) -> Result<ReplyOutcome, CommandError<'a>> {
-    let device = HostPort::parse(request.address)?;
+    let address = HostPort::parse(device.address)?;
     let start = Instant::now(rt).map_err(|error| CommandError::of_system(CLOCK, error))?;
-    let stream = device.connect(rt, request.timeout)?;
+    let stream = address.connect(rt, device.timeout)?;
     let mut output = ErrorKeeping::new(rt.stdout());
     let mut source = SocketSource::new(&stream, rt, start);
     let mut sink = SocketSink::new(&stream);
@@ -171,19 +189,19 @@ fn send_request<'a>(
         &mut source,
         &mut sink,
         bytes,
-        request.connected,
-        request.style,
+        device.connected,
+        device.style,
         &mut output,
     );
     match outcome {
         Ok(outcome) => Ok(outcome),
         Err(failure) => {
             let network = match source.fault().or(sink.fault()) {
-                Some(fault) => Some(fault.reason(device.text(), request.timeout)),
+                Some(fault) => Some(fault.reason(device.address, device.timeout)),
                 None => None,
             };
             let reason = output.reason("standard output").or(network);
-            Err(error_of_failure(failure, request.address, reason))
+            Err(error_of_failure(failure, device.address, reason))
         }
     }
 }

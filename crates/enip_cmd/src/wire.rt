@@ -47,6 +47,8 @@ impl Wire for TcpWire {
 
     ghost written = { λ _. None };
 
+    ghost known = { λ _. None };
+
     ghost counts = { λ wire. wire.counts };
 
     fn read(&mut self, into: &mut [u8]) -> ReadOutcome {

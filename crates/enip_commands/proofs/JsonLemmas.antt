@@ -1,5 +1,9 @@
 -- Values as JSON, one after the other.
-use Rattle.std.proofs.Common.{◌≡◌, ℕ, ◌+◌, ◌<◌, ◌≤◌, List, [], ◌∷◌, ◌++◌, length, map, take, get_or, sym, ap, subst, refl, suc, ℤ, pos, negsuc, ◌∙◌, Vec, Global}
+use Rattle.std.proofs.Common.{◌≡◌, ℕ, ◌+◌, ◌<◌, ◌≤◌, List, [], ◌∷◌, ◌++◌, length, map, take, get_or, sym, ap, subst, refl, suc, ℤ, pos, negsuc, ◌∙◌, Vec, Global, String, string_bytes, Some, Result, Ok, Err}
+use Rattle.std.specs.Prelude.{IfOk}
+use Rattle.json.specs.Lex.{tokens}
+use Rattle.json.specs.Print.{print}
+use Rattle.serde_json.specs.Read.{read, max_depth}
 use Rattle.std.proofs.lemmas.List.{take_more, take_all, map-append}
 use Rattle.cip_values.specs.Values.{Value, Truth, Signed, Unsigned, Bits, Real, Text, value_in}
 use Rattle.cip_values.specs.declared.element.ValueType.{ValueType}
@@ -7,7 +11,7 @@ use Rattle.cip_values.specs.declared.value.Value.{Value as ValueInCode}
 use Rattle.serde_json.specs.Data.{Data, null, boolean, number, string, array, object, Items, no_items, item, depth, items_depth}
 use Rattle.serde_json.specs.View.{view, items_of, items_view}
 use Rattle.serde_json.specs.declared.value.Value.{Value as Json, Array}
-use Rattle.enip_commands.specs.Json.{IsJsonOf, EachJsonOf, AreJsonOf, AreValuesJson, integer}
+use Rattle.enip_commands.specs.Json.{IsJsonOf, EachJsonOf, AreJsonOf, AreValuesJson, IsValuesLine, integer}
 use Rattle.serde_json.proofs.Views.{view-Array}
 
 rendered-append : (values : List Value) (rendered : List Data) (value : Value) (d : Data) → EachJsonOf values (items_of rendered) → IsJsonOf value d
@@ -62,3 +66,10 @@ list_nests values (object ms) h = absurd h
 
 pub values_nest : (bytes : List ℕ) (value_type : ValueType) (values : List Value) (d : Data) → AreValuesJson bytes value_type values d → depth d ≡ 2
 values_nest bytes value_type values d (list, rendered, is) = ap depth is ∙ rw (list_nests values list rendered) refl
+
+-- What is known of the line of some values, if there is one.
+pub values_line_from : {E : Type 0} (d : Data) (bytes : List ℕ) (value_type : ValueType) (values : List Value) (r : Result (String Global) E) → AreValuesJson bytes value_type values d
+    → depth d ≤ max_depth → IfOk r (λ s. depth d ≤ max_depth → read (string_bytes s) ≡ Some d) → IfOk r (λ s. string_bytes s ≡ print (tokens (string_bytes s)))
+    → IfOk r (λ s. IsValuesLine bytes value_type values (string_bytes s))
+values_line_from d bytes value_type values (Ok s) shown flat reads compact = (d, (shown, reads flat, compact))
+values_line_from d bytes value_type values (Err why) shown flat reads compact = tt

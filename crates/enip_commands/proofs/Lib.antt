@@ -4,3 +4,4 @@ pub mod LineLemmas
 pub mod PathLemmas
 pub mod ListingLemmas
 pub mod JsonLemmas
+pub mod CommandFileLemmas

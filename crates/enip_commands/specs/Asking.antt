@@ -1,12 +1,17 @@
 -- One request to a device, and how its reply is reported.
-use Rattle.std.specs.Prelude.{◌≡◌, ◌==◌, ℕ, List, Some, Ok, ⊤, if◌then◌else◌, slice_get, unwrap_or}
+use Rattle.std.specs.Prelude.{⊤, ◌≡◌, ◌==◌, ◌⊎◌, ℕ, Bool, if◌then◌else◌, List, slice_get, Some, None, unwrap_or}
+use Rattle.std.specs.Prelude.{Result, Ok, Err}
 use Rattle.cip_message.specs.PathWriting.{short}
 use Rattle.cip_message.specs.Request.{request}
 use Rattle.cip_message.specs.Reply.{Reply, reply_of}
+use Rattle.enip_client.specs.Asking.{Ends, IsAsked}
+use Rattle.enip_client.specs.Client.{ClientState, new_client}
+use Rattle.enip_client.specs.State.{is_registered}
 use Rattle.enip_client.specs.declared.fault.AskFault.{AskFault}
 use Rattle.enip_client.specs.declared.fault.AskFault.TheVariants as ask
 use Rattle.enip_client.specs.declared.fault.ClientFault.TheVariants as client
 use Rattle.enip_commands.specs.declared.asking.DeviceRequest.{DeviceRequest}
+use Rattle.enip_commands.specs.declared.asking.TheConstants.{WANTS}
 use Rattle.enip_commands.specs.declared.asking.ReplyOutcome.{ReplyOutcome}
 use Rattle.enip_commands.specs.declared.asking.ReplyOutcome.TheVariants.{Done, Refused}
 use Rattle.enip_commands.specs.declared.asking.RequestFailure.{RequestFailure}
@@ -23,6 +28,12 @@ IsRequested q bytes = (given : List ℕ)
     × (bytes_spelled q.digits.now ≡ Some given)
     × (bytes ≡ request (record { service = q.service; path = short q.path; «data» = given }))
 
+-- Why a request was not made: its digits are not hexadecimal, or memory was refused.
+abbrev pub IsNotMade : DeviceRequest → RequestFailure → Type 0
+IsNotMade q Hex = bytes_spelled q.digits.now ≡ None
+IsNotMade q (Program Memory) = ⊤
+IsNotMade q failure = ⊥
+
 -- Why an exchange was not completed, as the program reports it.
 abbrev pub stop_of : AskFault → RequestFailure
 stop_of ask.Read = Program Device
@@ -32,6 +43,26 @@ stop_of ask.Spent = Program Device
 stop_of (ask.Client client.Memory) = Program Memory
 stop_of (ask.Client fault) = Client fault
 stop_of (ask.Submit why) = Client client.Request
+
+-- The same for an exchange. While the session is not registered, a status is the answer to RegisterSession.
+abbrev pub exchange_result : Result (Unit {0}) AskFault → Bool → Result (Unit {0}) RequestFailure
+exchange_result (Ok done) registered = Ok done
+exchange_result (Err (ask.Client (client.Status status))) registered =
+    if registered then Err (Client (client.Status status)) else Err (Session status)
+exchange_result (Err fault) registered = Err (stop_of fault)
+
+-- No client could be made: nothing was read, written or changed.
+abbrev pub IsWithoutClient : (ClientState → Ends) → (ClientState → Ends) → Result (Unit {0}) RequestFailure → Type 0
+IsWithoutClient old new result = (result ≡ Err (Program Memory)) × (new (new_client WANTS) ≡ old (new_client WANTS))
+
+-- One exchange of a new client, whose ends are these for each state of the client.
+abbrev pub IsExchanged : List ℕ → Bool → (ClientState → Ends) → (ClientState → Ends)
+    → Result (Unit {0}) RequestFailure → Type 0
+IsExchanged request connected old new result =
+    IsWithoutClient old new result
+    ⊎ ((asked : Result (Unit {0}) AskFault) × ((left : ClientState)
+    × (IsAsked request connected (old (new_client WANTS)) (new left) asked
+    × (result ≡ exchange_result asked (is_registered left.state.registration)))))
 
 -- A device or memory failed.
 abbrev pub IsOfDevice : RequestFailure → Type 0

@@ -8,6 +8,8 @@ use Rattle.cip_values.specs.Values.{Value, Truth, Signed, Unsigned, Bits, Real, 
 use Rattle.cip_values.specs.Types.{type_name_of}
 use Rattle.cip_values.specs.declared.element.ValueType.{ValueType}
 use Rattle.enip_client.specs.Identity.{Identity}
+use Rattle.json.specs.Lex.{tokens}
+use Rattle.json.specs.Print.{print}
 use Rattle.serde_json.specs.Read.{read}
 use Rattle.serde_json.specs.Data.{Data, boolean, number, unsigned, negative, string, array, object, Items, no_items, item, member, no_members, depth}
 
@@ -84,6 +86,7 @@ values_json bytes value_type list =
 abbrev pub AreValuesJson : List ℕ → ValueType → List Value → Data → Type 0
 AreValuesJson bytes value_type values d = (list : Data) × AreJsonOf values list × (d ≡ values_json bytes value_type list)
 
--- The line parses to that object.
+-- The line parses to that object, and has nothing between its tokens.
 abbrev pub IsValuesLine : List ℕ → ValueType → List Value → List ℕ → Type 0
-IsValuesLine bytes value_type values line = (d : Data) × AreValuesJson bytes value_type values d × (read line ≡ Some d)
+IsValuesLine bytes value_type values line =
+    (d : Data) × (AreValuesJson bytes value_type values d × (read line ≡ Some d) × (line ≡ print (tokens line)))

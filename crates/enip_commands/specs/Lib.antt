@@ -7,3 +7,5 @@ pub mod Styles
 pub mod Identities
 pub mod Readings
 pub mod Json
+pub mod CommandFiles
+pub mod Once

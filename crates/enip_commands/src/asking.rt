@@ -3,13 +3,14 @@
 ghost use Rattle.std.specs.Prelude.{◌≡◌, ◌<◌, None, IfOk, IfErr};
 ghost use Rattle.cip_message.specs.PathWriting.{short};
 ghost use Rattle.cip_message.specs.Request.{request};
+ghost use Rattle.enip_client.specs.Asking.{ends};
 ghost use Rattle.enip_commands.specs.Asking.{IsRequested, IsReplyPrinted, IsNotPrinted, IsOfDevice, IsOfExchange};
-ghost use Rattle.enip_commands.specs.Digits.{bytes_spelled};
+ghost use Rattle.enip_commands.specs.Asking.{IsExchanged, IsNotMade, exchange_result};
 ghost use Rattle.enip_commands.specs.Statuses.{asking_status, replied_status, request_failure_status};
 
 use crate::digits::decode;
 use crate::fault::ProgramFault;
-use crate::json::refusal_line;
+use crate::json_text::refusal_line;
 use crate::style::{Style, data_object, print_data};
 use arrayvec::ArrayVec;
 use cip_message::{Path, ReplyView, write_path};
@@ -56,7 +57,7 @@ impl DeviceRequest<'_> {
     /// `Hex` if the digits are not hexadecimal. `Program` if memory was refused.
     pub fn request(&self, alloc: Global) -> Result<Vec<u8>, RequestFailure>
         ensures made { IfOk result (λ request. IsRequested self.now request.items) }
-        ensures hex { result ≡ Err RequestFailure.Hex → bytes_spelled self.now.digits.now ≡ None }
+        ensures refused { IfErr result (IsNotMade self.now) }
     {
         let mut digits = Vec::new(alloc);
         let mut data = Vec::new(alloc);
@@ -228,16 +229,20 @@ pub fn ask_over<R: Source, W: Sink, O: Write + Drop>(
 {
     let mut output = BufWriter::new(alloc, output)?;
     let mut reply = ReplyBuf::new();
-    let asked = ask_once(alloc, reader, writer, request, connected, &mut reply);
+    let asked = exchange_over(alloc, reader, writer, request, connected, &mut reply);
     print_asked(alloc, &mut output, style, asked, reply.as_slice())
 }
 
-/// Sends one request with a new client.
+/// Sends one request over a reader and a writer with a new client, and leaves the router's reply in `reply`. If
+/// `connected` is set, the request is sent on a connection, which is opened before and closed afterwards.
 ///
 /// # Errors
 ///
-/// As for `ask_over`, and `Client` with `Refused` if the connection was not opened or not closed.
-fn ask_once<R: Source, W: Sink>(
+/// `Session` if the device refuses the session. `Client` with `Refused` if the connection was not opened or not closed,
+/// with `Request` if the request cannot be sent on it, with `Malformed` if the reply is malformed, or with another
+/// fault of the client. `Program` if the reader or the writer failed, the input ended, or memory was refused. If memory
+/// was refused, nothing was read or written.
+pub fn exchange_over<R: Source, W: Sink>(
     alloc: Global,
     reader: &mut R,
     writer: &mut W,
@@ -247,7 +252,10 @@ fn ask_once<R: Source, W: Sink>(
 ) -> Result<(), RequestFailure>
     requires reads { R.failures reader.old < u64.MAX }
     requires writes { W.failures writer.old < u64.MAX }
-    ensures { IfErr result IsOfExchange }
+    ensures exchanged { IsExchanged request.now connected
+        (λ client. ends client (R.left reader.old) (R.reads reader.old) (W.written writer.old) reply.old.items)
+        (λ client. ends client (R.left reader.new) (R.reads reader.new) (W.written writer.new) reply.new.items) result }
+    ensures failed { IfErr result IsOfExchange }
 {
     let mut client = match Client::new(alloc, &WANTS) {
         Ok(client) => client,
@@ -259,7 +267,8 @@ fn ask_once<R: Source, W: Sink>(
 
 /// Why an exchange was not completed. If the session is not registered, a status is the answer to RegisterSession.
 fn session_refusal(asked: Result<(), AskFault>, is_registered: bool) -> Result<(), RequestFailure>
-    ensures { IfErr result IsOfExchange }
+    ensures reported { result ≡ exchange_result asked is_registered }
+    ensures failed { IfErr result IsOfExchange }
 {
     match asked {
         Ok(()) => Ok(()),
@@ -288,6 +297,27 @@ fn print_asked<O: Write>(
         }
         Err(stop) => return Err(stop),
     };
+    output.flush()?;
+    Ok(replied)
+}
+
+/// Prints a reply on `output` in a style, as `ask_over` does.
+///
+/// # Errors
+///
+/// `Client` with `Malformed` if the bytes are not a reply. `Shape` if its data are not values of the style's type.
+/// `Program` if the output failed or memory was refused.
+pub fn show_reply<O: Write + Drop>(
+    alloc: Global,
+    output: O,
+    style: Style,
+    bytes: &[u8],
+) -> Result<ReplyOutcome, RequestFailure>
+    ensures rendered { IfOk result (IsReplyPrinted bytes.now) }
+    ensures not_printed { IfErr result (IsNotPrinted style bytes.now) }
+{
+    let mut output = BufWriter::new(alloc, output)?;
+    let replied = print_reply(alloc, &mut output, style, bytes)?;
     output.flush()?;
     Ok(replied)
 }

@@ -25,6 +25,7 @@ pub fn decode(text: &[u8], digits: &mut Vec<u8>, bytes: &mut Vec<u8>) -> Result<
     ensures read { IfOk result (λ spelled. spelled ≡ is_some (bytes_spelled text.now)) }
     ensures bytes { IfOk result (λ spelled. spelled ≡ true → bytes_spelled text.now ≡ Some bytes.new.items) }
     ensures refused { IfErr result IsOfDevices }
+    ensures memory { IfErr result (λ fault. fault ≡ ProgramFault.Memory) }
 {
     if !text.contains(&b' ') {
         return decode_digits(text, bytes);
@@ -37,6 +38,7 @@ pub fn decode(text: &[u8], digits: &mut Vec<u8>, bytes: &mut Vec<u8>) -> Result<
 fn copy_digits(text: &[u8], digits: &mut Vec<u8>) -> Result<(), ProgramFault>
     ensures copied { OnOk result (digits.new.items ≡ without_spaces text.now) }
     ensures refused { IfErr result IsOfDevices }
+    ensures memory { IfErr result (λ fault. fault ≡ ProgramFault.Memory) }
 {
     digits.clear();
     for byte in text {
@@ -52,6 +54,7 @@ fn decode_digits(digits: &[u8], bytes: &mut Vec<u8>) -> Result<bool, ProgramFaul
     ensures read { IfOk result (λ spelled. spelled ≡ is_some (result_ok (decode_of digits.now))) }
     ensures bytes { IfOk result (λ spelled. spelled ≡ true → result_ok (decode_of digits.now) ≡ Some bytes.new.items) }
     ensures refused { IfErr result IsOfDevices }
+    ensures memory { IfErr result (λ fault. fault ≡ ProgramFault.Memory) }
 {
     if digits.len() % 2 != 0 {
         return Ok(false);

@@ -4,13 +4,13 @@ ghost use Rattle.std.specs.Prelude.{◌<◌, IfErr, OnOk};
 ghost use Rattle.std.specs.Io.KnownBytes.{Appends};
 ghost use Rattle.enip_client.specs.Listing.{list_state};
 ghost use Rattle.enip_client.specs.Lists.{entries_left, entry_shown};
-ghost use Rattle.enip_commands.specs.Asking.{IsOfExchange};
 ghost use Rattle.enip_commands.specs.Identities.{AreIdentitiesPrinted, object_line, object_lines, datagram_objects};
+ghost use Rattle.enip_commands.specs.Listing.{IsListAsked};
 ghost use Rattle.enip_commands.specs.Statuses.{IsOfDevices};
 
 use crate::asking::RequestFailure;
 use crate::fault::ProgramFault;
-use crate::json::identity_line;
+use crate::json_text::identity_line;
 use enip_client::{ListCommand, ListEntries, ListEntry, ask_list, read_list};
 use enip_wire::{FrameReader, Sink, Source};
 use std::alloc::Global;
@@ -30,7 +30,9 @@ pub fn identities_over<R: Source, W: Sink, O: Write + Drop>(
 ) -> Result<(), RequestFailure>
     requires reads { R.failures reader.old < u64.MAX }
     requires writes { W.failures writer.old < u64.MAX }
-    ensures { IfErr result IsOfExchange }
+    ensures { IsListAsked ListCommand.Identity
+        (list_state (R.left reader.old) (R.reads reader.old) (W.written writer.old))
+        (list_state (R.left reader.new) (R.reads reader.new) (W.written writer.new)) result }
 {
     let mut frames = FrameReader::new(alloc)?;
     let mut output = BufWriter::new(alloc, output)?;

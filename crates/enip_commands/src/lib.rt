@@ -5,6 +5,9 @@
 //! - [`ask_over`] sends one request and prints the reply. A [`DeviceRequest`] or a [`TypedRequest`] makes the
 //!   request, and [`report_outcome`] gives the exit status. [`DeviceSession`], [`Readings`] and [`print_reading`] are
 //!   for repeated reads.
+//! - [`exchange_over`] and [`show_reply`] are the two halves of `ask_over`, for commands that are executed once:
+//!   [`read_commander`] and [`write_commander`] keep a commander in a file, [`read_life`] and [`begin_once`] say what is
+//!   sent, and a [`LedgerRefusal`] what a refusal means.
 //! - [`list_over`] and [`identities_over`] ask a device for its identity or its services. [`print_devices`] and
 //!   [`print_device_objects`] print the answers to a broadcast.
 //!
@@ -20,14 +23,16 @@
 
 mod answering;
 mod asking;
+mod command_file;
 mod digits;
 mod fault;
 mod identities;
 mod input_lines;
-mod json;
+mod json_text;
 mod line_fault;
 mod lines;
 mod listing;
+mod once;
 mod peer_number;
 mod reading;
 mod session;
@@ -36,7 +41,11 @@ mod style;
 mod typed;
 
 pub use answering::answer;
-pub use asking::{DeviceRequest, ReplyOutcome, RequestFailure, WANTS, ask_over, report_outcome};
+pub use asking::{
+    DeviceRequest, ReplyOutcome, RequestFailure, WANTS, ask_over, exchange_over, report_outcome,
+    show_reply,
+};
+pub use command_file::{CommandFile, CommandFileFault, read_commander, write_commander};
 pub use digits::{Digits, decode};
 pub use fault::ProgramFault;
 pub use identities::{identities_over, print_device_objects};
@@ -44,6 +53,10 @@ pub use input_lines::{TakeLines, read_lines};
 pub use line_fault::LineFault;
 pub use lines::decimal;
 pub use listing::{list_over, print_devices};
+pub use once::{
+    LIFE_REQUEST, LedgerRefusal, LifeFault, OnceRefusal, PendingChoice, begin_once, check_once,
+    read_life,
+};
 pub use reading::{Readings, print_reading};
 pub use session::DeviceSession;
 pub use showing::show_frames;

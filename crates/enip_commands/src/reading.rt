@@ -5,7 +5,7 @@ ghost use Rattle.enip_commands.specs.Asking.{IsReplyPrinted, IsNotPrinted};
 
 use crate::asking::{ReplyOutcome, RequestFailure, print_reply, reply_object};
 use crate::fault::ProgramFault;
-use crate::json::timed_line;
+use crate::json_text::timed_line;
 use crate::style::Style;
 use std::alloc::{AllocError, Global};
 use std::io::{BufWriter, Write};

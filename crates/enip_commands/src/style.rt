@@ -8,7 +8,7 @@ ghost use Rattle.enip_commands.specs.Statuses.{IsOfDevices};
 use crate::asking::RequestFailure;
 use crate::digits::print_digits;
 use crate::fault::ProgramFault;
-use crate::json::{data_line, values_line};
+use crate::json_text::{data_line, values_line};
 use cip_values::{Value, ValueFault, ValueType, ValuesText, read_values};
 use std::alloc::Global;
 use std::io::Write;

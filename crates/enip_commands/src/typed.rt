@@ -1,6 +1,6 @@
 //! Requests whose data are given as values of elementary types.
 
-ghost use Rattle.std.specs.Prelude.{length, IfOk, IfErr};
+ghost use Rattle.std.specs.Prelude.{map, IfOk, IfErr};
 ghost use Rattle.cip_values.specs.Parsing.{IsWriteFault};
 ghost use Rattle.enip_commands.specs.Styles.{IsTypedRequest};
 
@@ -30,7 +30,7 @@ impl<'a> TypedRequest<'a, '_> {
     /// The errors of [`write_values`].
     pub fn request(&self, alloc: Global) -> Result<Vec<u8>, ValueFault<'a>>
         ensures made { IfOk result (λ request. IsTypedRequest self.now request.items) }
-        ensures refused { IfErr result (IsWriteFault self.now.value_type (length self.now.words.now)) }
+        ensures refused { IfErr result (IsWriteFault self.now.value_type (map (λ word. word.now) self.now.words.now)) }
     {
         let bytes = write_values(alloc, self.value_type, self.words)?;
         Ok(spell_request(alloc, self.service, self.path, bytes.as_slice())?)

@@ -1,8 +1,7 @@
 //! What is wrong with a refused configuration, as text, and the line with the fault.
 
 ghost use Rattle.std.specs.Prelude.{◌≡◌, IfOk, IfSome};
-ghost use Rattle.enip_config.specs.Explained.{refusal_of};
-ghost use Rattle.enip_config.specs.Documents.{IsRefused};
+ghost use Rattle.enip_config.specs.Explained.{IsExplained, refusal_of};
 
 use crate::configuration::Configuration;
 use crate::fault::{ConfigurationRefusal, LoadFault};
@@ -78,6 +77,9 @@ pub(crate) enum Problem {
     Twice(u16),
     #[error("counter.value is {0}, but counter.limit is {1}")]
     Limit(u32, u32),
+    /// The number of a check for which no other text was found.
+    #[error("check {0} of the configuration fails")]
+    Check(u8),
 }
 
 /// A location in a configuration: a key at the top level, a key of the table `counter` or `ledger`, one of the tables `assembly`,
@@ -119,22 +121,21 @@ pub(crate) fn assembly_at(text: &Table, place: usize) -> Option<&Value> {
     }
 }
 
-/// What is wrong with the bytes of a configuration. `None` if nothing is.
+/// What is wrong with the bytes of a configuration. `None` exactly if nothing is.
 ///
 /// # Errors
 ///
 /// `AllocError` if memory is refused.
 pub fn explain(alloc: Global, bytes: &[u8]) -> Result<Option<Explanation>, AllocError>
-    ensures { IfOk result (λ described. IfSome described (λ explanation. IsRefused bytes.now (refusal_of explanation))) }
+    ensures { IfOk result (IsExplained bytes.now) }
 {
     let refusal = match Configuration::from_bytes(alloc, bytes) {
         Ok(_) => return Ok(None),
         Err(LoadFault::Memory) => return Err(AllocError),
         Err(LoadFault::Refused(refusal)) => refusal,
     };
-    let Some((line, problem)) = problem_in(alloc, bytes)? else {
-        return Ok(None);
-    };
+    let unnamed = (None, Problem::Check(refusal.number()));
+    let (line, problem) = problem_in(alloc, bytes)?.unwrap_or(unnamed);
     Ok(Some(Explanation {
         refusal,
         line,

@@ -1,6 +1,6 @@
 -- The peers of an adapter have different handles, each below the adapter's next one.
 use Rattle.std.proofs.Common.{◌≡◌, ◌≢◌, ◌<◌, ◌≤◌, ◌+◌, ℕ, zero, suc, List, [], ◌∷◌, replicate, slice_get, slice_set}
-use Rattle.std.proofs.Common.{Bool, true, Option, Some, None, refl, sym, subst, arith}
+use Rattle.std.proofs.Common.{Bool, Option, Some, None, refl, sym, subst, arith}
 use Rattle.std.specs.Prelude.{◌-◌, length, ⊤}
 use Rattle.enip_adapter.specs.Calls.{AdapterState}
 use Rattle.enip_server.specs.declared.peer_io.PeerIo.{PeerIo}

@@ -18,6 +18,7 @@ none_flushed d = record {
   closed = refl;
   last_byte_at = refl;
   left = refl;
+  known = refl;
   reads = refl;
 }
 
@@ -25,8 +26,8 @@ none_flushed d = record {
 pub more_flushed : (old between new : PeerState) (size : ℕ) (bytes : List ℕ) → IsFlushed old between → bytes ≡ between.outbox
     → Appends between.written new.written (take size bytes) → new.outbox ≡ drop size between.outbox
     → new.adapter ≡ between.adapter → new.inbox ≡ between.inbox → new.closed ≡ between.closed
-    → new.last_byte_at ≡ between.last_byte_at → new.left ≡ between.left → new.counts.reads ≡ between.counts.reads → IsFlushed old new
-more_flushed old between new size bytes f same appends rest adapter inbox closed last_byte_at left reads = record {
+    → new.last_byte_at ≡ between.last_byte_at → new.left ≡ between.left → new.known ≡ between.known → new.counts.reads ≡ between.counts.reads → IsFlushed old new
+more_flushed old between new size bytes f same appends rest adapter inbox closed last_byte_at left known reads = record {
   gone = f.gone ++ take size between.outbox;
   waits = f.waits
       ∙ ap (λ xs. f.gone ++ xs) (sym (take-append-drop size between.outbox))
@@ -39,6 +40,7 @@ more_flushed old between new size bytes f same appends rest adapter inbox closed
   closed = closed ∙ f.closed;
   last_byte_at = last_byte_at ∙ f.last_byte_at;
   left = left ∙ f.left;
+  known = known ∙ f.known;
   reads = reads ∙ f.reads;
 }
 

@@ -11,6 +11,7 @@ use Rattle.enip_adapter.specs.Calls.Call.{Begins_peer}
 use Rattle.enip_adapter.specs.Runs.{after_calls, IsForOther}
 use Rattle.enip_server.specs.declared.peer_io.PeerIo.{PeerIo}
 use Rattle.enip_server.specs.declared.wire_counts.WireCounts.{WireCounts}
+use Rattle.enip_server.specs.Wires.{KnownCalls}
 use Rattle.enip_server.specs.PeerStates.{peer_state_of}
 use Rattle.enip_server.specs.Transfers.{Transfers, GoesOnWith}
 use Rattle.enip_server.specs.Rounds.{ServerState, new_peers, new_peer_io, first_free, IsAdded, marked_ready_in, marked_ready_at}
@@ -59,7 +60,7 @@ module _ {W : Type 0} where
       → slice_get slots slot ≡ Some (Some after) → after ≡ io
   same_line slots slot io after there stays = cc
 
-module _ {W : Type 0} (left written : W → Option (List ℕ)) (counts : W → WireCounts) where
+module _ {W : Type 0} (left written : W → Option (List ℕ)) (known : W → Option KnownCalls) (counts : W → WireCounts) where
   -- ---- the peers stay sound
 
   sound_comes : (old new : ServerState W) (now : ℕ) (wire : W) (result : Result ℕ Full) → IsAdded now wire old new result
@@ -75,15 +76,15 @@ module _ {W : Type 0} (left written : W → Option (List ℕ)) (counts : W → W
       sound_of old new sound (subst (AreOf old.slots) (sym (ap (λ p. p.slots) is.1)) (are_of_themselves old.slots))
       (omega (arith, next_begun old.adapter, ap (λ p. p.adapter.state.next_handle) is.1))
 
-  sound_step : (old new : ServerState W) → IsStep left written counts old new → AreSound old → AreSound new
+  sound_step : (old new : ServerState W) → IsStep left written known counts old new → AreSound old → AreSound new
   sound_step old new (Adds now wire result is) sound = sound_comes old new now wire result is sound
   sound_step old new (MarksReady slot ends is) sound =
       sound_of old new sound
       (subst (AreOf old.slots) (sym (ap (λ p. p.slots) is)) (of_woken ends old.slots slot (slice_get old.slots slot) refl))
       (omega (arith, ap (λ p. p.adapter.state.next_handle) is))
-  sound_step old new (Rounds now is) sound = sound_round left written counts now old new is sound
+  sound_step old new (Rounds now is) sound = sound_round left written known counts now old new is sound
 
-  sound_run : (old new : ServerState W) → IsRun left written counts old new → AreSound old → AreSound new
+  sound_run : (old new : ServerState W) → IsRun left written known counts old new → AreSound old → AreSound new
   sound_run old new Still sound = sound
   sound_run old new (Goes_on {between = between} run step) sound =
       sound_step between new step (sound_run old between run sound)
@@ -95,19 +96,19 @@ module _ {W : Type 0} (left written : W → Option (List ℕ)) (counts : W → W
     calls : List Call
     each : AllByRecursion (IsForOther io.peer) calls
     leads : b ≡ after_calls a calls
-    same : peer_state_of left written counts b after ≡ peer_state_of left written counts b io
+    same : peer_state_of left written known counts b after ≡ peer_state_of left written known counts b io
 
   kept_moves : (a : AdapterState) (io : PeerIo W) (b : AdapterState) (after : PeerIo W) → IsKept a io b after
-      → MovesBy io.peer (GoesOnWith io.peer) (peer_state_of left written counts a io) (peer_state_of left written counts b after)
+      → MovesBy io.peer (GoesOnWith io.peer) (peer_state_of left written known counts a io) (peer_state_of left written known counts b after)
   kept_moves a io b after k =
-      subst (λ d. MovesBy io.peer (GoesOnWith io.peer) (peer_state_of left written counts a io) d) (sym k.same)
-      (moves_by_weaker io.peer (IsForOther io.peer) (GoesOnWith io.peer) (peer_state_of left written counts a io)
-      (peer_state_of left written counts b io) (other_goes_on io.peer)
-      (moves_other io.peer (peer_state_of left written counts a io) b k.calls k.each k.leads))
+      subst (λ d. MovesBy io.peer (GoesOnWith io.peer) (peer_state_of left written known counts a io) d) (sym k.same)
+      (moves_by_weaker io.peer (IsForOther io.peer) (GoesOnWith io.peer) (peer_state_of left written known counts a io)
+      (peer_state_of left written known counts b io) (other_goes_on io.peer)
+      (moves_other io.peer (peer_state_of left written known counts a io) b k.calls k.each k.leads))
 
   -- nothing was called
   kept_still : (a : AdapterState) (io : PeerIo W) (b : AdapterState) (after : PeerIo W) → b ≡ a
-      → peer_state_of left written counts b after ≡ peer_state_of left written counts b io → IsKept a io b after
+      → peer_state_of left written known counts b after ≡ peer_state_of left written known counts b io → IsKept a io b after
   kept_still a io b after is same = record { calls = []; each = tt; leads = is; same = same }
 
   -- a peer began, or was refused
@@ -117,7 +118,7 @@ module _ {W : Type 0} (left written : W → Option (List ℕ)) (counts : W → W
     calls = Begins_peer ∷ [];
     each = (tt, tt);
     leads = is;
-    same = ap (peer_state_of left written counts b) same;
+    same = ap (peer_state_of left written known counts b) same;
   }
 
   kept_come : (old new : ServerState W) (now : ℕ) (wire : W) (result : Result ℕ Full) → IsAdded now wire old new result
@@ -132,7 +133,7 @@ module _ {W : Type 0} (left written : W → Option (List ℕ)) (counts : W → W
       (sym (get_set_other old.slots free slot (Some (new_peer_io is.0 wire now)) elsewhere) ∙ held))
   kept_come old new now wire (Err full) (inl is) slot io after there stays =
       kept_still old.adapter io new.adapter after (ap (λ p. p.adapter) is.2)
-      (ap (peer_state_of left written counts new.adapter)
+      (ap (peer_state_of left written known counts new.adapter)
       (same_line old.slots slot io after there
       (subst (λ (p : ServerState W). slice_get p.slots slot ≡ Some (Some after)) is.2 stays)))
   kept_come old new now wire (Err full) (inr is) slot io after there stays =
@@ -144,13 +145,13 @@ module _ {W : Type 0} (left written : W → Option (List ℕ)) (counts : W → W
   woken_desk : (ends : Bool) (a : AdapterState) (slots : List (Option (PeerIo W))) (waken slot : ℕ) (found : Option (Option (PeerIo W)))
       → slice_get slots waken ≡ found → (io after : PeerIo W) → slice_get slots slot ≡ Some (Some io)
       → slice_get (marked_ready_at ends slots waken found) slot ≡ Some (Some after) → (here : Bool) → eqb waken slot ≡ here
-      → peer_state_of left written counts a after ≡ peer_state_of left written counts a io
+      → peer_state_of left written known counts a after ≡ peer_state_of left written known counts a io
   woken_desk ends a slots waken slot None is io after there stays here at =
-      ap (peer_state_of left written counts a) (same_line slots slot io after there stays)
+      ap (peer_state_of left written known counts a) (same_line slots slot io after there stays)
   woken_desk ends a slots waken slot (Some None) is io after there stays here at =
-      ap (peer_state_of left written counts a) (same_line slots slot io after there stays)
+      ap (peer_state_of left written known counts a) (same_line slots slot io after there stays)
   woken_desk ends a slots waken slot (Some (Some found)) is io after there stays false at =
-      ap (peer_state_of left written counts a)
+      ap (peer_state_of left written known counts a)
       (same_line slots slot io after there
       (sym (get_set_other slots waken slot (Some (marked_ready_in ends found)) (eqb-false waken slot at)) ∙ stays))
   woken_desk ends a slots waken slot (Some (Some found)) is io after there stays true at =
@@ -165,12 +166,12 @@ module _ {W : Type 0} (left written : W → Option (List ℕ)) (counts : W → W
       = subst (λ n. slice_get slots n ≡ Some (Some io)) (sym same) there in
       let is_new : after ≡ marked_ready_in ends found = cc in
       let is_old : found ≡ io = cc in
-      ap (peer_state_of left written counts a) is_new ∙ ap (peer_state_of left written counts a) is_old
+      ap (peer_state_of left written known counts a) is_new ∙ ap (peer_state_of left written known counts a) is_old
 
-  step_moves : (old new : ServerState W) → AreSound old → IsStep left written counts old new → (slot : ℕ) (io after : PeerIo W)
+  step_moves : (old new : ServerState W) → AreSound old → IsStep left written known counts old new → (slot : ℕ) (io after : PeerIo W)
       → slice_get old.slots slot ≡ Some (Some io) → slice_get new.slots slot ≡ Some (Some after)
-      → MovesBy io.peer (GoesOnWith io.peer) (peer_state_of left written counts old.adapter io)
-      (peer_state_of left written counts new.adapter after)
+      → MovesBy io.peer (GoesOnWith io.peer) (peer_state_of left written known counts old.adapter io)
+      (peer_state_of left written known counts new.adapter after)
   step_moves old new sound (Adds now wire result is) slot io after there stays =
       kept_moves old.adapter io new.adapter after (kept_come old new now wire result is slot io after there stays)
   step_moves old new sound (MarksReady waken ends is) slot io after there stays =
@@ -179,45 +180,45 @@ module _ {W : Type 0} (left written : W → Option (List ℕ)) (counts : W → W
       (woken_desk ends new.adapter old.slots waken slot (slice_get old.slots waken) refl io after there
       (subst (λ (p : ServerState W). slice_get p.slots slot ≡ Some (Some after)) is stays) (eqb waken slot) refl))
   step_moves old new sound (Rounds now is) slot io after there stays =
-      round_moves left written counts now old new is sound slot io after there stays
+      round_moves left written known counts now old new is sound slot io after there stays
 
   -- ---- a peer that keeps its slot
 
   holds_at_end : (slot peer : ℕ) (first last : ServerState W) (io after : PeerIo W)
-      → KeepsSlot left written counts slot peer first io last after → HoldsSlot slot peer last after
+      → KeepsSlot left written known counts slot peer first io last after → HoldsSlot slot peer last after
   holds_at_end slot peer first last io after (Begins holds) = holds
   holds_at_end slot peer first last io after (Stays_on lives step holds) = holds
 
   sound_life : (slot peer : ℕ) (first last : ServerState W) (io after : PeerIo W)
-      → KeepsSlot left written counts slot peer first io last after → AreSound first → AreSound last
+      → KeepsSlot left written known counts slot peer first io last after → AreSound first → AreSound last
   sound_life slot peer first last io after (Begins holds) sound = sound
   sound_life slot peer first last io after (Stays_on {between = between} {mid = mid} lives step holds) sound =
       sound_step between last step (sound_life slot peer first between io mid lives sound)
 
   life_moves : (slot peer : ℕ) (first last : ServerState W) (io after : PeerIo W) → AreSound first
-      → KeepsSlot left written counts slot peer first io last after
-      → MovesBy peer (GoesOnWith peer) (peer_state_of left written counts first.adapter io) (peer_state_of left written counts last.adapter after)
+      → KeepsSlot left written known counts slot peer first io last after
+      → MovesBy peer (GoesOnWith peer) (peer_state_of left written known counts first.adapter io) (peer_state_of left written known counts last.adapter after)
   life_moves slot peer first last io after sound (Begins holds) =
-      moves_not peer (GoesOnWith peer) (peer_state_of left written counts first.adapter io)
+      moves_not peer (GoesOnWith peer) (peer_state_of left written known counts first.adapter io)
   life_moves slot peer first last io after sound (Stays_on {between = between} {mid = mid} lives step holds) =
       let before : HoldsSlot slot peer between mid = holds_at_end slot peer first between io mid lives in
-      moves_by_then peer (GoesOnWith peer) (peer_state_of left written counts first.adapter io)
-      (peer_state_of left written counts between.adapter mid) (peer_state_of left written counts last.adapter after)
+      moves_by_then peer (GoesOnWith peer) (peer_state_of left written known counts first.adapter io)
+      (peer_state_of left written known counts between.adapter mid) (peer_state_of left written known counts last.adapter after)
       (life_moves slot peer first between io mid sound lives)
       (subst (
-      λ n. MovesBy n (GoesOnWith n) (peer_state_of left written counts between.adapter mid) (peer_state_of left written counts last.adapter after)
+      λ n. MovesBy n (GoesOnWith n) (peer_state_of left written known counts between.adapter mid) (peer_state_of left written known counts last.adapter after)
       ) before.peer_of
       (step_moves between last (sound_life slot peer first between io mid lives sound) step slot mid after before.there
       holds.there))
 
   -- as the law states it
   pub law_peers : (adapter : AdapterState) (idle_timeout slot peer : ℕ) (first last : ServerState W) (io after : PeerIo W)
-      → IsRun left written counts (new_peers adapter idle_timeout) first → KeepsSlot left written counts slot peer first io last after
+      → IsRun left written known counts (new_peers adapter idle_timeout) first → KeepsSlot left written known counts slot peer first io last after
       → (calls : List Call) × (received : List ℕ) × (gone : List ℕ) × AllByRecursion (GoesOnWith peer) calls
-      × Transfers peer calls received gone (peer_state_of left written counts first.adapter io) (peer_state_of left written counts last.adapter after)
+      × Transfers peer calls received gone (peer_state_of left written known counts first.adapter io) (peer_state_of left written known counts last.adapter after)
   law_peers adapter idle_timeout slot peer first last io after run lives =
-      let m : MovesBy peer (GoesOnWith peer) (peer_state_of left written counts first.adapter io)
-      (peer_state_of left written counts last.adapter after)
+      let m : MovesBy peer (GoesOnWith peer) (peer_state_of left written known counts first.adapter io)
+      (peer_state_of left written known counts last.adapter after)
       = life_moves slot peer first last io after
       (sound_run (new_peers adapter idle_timeout) first run (sound_new adapter idle_timeout)) lives in
       (m.calls, m.received, m.gone, m.each, m.moves)

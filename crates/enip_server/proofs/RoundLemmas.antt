@@ -10,33 +10,34 @@ use Rattle.enip_adapter.specs.Calls.{AdapterState, after_call}
 use Rattle.enip_adapter.specs.Calls.Call.{Ends_peer}
 use Rattle.enip_server.specs.declared.peer_io.PeerIo.{PeerIo}
 use Rattle.enip_server.specs.declared.wire_counts.WireCounts.{WireCounts}
+use Rattle.enip_server.specs.Wires.{KnownCalls}
 use Rattle.enip_server.specs.declared.peers.Due.{Due}
 use Rattle.enip_server.specs.declared.peers.Peers.{Peers}
 use Rattle.enip_server.specs.Rounds.{ServerState, state_of, new_peers, marked_ready, marked_ready_at}
 use Rattle.enip_server.specs.Rounds.{IsServedPeer, IsLeft, IsSlotServed, AreSlotsServed}
 use Rattle.enip_server.specs.Rounds.{timeout_at, is_ready, due_with, due_by, earliest_of}
 
-module _ {W : Type 0} (left written : W → Option (List ℕ)) (counts : W → WireCounts) (now idle_timeout : ℕ) (a : AdapterState) where
+module _ {W : Type 0} (left written : W → Option (List ℕ)) (known : W → Option KnownCalls) (counts : W → WireCounts) (now idle_timeout : ℕ) (a : AdapterState) where
   -- what happened to its peer is what happened to the slot
   place_left : (old : Option (PeerIo W)) (io after : PeerIo W) (between b : AdapterState) (goes_on : Bool)
-      (slot : Option (PeerIo W)) → old ≡ Some io → IsServedPeer left written counts now idle_timeout a io between after goes_on
-      → IsLeft between after goes_on b slot → IsSlotServed left written counts now idle_timeout a old b slot
+      (slot : Option (PeerIo W)) → old ≡ Some io → IsServedPeer left written known counts now idle_timeout a io between after goes_on
+      → IsLeft between after goes_on b slot → IsSlotServed left written known counts now idle_timeout a old b slot
   place_left old io after between b goes_on slot is served stays =
-      subst (λ o. IsSlotServed left written counts now idle_timeout a o b slot) (sym is)
+      subst (λ o. IsSlotServed left written known counts now idle_timeout a o b slot) (sym is)
       (record { adapter = between; after = after; goes_on = goes_on; served = served; stays = stays })
 
   -- its peer goes on
   pub place_goes_on : (old : Option (PeerIo W)) (io after : PeerIo W) (between : AdapterState) (goes_on : Bool)
-      → old ≡ Some io → IsServedPeer left written counts now idle_timeout a io between after goes_on → goes_on ≡ true
-      → IsSlotServed left written counts now idle_timeout a old between (Some after)
+      → old ≡ Some io → IsServedPeer left written known counts now idle_timeout a io between after goes_on → goes_on ≡ true
+      → IsSlotServed left written known counts now idle_timeout a old between (Some after)
   place_goes_on old io after between goes_on is served stays =
       place_left old io after between between goes_on (Some after) is served
       (subst (λ r. IsLeft between after r between (Some after)) (sym stays) (refl, refl))
 
   -- its peer is ended
   pub place_ended : (old : Option (PeerIo W)) (io after : PeerIo W) (between b : AdapterState) (goes_on : Bool)
-      → old ≡ Some io → IsServedPeer left written counts now idle_timeout a io between after goes_on → goes_on ≡ false
-      → b ≡ after_call between (Ends_peer after.peer) → IsSlotServed left written counts now idle_timeout a old b None
+      → old ≡ Some io → IsServedPeer left written known counts now idle_timeout a io between after goes_on → goes_on ≡ false
+      → b ≡ after_call between (Ends_peer after.peer) → IsSlotServed left written known counts now idle_timeout a old b None
   place_ended old io after between b goes_on is served leaves ends =
       place_left old io after between b goes_on None is served
       (subst (λ r. IsLeft between after r b None) (sym leaves) (ends, refl))
@@ -44,11 +45,11 @@ module _ {W : Type 0} (left written : W → Option (List ℕ)) (counts : W → W
   -- one more slot
   pub places_more : (old : List (Option (PeerIo W))) (first : Option (PeerIo W)) (rest : List (Option (PeerIo W)))
       (between b : AdapterState) (slot : Option (PeerIo W)) (places : List (Option (PeerIo W))) → old ≡ first ∷ rest
-      → IsSlotServed left written counts now idle_timeout a first between slot
-      → AreSlotsServed left written counts now idle_timeout between rest b places
-      → AreSlotsServed left written counts now idle_timeout a old b (slot ∷ places)
+      → IsSlotServed left written known counts now idle_timeout a first between slot
+      → AreSlotsServed left written known counts now idle_timeout between rest b places
+      → AreSlotsServed left written known counts now idle_timeout a old b (slot ∷ places)
   places_more old first rest between b slot places is served others =
-      subst (λ l. AreSlotsServed left written counts now idle_timeout a l b (slot ∷ places)) (sym is) (between, served, others)
+      subst (λ l. AreSlotsServed left written known counts now idle_timeout a l b (slot ∷ places)) (sym is) (between, served, others)
 
 -- the peers by their parts
 state_by : {W : Type 0} (p : Peers W) (adapter : AdapterState) (idle_timeout : ℕ) (slots : List (Option (PeerIo W)))

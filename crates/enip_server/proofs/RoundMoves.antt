@@ -8,6 +8,7 @@ use Rattle.enip_adapter.specs.AdapterActions.{IsFeedOf}
 use Rattle.enip_adapter.specs.Runs.{after_calls, IsForOther}
 use Rattle.enip_server.specs.declared.peer_io.PeerIo.{PeerIo}
 use Rattle.enip_server.specs.declared.wire_counts.WireCounts.{WireCounts}
+use Rattle.enip_server.specs.Wires.{KnownCalls}
 use Rattle.enip_server.specs.PeerStates.{peer_state_of}
 use Rattle.enip_server.specs.Transfers.{GoesOnWith}
 use Rattle.enip_server.specs.Rounds.{ServerState, TakesTurn, IsServedPeer, IsServedAt, IsLeft, IsSlotServed}
@@ -63,35 +64,35 @@ leads_weaker : (P Q : Call → Type 0) (a b : AdapterState) → ((call : Call) �
     → LeadsBy Q a b
 leads_weaker P Q a b weaker l = record { calls = l.calls; each = all_weaker P Q weaker l.calls l.each; after = l.after }
 
-module _ {W : Type 0} (left written : W → Option (List ℕ)) (counts : W → WireCounts) (now idle_timeout : ℕ) where
+module _ {W : Type 0} (left written : W → Option (List ℕ)) (known : W → Option KnownCalls) (counts : W → WireCounts) (now idle_timeout : ℕ) where
   -- The result of a peer's turn: the peer is the same, and feeds change its state.
   record HasMoved (a : AdapterState) (io : PeerIo W) (b : AdapterState) (after : PeerIo W) : Type 0 where
     peer : after.peer ≡ io.peer
-    moves : MovesBy io.peer (IsFeedOf now io.peer) (peer_state_of left written counts a io) (peer_state_of left written counts b after)
+    moves : MovesBy io.peer (IsFeedOf now io.peer) (peer_state_of left written known counts a io) (peer_state_of left written known counts b after)
 
   moved_not : (a : AdapterState) (io : PeerIo W) (b : AdapterState) (after : PeerIo W) → b ≡ a → after ≡ io
       → HasMoved a io b after
   moved_not a io b after same is =
       subst (λ x. HasMoved a io x after) (sym same)
       (subst (λ l. HasMoved a io a l) (sym is)
-      (record { peer = refl; moves = moves_not io.peer (IsFeedOf now io.peer) (peer_state_of left written counts a io) }))
+      (record { peer = refl; moves = moves_not io.peer (IsFeedOf now io.peer) (peer_state_of left written known counts a io) }))
 
   moved_turn : (a : AdapterState) (io : PeerIo W) (b : AdapterState) (after : PeerIo W) (goes_on : Bool)
-      → TakesTurn left written counts now a io b after goes_on → HasMoved a io b after
+      → TakesTurn left written known counts now a io b after goes_on → HasMoved a io b after
   moved_turn a io b after goes_on t = record {
     peer = t.peer;
-    moves = turn_moves now io.peer (peer_state_of left written counts a io) (peer_state_of left written counts b after) t.turn;
+    moves = turn_moves now io.peer (peer_state_of left written known counts a io) (peer_state_of left written known counts b after) t.turn;
   }
 
   moved_ready : (a : AdapterState) (io : PeerIo W) (b : AdapterState) (after : PeerIo W) (goes_on : Bool)
-      → IsServedPeer left written counts now idle_timeout a io b after goes_on → now < timeout_at idle_timeout io → (ready : Bool)
+      → IsServedPeer left written known counts now idle_timeout a io b after goes_on → now < timeout_at idle_timeout io → (ready : Bool)
       → io.ready ≡ ready → HasMoved a io b after
   moved_ready a io b after goes_on s early false is =
       moved_not a io b after (s.waits early is).0 (s.waits early is).1
   moved_ready a io b after goes_on s early true is = moved_turn a io b after goes_on (s.ready early is)
 
   moved_line : (a : AdapterState) (io : PeerIo W) (b : AdapterState) (after : PeerIo W) (goes_on : Bool)
-      → IsServedPeer left written counts now idle_timeout a io b after goes_on → (early : Bool)
+      → IsServedPeer left written known counts now idle_timeout a io b after goes_on → (early : Bool)
       → ltb now (timeout_at idle_timeout io) ≡ early → HasMoved a io b after
   moved_line a io b after goes_on s true is =
       moved_ready a io b after goes_on s (ltb-true now (timeout_at idle_timeout io) is) io.ready refl
@@ -125,7 +126,7 @@ module _ {W : Type 0} (left written : W → Option (List ℕ)) (counts : W → W
       (Leaves (leads_then (IsAbout io.peer) a between b (leads_moved a io between after m) ends))
 
   became : (a : AdapterState) (io : PeerIo W) (b : AdapterState) (slot : Option (PeerIo W))
-      → IsServedAt left written counts now idle_timeout a io b slot → Became a io b slot
+      → IsServedAt left written known counts now idle_timeout a io b slot → Became a io b slot
   became a io b slot s =
       became_left a io s.adapter s.after s.goes_on b slot
       (moved_line a io s.adapter s.after s.goes_on s.served (ltb now (timeout_at idle_timeout io)) refl) s.stays
@@ -147,7 +148,7 @@ module _ {W : Type 0} (left written : W → Option (List ℕ)) (counts : W → W
   -- ---- all peers
 
   place_next : (a : AdapterState) (old : Option (PeerIo W)) (b : AdapterState) (slot : Option (PeerIo W))
-      → IsSlotServed left written counts now idle_timeout a old b slot
+      → IsSlotServed left written known counts now idle_timeout a old b slot
       → IsOf old slot × (b.state.next_handle ≡ a.state.next_handle)
   place_next a None b slot is =
       (subst (λ o. IsOf None o) (sym is.1) tt, ap (λ x. x.state.next_handle) is.0)
@@ -159,7 +160,7 @@ module _ {W : Type 0} (left written : W → Option (List ℕ)) (counts : W → W
       )
 
   places_next : (a : AdapterState) (slots : List (Option (PeerIo W))) (b : AdapterState) (places : List (Option (PeerIo W)))
-      → AreSlotsServed left written counts now idle_timeout a slots b places
+      → AreSlotsServed left written known counts now idle_timeout a slots b places
       → AreOf slots places × (b.state.next_handle ≡ a.state.next_handle)
   places_next a [] b [] is = (tt, ap (λ x. x.state.next_handle) is)
   places_next a [] b (slot ∷ places) is = absurd is
@@ -174,7 +175,7 @@ module _ {W : Type 0} (left written : W → Option (List ℕ)) (counts : W → W
 
   -- what is done at another slot is done for another peer
   place_for_other : (peer : ℕ) (a : AdapterState) (old : Option (PeerIo W)) (b : AdapterState) (slot : Option (PeerIo W))
-      → IsSlotServed left written counts now idle_timeout a old b slot
+      → IsSlotServed left written known counts now idle_timeout a old b slot
       → ((io : PeerIo W) → old ≡ Some io → io.peer ≢ peer) → LeadsBy (IsForOther peer) a b
   place_for_other peer a None b slot is differs =
       subst (λ x. LeadsBy (IsForOther peer) a x) (sym is.0) (leads_not (IsForOther peer) a)
@@ -189,7 +190,7 @@ module _ {W : Type 0} (left written : W → Option (List ℕ)) (counts : W → W
       let same : first ≡ io = cc in subst (λ (l : PeerIo W). l.peer ≢ peer) same none.0
 
   places_for_others : (peer : ℕ) (a : AdapterState) (slots : List (Option (PeerIo W))) (b : AdapterState)
-      (places : List (Option (PeerIo W))) → AreSlotsServed left written counts now idle_timeout a slots b places → HasNone peer slots
+      (places : List (Option (PeerIo W))) → AreSlotsServed left written known counts now idle_timeout a slots b places → HasNone peer slots
       → LeadsBy (IsForOther peer) a b
   places_for_others peer a [] b [] is none =
       subst (λ x. LeadsBy (IsForOther peer) a x) (sym is) (leads_not (IsForOther peer) a)
@@ -202,11 +203,11 @@ module _ {W : Type 0} (left written : W → Option (List ℕ)) (counts : W → W
 
   -- calls for other peers change nothing of a peer's state but the adapter
   line_stays : (io : PeerIo W) (a b : AdapterState) → LeadsBy (IsForOther io.peer) a b
-      → MovesBy io.peer (GoesOnWith io.peer) (peer_state_of left written counts a io) (peer_state_of left written counts b io)
+      → MovesBy io.peer (GoesOnWith io.peer) (peer_state_of left written known counts a io) (peer_state_of left written known counts b io)
   line_stays io a b l =
-      moves_by_weaker io.peer (IsForOther io.peer) (GoesOnWith io.peer) (peer_state_of left written counts a io)
-      (peer_state_of left written counts b io) (other_goes_on io.peer)
-      (moves_other io.peer (peer_state_of left written counts a io) b l.calls l.each l.after)
+      moves_by_weaker io.peer (IsForOther io.peer) (GoesOnWith io.peer) (peer_state_of left written known counts a io)
+      (peer_state_of left written known counts b io) (other_goes_on io.peer)
+      (moves_other io.peer (peer_state_of left written known counts a io) b l.calls l.each l.after)
 
   apart_first : (first : Option (PeerIo W)) (slots : List (Option (PeerIo W))) (io : PeerIo W) → first ≡ Some io
       → AreApart (first ∷ slots) → HasNone io.peer slots
@@ -224,18 +225,18 @@ module _ {W : Type 0} (left written : W → Option (List ℕ)) (counts : W → W
 
   -- the peer of a slot that stays
   place_moves : (a : AdapterState) (old : Option (PeerIo W)) (b : AdapterState) (slot : Option (PeerIo W))
-      → IsSlotServed left written counts now idle_timeout a old b slot → (io after : PeerIo W) → old ≡ Some io
+      → IsSlotServed left written known counts now idle_timeout a old b slot → (io after : PeerIo W) → old ≡ Some io
       → slot ≡ Some after → HasMoved a io b after
   place_moves a old b slot is io after there stays =
       became_moves a io b after
       (became a io b (Some after)
-      (subst (λ o. IsSlotServed left written counts now idle_timeout a (Some io) b o) stays
-      (subst (λ o. IsSlotServed left written counts now idle_timeout a o b slot) there is)))
+      (subst (λ o. IsSlotServed left written known counts now idle_timeout a (Some io) b o) stays
+      (subst (λ o. IsSlotServed left written known counts now idle_timeout a o b slot) there is)))
 
   places_move : (a : AdapterState) (slots : List (Option (PeerIo W))) (b : AdapterState) (places : List (Option (PeerIo W)))
-      → AreSlotsServed left written counts now idle_timeout a slots b places → AreApart slots → (index : ℕ) (io after : PeerIo W)
+      → AreSlotsServed left written known counts now idle_timeout a slots b places → AreApart slots → (index : ℕ) (io after : PeerIo W)
       → slice_get slots index ≡ Some (Some io) → slice_get places index ≡ Some (Some after)
-      → MovesBy io.peer (GoesOnWith io.peer) (peer_state_of left written counts a io) (peer_state_of left written counts b after)
+      → MovesBy io.peer (GoesOnWith io.peer) (peer_state_of left written known counts a io) (peer_state_of left written known counts b after)
   places_move a [] b [] is apart index io after there stays = cc
   places_move a [] b (slot ∷ places) is apart index io after there stays = absurd is
   places_move a (first ∷ slots) b [] is apart index io after there stays = absurd is
@@ -245,41 +246,41 @@ module _ {W : Type 0} (left written : W → Option (List ℕ)) (counts : W → W
       let m : HasMoved a io is.0 after = place_moves a first is.0 slot is.1 io after old new in
       let none : HasNone io.peer slots = apart_first first slots io old apart in
       let rest : LeadsBy (IsForOther io.peer) is.0 b = places_for_others io.peer is.0 slots b places is.2 none in
-      moves_by_then io.peer (GoesOnWith io.peer) (peer_state_of left written counts a io) (peer_state_of left written counts is.0 after)
-      (peer_state_of left written counts b after)
-      (moves_by_weaker io.peer (IsFeedOf now io.peer) (GoesOnWith io.peer) (peer_state_of left written counts a io)
-      (peer_state_of left written counts is.0 after) (feed_goes_on now io.peer) m.moves)
-      (subst (λ n. MovesBy n (GoesOnWith n) (peer_state_of left written counts is.0 after) (peer_state_of left written counts b after)) m.peer
+      moves_by_then io.peer (GoesOnWith io.peer) (peer_state_of left written known counts a io) (peer_state_of left written known counts is.0 after)
+      (peer_state_of left written known counts b after)
+      (moves_by_weaker io.peer (IsFeedOf now io.peer) (GoesOnWith io.peer) (peer_state_of left written known counts a io)
+      (peer_state_of left written known counts is.0 after) (feed_goes_on now io.peer) m.moves)
+      (subst (λ n. MovesBy n (GoesOnWith n) (peer_state_of left written known counts is.0 after) (peer_state_of left written known counts b after)) m.peer
       (line_stays after is.0 b (subst (λ n. LeadsBy (IsForOther n) is.0 b) (sym m.peer) rest)))
   places_move a (first ∷ slots) b (slot ∷ places) is apart (suc index) io after there stays =
       let before : LeadsBy (IsForOther io.peer) a is.0
       = place_for_other io.peer a first is.0 slot is.1 (apart_before first slots index io apart there) in
-      moves_by_then io.peer (GoesOnWith io.peer) (peer_state_of left written counts a io) (peer_state_of left written counts is.0 io)
-      (peer_state_of left written counts b after) (line_stays io a is.0 before)
+      moves_by_then io.peer (GoesOnWith io.peer) (peer_state_of left written known counts a io) (peer_state_of left written known counts is.0 io)
+      (peer_state_of left written known counts b after) (line_stays io a is.0 before)
       (places_move is.0 slots b places is.2 (apart_tail first slots apart) index io after there stays)
 
 ticks : (peer now : ℕ) (a : AdapterState) → LeadsBy (IsForOther peer) a (after_call a (Ticks now))
 ticks peer now a = record { calls = Ticks now ∷ []; each = (tt, tt); after = refl }
 
-module _ {W : Type 0} (left written : W → Option (List ℕ)) (counts : W → WireCounts) (now : ℕ) (old new : ServerState W)
-    (round : IsRound left written counts now old new) where
+module _ {W : Type 0} (left written : W → Option (List ℕ)) (known : W → Option KnownCalls) (counts : W → WireCounts) (now : ℕ) (old new : ServerState W)
+    (round : IsRound left written known counts now old new) where
   -- the peers stay sound in a round
   pub sound_round : AreSound old → AreSound new
   sound_round sound =
       let r : AreOf old.slots new.slots × (new.adapter.state.next_handle ≡ old.adapter.state.next_handle)
-      = places_next left written counts now old.idle_timeout (after_call old.adapter (Ticks now)) old.slots new.adapter new.slots
+      = places_next left written known counts now old.idle_timeout (after_call old.adapter (Ticks now)) old.slots new.adapter new.slots
       round.places in
       sound_of old new sound r.0 (omega (arith, r.1))
 
   -- what a round transfers for each peer that stays
   pub round_moves : AreSound old → (slot : ℕ) (io after : PeerIo W) → slice_get old.slots slot ≡ Some (Some io)
       → slice_get new.slots slot ≡ Some (Some after)
-      → MovesBy io.peer (GoesOnWith io.peer) (peer_state_of left written counts old.adapter io)
-      (peer_state_of left written counts new.adapter after)
+      → MovesBy io.peer (GoesOnWith io.peer) (peer_state_of left written known counts old.adapter io)
+      (peer_state_of left written known counts new.adapter after)
   round_moves sound slot io after there stays =
-      moves_by_then io.peer (GoesOnWith io.peer) (peer_state_of left written counts old.adapter io)
-      (peer_state_of left written counts (after_call old.adapter (Ticks now)) io) (peer_state_of left written counts new.adapter after)
-      (line_stays left written counts now old.idle_timeout io old.adapter (after_call old.adapter (Ticks now))
+      moves_by_then io.peer (GoesOnWith io.peer) (peer_state_of left written known counts old.adapter io)
+      (peer_state_of left written known counts (after_call old.adapter (Ticks now)) io) (peer_state_of left written known counts new.adapter after)
+      (line_stays left written known counts now old.idle_timeout io old.adapter (after_call old.adapter (Ticks now))
       (ticks io.peer now old.adapter))
-      (places_move left written counts now old.idle_timeout (after_call old.adapter (Ticks now)) old.slots new.adapter new.slots
+      (places_move left written known counts now old.idle_timeout (after_call old.adapter (Ticks now)) old.slots new.adapter new.slots
       round.places sound.apart slot io after there stays)

@@ -1,9 +1,9 @@
 -- A turn, by its parts.
-use Rattle.std.proofs.Common.{◌≡◌, ◌≢◌, ℕ, List, [], Bool, true, false, Option, None, refl, sym, ap, subst, ◌∙◌, true≢false}
+use Rattle.std.proofs.Common.{◌≡◌, ◌≢◌, ℕ, List, [], Bool, true, false, Option, Some, None, refl, sym, ap, subst, ◌∙◌, true≢false}
 use Rattle.enip_server.specs.declared.peer_io.Turn.{Turn}
 use Rattle.enip_server.specs.declared.peer_io.Turn.TheVariants.{More, UntilReadable, UntilWritable, Finished}
 use Rattle.enip_server.specs.PeerStates.{PeerState, IsFlushed, IsFetched, AreFed, IsDiscarded, IsTurn, FitsBuffers, FitsCounts}
-use Rattle.enip_server.specs.PeerStates.{turn_after, IsByRead, IsThrough, GoesOn, IsCutShort, IsWaiting}
+use Rattle.enip_server.specs.PeerStates.{turn_after, IsByRead, IsThrough, GoesOn, IsCutShort, IsWaiting, is_closed_now}
 use Rattle.enip_server.specs.declared.wire_counts.WireCounts.{WireCounts}
 use Rattle.enip_server.specs.declared.wire.ReadOutcome.{ReadOutcome}
 use Rattle.enip_server.specs.declared.wire.ReadOutcome.TheVariants.{Bytes, Drained, WouldBlock, End, Failed}
@@ -58,9 +58,9 @@ by_read End end_reported = tt
 by_read Failed end_reported = tt
 
 -- and how the read went
-pub told_read : (received : ReadOutcome) (end_reported : Bool) (closed : Option ℕ) (old new : WireCounts) → new ≡ after_read received old
-    → FitsCounts end_reported closed (turn_after received end_reported) old new
-told_read (Bytes size) end_reported closed old new is =
+pub told_read : (received : ReadOutcome) (end_reported : Bool) (closed_now : Bool) (old new : WireCounts) → new ≡ after_read received old
+    → FitsCounts end_reported closed_now (turn_after received end_reported) old new
+told_read (Bytes size) end_reported closed_now old new is =
     ((ap (λ t. t.waits) is, ap (λ t. t.ends) is), λ _ _. ap (λ t. t.drained) is)
 told_read (Drained size) false closed old new is = (ap (λ t. t.drained) is, ap (λ t. t.ends) is, λ ends. absurd (true≢false (sym ends)))
 told_read (Drained size) true closed old new is =
@@ -103,62 +103,71 @@ cut_fed closed turn a b fed c still same cut =
     cut_after closed turn a b c still (subst (λ t. IsCutShort closed turn t c) same cut)
 
 -- a turn that ends before a read is made
-pub told_unsent : (end_reported : Bool) (closed : Option ℕ) (turn : Turn) (old new : WireCounts) → IsWaiting turn
-    → IsCutShort closed turn old new → FitsCounts end_reported closed turn old new
-told_unsent end_reported closed More old new waits cut = absurd waits
-told_unsent end_reported closed UntilReadable old new waits cut = absurd waits
-told_unsent end_reported closed UntilWritable old new waits cut = cut
-told_unsent end_reported closed Finished old new waits cut = cut
+pub told_unsent : (end_reported closed_now : Bool) (closed : Option ℕ) (turn : Turn) (old new : WireCounts) → IsWaiting turn
+    → IsCutShort closed turn old new → FitsCounts end_reported closed_now turn old new
+told_unsent end_reported closed_now closed More old new waits cut = absurd waits
+told_unsent end_reported closed_now closed UntilReadable old new waits cut = absurd waits
+told_unsent end_reported closed_now closed UntilWritable old new waits cut = cut
+told_unsent end_reported closed_now closed Finished old new waits cut = cut
 
 -- one that ends with a read, after writes
-pub told_later : (end_reported at_read : Bool) (closed : Option ℕ) (turn : Turn) (a b c : WireCounts) → at_read ≡ end_reported → GoesOn a b
-    → FitsCounts at_read closed turn b c → FitsCounts end_reported closed turn a c
-told_later end_reported at_read closed More a b c same still fits_buffers =
+pub told_later : (end_reported at_read closed_now : Bool) (turn : Turn) (a b c : WireCounts) → at_read ≡ end_reported → GoesOn a b
+    → FitsCounts at_read closed_now turn b c → FitsCounts end_reported closed_now turn a c
+told_later end_reported at_read closed_now More a b c same still fits_buffers =
     ((fits_buffers.0.0 ∙ still.1, fits_buffers.0.1 ∙ still.2), λ not_ending served. fits_buffers.1 (same ∙ not_ending) served ∙ still.0)
-told_later end_reported at_read closed UntilReadable a b c same still fits_buffers = (
+told_later end_reported at_read closed_now UntilReadable a b c same still fits_buffers = (
   fits_buffers.0 ∙ ap one_more still.0,
   fits_buffers.1 ∙ still.2,
   λ ends. fits_buffers.2 (same ∙ ends) ∙ ap one_more still.1,
 )
-told_later end_reported at_read closed UntilWritable a b c same still fits_buffers = (fits_buffers.0 ∙ ap one_more still.1, fits_buffers.1 ∙ still.2)
-told_later end_reported at_read closed Finished a b c same still fits_buffers = (fits_buffers.0 ∙ still.1, fits_buffers.1 ∙ ap one_more still.2)
+told_later end_reported at_read closed_now UntilWritable a b c same still fits_buffers = (fits_buffers.0 ∙ ap one_more still.1, fits_buffers.1 ∙ still.2)
+told_later end_reported at_read closed_now Finished a b c same still fits_buffers = (fits_buffers.0 ∙ still.1, fits_buffers.1 ∙ ap one_more still.2)
 
 -- whether the adapter closed the peer after it or not
-told_open : (end_reported : Bool) (closed : Option ℕ) (turn : Turn) (old new : WireCounts) → FitsCounts end_reported None turn old new
-    → FitsCounts end_reported closed turn old new
-told_open end_reported closed More old new fits_buffers = (fits_buffers.0, λ not_ending _. fits_buffers.1 not_ending refl)
-told_open end_reported closed UntilReadable old new fits_buffers = fits_buffers
-told_open end_reported closed UntilWritable old new fits_buffers = fits_buffers
-told_open end_reported closed Finished old new fits_buffers = fits_buffers
+told_open : (end_reported closed_now : Bool) (turn : Turn) (old new : WireCounts) → FitsCounts end_reported false turn old new
+    → FitsCounts end_reported closed_now turn old new
+told_open end_reported closed_now More old new fits_buffers = (fits_buffers.0, λ not_ending _. fits_buffers.1 not_ending refl)
+told_open end_reported closed_now UntilReadable old new fits_buffers = fits_buffers
+told_open end_reported closed_now UntilWritable old new fits_buffers = fits_buffers
+told_open end_reported closed_now Finished old new fits_buffers = fits_buffers
 
 -- a read, after writes
-pub told_fetched : (end_reported at_read : Bool) (closed : Option ℕ) (turn : Turn) (a b c : WireCounts) → at_read ≡ end_reported
-    → GoesOn a b → FitsCounts at_read None turn b c → FitsCounts end_reported closed turn a c
-told_fetched end_reported at_read closed turn a b c same still fits_buffers =
-    told_later end_reported at_read closed turn a b c same still (told_open at_read closed turn b c fits_buffers)
+pub told_fetched : (end_reported at_read closed_now : Bool) (turn : Turn) (a b c : WireCounts) → at_read ≡ end_reported
+    → GoesOn a b → FitsCounts at_read false turn b c → FitsCounts end_reported closed_now turn a c
+told_fetched end_reported at_read closed_now turn a b c same still fits_buffers =
+    told_later end_reported at_read closed_now turn a b c same still (told_open at_read closed_now turn b c fits_buffers)
 
 -- and all that was read is fed
-told_then : (end_reported : Bool) (closed : Option ℕ) (turn : Turn) (a b c : WireCounts) → FitsCounts end_reported closed turn a b
-    → GoesOn b c → FitsCounts end_reported closed turn a c
-told_then end_reported closed More a b c fits_buffers still =
+told_then : (end_reported closed_now : Bool) (turn : Turn) (a b c : WireCounts) → FitsCounts end_reported closed_now turn a b
+    → GoesOn b c → FitsCounts end_reported closed_now turn a c
+told_then end_reported closed_now More a b c fits_buffers still =
     ((still.1 ∙ fits_buffers.0.0, still.2 ∙ fits_buffers.0.1), λ not_ending served. still.0 ∙ fits_buffers.1 not_ending served)
-told_then end_reported closed UntilReadable a b c fits_buffers still =
+told_then end_reported closed_now UntilReadable a b c fits_buffers still =
     (still.0 ∙ fits_buffers.0, still.2 ∙ fits_buffers.1, λ ends. still.1 ∙ fits_buffers.2 ends)
-told_then end_reported closed UntilWritable a b c fits_buffers still = (still.1 ∙ fits_buffers.0, still.2 ∙ fits_buffers.1)
-told_then end_reported closed Finished a b c fits_buffers still = (still.1 ∙ fits_buffers.0, still.2 ∙ fits_buffers.1)
+told_then end_reported closed_now UntilWritable a b c fits_buffers still = (still.1 ∙ fits_buffers.0, still.2 ∙ fits_buffers.1)
+told_then end_reported closed_now Finished a b c fits_buffers still = (still.1 ∙ fits_buffers.0, still.2 ∙ fits_buffers.1)
 
-pub told_all_fed : (end_reported at_read : Bool) (closed : Option ℕ) (turn : Turn) (a b c d : WireCounts) → at_read ≡ end_reported
-    → GoesOn a b → FitsCounts at_read None turn b c → GoesOn c d → FitsCounts end_reported closed turn a d
-told_all_fed end_reported at_read closed turn a b c d same still fits_buffers fed =
-    told_then end_reported closed turn a c d (told_fetched end_reported at_read closed turn a b c same still fits_buffers) fed
+pub told_all_fed : (end_reported at_read closed_now : Bool) (turn : Turn) (a b c d : WireCounts) → at_read ≡ end_reported
+    → GoesOn a b → FitsCounts at_read false turn b c → GoesOn c d → FitsCounts end_reported closed_now turn a d
+told_all_fed end_reported at_read closed_now turn a b c d same still fits_buffers fed =
+    told_then end_reported closed_now turn a c d (told_fetched end_reported at_read closed_now turn a b c same still fits_buffers) fed
+
+-- a peer that was open and is closed
+closes_now : (closed : Option ℕ) → closed ≢ None → is_closed_now None closed ≡ true
+closes_now None is = absurd (is refl)
+closes_now (Some last) is = refl
 
 -- and not all that was read is fed
-pub told_cut_short : (end_reported : Bool) (closed : Option ℕ) (turn : Turn) (a b c d : WireCounts) → GoesOn a b → IsThrough b c
-    → IsCutShort closed turn c d → FitsCounts end_reported closed turn a d
-told_cut_short end_reported closed More a b c d still read cut =
-    ((cut.1 ∙ read.0 ∙ still.1, cut.2 ∙ read.1 ∙ still.2), λ _ served. absurd (cut.0 served))
-told_cut_short end_reported closed UntilReadable a b c d still read cut = absurd cut
-told_cut_short end_reported closed UntilWritable a b c d still read cut =
+pub told_cut_short : (end_reported : Bool) (before closed : Option ℕ) (turn : Turn) (a b c d : WireCounts) → before ≡ None
+    → GoesOn a b → IsThrough b c → IsCutShort closed turn c d
+    → FitsCounts end_reported (is_closed_now before closed) turn a d
+told_cut_short end_reported before closed More a b c d was_open still read cut = (
+  (cut.1 ∙ read.0 ∙ still.1, cut.2 ∙ read.1 ∙ still.2),
+  λ _ not_now. absurd (true≢false
+      (sym (closes_now closed cut.0) ∙ (ap (λ o. is_closed_now o closed) (sym was_open) ∙ not_now))),
+)
+told_cut_short end_reported before closed UntilReadable a b c d was_open still read cut = absurd cut
+told_cut_short end_reported before closed UntilWritable a b c d was_open still read cut =
     (cut.0 ∙ ap one_more (read.0 ∙ still.1), cut.1 ∙ read.1 ∙ still.2)
-told_cut_short end_reported closed Finished a b c d still read cut =
+told_cut_short end_reported before closed Finished a b c d was_open still read cut =
     (cut.0 ∙ read.0 ∙ still.1, cut.1 ∙ ap one_more (read.1 ∙ still.2))

@@ -1,6 +1,7 @@
 -- A peer's state at the adapter and on its wire, and what a turn does to it.
 use Rattle.std.specs.Prelude.{ℕ, ◌+◌, ◌-◌, ◌^◌, min, ◌≡◌, ◌≢◌, ◌≤◌, List, [], ◌∷◌, ◌++◌, length, drop}
 use Rattle.std.specs.Prelude.{Bool, true, false, Option, Some, None, ⊤}
+use Rattle.std.specs.Option.{option_map}
 use Rattle.std.specs.Io.KnownBytes.{Appends, Consumes}
 use Rattle.enip_adapter.specs.Calls.{AdapterState, call_meaning, call_answer, after_call}
 use Rattle.enip_adapter.specs.Calls.Call.{Feeds}
@@ -11,7 +12,7 @@ use Rattle.enip_server.specs.declared.peer_io.Turn.TheVariants.{More, UntilReada
 use Rattle.enip_server.specs.declared.wire_counts.WireCounts.{WireCounts}
 use Rattle.enip_server.specs.declared.wire.ReadOutcome.{ReadOutcome}
 use Rattle.enip_server.specs.declared.wire.ReadOutcome.TheVariants.{Bytes, Drained, WouldBlock, End, Failed}
-use Rattle.enip_server.specs.Wires.{one_more}
+use Rattle.enip_server.specs.Wires.{KnownCalls, one_more, with_asked, with_shut}
 
 -- A sum of times, which saturates at the greatest time.
 abbrev pub moment_after : ℕ → ℕ → ℕ
@@ -19,7 +20,8 @@ moment_after moment more = min (moment + more) (2 ^ 64 - 1)
 
 -- The adapter; the bytes that were read and not fed; the bytes of an answer that were not written; if the adapter
 -- closed the peer, the time up to which it is still read; when the last byte arrived; what is left to read from the
--- wire and what was written to it, if that is known; and how the calls of the wire went.
+-- wire, what was written to it, and what the wire knows of its calls, if that is known; and how the calls of the wire
+-- went.
 pub record PeerState : Type 0 where
   pub adapter : AdapterState
   pub inbox : List ℕ
@@ -28,12 +30,13 @@ pub record PeerState : Type 0 where
   pub last_byte_at : ℕ
   pub left : Option (List ℕ)
   pub written : Option (List ℕ)
+  pub known : Option KnownCalls
   pub counts : WireCounts
 
 -- The state of a peer, by the code's fields.
-abbrev pub peer_state_of : {W : Type 0} → (W → Option (List ℕ)) → (W → Option (List ℕ)) → (W → WireCounts) → AdapterState → PeerIo W
+abbrev pub peer_state_of : {W : Type 0} → (W → Option (List ℕ)) → (W → Option (List ℕ)) → (W → Option KnownCalls) → (W → WireCounts) → AdapterState → PeerIo W
     → PeerState
-peer_state_of left written counts adapter io = record {
+peer_state_of left written known counts adapter io = record {
   adapter = adapter;
   inbox = io.inbox;
   outbox = io.outbox;
@@ -41,6 +44,7 @@ peer_state_of left written counts adapter io = record {
   last_byte_at = io.last_byte_at;
   left = left io.wire;
   written = written io.wire;
+  known = known io.wire;
   counts = counts io.wire;
 }
 
@@ -54,6 +58,7 @@ pub record IsFlushed (old new : PeerState) : Type 0 where
   pub closed : new.closed ≡ old.closed
   pub last_byte_at : new.last_byte_at ≡ old.last_byte_at
   pub left : new.left ≡ old.left
+  pub known : new.known ≡ old.known
   pub reads : new.counts.reads ≡ old.counts.reads
 
 -- A peer that is closed at a time is still read for one second.
@@ -82,7 +87,7 @@ abbrev pub last_byte_after : ℕ → List ℕ → ℕ → ℕ
 last_byte_after now [] last_byte_at = last_byte_at
 last_byte_after now (byte ∷ bytes) last_byte_at = now
 
--- If the inbox is empty, one read of at most 4,096 bytes is made. What it gives goes to the inbox.
+-- If the inbox is empty, one read is made, which is given 4,096 bytes to fill. What it gives goes to the inbox.
 pub record IsFetched (now : ℕ) (old new : PeerState) : Type 0 where
   pub received : List ℕ
   pub few : length received ≤ 4096
@@ -96,6 +101,8 @@ pub record IsFetched (now : ℕ) (old new : PeerState) : Type 0 where
   pub written : new.written ≡ old.written
   pub reads : old.inbox ≡ [] → new.counts.reads ≡ one_more old.counts.reads
   pub no_read : old.inbox ≢ [] → new.counts.reads ≡ old.counts.reads
+  pub known : old.inbox ≡ [] → new.known ≡ option_map (with_asked 4096) old.known
+  pub known_still : old.inbox ≢ [] → new.known ≡ old.known
 
 -- The inbox is filled, if it is empty, and then fed.
 pub record IsServed (now peer : ℕ) (old new : PeerState) : Type 0 where
@@ -103,11 +110,13 @@ pub record IsServed (now peer : ℕ) (old new : PeerState) : Type 0 where
   pub fetched : IsFetched now old between
   pub fed : AreFed now peer between new
 
--- For a peer that the adapter closed: one read is made and discarded, and the inbox with it.
+-- For a peer that the adapter closed: the writing side is shut down, and then one read, which is given 4,096 bytes to
+-- fill, is made and discarded, and the inbox with it. Nothing else shuts the writing side down.
 pub record IsDiscarded (old new : PeerState) : Type 0 where
   pub received : List ℕ
   pub read : Consumes old.left new.left received
-  pub same : new ≡ record old { inbox = []; left = new.left; counts = new.counts }
+  pub same : new ≡ record old { inbox = []; left = new.left; known = new.known; counts = new.counts }
+  pub known : new.known ≡ option_map (with_asked 4096) (option_map with_shut old.known)
   pub reads : new.counts.reads ≡ one_more old.counts.reads
 
 -- A turn. The outbox is written first; unless it is empty then, nothing else is done.
@@ -144,17 +153,23 @@ IsThrough old new = (new.waits ≡ old.waits) × (new.ends ≡ old.ends)
 abbrev pub GoesOn : WireCounts → WireCounts → Type 0
 GoesOn old new = (new.drained ≡ old.drained) × (new.waits ≡ old.waits) × (new.ends ≡ old.ends)
 
+-- The adapter closed the peer between these.
+abbrev pub is_closed_now : Option ℕ → Option ℕ → Bool
+is_closed_now None None = false
+is_closed_now None (Some last) = true
+is_closed_now (Some last) after = false
+
 -- The outcome of a turn fits the counts of the wire's calls. More input may be available: no call would have blocked,
--- and no read drained the wire, unless the end of the stream was reported or the adapter closed the peer. Until
--- readable: one read drained the wire, and it would have blocked if the end of the stream was reported. Until writable:
+-- and no read drained the wire, unless the end of the stream was reported or the adapter closed the peer in this turn.
+-- Until readable: one read drained the wire, and it would have blocked if the end of the stream was reported. Until writable:
 -- one call would have blocked. Finished: one call failed or met the end of the stream.
-abbrev pub FitsCounts : Bool → Option ℕ → Turn → WireCounts → WireCounts → Type 0
-FitsCounts end_reported closed More old new =
-    IsThrough old new × (end_reported ≡ false → closed ≡ None → new.drained ≡ old.drained)
-FitsCounts end_reported closed UntilReadable old new = (new.drained ≡ one_more old.drained) × (new.ends ≡ old.ends)
+abbrev pub FitsCounts : Bool → Bool → Turn → WireCounts → WireCounts → Type 0
+FitsCounts end_reported closed_now More old new =
+    IsThrough old new × (end_reported ≡ false → closed_now ≡ false → new.drained ≡ old.drained)
+FitsCounts end_reported closed_now UntilReadable old new = (new.drained ≡ one_more old.drained) × (new.ends ≡ old.ends)
     × (end_reported ≡ true → new.waits ≡ one_more old.waits)
-FitsCounts end_reported closed UntilWritable old new = (new.waits ≡ one_more old.waits) × (new.ends ≡ old.ends)
-FitsCounts end_reported closed Finished old new = (new.waits ≡ old.waits) × (new.ends ≡ one_more old.ends)
+FitsCounts end_reported closed_now UntilWritable old new = (new.waits ≡ one_more old.waits) × (new.ends ≡ old.ends)
+FitsCounts end_reported closed_now Finished old new = (new.waits ≡ old.waits) × (new.ends ≡ one_more old.ends)
 
 -- A turn that ends while writing: the adapter closed the peer, an answer is not written to its end, or a write failed.
 abbrev pub IsCutShort : Option ℕ → Turn → WireCounts → WireCounts → Type 0

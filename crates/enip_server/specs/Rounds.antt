@@ -15,7 +15,8 @@ use Rattle.enip_server.specs.declared.peers.Due.{Due}
 use Rattle.enip_server.specs.declared.peers.Peers.{Peers}
 use Rattle.enip_server.specs.declared.peer_io.Turn.TheVariants.{More, UntilReadable, UntilWritable, Finished}
 use Rattle.enip_server.specs.declared.wire_counts.WireCounts.{WireCounts}
-use Rattle.enip_server.specs.PeerStates.{moment_after, peer_state_of, IsTurn, FitsBuffers, FitsCounts}
+use Rattle.enip_server.specs.Wires.{KnownCalls}
+use Rattle.enip_server.specs.PeerStates.{moment_after, peer_state_of, IsTurn, FitsBuffers, FitsCounts, is_closed_now}
 
 -- The adapter, for how long a peer may send nothing, and the slots.
 pub record ServerState (W : Type 0) : Type 0 where
@@ -50,12 +51,13 @@ is_finished UntilReadable = false
 is_finished UntilWritable = false
 is_finished Finished = true
 
-pub record TakesTurn {W : Type 0} (left written : W → Option (List ℕ)) (counts : W → WireCounts) (now : ℕ) (a : AdapterState) (io : PeerIo W)
+pub record TakesTurn {W : Type 0} (left written : W → Option (List ℕ)) (known : W → Option KnownCalls) (counts : W → WireCounts) (now : ℕ) (a : AdapterState) (io : PeerIo W)
     (b : AdapterState) (after : PeerIo W) (goes_on : Bool) : Type 0 where
   pub turn_end : Turn
-  pub turn : IsTurn now io.peer (peer_state_of left written counts a io) (peer_state_of left written counts b after)
-  pub fits_buffers : FitsBuffers (peer_state_of left written counts b after) turn_end
-  pub fits_counts : FitsCounts io.end_reported after.closed turn_end (counts io.wire) (counts after.wire)
+  pub turn : IsTurn now io.peer (peer_state_of left written known counts a io) (peer_state_of left written known counts b after)
+  pub fits_buffers : FitsBuffers (peer_state_of left written known counts b after) turn_end
+  pub fits_counts : FitsCounts io.end_reported (is_closed_now io.closed after.closed) turn_end (counts io.wire)
+      (counts after.wire)
   pub peer : after.peer ≡ io.peer
   pub end_reported : after.end_reported ≡ io.end_reported
   pub ready : after.ready ≡ is_more turn_end
@@ -63,45 +65,45 @@ pub record TakesTurn {W : Type 0} (left written : W → Option (List ℕ)) (coun
 
 -- A peer in a round. If it timed out, it does not go on. Otherwise it takes one turn if its wire may be ready, and none
 -- if not.
-pub record IsServedPeer {W : Type 0} (left written : W → Option (List ℕ)) (counts : W → WireCounts) (now idle_timeout : ℕ) (a : AdapterState)
+pub record IsServedPeer {W : Type 0} (left written : W → Option (List ℕ)) (known : W → Option KnownCalls) (counts : W → WireCounts) (now idle_timeout : ℕ) (a : AdapterState)
     (io : PeerIo W) (b : AdapterState) (after : PeerIo W) (goes_on : Bool) : Type 0 where
   pub silent : timeout_at idle_timeout io ≤ now → (b ≡ a) × (after ≡ io) × (goes_on ≡ false)
   pub waits : now < timeout_at idle_timeout io → io.ready ≡ false → (b ≡ a) × (after ≡ io) × (goes_on ≡ true)
-  pub ready : now < timeout_at idle_timeout io → io.ready ≡ true → TakesTurn left written counts now a io b after goes_on
+  pub ready : now < timeout_at idle_timeout io → io.ready ≡ true → TakesTurn left written known counts now a io b after goes_on
 
 -- A peer that goes on keeps its slot. Any other is ended.
 abbrev pub IsLeft : {W : Type 0} → AdapterState → PeerIo W → Bool → AdapterState → Option (PeerIo W) → Type 0
 IsLeft a io true b slot = (b ≡ a) × (slot ≡ Some io)
 IsLeft a io false b slot = (b ≡ after_call a (Ends_peer io.peer)) × (slot ≡ None)
 
-pub record IsServedAt {W : Type 0} (left written : W → Option (List ℕ)) (counts : W → WireCounts) (now idle_timeout : ℕ) (a : AdapterState)
+pub record IsServedAt {W : Type 0} (left written : W → Option (List ℕ)) (known : W → Option KnownCalls) (counts : W → WireCounts) (now idle_timeout : ℕ) (a : AdapterState)
     (io : PeerIo W) (b : AdapterState) (slot : Option (PeerIo W)) : Type 0 where
   pub adapter : AdapterState
   pub after : PeerIo W
   pub goes_on : Bool
-  pub served : IsServedPeer left written counts now idle_timeout a io adapter after goes_on
+  pub served : IsServedPeer left written known counts now idle_timeout a io adapter after goes_on
   pub stays : IsLeft adapter after goes_on b slot
 
 -- A slot in a round. A free slot stays free.
-abbrev pub IsSlotServed : {W : Type 0} → (W → Option (List ℕ)) → (W → Option (List ℕ)) → (W → WireCounts) → ℕ → ℕ
+abbrev pub IsSlotServed : {W : Type 0} → (W → Option (List ℕ)) → (W → Option (List ℕ)) → (W → Option KnownCalls) → (W → WireCounts) → ℕ → ℕ
     → AdapterState → Option (PeerIo W) → AdapterState → Option (PeerIo W) → Type 0
-IsSlotServed left written counts now idle_timeout a None b slot = (b ≡ a) × (slot ≡ None)
-IsSlotServed left written counts now idle_timeout a (Some io) b slot = IsServedAt left written counts now idle_timeout a io b slot
+IsSlotServed left written known counts now idle_timeout a None b slot = (b ≡ a) × (slot ≡ None)
+IsSlotServed left written known counts now idle_timeout a (Some io) b slot = IsServedAt left written known counts now idle_timeout a io b slot
 
 -- The slots in a round, one after the other.
-abbrev pub AreSlotsServed : {W : Type 0} → (W → Option (List ℕ)) → (W → Option (List ℕ)) → (W → WireCounts) → ℕ → ℕ
+abbrev pub AreSlotsServed : {W : Type 0} → (W → Option (List ℕ)) → (W → Option (List ℕ)) → (W → Option KnownCalls) → (W → WireCounts) → ℕ → ℕ
     → AdapterState → List (Option (PeerIo W)) → AdapterState → List (Option (PeerIo W)) → Type 0
-AreSlotsServed left written counts now idle_timeout a [] b [] = b ≡ a
-AreSlotsServed left written counts now idle_timeout a [] b (slot ∷ places) = ⊥
-AreSlotsServed left written counts now idle_timeout a (io ∷ slots) b [] = ⊥
-AreSlotsServed left written counts now idle_timeout a (io ∷ slots) b (slot ∷ places) =
-    (between : AdapterState) × IsSlotServed left written counts now idle_timeout a io between slot
-    × AreSlotsServed left written counts now idle_timeout between slots b places
+AreSlotsServed left written known counts now idle_timeout a [] b [] = b ≡ a
+AreSlotsServed left written known counts now idle_timeout a [] b (slot ∷ places) = ⊥
+AreSlotsServed left written known counts now idle_timeout a (io ∷ slots) b [] = ⊥
+AreSlotsServed left written known counts now idle_timeout a (io ∷ slots) b (slot ∷ places) =
+    (between : AdapterState) × IsSlotServed left written known counts now idle_timeout a io between slot
+    × AreSlotsServed left written known counts now idle_timeout between slots b places
 
 -- A round: the adapter is given the time, and then each slot is served.
-pub record IsRound {W : Type 0} (left written : W → Option (List ℕ)) (counts : W → WireCounts) (now : ℕ) (old new : ServerState W) : Type 0 where
+pub record IsRound {W : Type 0} (left written : W → Option (List ℕ)) (known : W → Option KnownCalls) (counts : W → WireCounts) (now : ℕ) (old new : ServerState W) : Type 0 where
   pub idle_timeout : new.idle_timeout ≡ old.idle_timeout
-  pub places : AreSlotsServed left written counts now old.idle_timeout (after_call old.adapter (Ticks now)) old.slots
+  pub places : AreSlotsServed left written known counts now old.idle_timeout (after_call old.adapter (Ticks now)) old.slots
       new.adapter new.slots
 
 -- The number of peers that ended in a round.

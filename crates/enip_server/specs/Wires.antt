@@ -1,10 +1,23 @@
 -- What the calls of a wire do to the bytes that are left to read and those that were written, if they are known, and to
 -- the counts of how they went.
-use Rattle.std.specs.Prelude.{ℕ, zero, suc, ◌+◌, ◌%◌, ◌^◌, ◌≡◌, ◌<◌, ◌≤◌, List, [], take, length, Option, Some, None}
+use Rattle.std.specs.Prelude.{Bool, true, ℕ, zero, suc, ◌+◌, ◌%◌, ◌^◌, ◌≡◌, ◌<◌, ◌≤◌, List, [], take, length, Option, Some, None}
 use Rattle.std.specs.Io.KnownBytes.{Consumes, Keeps, IsAtEnd}
 use Rattle.enip_server.specs.declared.wire_counts.WireCounts.{WireCounts}
 use Rattle.enip_server.specs.declared.wire.ReadOutcome.{ReadOutcome}
 use Rattle.enip_server.specs.declared.wire.ReadOutcome.TheVariants.{Bytes, Drained, WouldBlock, End, Failed}
+
+-- What a wire knows of its calls: the size of the slice that its last read was given, and whether its writing side was
+-- shut down.
+pub record KnownCalls : Type 0 where
+  pub asked : ℕ
+  pub is_shut : Bool
+
+-- After a read into a slice of this size, and after the writing side was shut down.
+abbrev pub with_asked : ℕ → KnownCalls → KnownCalls
+with_asked size known = record known { asked = size }
+
+abbrev pub with_shut : KnownCalls → KnownCalls
+with_shut known = record known { is_shut = true }
 
 -- What a read does.
 abbrev pub IsRead : Option (List ℕ) → Option (List ℕ) → ReadOutcome → List ℕ → Type 0

@@ -2,7 +2,8 @@
 
 ghost use Rattle.std.specs.Prelude.{◌≡◌, ◌≤◌, ◌==◌, [], length, take, drop};
 ghost use Rattle.std.specs.Io.KnownBytes.{Consumes};
-ghost use Rattle.enip_server.specs.Wires.{AreReadBy, after_read};
+ghost use Rattle.std.specs.Option.{option_map};
+ghost use Rattle.enip_server.specs.Wires.{AreReadBy, after_read, with_asked};
 
 use crate::wire::{ReadOutcome, Wire};
 use std::marker::Model;
@@ -80,12 +81,13 @@ impl IoBuffer {
         self.end = text.len();
     }
 
-    /// Replaces the content with what one read of a wire gives.
+    /// Replaces the content with what one read of a wire gives. The read is given the whole buffer to fill.
     pub(crate) fn fill<W: Wire>(&mut self, wire: &mut W) -> ReadOutcome
         ensures read { Consumes (W.left wire.old) (W.left wire.new) self.new }
         ensures bytes { AreReadBy result self.new }
         ensures few { length self.new ≤ IO_BUFFER_SIZE }
         ensures written { W.written wire.new ≡ W.written wire.old }
+        ensures known { W.known wire.new ≡ option_map (with_asked IO_BUFFER_SIZE) (W.known wire.old) }
         ensures counts { W.counts wire.new ≡ after_read result (W.counts wire.old) }
     {
         let received = wire.read(&mut self.block);

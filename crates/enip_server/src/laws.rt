@@ -25,9 +25,9 @@ pub fn turns_lose_nothing()
 /// calls answered it is what was written to its wire, followed by what waits to be written, in this order.
 pub fn peers_are_served_apart<W: Wire>()
     ensures { (adapter : AdapterState) (idle_timeout slot peer : ℕ) (first last : ServerState W) (io after : PeerIo W) →
-        IsRun W.left W.written W.counts (new_peers adapter idle_timeout) first →
-        KeepsSlot W.left W.written W.counts slot peer first io last after →
+        IsRun W.left W.written W.known W.counts (new_peers adapter idle_timeout) first →
+        KeepsSlot W.left W.written W.known W.counts slot peer first io last after →
         (calls : List Call) × (received : List ℕ) × (gone : List ℕ) × AllByRecursion (GoesOnWith peer) calls
-        × Transfers peer calls received gone (peer_state_of W.left W.written W.counts first.adapter io)
-        (peer_state_of W.left W.written W.counts last.adapter after) }
+        × Transfers peer calls received gone (peer_state_of W.left W.written W.known W.counts first.adapter io)
+        (peer_state_of W.left W.written W.known W.counts last.adapter after) }
 {}

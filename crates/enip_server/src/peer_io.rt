@@ -5,7 +5,7 @@ ghost use Rattle.std.specs.Prelude.{◌≡◌, ◌≢◌, ◌≤◌, ◌<◌, []
 ghost use Rattle.enip_adapter.specs.Calls.{AdapterState};
 ghost use Rattle.enip_server.specs.Rounds.{timeout_at, IsServedPeer, TakesTurn};
 ghost use Rattle.enip_server.specs.PeerStates.{peer_state_of, fed_once, IsFlushed, AreFed, IsDiscarded, IsTurn, FitsBuffers, FitsCounts, IsWaiting};
-ghost use Rattle.enip_server.specs.PeerStates.{IsFetched, IsByRead, IsThrough, GoesOn, IsCutShort, turn_after};
+ghost use Rattle.enip_server.specs.PeerStates.{IsFetched, IsByRead, IsThrough, GoesOn, IsCutShort, is_closed_now, turn_after};
 
 use crate::io_buffer::IoBuffer;
 use crate::wire::{ReadOutcome, Wire};
@@ -102,7 +102,7 @@ impl<W: Wire> PeerIo<W> {
     /// Gives the peer a turn if its wire may be ready. Returns whether the peer goes on: not if it timed out, and not
     /// if its stream is over.
     pub(crate) fn serve(&mut self, adapter: &mut Adapter, now: u64, idle_timeout: u64) -> bool
-        ensures { IsServedPeer W.left W.written W.counts now idle_timeout adapter.old self.old adapter.new self.new result }
+        ensures { IsServedPeer W.left W.written W.known W.counts now idle_timeout adapter.old self.old adapter.new self.new result }
     {
         if now >= self.timeout_at(idle_timeout) {
             return false;
@@ -115,7 +115,7 @@ impl<W: Wire> PeerIo<W> {
 
     /// Takes one turn. Returns whether the stream goes on.
     fn take_turn(&mut self, adapter: &mut Adapter, now: u64) -> bool
-        ensures { TakesTurn W.left W.written W.counts now adapter.old self.old adapter.new self.new result }
+        ensures { TakesTurn W.left W.written W.known W.counts now adapter.old self.old adapter.new self.new result }
     {
         let turn = self.turn(adapter, now);
         self.ready = turn == Turn::More;
@@ -124,10 +124,11 @@ impl<W: Wire> PeerIo<W> {
 
     /// One turn: writes what is left of an answer; once all of it is written, makes one read and feeds it.
     fn turn(&mut self, adapter: &mut Adapter, now: u64) -> Turn
-        ensures turn { IsTurn now self.old.peer (peer_state_of W.left W.written W.counts adapter.old self.old)
-            (peer_state_of W.left W.written W.counts adapter.new self.new) }
-        ensures fits_buffers { FitsBuffers (peer_state_of W.left W.written W.counts adapter.new self.new) result }
-        ensures fits_counts { FitsCounts self.old.end_reported self.new.closed result (W.counts self.old.wire) (W.counts self.new.wire) }
+        ensures turn { IsTurn now self.old.peer (peer_state_of W.left W.written W.known W.counts adapter.old self.old)
+            (peer_state_of W.left W.written W.known W.counts adapter.new self.new) }
+        ensures fits_buffers { FitsBuffers (peer_state_of W.left W.written W.known W.counts adapter.new self.new) result }
+        ensures fits_counts { FitsCounts self.old.end_reported (is_closed_now self.old.closed self.new.closed) result
+            (W.counts self.old.wire) (W.counts self.new.wire) }
         ensures peer { self.new.peer ≡ self.old.peer }
         ensures end_reported { self.new.end_reported ≡ self.old.end_reported }
     {
@@ -149,11 +150,11 @@ impl<W: Wire> PeerIo<W> {
 
     /// Makes one read if the inbox is empty. Returns the outcome of the turn once the inbox has been fed.
     fn fetch(&mut self, now: u64) -> Turn
-        ensures fetched { (adapter : AdapterState) → IsFetched now (peer_state_of W.left W.written W.counts adapter self.old)
-            (peer_state_of W.left W.written W.counts adapter self.new) }
+        ensures fetched { (adapter : AdapterState) → IsFetched now (peer_state_of W.left W.written W.known W.counts adapter self.old)
+            (peer_state_of W.left W.written W.known W.counts adapter self.new) }
         ensures by_read { IsByRead result }
         ensures some { self.new.inbox ≢ [] → IsThrough (W.counts self.old.wire) (W.counts self.new.wire) }
-        ensures fits_counts { FitsCounts self.old.end_reported None result (W.counts self.old.wire) (W.counts self.new.wire) }
+        ensures fits_counts { FitsCounts self.old.end_reported false result (W.counts self.old.wire) (W.counts self.new.wire) }
         ensures peer { self.new.peer ≡ self.old.peer }
         ensures end_reported { self.new.end_reported ≡ self.old.end_reported }
         ensures outbox { self.new.outbox ≡ self.old.outbox }
@@ -174,10 +175,10 @@ impl<W: Wire> PeerIo<W> {
     fn feed_all(&mut self, adapter: &mut Adapter, now: u64) -> Option<Turn>
         requires out { self.old.outbox ≡ [] }
         requires open { self.old.closed ≡ None }
-        ensures fed { AreFed now self.old.peer (peer_state_of W.left W.written W.counts adapter.old self.old)
-            (peer_state_of W.left W.written W.counts adapter.new self.new) }
+        ensures fed { AreFed now self.old.peer (peer_state_of W.left W.written W.known W.counts adapter.old self.old)
+            (peer_state_of W.left W.written W.known W.counts adapter.new self.new) }
         ensures out { IfNone result ((self.new.outbox ≡ []) × (self.new.inbox ≡ [])) }
-        ensures fits_buffers { IfSome result (FitsBuffers (peer_state_of W.left W.written W.counts adapter.new self.new)) }
+        ensures fits_buffers { IfSome result (FitsBuffers (peer_state_of W.left W.written W.known W.counts adapter.new self.new)) }
         ensures goes_on { IfNone result (GoesOn (W.counts self.old.wire) (W.counts self.new.wire)) }
         ensures fits_counts { IfSome result (λ turn.
             IsCutShort self.new.closed turn (W.counts self.old.wire) (W.counts self.new.wire)) }
@@ -200,8 +201,8 @@ impl<W: Wire> PeerIo<W> {
     fn feed_once(&mut self, adapter: &mut Adapter, now: u64)
         requires out { self.old.outbox ≡ [] }
         requires open { self.old.closed ≡ None }
-        ensures fed { peer_state_of W.left W.written W.counts adapter.new self.new
-            ≡ fed_once now self.old.peer (peer_state_of W.left W.written W.counts adapter.old self.old) }
+        ensures fed { peer_state_of W.left W.written W.known W.counts adapter.new self.new
+            ≡ fed_once now self.old.peer (peer_state_of W.left W.written W.known W.counts adapter.old self.old) }
         ensures peer { self.new.peer ≡ self.old.peer }
         ensures end_reported { self.new.end_reported ≡ self.old.end_reported }
         ensures progress { 0 < length self.old.inbox → self.new.closed ≡ None →
@@ -220,8 +221,8 @@ impl<W: Wire> PeerIo<W> {
 
     /// Writes the outbox. Returns `None` once it is empty.
     fn flush(&mut self) -> Option<Turn>
-        ensures flushed { (adapter : AdapterState) → IsFlushed (peer_state_of W.left W.written W.counts adapter self.old)
-            (peer_state_of W.left W.written W.counts adapter self.new) }
+        ensures flushed { (adapter : AdapterState) → IsFlushed (peer_state_of W.left W.written W.known W.counts adapter self.old)
+            (peer_state_of W.left W.written W.known W.counts adapter self.new) }
         ensures out { IfNone result (self.new.outbox ≡ []) }
         ensures waits { IfSome result (λ turn. (self.new.outbox ≢ []) × IsWaiting turn) }
         ensures goes_on { IfNone result (GoesOn (W.counts self.old.wire) (W.counts self.new.wire)) }
@@ -245,10 +246,10 @@ impl<W: Wire> PeerIo<W> {
     /// For a peer that the adapter closed: shuts the writing side down, makes one read and discards it.
     fn discard_input(&mut self) -> Turn
         requires out { self.old.outbox ≡ [] }
-        ensures discarded { (adapter : AdapterState) → IsDiscarded (peer_state_of W.left W.written W.counts adapter self.old)
-            (peer_state_of W.left W.written W.counts adapter self.new) }
-        ensures fits_buffers { (adapter : AdapterState) → FitsBuffers (peer_state_of W.left W.written W.counts adapter self.new) result }
-        ensures fits_counts { FitsCounts self.old.end_reported self.new.closed result (W.counts self.old.wire) (W.counts self.new.wire) }
+        ensures discarded { (adapter : AdapterState) → IsDiscarded (peer_state_of W.left W.written W.known W.counts adapter self.old)
+            (peer_state_of W.left W.written W.known W.counts adapter self.new) }
+        ensures fits_buffers { (adapter : AdapterState) → FitsBuffers (peer_state_of W.left W.written W.known W.counts adapter self.new) result }
+        ensures fits_counts { FitsCounts self.old.end_reported false result (W.counts self.old.wire) (W.counts self.new.wire) }
         ensures peer { self.new.peer ≡ self.old.peer }
         ensures end_reported { self.new.end_reported ≡ self.old.end_reported }
     {

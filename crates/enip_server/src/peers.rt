@@ -120,7 +120,7 @@ impl<W: Wire + Drop> Peers<W> {
 
     /// Serves one round at the time `now`: each peer whose wire may be ready has one turn.
     pub fn round(&mut self, now: u64) -> RoundEnd
-        ensures round { IsRound W.left W.written W.counts now (state_of self.old) (state_of self.new) }
+        ensures round { IsRound W.left W.written W.known W.counts now (state_of self.old) (state_of self.new) }
         ensures ended { result.ended ≡ ended_in (state_of self.old).slots (state_of self.new).slots }
         ensures ready { result.ready ≡ list_any is_ready (state_of self.new).slots }
         ensures next { result.next ≡ next_moment (state_of self.new) }
@@ -141,7 +141,7 @@ impl<W: Wire + Drop> Peers<W> {
     /// Gives the adapter the time, and serves each slot. Returns the number of peers that ended. When the others are
     /// due again is added to `due`.
     fn serve_all(&mut self, now: u64, due: &mut Due) -> usize
-        ensures round { IsRound W.left W.written W.counts now (state_of self.old) (state_of self.new) }
+        ensures round { IsRound W.left W.written W.known W.counts now (state_of self.old) (state_of self.new) }
         ensures ended { result ≡ ended_in (state_of self.old).slots (state_of self.new).slots }
         ensures due { due.new ≡ due_by (state_of self.new).idle_timeout due.old (state_of self.new).slots }
     {
@@ -206,7 +206,7 @@ fn serve_slots<W: Wire + Drop>(
     idle_timeout: u64,
     due: &mut Due,
 ) -> usize
-    ensures served { AreSlotsServed W.left W.written W.counts now idle_timeout adapter.old places.old adapter.new places.new }
+    ensures served { AreSlotsServed W.left W.written W.known W.counts now idle_timeout adapter.old places.old adapter.new places.new }
     ensures ended { result ≡ ended_in places.old places.new }
     ensures few { result ≤ length places.old }
     ensures due { due.new ≡ due_by idle_timeout due.old places.new }
@@ -226,7 +226,7 @@ fn serve_slot<W: Wire + Drop>(
     idle_timeout: u64,
     due: &mut Due,
 ) -> bool
-    ensures served { IsSlotServed W.left W.written W.counts now idle_timeout adapter.old slot.old adapter.new slot.new }
+    ensures served { IsSlotServed W.left W.written W.known W.counts now idle_timeout adapter.old slot.old adapter.new slot.new }
     ensures ended { result ≡ has_ended slot.old slot.new }
     ensures due { due.new ≡ due_with idle_timeout due.old slot.new }
 {

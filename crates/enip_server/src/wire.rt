@@ -1,9 +1,10 @@
 //! The wire of a peer: a TCP stream whose calls never block.
 
+ghost use Rattle.std.specs.Option.{option_map};
 ghost use Rattle.std.specs.Prelude.{ℕ, List, Option, ◌≡◌, ◌<◌, ◌≤◌, length, take, IfSome};
 ghost use Rattle.std.specs.Io.KnownBytes.{Appends};
 ghost use Rattle.enip_server.specs.declared.wire_counts.WireCounts.{WireCounts};
-ghost use Rattle.enip_server.specs.Wires.{IsRead, size_taken, after_read, after_write};
+ghost use Rattle.enip_server.specs.Wires.{KnownCalls, IsRead, size_taken, after_read, after_write, with_asked, with_shut};
 
 /// The outcome of a read.
 #[derive(Clone, Copy, Debug, PartialEq, Eq)]
@@ -29,6 +30,10 @@ pub trait Wire {
     // The bytes that were written, if the wire knows them.
     ghost written: { Self → Option (List ℕ) };
 
+    // What the wire knows of its calls, if it does: how much its last read was given to fill, and whether its writing
+    // side was shut down.
+    ghost known: { Self → Option KnownCalls };
+
     // How the calls went.
     ghost counts: { Self → WireCounts };
 
@@ -37,6 +42,7 @@ pub trait Wire {
         requires { 0 < length into.old }
         ensures read { IsRead (left self.old) (left self.new) result into.new }
         ensures written { written self.new ≡ written self.old }
+        ensures known { known self.new ≡ option_map (with_asked (length into.old)) (known self.old) }
         ensures counts { counts self.new ≡ after_read result (counts self.old) };
 
     /// Writes a front of these bytes and returns its length: 0 if the write would block, `None` if it failed.
@@ -44,11 +50,13 @@ pub trait Wire {
         ensures size { IfSome result (λ n. n ≤ length from.now) }
         ensures written { Appends (written self.old) (written self.new) (take (size_taken result) from.now) }
         ensures left { left self.new ≡ left self.old }
+        ensures known { known self.new ≡ known self.old }
         ensures counts { counts self.new ≡ after_write result (counts self.old) };
 
     /// Shuts the writing side down. The stream can still be read.
     fn shut(&mut self)
         ensures written { written self.new ≡ written self.old }
         ensures left { left self.new ≡ left self.old }
+        ensures known { known self.new ≡ option_map with_shut (known self.old) }
         ensures counts { counts self.new ≡ counts self.old };
 }

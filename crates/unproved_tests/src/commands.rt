@@ -3,6 +3,7 @@
 
 mod answering;
 mod asking;
+mod command_files;
 mod configuration;
 mod demo;
 mod exchanges;

@@ -33,9 +33,15 @@ enum Route<'a> {
 impl<'a> Route<'a> {
     /// The route of a request with these bytes.
     #[inline(always)]
+    #[tactic(auto, using(crate::proofs::RouteLemmas::objects_by_service))]
     fn of(request: &'a [u8]) -> Route<'a>
+        requires { 2 ≤ length request.now }
         ensures { route_in result ≡ route_of request.now }
     {
+        // Most requests have none of its services. Their path is not read for this.
+        if ManagerService::of(request[0]).is_none() {
+            return Route::Objects;
+        }
         let Ok(request) = RequestView::read(request) else {
             return Route::Objects;
         };

@@ -18,16 +18,16 @@ loop-self-init g c = record {
 pub returns-in-Some-clause-fed : goal.returns-in-Some-clause-fed
 returns-in-Some-clause-fed g c =
     one_more c.args.now c.args.self.now.peer c.loop-self.self.peer _
-    (peer_state_of g.W.Wire.left g.W.Wire.written g.W.Wire.counts c.loop-self.adapter c.loop-self.self)
-    (peer_state_of g.W.Wire.left g.W.Wire.written g.W.Wire.counts c.feed_once.new.adapter c.feed_once.new.self) _
+    (peer_state_of g.W.Wire.left g.W.Wire.written g.W.Wire.known g.W.Wire.counts c.loop-self.adapter c.loop-self.self)
+    (peer_state_of g.W.Wire.left g.W.Wire.written g.W.Wire.known g.W.Wire.counts c.feed_once.new.adapter c.feed_once.new.self) _
     c.loop-self.invariant.peer c.loop-self.invariant.fed c.loop-self.invariant.out
     c.loop-self.invariant.served c.feed_once.ensures.fed (c.in-Some.ensures.flushed c.feed_once.new.adapter)
 
 pub returns-then-is_some-clause-fed : goal.returns-then-is_some-clause-fed
 returns-then-is_some-clause-fed g c =
     one_more c.args.now c.args.self.now.peer c.loop-self.self.peer _
-    (peer_state_of g.W.Wire.left g.W.Wire.written g.W.Wire.counts c.loop-self.adapter c.loop-self.self)
-    (peer_state_of g.W.Wire.left g.W.Wire.written g.W.Wire.counts c.feed_once.new.adapter c.feed_once.new.self) _
+    (peer_state_of g.W.Wire.left g.W.Wire.written g.W.Wire.known g.W.Wire.counts c.loop-self.adapter c.loop-self.self)
+    (peer_state_of g.W.Wire.left g.W.Wire.written g.W.Wire.known g.W.Wire.counts c.feed_once.new.adapter c.feed_once.new.self) _
     c.loop-self.invariant.peer c.loop-self.invariant.fed c.loop-self.invariant.out
     c.loop-self.invariant.served c.feed_once.ensures.fed (c.in_default.ensures.flushed c.feed_once.new.adapter)
 
@@ -42,8 +42,8 @@ loop-self-preserved g c = record {
       (ap (λ d. d.counts) c.feed_once.ensures.fed) c.in_default.ensures.goes_on;
   fed =
       one_more c.args.now c.args.self.now.peer c.loop-self.self.peer _
-      (peer_state_of g.W.Wire.left g.W.Wire.written g.W.Wire.counts c.loop-self.adapter c.loop-self.self)
-      (peer_state_of g.W.Wire.left g.W.Wire.written g.W.Wire.counts c.feed_once.new.adapter c.feed_once.new.self) _
+      (peer_state_of g.W.Wire.left g.W.Wire.written g.W.Wire.known g.W.Wire.counts c.loop-self.adapter c.loop-self.self)
+      (peer_state_of g.W.Wire.left g.W.Wire.written g.W.Wire.known g.W.Wire.counts c.feed_once.new.adapter c.feed_once.new.self) _
       c.loop-self.invariant.peer c.loop-self.invariant.fed c.loop-self.invariant.out
       c.loop-self.invariant.served c.feed_once.ensures.fed
       (c.in_default.ensures.flushed c.feed_once.new.adapter);

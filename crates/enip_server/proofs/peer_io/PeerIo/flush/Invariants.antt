@@ -10,8 +10,8 @@ invariant-loop-self g l = record {
   closed : l.self.closed ≡ l.fn.self.closed;
   end_reported : l.self.end_reported ≡ l.fn.self.end_reported;
   fits_buffers : GoesOn (g.W.Wire.counts l.fn.self.wire) (g.W.Wire.counts l.self.wire);
-  flushed : (adapter : AdapterState) → IsFlushed (peer_state_of g.W.Wire.left g.W.Wire.written g.W.Wire.counts adapter l.fn.self)
-      (peer_state_of g.W.Wire.left g.W.Wire.written g.W.Wire.counts adapter l.self);
+  flushed : (adapter : AdapterState) → IsFlushed (peer_state_of g.W.Wire.left g.W.Wire.written g.W.Wire.known g.W.Wire.counts adapter l.fn.self)
+      (peer_state_of g.W.Wire.left g.W.Wire.written g.W.Wire.known g.W.Wire.counts adapter l.self);
 }
 
 abbrev pub decreases-loop-self : goal.decreases-loop-self

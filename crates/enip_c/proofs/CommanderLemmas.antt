@@ -1,0 +1,59 @@
+-- The reply to an embedded request is no longer than the reply that contains it.
+use Rattle.std.proofs.Common.{ℕ, ◌+◌, ◌*◌, ◌≤◌, ◌==◌, Bool, true, false, if◌then◌else◌, nat_lt, Option, Some, None, List, [], ◌∷◌}
+use Rattle.std.proofs.Common.{length, drop, take, Ok, Err, arith}
+use Rattle.std.proofs.lemmas.List.{length-drop}
+use Rattle.cip_bytes.specs.Numbers.{words_of}
+use Rattle.cip_message.specs.Reply.{Reply, reply_of, reply_service, reply_of_fields}
+use Rattle.cip_message.specs.declared.reply.ReplyFault.TheVariants.{NotReply, Extra}
+use Rattle.cip_ledger.specs.declared.service.TheConstants as services
+use Rattle.cip_commander.specs.CommanderRule.{CommanderState, outcome_at, outcome_of}
+use Rattle.cip_commander.specs.Outcome.{Outcome, Done, StillPending, Refused, Malformed, NotPending, outcome_of_data, outcome_of_reply, outcome_of_text}
+use Rattle.enip_c.specs.CommanderCalls.{IsWithin}
+
+within_choice : (size : ℕ) (is : Bool) (one other : Outcome) → IsWithin size one → IsWithin size other
+    → IsWithin size (if is then one else other)
+within_choice size true one other one_fits other_fits = one_fits
+within_choice size false one other one_fits other_fits = other_fits
+
+within_data : (size : ℕ) (bytes : List ℕ) → length bytes ≤ size → IsWithin size (outcome_of_data bytes)
+within_data size [] fits = tt
+within_data size (state ∷ reply) fits =
+    within_choice size (state == 0) (Done reply) (if state == 1 then StillPending else Malformed) (omega (arith, fits))
+    (within_choice size (state == 1) StillPending Malformed tt tt)
+
+within_reply : (size : ℕ) (is_request is_cut : Bool) (reply : Reply) → length reply.data ≤ size
+    → IsWithin size (outcome_of_reply (if is_request then Err NotReply else (if is_cut then Err Extra else Ok reply)))
+within_reply size true is_cut reply fits = tt
+within_reply size false true reply fits = tt
+within_reply size false false reply fits =
+    within_choice size (reply.service == reply_service services.DO_ONCE)
+    (if reply.status == 0 then outcome_of_data reply.data else Refused reply.status) Malformed
+    (within_choice size (reply.status == 0) (outcome_of_data reply.data) (Refused reply.status)
+    (within_data size reply.data fits) tt) tt
+
+within_text : (text : List ℕ) → IsWithin (length text) (outcome_of_text text)
+unfolding outcome_of_text reply_of
+within_text [] = tt
+within_text (service ∷ []) = tt
+within_text (service ∷ reserved ∷ []) = tt
+within_text (service ∷ reserved ∷ status ∷ []) = tt
+within_text (service ∷ reserved ∷ status ∷ words ∷ rest) =
+    within_reply (length (service ∷ reserved ∷ status ∷ words ∷ rest)) (nat_lt service 128)
+    (nat_lt (length rest) (2 * words))
+    (reply_of_fields service status (words_of (take (2 * words) rest)) (drop (2 * words) rest))
+    (omega (arith, length-drop (2 * words) rest))
+
+within_pending : (pending : Option (List ℕ)) (text : List ℕ) → IsWithin (length text) (outcome_at pending text)
+within_pending None text = tt
+within_pending (Some request) text = within_text text
+
+within_size : (size other : ℕ) (outcome : Outcome) → size ≤ other → IsWithin size outcome → IsWithin other outcome
+within_size size other (Done reply) fits is = omega (arith, fits, is)
+within_size size other StillPending fits is = tt
+within_size size other (Refused status) fits is = tt
+within_size size other Malformed fits is = tt
+within_size size other NotPending fits is = tt
+
+pub outcome_within : (c : CommanderState) (text : List ℕ) (size : ℕ) → length text ≤ size → IsWithin size (outcome_of c text)
+outcome_within c text size fits =
+    within_size (length text) size (outcome_of c text) fits (within_pending c.pending text)
