@@ -1,5 +1,5 @@
 -- What the adapter does with the bytes of one peer, with a new peer, and with calls for others.
-use Rattle.std.proofs.Common.{◌≡◌, ◌≢◌, ℕ, ◌+◌, ◌<◌, ◌≤◌, ◌^◌, inl, inr, Bool, true, false, not, cond, eqb, ltb}
+use Rattle.std.proofs.Common.{◌≡◌, ℕ, ◌+◌, ◌<◌, ◌≤◌, ◌^◌, inl, inr, Bool, true, false, not, cond, eqb, ltb}
 use Rattle.std.proofs.Common.{Some, None, List, [], ◌∷◌, ◌++◌, length, take, map, fold, Ok}
 use Rattle.std.proofs.Common.{refl, ap, sym, ◌∙◌, subst, arith, append_assoc, append-nil, length-append, ltb-false}
 use Rattle.std.proofs.lemmas.Bool.{eq-eqb, le-ltb, cases_lt}
@@ -30,10 +30,8 @@ use Rattle.enip_adapter.specs.declared.peer.Session.{Session}
 use Rattle.enip_adapter.specs.declared.shared.Shared.{Shared}
 use Rattle.enip_adapter.specs.declared.no_reply_reason.NoReplyReason.TheVariants.{NoFrame, NotServed}
 use Rattle.enip_adapter.specs.Calls.{AdapterState, Held, Call, Meaning, call_meaning, after_call, call_answer}
-use Rattle.enip_adapter.specs.declared.adapter.Full.{Full}
 use Rattle.enip_adapter.specs.declared.adapter.Full.TheVariants.{Places, Handles}
 use Rattle.enip_adapter.specs.Calls.{after_meaning, answer_of, bytes_held, bytes_found, events_of_parsed}
-use Rattle.enip_adapter.specs.Calls.{held_at_beginning}
 use Rattle.enip_adapter.specs.Calls.Call.{Begins_peer, Feeds, Ends_peer}
 use Rattle.enip_adapter.specs.Commands.{command_served}
 use Rattle.enip_adapter.specs.DeviceRuns.{device_requests, requests_of_calls, requests_by_session, requests_in_frame}
@@ -479,31 +477,10 @@ begins-as a peer sound output =
       };
     }
 
-abbrev left_begun : AdapterState → TurnResult → AdapterState
-left_begun a t = record { state = t.state; held = held_at_beginning a.held t.answer.output }
-
-refused-by : (a : AdapterState) (full : Full) (places late : Bool) →
-    (begun_by a.state places late).answer.output ≡ Refuses full → left_begun a (begun_by a.state places late) ≡ a
-refused-by a full true late refuses = refl
-refused-by a full false true refuses = refl
-refused-by a full false false refuses = absurd (cc)
-
--- The adapter refuses a peer: nothing changes.
-pub begins-not : (a : AdapterState) (full : Full) → (call_answer a Begins_peer).output ≡ Refuses full →
-    after_call a Begins_peer ≡ a
-begins-not a full output =
-    refused-by a full (not (ltb (length a.state.peers) a.state.places)) (ltb 0xffffffff a.state.next_handle) output
-
 -- A peer ends, and another keeps what it has (`holds-other`). The device is as it was.
 pub device-ended : (a : AdapterState) (peer : ℕ) →
     (after_call a (Ends_peer peer)).state.shared.objects ≡ a.state.shared.objects
 device-ended a peer = device-same a (Ends_peer peer) refl
-
--- Two peers with sessions that differ have different handles, and a new one is different from those that are there.
-pub apart-fresh : (a : AdapterState) (old new : ℕ) (session : Session) (bytes : List ℕ) →
-    Holds a old session bytes → session_of a.state new ≡ None → new ≢ old
-apart-fresh a old new session bytes holds none same =
-    let bad : Some session ≡ None = sym holds.found ∙ (ap (session_of a.state) (sym same) ∙ none) in cc
 
 -- ---- calls for others
 

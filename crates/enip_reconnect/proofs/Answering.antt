@@ -1,13 +1,13 @@
 -- The device's answer to the pending command's message, whatever happened before: the command is done.
-use Rattle.std.proofs.Common.{◌≡◌, ◌≢◌, ◌⊎◌, inl, inr, ℕ, ◌+◌, ◌<◌, ◌≤◌, ◌==◌, nat_lt, not, Bool, true, false, if◌then◌else◌}
-use Rattle.std.proofs.Common.{Option, Some, None, List, [], ◌∷◌, ◌++◌, length, slice_index, refl, ap, sym, ◌∙◌, subst, arith}
+use Rattle.std.proofs.Common.{◌≡◌, inl, inr, ℕ, ◌+◌, ◌≤◌, ◌==◌, nat_lt, not, Bool, true, false, if◌then◌else◌}
+use Rattle.std.proofs.Common.{Option, Some, None, List, [], ◌∷◌, length, refl, ap, sym, ◌∙◌, subst, arith}
 use Rattle.std.specs.Prelude.{MatchOption, ⊤, fold}
 use Rattle.std.specs.List.{AllByRecursion}
 use Rattle.std.proofs.lemmas.Bool.{eq-eqb, lt-ltb, le-ltb}
 use Rattle.cip_bytes.specs.declared.protocol.TheConstants.{UNCONNECTED_LIMIT}
-use Rattle.cip_commander.specs.CommanderRule.{CommanderState, IsInRange, message_of, do_once}
+use Rattle.cip_commander.specs.CommanderRule.{IsInRange, message_of, do_once}
 use Rattle.cip_commander.specs.Laws.{IsOthers, IsAmong, WasGiven, numbers_in}
-use Rattle.cip_commander.specs.NumberedWorld.{NumberedWorld, Entry, Own, Another, Said, IsDone, IsRefused, said_bytes, Arrival}
+use Rattle.cip_commander.specs.NumberedWorld.{NumberedWorld, Entry, Own, IsDone, IsRefused, said_bytes, Arrival}
 use Rattle.cip_commander.specs.NumberedWorld.{Appended, Answered, Device, device_after, arrival, arrival_by, last_again, world_at, world_step}
 use Rattle.cip_commander.specs.Outcome.{Done, outcome_of_text}
 use Rattle.cip_commander.specs.Worlds.{BothEnds}
@@ -18,7 +18,7 @@ use Rattle.cip_commander.proofs.Images.{IsSound, image, step-sound, opening-soun
 use Rattle.cip_commander.proofs.Logged.{IsExecuted, after-logged}
 use Rattle.cip_commander.proofs.Numbered.{after-numbered}
 use Rattle.cip_commander.proofs.Rising.{all_second}
-use Rattle.cip_ledger.specs.Ledger.{LedgerState, slot_of}
+use Rattle.cip_ledger.specs.Ledger.{LedgerState}
 use Rattle.cip_ledger.specs.Requests.{Command, is_barred}
 use Rattle.cip_ledger.specs.Runs.{answer_to}
 use Rattle.cip_ledger.specs.Services.{KEPT_LIMIT, HEAD_SIZE}

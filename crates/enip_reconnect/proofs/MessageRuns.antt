@@ -9,7 +9,7 @@ use Rattle.cip_commander.specs.Laws.{IsOthers, requests_of, request_of}
 use Rattle.cip_commander.specs.NumberedWorld.{NumberedWorld, world_at, world_step, world_reach, world_back, arrived}
 use Rattle.cip_commander.specs.NumberedWorld.{Arrival, Appended, Answered, Said, IsDone, IsRefused, said_of}
 use Rattle.cip_commander.specs.NumberedWorld.{device_after}
-use Rattle.cip_commander.specs.Worlds.{BothEnds, gives, awaits}
+use Rattle.cip_commander.specs.Worlds.{BothEnds, awaits}
 use Rattle.cip_commander.specs.Worlds as messages
 use Rattle.cip_commander.proofs.Images.{IsSound, image, step-image, step-sound, opening-sound}
 use Rattle.cip_commander.proofs.Rising.{all_append}

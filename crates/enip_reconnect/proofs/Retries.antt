@@ -1,11 +1,10 @@
 -- A retry is enough, whatever happened before.
-use Rattle.std.proofs.Common.{◌≡◌, ℕ, Option, Some, None, List, [], ◌∷◌, ◌++◌, refl, ap, sym, ◌∙◌, subst, append-nil}
+use Rattle.std.proofs.Common.{ℕ, Option, List, [], ◌∷◌, ap, sym, ◌∙◌, subst, append-nil}
 use Rattle.cip_bytes.specs.declared.protocol.TheConstants.{UNCONNECTED_LIMIT}
 use Rattle.cip_commander.specs.CommanderRule.{CommanderState, message_of}
 use Rattle.cip_commander.specs.Outcome.{Outcome, outcome_of_text}
 use Rattle.cip_commander.specs.Worlds.{BothEnds}
 use Rattle.cip_ledger.specs.Device.{Device, exec_device}
-use Rattle.cip_ledger.specs.Ledger.{LedgerState}
 use Rattle.cip_objects.specs.Contents.{Contents}
 use Rattle.enip_adapter.proofs.SoundLemmas.{IsSound, sound-calls, sound-new}
 use Rattle.enip_reconnect.specs.Events.{Event}

@@ -1,12 +1,12 @@
 -- A retry on a new TCP connection gets through.
-use Rattle.std.proofs.Common.{◌≡◌, ℕ, ◌<◌, ◌≤◌, ◌==◌, ◌&&◌, if◌then◌else◌, Bool, true, false, Option, Some, None, List, [], ◌∷◌, ◌++◌, length, take, drop, slice_index, Result, Ok, Err, refl, ap, sym, ◌∙◌, subst, arith, append-nil}
+use Rattle.std.proofs.Common.{◌≡◌, ℕ, ◌≤◌, if◌then◌else◌, true, Option, Some, None, List, [], ◌∷◌, length, take, drop, slice_index, Ok, refl, ap, sym, ◌∙◌, subst, arith}
 use Rattle.std.proofs.lemmas.Bool.{eq-eqb, and_from, le-leb}
 use Rattle.std.proofs.lemmas.List.{take_all, drop_all}
 use Rattle.cip_bytes.specs.declared.protocol.TheConstants.{UNCONNECTED_LIMIT}
-use Rattle.cip_commander.specs.CommanderRule.{CommanderState, do_once, command_with, message_of, abandoned}
-use Rattle.cip_commander.specs.Outcome.{Outcome, Done, outcome_of_text}
+use Rattle.cip_commander.specs.CommanderRule.{do_once, command_with}
+use Rattle.cip_commander.specs.Outcome.{Done, outcome_of_text}
 use Rattle.cip_commander.specs.declared.refusal.TheConstants.{LONGEST_EMBEDDED}
-use Rattle.cip_ledger.specs.Device.{Device, exec_device}
+use Rattle.cip_ledger.specs.Device.{exec_device}
 use Rattle.cip_ledger.specs.Requests.{Command}
 use Rattle.enip_adapter.specs.Calls.{AdapterState, Call, call_answer, call_meaning, after_call}
 use Rattle.enip_adapter.specs.Calls.Call.{Begins_peer, Feeds}
@@ -16,7 +16,7 @@ use Rattle.enip_adapter.specs.Turn.{Answer}
 use Rattle.enip_adapter.specs.Turn.Output.{Begins}
 use Rattle.enip_adapter.proofs.SoundLemmas.{IsSound, sound-call}
 use Rattle.enip_client.specs.Calls.{Lent, registers, asks, next_number, is_unconnected}
-use Rattle.enip_client.specs.Client.{ClientState, Fed, new_client, with_state, fed}
+use Rattle.enip_client.specs.Client.{ClientState, new_client, with_state, fed}
 use Rattle.enip_client.specs.Frames.{register_frame, request_frame}
 use Rattle.enip_client.specs.Hears.{HeardEvent, hears}
 use Rattle.enip_client.specs.Hears.HeardEvent.{Registered as HeardRegistered, Replied}
@@ -24,10 +24,10 @@ use Rattle.enip_client.specs.Runs.Action.{Register as RegisterAction, Unconnecte
 use Rattle.enip_client.specs.declared.wants.Wants.{Wants}
 use Rattle.enip_wire.specs.Frames.{Frame, frame, IsFrame}
 use Rattle.enip_wire.proofs.FrameLemmas.{length-frame}
-use Rattle.enip_reconnect.specs.Events.{Event, Connect, Register, Send, Arrive, Receive, Break}
+use Rattle.enip_reconnect.specs.Events.{Event, Connect, Register, Send, Arrive, Receive}
 use Rattle.enip_reconnect.specs.Retry.{ALL_BYTES, retry, IsAccepted}
-use Rattle.enip_reconnect.specs.World.{TcpConnection, Stream, Ends, stream_with, with_stream, appended, sending, begun, answered, arrived, feed_calls, received, heard, replied, accepting, ends_step, ends_run}
-use Rattle.enip_reconnect.proofs.AdapterSide.{Holds, BeginsAs, begins-as, Registers, registers-peer, Reaches, reaches-device, route_of-do_once}
+use Rattle.enip_reconnect.specs.World.{TcpConnection, Stream, Ends, stream_with, with_stream, appended, sending, begun, arrived, feed_calls, received, heard, accepting, ends_step, ends_run}
+use Rattle.enip_reconnect.proofs.AdapterSide.{BeginsAs, begins-as, Registers, registers-peer, Reaches, reaches-device, route_of-do_once}
 use Rattle.enip_reconnect.proofs.ClientPieces.{hears_whole, fed-whole}
 use Rattle.enip_reconnect.proofs.ClientReplies.{IsTaken, exec_device-taken}
 use Rattle.enip_reconnect.proofs.ClientSide.{new-is, Registers as RegistersClient, registers-new, after_sending, HearsRegistered, hears-registered, hears-replied, Asks, asks-free, IsShort, unconnected-short, registered_frame, register-framed, registered-framed, request-framed}

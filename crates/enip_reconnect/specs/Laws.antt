@@ -1,6 +1,6 @@
--- What holds of both ends over every list of events: whatever happens in bytes, frames and TCP connections is what happens
--- in whole messages between a commander and a device (`Worlds` of `cip_commander`), whose laws follow.
-use Rattle.std.specs.Prelude.{◌≡◌, ⊤, ℕ, Option, Some, None, List, [], ◌∷◌, ◌++◌, map}
+-- What holds of both ends over every list of events. Whatever happens in bytes, frames and TCP connections is what
+-- happens in whole messages between a commander and a device (`Worlds` of `cip_commander`), whose laws follow.
+use Rattle.std.specs.Prelude.{◌≡◌, ⊤, ℕ, Some, List, [], ◌∷◌, ◌++◌, map}
 use Rattle.std.specs.List.{slice_get, AllByRecursion}
 use Rattle.cip_bytes.specs.declared.protocol.TheConstants.{UNCONNECTED_LIMIT}
 use Rattle.cip_commander.specs.CommanderRule.{CommanderState, IsInRange}
@@ -14,13 +14,13 @@ use Rattle.cip_ledger.specs.Runs.{Request, journal}
 use Rattle.cip_objects.specs.Contents.{Contents}
 use Rattle.enip_adapter.specs.DeviceRuns.{objects_after, objects_answer, requests_of_calls}
 use Rattle.enip_adapter.specs.SendRRData.{Executes, route_of}
-use Rattle.enip_reconnect.specs.Events.{Event, NewCommand, Abandon, Connect, Register, Send, Ask, Arrive, Receive, Break, End, Other}
+use Rattle.enip_reconnect.specs.Events.{Event, NewCommand, Abandon, Ask, Other}
 use Rattle.enip_reconnect.specs.World.{Ends, Opening, device_at, ends_at, calls_at, ends_step, ends_after}
 
 -- ---- words on the premise
 
--- The frames of other peers have neither commands of this originator nor Forget of its slot. Nor have the other requests of
--- the originator, and these are not for the Connection Manager.
+-- The frames of other peers have neither commands of this originator nor Forget of its slot. Nor have the other
+-- requests of the originator, and these are not for the Connection Manager.
 abbrev pub IsOfOthers : ℕ → Ends → Event → Type 0
 IsOfOthers originator ends (Other call) =
     AllByRecursion (IsOfAnother originator) (requests_of_calls ends.adapter (calls_at ends (Other call)))
@@ -59,7 +59,8 @@ decisions_in (other ∷ events) = decisions_in events
 
 abbrev pub decisions_in_messages : List MessageEvent → List MessageEvent
 decisions_in_messages [] = []
-decisions_in_messages (messages.NewCommand request ∷ events) = messages.NewCommand request ∷ decisions_in_messages events
+decisions_in_messages (messages.NewCommand request ∷ events) =
+    messages.NewCommand request ∷ decisions_in_messages events
 decisions_in_messages (messages.Abandon ∷ events) = messages.Abandon ∷ decisions_in_messages events
 decisions_in_messages (other ∷ events) = decisions_in_messages events
 
@@ -157,8 +158,8 @@ accepted_once_law = (opening : Opening) (events : List Event) → IsInRange open
 
 -- Once a reply was accepted, only greater numbers are executed: an abandoned command before it never will be.
 abbrev pub never_again_law : Type 0
-never_again_law = (opening : Opening) (events : List Event) (message_events more : List MessageEvent) (position number : ℕ)
-    (reply : List ℕ) → IsInRange opening.commander → AmountsTo opening events message_events →
+never_again_law = (opening : Opening) (events : List Event) (message_events more : List MessageEvent)
+    (position number : ℕ) (reply : List ℕ) → IsInRange opening.commander → AmountsTo opening events message_events →
     slice_get (ends_after opening events).accepted position ≡ Some (number, reply) →
     GrowsAbove number
     (numbered_world opening message_events).log (numbered_world opening (message_events ++ more)).log

@@ -1,5 +1,5 @@
 -- A retry on one TCP connection that survives is enough.
-use Rattle.std.specs.Prelude.{◌≡◌, ◌≢◌, ◌⊎◌, ℕ, ◌<◌, ◌≤◌, Option, Some, None, List, [], ◌∷◌, ◌++◌, length}
+use Rattle.std.specs.Prelude.{◌≡◌, ◌≢◌, ◌⊎◌, ℕ, ◌<◌, ◌≤◌, Some, None, List, [], ◌∷◌, ◌++◌, length}
 use Rattle.cip_commander.specs.CommanderRule.{IsInRange, abandoned}
 use Rattle.cip_commander.specs.declared.refusal.TheConstants.{LONGEST_EMBEDDED}
 use Rattle.cip_ledger.specs.Ledger.{LedgerState, slot_of}
@@ -15,8 +15,8 @@ use Rattle.enip_reconnect.specs.World.{Ends, Opening, ends_at, ends_run, ends_af
 abbrev pub ALL_BYTES : ℕ
 ALL_BYTES = 65535
 
--- The originator connects anew, registers a session and sends the pending command's message, and all of it arrives, as do
--- the answers.
+-- The originator connects anew, registers a session and sends the pending command's message. All of it arrives, and so
+-- do the answers.
 abbrev pub retry : Wants → ℕ → ℕ → List Event
 retry wants now peer =
     Break ∷ Connect wants ∷ Register ∷ Arrive now peer ALL_BYTES ∷ Receive ALL_BYTES
@@ -32,10 +32,11 @@ pub record IsAccepted (before after : Ends) : Type 0 where
   pub accepted : after.accepted ≡ before.accepted ++ (before.commander.last_number, reply) ∷ []
   pub commander : after.commander ≡ abandoned before.commander
 
--- Whatever happened before: a retry gets through, if the adapter accepts the TCP connection, the life is the device's, and
--- the ledger has a slot.
+-- Whatever happened before, a retry gets through, if the adapter accepts the TCP connection, the commander has the
+-- device's life, and the ledger has a slot for the originator.
 abbrev pub retry_law : Type 0
-retry_law = (opening : Opening) (events : List Event) (wants : Wants) (now peer : ℕ) (request : List ℕ) (ledger : LedgerState) →
+retry_law = (opening : Opening) (events : List Event) (wants : Wants) (now peer : ℕ) (request : List ℕ)
+    (ledger : LedgerState) →
     IsInRange opening.commander → AreOfOthers opening.commander.originator (ends_at opening) events →
     let ends = ends_after opening events in
     ends.commander.pending ≡ Some request → length request ≤ LONGEST_EMBEDDED →

@@ -178,20 +178,26 @@ abbrev pub inquiring : Ends → List ℕ → Option TcpConnection → Ends
 inquiring ends request None = ends
 inquiring ends request (Some connection) = sending ends connection None (asks connection.client.state request)
 
--- What the adapter takes is in flight no more. Its answer is on its way on the same TCP connection, or lost if that
+-- What the adapter takes is in flight no more. Its answer is in flight on the same TCP connection, or lost if that one
 -- broke.
+abbrev pub with_answer : List ℕ → TcpConnection → TcpConnection
+with_answer bytes connection = record connection { in_flight = connection.in_flight ++ bytes }
+
 abbrev pub answered : ℕ → List ℕ → Option TcpConnection → Option TcpConnection
 answered peer bytes None = None
 answered peer bytes (Some connection) =
-    Some (if connection.peer == peer then record connection { in_flight = connection.in_flight ++ bytes } else connection)
+    Some (if connection.peer == peer then with_answer bytes connection else connection)
 
 abbrev pub taken : AdapterState → Call → Stream → Stream
 taken adapter call stream = record stream { in_flight = drop (call_meaning adapter call).taken stream.in_flight }
 
+abbrev pub output_at : AdapterState → Call → List ℕ
+output_at adapter call = output_bytes (call_answer adapter call).output
+
 abbrev pub arrived : Ends → ℕ → ℕ → Option Stream → Ends
 arrived ends now count None = ends
 arrived ends now count (Some stream) = record ends {
-  connection = answered stream.peer (output_bytes (call_answer ends.adapter (feed now count stream)).output) ends.connection;
+  connection = answered stream.peer (output_at ends.adapter (feed now count stream)) ends.connection;
   streams = with_stream (taken ends.adapter (feed now count stream) stream) ends.streams;
 }
 

@@ -10,7 +10,7 @@ ghost use Rattle.enip_reconnect.specs.Retry.{retry_law};
 
 /// Whatever happens in bytes and frames is what happens in whole messages between a commander and a device, over which
 /// `cip_commander` has its laws: the same requests reach the device in the same order, the same commands are given, and
-/// the same replies are accepted. The next seven laws hold for all such messages.
+/// the same replies are accepted. The laws below say what follows.
 pub fn runs_amount_to_messages()
     ensures { messages_law }
 {}
@@ -52,9 +52,9 @@ pub fn never_again()
     ensures { never_again_law }
 {}
 
-/// Whatever happened before, one more try on a TCP connection that carries on is enough: the pending command is done, and
-/// its reply is accepted. The adapter must accept the connection, the commander must know the device's life, and the
-/// ledger must have a slot for the originator.
+/// Whatever happened before, one more try on a TCP connection that carries on is enough: the pending command is done,
+/// and its reply is accepted. The adapter must accept the connection, the commander must have the device's life, and
+/// the ledger must have a slot for the originator.
 pub fn retry_is_enough()
     ensures { retry_law }
 {}
