@@ -73,7 +73,7 @@ impl CommandFileFault {
 /// originator 0123456789abcdef
 /// life 1764187443000000
 /// number 12
-/// pending 3202206424010500000000
+/// pending 32022064240105000000
 /// ```
 ///
 /// `number` is that of the last command. If no command is pending, the last line is `pending none`, so that a file that

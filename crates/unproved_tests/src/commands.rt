@@ -9,6 +9,7 @@ mod demo;
 mod exchanges;
 mod ladders;
 mod ledger;
+mod once;
 mod replaying;
 mod showing;
 mod streams;
