@@ -73,7 +73,7 @@ static void print_hex(FILE *file, const unsigned char *bytes, size_t size) {
 
 /* Makes the commander that FILE describes. Only one process may use FILE: two would use a number twice. */
 static void read_file(void) {
-    char hex[2 * LONGEST_REQUEST + 1], name[PATH_MAX];
+    char hex[2 * LONGEST_REQUEST + 1], name[PATH_MAX + 8], end;
     unsigned char request[LONGEST_REQUEST];
     uint64_t life = 0, originator = 0;
     uint32_t number = 0;
@@ -84,11 +84,11 @@ static void read_file(void) {
         fail(name, strerror(errno));
     if ((file = fopen(path, "r")) != NULL) {
         fields = fscanf(file, "enip commands 1 originator %" SCNx64 " life %" SCNu64 " number %" SCNu32
-                        " pending %956[0-9a-f]", &originator, &life, &number, hex);
+                        " pending %956[0-9a-z]%c", &originator, &life, &number, hex, &end);
         fclose(file);
-        if (fields < 3)
+        if (fields != 5 || end != '\n')
             fail(path, "not a file of commands");
-        if (fields == 4) {
+        if (strcmp(hex, "none") != 0) {
             check(path, enip_once_resume(life, originator, number, request, read_hex(hex, request), &once));
             return;
         }
@@ -100,7 +100,7 @@ static void read_file(void) {
 
 /* Writes the commander to a new file, which takes the place of FILE. On return it is on the disk. */
 static void write_file(void) {
-    char name[PATH_MAX];
+    char name[PATH_MAX + 8];
     unsigned char request[LONGEST_REQUEST];
     uint64_t life, originator;
     uint32_t number;
@@ -111,12 +111,12 @@ static void write_file(void) {
     if ((file = fopen(name, "w")) == NULL)
         fail(name, strerror(errno));
     enip_once_values(once, &life, &originator, &number);
-    fprintf(file, "enip commands 1\noriginator %016" PRIx64 "\nlife %" PRIu64 "\nnumber %" PRIu32 "\n", originator,
-            life, number);
-    if (enip_once_request(once, request, sizeof request, &size) == ENIP_OK) {
-        fputs("pending ", file);
+    fprintf(file, "enip commands 1\noriginator %016" PRIx64 "\nlife %" PRIu64 "\nnumber %" PRIu32 "\npending ",
+            originator, life, number);
+    if (enip_once_request(once, request, sizeof request, &size) == ENIP_OK)
         print_hex(file, request, size);
-    }
+    else
+        fputs("none\n", file);
     if (fflush(file) != 0 || fsync(fileno(file)) != 0 || fclose(file) != 0 || rename(name, path) != 0)
         fail(name, strerror(errno));
     if ((folder = open(dirname(name), O_RDONLY)) < 0 || fsync(folder) != 0 || close(folder) != 0)

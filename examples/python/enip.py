@@ -22,6 +22,7 @@ LIBENIP names the library's file if the loader does not find libenip.so.0.
 import ctypes
 import fcntl
 import os
+import re
 import socket
 import struct
 import sys
@@ -419,22 +420,21 @@ class Commander:
     def _read(self):
         """Makes the commander that the file describes."""
         with open(self._file) as file:
-            fields = dict(line.split(" ", 1) for line in file.read().splitlines())
-        try:
-            self._originator, self._life = int(fields["originator"], 16), int(fields["life"])
-            self.number, pending = int(fields["number"]), fields.get("pending")
-            self.pending = None if pending is None else bytes.fromhex(pending)
-        except (KeyError, ValueError) as error:
-            raise EnipError(self._file + ": not a file of commands") from error
-        values = self._life, self._originator, self.number
-        if self.pending is not None:
+            text = file.read()
+        lines = r"enip commands 1\noriginator ([0-9a-f]{16})\nlife (\d+)\nnumber (\d+)\npending (none|([0-9a-f]{2})+)\n"
+        found = re.fullmatch(lines, text)
+        if found is None:
+            raise EnipError(self._file + ": not a file of commands")
+        self._originator, self._life, self.number = int(found[1], 16), int(found[2]), int(found[3])
+        if found[4] != "none":
+            self.pending = bytes.fromhex(found[4])
+            values = self._life, self._originator, self.number
             check(library.enip_once_resume(*values, self.pending, len(self.pending), ctypes.byref(self._once)))
 
     def _store(self, life, number, pending):
         """Writes a new file, which takes the place of the old one. On return it is on the disk."""
-        text = f"enip commands 1\noriginator {self._originator:016x}\nlife {life}\nnumber {number}\n"
-        if pending is not None:
-            text += f"pending {pending.hex()}\n"
+        request = "none" if pending is None else pending.hex()
+        text = f"enip commands 1\noriginator {self._originator:016x}\nlife {life}\nnumber {number}\npending {request}\n"
         with open(self._file + ".new", "w") as file:
             file.write(text)
             file.flush()

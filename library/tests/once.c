@@ -109,7 +109,7 @@ static void is_pending(const char *what, const unsigned char *bytes, size_t leng
     size_t its_length = 0;
     int status = enip_once_request(once, request, sizeof request, &its_length);
     is(what, status, length > 0 ? ENIP_OK : ENIP_ABSENT);
-    is(what, its_length == length && memcmp(request, bytes, length) == 0, 1);
+    is(what, its_length == length && (length == 0 || memcmp(request, bytes, length) == 0), 1);
 }
 
 static uint32_t counter(void) {
