@@ -413,12 +413,12 @@ impl<'a> OnceRun<'a, '_> {
     }
 }
 
-/// A result whose error says what became of the command.
+/// The same outcome, with what became of the command in its error.
 fn with_note<'a, T>(
-    result: Result<T, CommandError<'a>>,
+    outcome: Result<T, CommandError<'a>>,
     note: Note,
 ) -> Result<T, CommandError<'a>> {
-    match result {
+    match outcome {
         Ok(value) => Ok(value),
         Err(error) => Err(error.with_note(note)),
     }
