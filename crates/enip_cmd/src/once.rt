@@ -141,8 +141,7 @@ impl<'a> OnceRun<'a, '_> {
             &commander, request, why,
         ))?;
         self.check_size(&commander)?;
-        self.write(&file, &commander)
-            .map_err(|error| error.with_note(note))?;
+        with_note(self.write(&file, &commander), note)?;
         self.finish(&file, &mut commander)
     }
 
@@ -150,14 +149,13 @@ impl<'a> OnceRun<'a, '_> {
     fn finish(&self, file: &LockedFile, commander: &mut Commander) -> Result<u8, CommandError<'a>> {
         let mut reply = ReplyBuf::new();
         let message = commander.pending().unwrap_or(&[]);
-        self.exchange(message, self.device.connected, &mut reply)
-            .map_err(|error| error.with_note(self.unanswered()))?;
+        let exchanged = self.exchange(message, self.device.connected, &mut reply);
+        with_note(exchanged, self.unanswered())?;
         match commander.receive(reply.as_slice()) {
             CommandOutcome::Done(answer) => {
                 // printed first: if that fails, the command stays pending, and its reply can be asked for again
                 let status = self.print(answer)?;
-                self.write(file, commander)
-                    .map_err(|error| error.with_note(Note::Executed))?;
+                with_note(self.write(file, commander), Note::Executed)?;
                 Ok(status)
             }
             CommandOutcome::StillPending => {
@@ -207,8 +205,7 @@ impl<'a> OnceRun<'a, '_> {
     /// Reads the life of the device's ledger. An error has a note.
     fn life(&self, note: Note) -> Result<u64, CommandError<'a>> {
         let mut reply = ReplyBuf::new();
-        self.exchange(&LIFE_REQUEST, false, &mut reply)
-            .map_err(|error| error.with_note(note))?;
+        with_note(self.exchange(&LIFE_REQUEST, false, &mut reply), note)?;
         let error = match read_life(reply.as_slice()) {
             Ok(life) => return Ok(life),
             Err(LifeFault::NoLedger(status, extended)) => CommandError::new(
@@ -413,6 +410,17 @@ impl<'a> OnceRun<'a, '_> {
             }
             OnceRefusal::Command(_) => Ok(Reason::State),
         }
+    }
+}
+
+/// The same outcome, with what became of the command in its error.
+fn with_note<'a, T>(
+    outcome: Result<T, CommandError<'a>>,
+    note: Note,
+) -> Result<T, CommandError<'a>> {
+    match outcome {
+        Ok(value) => Ok(value),
+        Err(error) => Err(error.with_note(note)),
     }
 }
 
