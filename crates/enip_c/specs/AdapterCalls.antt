@@ -1,5 +1,5 @@
 -- What a function of an adapter returns to C.
-use Rattle.std.specs.Prelude.{ℕ, List, [], ◌++◌, ◌≡◌, ◌-◌, length, Bool, true, false, Option, Some, None, ⊤}
+use Rattle.std.specs.Prelude.{ℕ, List, [], ◌++◌, ◌≡◌, ◌⊎◌, ◌-◌, length, Bool, true, false, Option, Some, None, ⊤}
 use Rattle.std.specs.Option.{IsSomeAnd}
 use Rattle.cip_manager.specs.Connection.{earliest_deadline}
 use Rattle.cip_objects.specs.Contents.{value_at}
@@ -18,7 +18,7 @@ use Rattle.enip_config.specs.Documents.{IsRefused}
 use Rattle.enip_c.specs.declared.adapter.Fed.{Fed}
 use Rattle.enip_c.specs.declared.status.Status.{Status}
 use Rattle.enip_c.specs.declared.status.Status.TheVariants as status
-use Rattle.enip_c.specs.Buffer.{status_number, in_buffer}
+use Rattle.enip_c.specs.Buffer.{status_number, in_buffer, IsMadeStatus}
 
 -- The number of a reason in enip.h; 0 if there is an answer.
 abbrev pub no_reply_reason_number : NoReplyReason → ℕ
@@ -83,6 +83,10 @@ IsBegunKept (Some a) old new result = IsBegun (call_answer a Begins_peer).output
 -- The check with this number refuses the text.
 abbrev pub IsRefusedBy : List ℕ → ℕ → Type 0
 IsRefusedBy text number = (refusal : ConfigurationRefusal) × ((number ≡ refusal_number refusal) × IsRefused text refusal)
+
+-- The status of making an adapter: the configuration is refused, or as for any object.
+abbrev pub IsAdapterStatus : ℕ → Type 0
+IsAdapterStatus result = IsMadeStatus result ⊎ (result ≡ status_number status.Configuration)
 
 -- The numbers of free slots for peers and for connections.
 pub record AreFree (a : AdapterState) (peers connections : ℕ) : Type 0 where

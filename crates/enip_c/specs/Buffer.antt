@@ -1,5 +1,5 @@
 -- What a function returns to C: bytes at the front of the buffer, a count, a status.
-use Rattle.std.specs.Prelude.{ℕ, List, [], ◌++◌, ◌≡◌, nat_le, if◌then◌else◌, drop, length, Option, Some, None}
+use Rattle.std.specs.Prelude.{ℕ, List, [], ◌++◌, ◌≡◌, ◌⊎◌, nat_le, if◌then◌else◌, drop, length, Option, Some, None}
 use Rattle.enip_c.specs.declared.status.Status.{Status}
 use Rattle.enip_c.specs.declared.status.Status.TheVariants as status
 
@@ -25,6 +25,10 @@ status_number status.GivenUp = 16
 status_number status.Abandoned = 17
 status_number status.Wants = 18
 status_number status.Numbers = 19
+
+-- The status of a call that makes an object, if nothing is wrong with its arguments: memory may run out.
+abbrev pub IsMadeStatus : ℕ → Type 0
+IsMadeStatus result = (result ≡ status_number status.Done) ⊎ (result ≡ status_number status.Memory)
 
 -- Bytes at the front of a buffer, whose rest stays as it was.
 abbrev pub in_buffer : List ℕ → List ℕ → List ℕ

@@ -1,6 +1,7 @@
 -- What a function of a client returns to C.
-use Rattle.std.specs.Prelude.{ℕ, ◌+◌, ◌*◌, ◌==◌, List, [], ◌≡◌, nat_le, nat_lt, if◌then◌else◌, slice_index, length}
+use Rattle.std.specs.Prelude.{ℕ, ◌+◌, ◌*◌, ◌==◌, ◌&&◌, List, [], ◌≡◌, nat_le, nat_lt, if◌then◌else◌, slice_index, length}
 use Rattle.std.specs.Prelude.{Bool, true, false, Option, Some, None, Result, Ok, Err}
+use Rattle.cip_bytes.specs.declared.protocol.TheConstants.{LARGEST_CONNECTION_SIZE}
 use Rattle.cip_class3.specs.declared.originator.Refused.{Refused}
 use Rattle.cip_class3.specs.declared.originator.Refused.TheVariants as refusals
 use Rattle.enip_client.specs.Calls.{Lent, registers, opens, asks, submits, closes, unregisters, resends, gives_up}
@@ -18,7 +19,7 @@ use Rattle.enip_c.specs.declared.client.Heard.{Heard}
 use Rattle.enip_c.specs.declared.client.ConnectionWants.{ConnectionWants}
 use Rattle.enip_c.specs.declared.status.Status.{Status}
 use Rattle.enip_c.specs.declared.status.Status.TheVariants as status
-use Rattle.enip_c.specs.Buffer.{Returned, returned, status_number, in_buffer}
+use Rattle.enip_c.specs.Buffer.{Returned, returned, status_number, in_buffer, IsMadeStatus}
 
 -- The status if the client refuses the call.
 abbrev pub fault_status : ClientFault → Status
@@ -166,6 +167,17 @@ pub record IsGivenUp (old new : ClientState) (result : ℕ) : Type 0 where
 abbrev pub IsGivenUpKept : Option ClientState → Option ClientState → ℕ → Type 0
 IsGivenUpKept (Some old) (Some new) result = IsGivenUp old new result
 IsGivenUpKept old new result = ⊥
+
+-- The sizes of the connection are in their ranges.
+abbrev pub are_sizes_allowed : ConnectionWants → Bool
+are_sizes_allowed w =
+    (nat_le 4 w.o_to_t_size && nat_le w.o_to_t_size LARGEST_CONNECTION_SIZE)
+    && (nat_le 10 w.t_to_o_size && nat_le w.t_to_o_size LARGEST_CONNECTION_SIZE)
+
+-- The status of making a client.
+abbrev pub IsClientStatus : Bool → ℕ → Type 0
+IsClientStatus true result = IsMadeStatus result
+IsClientStatus false result = result ≡ status_number status.Wants
 
 -- The connection that a client opens, from C's struct.
 abbrev pub wants_of : ConnectionWants → Wants

@@ -1,16 +1,15 @@
 -- What a function of a commander returns to C.
-use Rattle.std.specs.Prelude.{ℕ, List, ◌≡◌, ◌≤◌, ◌⊎◌, ⊤, nat_lt, if◌then◌else◌, length, Bool, Option, Some, None, is_some}
-use Rattle.cip_bytes.specs.declared.protocol.TheConstants.{UNCONNECTED_LIMIT}
+use Rattle.std.specs.Prelude.{ℕ, List, ◌≡◌, ◌≤◌, ⊤, if◌then◌else◌, length, Bool, Option, Some, None, is_some}
 use Rattle.cip_commander.specs.Worlds.{after_command}
-use Rattle.cip_commander.specs.CommanderRule.{CommanderState, command_refusal, with_command, message_of, pending_message}
-use Rattle.cip_commander.specs.CommanderRule.{outcome_of, after_reply, abandoned}
+use Rattle.cip_commander.specs.CommanderRule.{CommanderState, command_refusal, with_command, message_of}
+use Rattle.cip_commander.specs.CommanderRule.{pending_message, outcome_of, after_reply, abandoned}
 use Rattle.cip_commander.specs.Outcome.{Outcome, Done, StillPending, Refused, Malformed, NotPending}
 use Rattle.cip_commander.specs.declared.refusal.CommandRefused.{CommandRefused}
 use Rattle.cip_commander.specs.declared.refusal.CommandRefused.TheVariants as refusals
 use Rattle.enip_c.specs.declared.commander.CCommandOutcome.{CCommandOutcome}
 use Rattle.enip_c.specs.declared.status.Status.{Status}
 use Rattle.enip_c.specs.declared.status.Status.TheVariants as status
-use Rattle.enip_c.specs.Buffer.{Returned, returned, status_number, in_buffer}
+use Rattle.enip_c.specs.Buffer.{Returned, returned, status_number, in_buffer, IsMadeStatus}
 use Rattle.enip_c.specs.ClientCalls.{general_in}
 
 -- The status if a command is refused.
@@ -20,10 +19,10 @@ command_status refusals.NotARequest = status.Request
 command_status refusals.TooLong = status.LongRequest
 command_status refusals.NumbersExhausted = status.Numbers
 
--- The status of making a commander: memory may run out, unless its pending request is refused first.
-abbrev pub IsMadeStatus : Option CommandRefused → ℕ → Type 0
-IsMadeStatus None result = (result ≡ status_number status.Done) ⊎ (result ≡ status_number status.Memory)
-IsMadeStatus (Some why) result = result ≡ status_number (command_status why)
+-- The status of resuming a commander, whose pending request may be refused.
+abbrev pub IsResumedStatus : Option CommandRefused → ℕ → Type 0
+IsResumedStatus None result = IsMadeStatus result
+IsResumedStatus (Some why) result = result ≡ status_number (command_status why)
 
 -- A command's message, in the buffer, or the status that says why the command is refused.
 abbrev pub command_returned : CommanderState → List ℕ → Option CommandRefused → ℕ → List ℕ → Returned
@@ -64,8 +63,8 @@ abbrev pub HasValuesKept : Option CommanderState → ℕ → ℕ → ℕ → Typ
 HasValuesKept None life originator last_number = ⊥
 HasValuesKept (Some c) life originator last_number = HasValues c life originator last_number
 
--- What a reply says about the pending command, and the buffer: the reply to the embedded request is at its front, if the
--- command is done.
+-- What a reply says about the pending command, and the buffer. If the command is done, the reply to its embedded request
+-- is at the front of the buffer.
 pub record ReturnedOutcome : Type 0 where
   pub outcome : CCommandOutcome
   pub buffer : List ℕ

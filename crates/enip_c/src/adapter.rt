@@ -6,7 +6,7 @@ ghost use Rattle.enip_adapter.specs.Calls.{Call, after_call, call_answer};
 ghost use Rattle.enip_config.specs.Configured.{IsAdapterOf};
 ghost use Rattle.enip_config.specs.Documents.{IsFaultOf};
 ghost use Rattle.enip_c.specs.AdapterCalls.{IsFed, IsFedKept, IsBegun, IsBegunKept, IsRefusedBy, no_reply_reason_number, returned_fed};
-ghost use Rattle.enip_c.specs.AdapterCalls.{bool_number, full_status, AreFreeKept, deadline_kept, attribute_kept};
+ghost use Rattle.enip_c.specs.AdapterCalls.{bool_number, full_status, AreFreeKept, deadline_kept, attribute_kept, IsAdapterStatus};
 ghost use Rattle.enip_c.specs.Kept.{IsLive};
 ghost use Rattle.cip_objects.specs.Contents.{value_at};
 ghost use Rattle.enip_c.specs.Buffer.{status_number, returned_bytes, ReturnsNumber};
@@ -40,6 +40,7 @@ pub extern "C" fn enip_core_adapter_new(
     text: &[u8],
     refusal: &mut u32,
 ) -> u32
+    ensures status { IsAdapterStatus result }
     ensures made { result ≡ status_number Status.Done → IsSomeAnd kept.new.value (IsAdapterOf text.now) }
     ensures refused { result ≡ status_number Status.Configuration → IsRefusedBy text.now refusal.new }
     ensures unchanged { (result ≡ status_number Status.Done → ⊥) → kept.new.value ≡ kept.old.value }

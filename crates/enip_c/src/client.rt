@@ -8,7 +8,7 @@ ghost use Rattle.enip_c.specs.ClientCalls.{fault_status, refused_status, submit_
 ghost use Rattle.enip_c.specs.ClientCalls.{register_outcome, open_outcome, ask_outcome, submit_outcome, close_outcome};
 ghost use Rattle.enip_c.specs.ClientCalls.{unregister_outcome, resend_outcome, IsDone, IsDoneKept, IsTooSmall};
 ghost use Rattle.enip_c.specs.ClientCalls.{general_in, extended_in, returned_event, returned_reply, IsHeardBy, IsHeardKept};
-ghost use Rattle.enip_c.specs.ClientCalls.{IsGivenUp, IsGivenUpKept};
+ghost use Rattle.enip_c.specs.ClientCalls.{IsGivenUp, IsGivenUpKept, are_sizes_allowed, IsClientStatus};
 ghost use Rattle.enip_c.specs.Kept.{IsLive};
 ghost use Rattle.enip_c.specs.Buffer.{status_number};
 
@@ -78,17 +78,11 @@ pub extern "C" fn enip_core_client_new(
     kept: &mut KeptClient,
     wants: &ConnectionWants,
 ) -> u32
+    ensures status { IsClientStatus (are_sizes_allowed wants.now) result }
     ensures made { result ≡ status_number Status.Done → kept.new.value ≡ Some (new_client (wants_of wants.now)) }
     ensures unchanged { (result ≡ status_number Status.Done → ⊥) → kept.new.value ≡ kept.old.value }
 {
-    if wants.o_to_t_size < SMALLEST_OUT
-        || usize::from(wants.o_to_t_size) > LARGEST_CONNECTION_SIZE
-    {
-        return Status::Wants.number();
-    }
-    if wants.t_to_o_size < SMALLEST_BACK
-        || usize::from(wants.t_to_o_size) > LARGEST_CONNECTION_SIZE
-    {
+    if !are_sizes_allowed(wants) {
         return Status::Wants.number();
     }
     let Ok(client) = Client::new(alloc, &wants_of(wants)) else {
@@ -99,6 +93,16 @@ pub extern "C" fn enip_core_client_new(
     };
     *kept = KeptClient::of(boxed);
     Status::Done.number()
+}
+
+/// Whether the sizes of the connection are in their ranges.
+fn are_sizes_allowed(wants: &ConnectionWants) -> bool
+    ensures { result ≡ are_sizes_allowed wants.now }
+{
+    SMALLEST_OUT <= wants.o_to_t_size
+        && usize::from(wants.o_to_t_size) <= LARGEST_CONNECTION_SIZE
+        && SMALLEST_BACK <= wants.t_to_o_size
+        && usize::from(wants.t_to_o_size) <= LARGEST_CONNECTION_SIZE
 }
 
 fn wants_of(wants: &ConnectionWants) -> Wants

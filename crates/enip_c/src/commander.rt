@@ -4,11 +4,11 @@ ghost use Rattle.std.specs.Prelude.{◌≡◌, ◌≤◌, ◌<◌, length, Some,
 ghost use Rattle.std.specs.Option.{option_copied};
 ghost use Rattle.cip_commander.specs.CommanderRule.{commander_at, resume_refusal};
 ghost use Rattle.cip_commander.specs.Outcome.{outcome_in};
-ghost use Rattle.enip_c.specs.CommanderCalls.{command_status, IsMadeStatus, IsGiven, IsGivenKept, message_kept, request_kept};
-ghost use Rattle.enip_c.specs.CommanderCalls.{HasValues, HasValuesKept, returned_outcome, IsWithin, IsReceived, IsReceivedKept};
-ghost use Rattle.enip_c.specs.CommanderCalls.{IsAbandoned, IsAbandonedKept};
+ghost use Rattle.enip_c.specs.CommanderCalls.{command_status, IsResumedStatus, IsGiven, IsGivenKept, message_kept};
+ghost use Rattle.enip_c.specs.CommanderCalls.{request_kept, HasValuesKept, returned_outcome, IsWithin, IsReceived};
+ghost use Rattle.enip_c.specs.CommanderCalls.{IsReceivedKept, IsAbandoned, IsAbandonedKept};
 ghost use Rattle.enip_c.specs.Kept.{IsLive};
-ghost use Rattle.enip_c.specs.Buffer.{status_number, returned_bytes};
+ghost use Rattle.enip_c.specs.Buffer.{status_number, returned_bytes, IsMadeStatus};
 
 use crate::buffer::{copy_front, return_bytes};
 use crate::client::general_in;
@@ -40,7 +40,7 @@ pub extern "C" fn enip_core_once_new(
     originator: u64,
     last_number: u32,
 ) -> u32
-    ensures status { IsMadeStatus None result }
+    ensures status { IsMadeStatus result }
     ensures made { result ≡ status_number Status.Done
         → kept.new.value ≡ Some (commander_at life originator last_number None) }
     ensures unchanged { (result ≡ status_number Status.Done → ⊥) → kept.new.value ≡ kept.old.value }
@@ -63,7 +63,7 @@ pub extern "C" fn enip_core_once_resume(
     last_number: u32,
     request: &[u8],
 ) -> u32
-    ensures status { IsMadeStatus (resume_refusal (Some request.now)) result }
+    ensures status { IsResumedStatus (resume_refusal (Some request.now)) result }
     ensures made { result ≡ status_number Status.Done
         → kept.new.value ≡ Some (commander_at life originator last_number (Some request.now)) }
     ensures unchanged { (result ≡ status_number Status.Done → ⊥) → kept.new.value ≡ kept.old.value }
@@ -243,7 +243,8 @@ fn receive(commander: &mut Commander, reply: &[u8], buffer: &mut [u8]) -> CComma
 
 fn return_outcome(outcome: CommandOutcome<'_>, buffer: &mut [u8]) -> CCommandOutcome
     requires { IsWithin (length buffer.old) (outcome_in outcome) }
-    ensures { record { outcome = result; buffer = buffer.new } ≡ returned_outcome (outcome_in outcome.entry) buffer.old }
+    ensures { record { outcome = result; buffer = buffer.new }
+        ≡ returned_outcome (outcome_in outcome.entry) buffer.old }
 {
     match outcome {
         CommandOutcome::NotPending => without_reply(0, 0),

@@ -8,7 +8,7 @@ ghost use Rattle.enip_adapter.specs.Endings.{no_endings, updated};
 ghost use Rattle.enip_c.specs.DeviceCalls.{IsWrittenKept, changes_kept, end_reason_number, c_ended_connection, looked_kept, ended_kept};
 ghost use Rattle.enip_c.specs.DeviceCalls.{ReturnsEnding, write_status};
 ghost use Rattle.enip_c.specs.Kept.{IsLive};
-ghost use Rattle.enip_c.specs.Buffer.{status_number, ReturnsNumber};
+ghost use Rattle.enip_c.specs.Buffer.{status_number, ReturnsNumber, IsMadeStatus};
 
 use crate::kept_adapter::KeptAdapter;
 use crate::kept_endings::KeptEndings;
@@ -107,6 +107,7 @@ pub extern "C" fn enip_core_adapter_changes(
 /// Makes endings that have not seen an adapter yet.
 #[unsafe(no_mangle)]
 pub extern "C" fn enip_core_endings_new(alloc: Global, kept: &mut KeptEndings) -> u32
+    ensures status { IsMadeStatus result }
     ensures made { result ≡ status_number Status.Done → kept.new.value ≡ Some no_endings }
     ensures unchanged { (result ≡ status_number Status.Done → ⊥) → kept.new.value ≡ kept.old.value }
 {
