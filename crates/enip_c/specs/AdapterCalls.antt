@@ -1,6 +1,5 @@
 -- What a function of an adapter returns to C.
-use Rattle.std.specs.Prelude.{ℕ, List, [], ◌++◌, ◌≡◌, ◌⊎◌, ◌-◌, length, Bool, true, false, Option, Some, None, ⊤}
-use Rattle.std.specs.Option.{IsSomeAnd}
+use Rattle.std.specs.Prelude.{ℕ, List, [], ◌≡◌, ◌⊎◌, ◌-◌, length, Bool, true, false, Option, Some, None}
 use Rattle.cip_manager.specs.Connection.{earliest_deadline}
 use Rattle.cip_objects.specs.Contents.{value_at}
 use Rattle.enip_adapter.specs.declared.adapter.Full.{Full}
@@ -8,11 +7,10 @@ use Rattle.enip_adapter.specs.declared.adapter.Full.TheVariants.{Places, Handles
 use Rattle.enip_adapter.specs.declared.no_reply_reason.NoReplyReason.{NoReplyReason}
 use Rattle.enip_adapter.specs.declared.no_reply_reason.NoReplyReason.TheVariants as no_reply_reason
 use Rattle.enip_adapter.specs.Calls.{AdapterState, Call, call_meaning, call_answer, after_call}
-use Rattle.enip_adapter.specs.Calls.Call.{Begins_peer, Feeds}
-use Rattle.enip_adapter.specs.Turn.{Output, Answer}
+use Rattle.enip_adapter.specs.Calls.Call.{Begins_peer}
+use Rattle.enip_adapter.specs.Turn.{Output}
 use Rattle.enip_adapter.specs.Turn.Output.{NoReply, Sends, Begins, Refuses}
 use Rattle.enip_config.specs.declared.fault.ConfigurationRefusal.{ConfigurationRefusal}
-use Rattle.enip_config.specs.Configured.{IsAdapterOf}
 use Rattle.enip_config.specs.Refusals.{refusal_number}
 use Rattle.enip_config.specs.Documents.{IsRefused}
 use Rattle.enip_c.specs.declared.adapter.Fed.{Fed}

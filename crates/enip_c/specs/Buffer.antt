@@ -1,5 +1,5 @@
 -- What a function returns to C: bytes at the front of the buffer, a count, a status.
-use Rattle.std.specs.Prelude.{ℕ, List, [], ◌++◌, ◌≡◌, ◌⊎◌, nat_le, if◌then◌else◌, drop, length, Option, Some, None}
+use Rattle.std.specs.Prelude.{ℕ, List, ◌++◌, ◌≡◌, ◌⊎◌, nat_le, if◌then◌else◌, drop, length, Option, Some, None}
 use Rattle.enip_c.specs.declared.status.Status.{Status}
 use Rattle.enip_c.specs.declared.status.Status.TheVariants as status
 

@@ -1,12 +1,12 @@
 -- What a function of a client returns to C.
-use Rattle.std.specs.Prelude.{ℕ, ◌+◌, ◌*◌, ◌==◌, ◌&&◌, List, [], ◌≡◌, nat_le, nat_lt, if◌then◌else◌, slice_index, length}
+use Rattle.std.specs.Prelude.{ℕ, ◌+◌, ◌*◌, ◌==◌, ◌&&◌, List, ◌≡◌, nat_le, nat_lt, if◌then◌else◌, slice_index, length}
 use Rattle.std.specs.Prelude.{Bool, true, false, Option, Some, None, Result, Ok, Err}
 use Rattle.cip_bytes.specs.declared.protocol.TheConstants.{LARGEST_CONNECTION_SIZE}
 use Rattle.cip_class3.specs.declared.originator.Refused.{Refused}
 use Rattle.cip_class3.specs.declared.originator.Refused.TheVariants as refusals
 use Rattle.enip_client.specs.Calls.{Lent, registers, opens, asks, submits, closes, unregisters, resends, gives_up}
 use Rattle.enip_client.specs.Calls.{bytes_lent, after_lending, after_giving_up}
-use Rattle.enip_client.specs.Client.{ClientState, Fed, fed, new_client, with_state}
+use Rattle.enip_client.specs.Client.{ClientState, fed, with_state}
 use Rattle.enip_client.specs.Hears.{HeardEvent}
 use Rattle.enip_client.specs.Hears.HeardEvent.{Nothing, Registered, Opened, Replied, Accepted, Closed, Refused as RefusedEvent}
 use Rattle.enip_client.specs.declared.fault.ClientFault.{ClientFault}
