@@ -12,7 +12,7 @@ use Rattle.enip_replay.specs.declared.replaying.ReplayFailure.{ReplayFailure}
 use Rattle.enip_replay.specs.declared.replaying.ReplayFailure.TheVariants as failures
 use Rattle.enip_replay.specs.Replay.{IsStopOf}
 use Rattle.enip_cmd.specs.declared.fault.Fault.{Fault}
-use Rattle.enip_cmd.specs.declared.fault.Fault.TheVariants.{Configuration as Refused, Setup, Run, Value, Request}
+use Rattle.enip_cmd.specs.declared.fault.Fault.TheVariants.{Configuration as Refused, Setup, Run, Value, Request, Once, CommandFile}
 use Rattle.enip_cmd.specs.Statuses.{exit_status, fault_of_configuration, fault_of_replay, IsStatus, IsReplayStatus}
 use Rattle.enip_cmd.specs.Statuses.{IsFaultOf, IsReplayFaultOf, IsOpeningRefused}
 
@@ -43,6 +43,8 @@ status_of_fault text (Refused check) so = inr (inl refl)
 status_of_fault text Setup so = absurd so
 status_of_fault text Value so = absurd so
 status_of_fault text (Request failure) so = absurd so
+status_of_fault text (Once refusal) so = absurd so
+status_of_fault text (CommandFile line) so = absurd so
 status_of_fault text (Run (program.Line number why)) so = inr (inr (inl refl))
 status_of_fault text (Run program.Device) so = inr (inr (inr refl))
 status_of_fault text (Run program.Memory) so = inr (inr (inr refl))
@@ -53,6 +55,8 @@ line_refused text (Refused check) so four = absurd (omega (arith, four))
 line_refused text Setup so four = absurd so
 line_refused text Value so four = absurd so
 line_refused text (Request failure) so four = absurd so
+line_refused text (Once refusal) so four = absurd so
+line_refused text (CommandFile line) so four = absurd so
 line_refused text (Run (program.Line number why)) so four = so
 line_refused text (Run program.Device) so four = absurd (omega (arith, four))
 line_refused text (Run program.Memory) so four = absurd (omega (arith, four))
@@ -64,6 +68,8 @@ configuration_refused text (Refused refusal) so three = (refusal, so)
 configuration_refused text Setup so three = absurd so
 configuration_refused text Value so three = absurd so
 configuration_refused text (Request failure) so three = absurd so
+configuration_refused text (Once refusal) so three = absurd so
+configuration_refused text (CommandFile line) so three = absurd so
 configuration_refused text (Run (program.Line number why)) so three = absurd (omega (arith, three))
 configuration_refused text (Run program.Device) so three = absurd (omega (arith, three))
 configuration_refused text (Run program.Memory) so three = absurd (omega (arith, three))
@@ -74,6 +80,8 @@ of_fault text (Refused check) so = so
 of_fault text Setup so = absurd so
 of_fault text Value so = absurd so
 of_fault text (Request failure) so = absurd so
+of_fault text (Once refusal) so = absurd so
+of_fault text (CommandFile line) so = absurd so
 of_fault text (Run cause) so = so
 
 pub replay_load_fails : {T : Type 0} (text : List ℕ) (refused : LoadFault) (r : Result T Fault)
@@ -97,6 +105,8 @@ status_of_replay_fault text (Refused check) so = inl (status_of_fault text (Refu
 status_of_replay_fault text Setup so = inr refl
 status_of_replay_fault text Value so = absurd so
 status_of_replay_fault text (Request failure) so = absurd so
+status_of_replay_fault text (Once refusal) so = absurd so
+status_of_replay_fault text (CommandFile line) so = absurd so
 status_of_replay_fault text (Run cause) so = inl (status_of_fault text (Run cause) so)
 
 pub replay_line_refused : (text : List ℕ) (fault : Fault) → IsReplayFaultOf text fault → exit_status fault ≡ 4 → IsAccepted text
@@ -104,6 +114,8 @@ replay_line_refused text (Refused check) so four = line_refused text (Refused ch
 replay_line_refused text Setup so four = absurd (omega (arith, four))
 replay_line_refused text Value so four = absurd so
 replay_line_refused text (Request failure) so four = absurd so
+replay_line_refused text (Once refusal) so four = absurd so
+replay_line_refused text (CommandFile line) so four = absurd so
 replay_line_refused text (Run cause) so four = line_refused text (Run cause) so four
 
 pub replay_configuration_refused : (text : List ℕ) (fault : Fault) → IsReplayFaultOf text fault → exit_status fault ≡ 3
@@ -112,6 +124,8 @@ replay_configuration_refused text (Refused check) so three = configuration_refus
 replay_configuration_refused text Setup so three = absurd (omega (arith, three))
 replay_configuration_refused text Value so three = absurd so
 replay_configuration_refused text (Request failure) so three = absurd so
+replay_configuration_refused text (Once refusal) so three = absurd so
+replay_configuration_refused text (CommandFile line) so three = absurd so
 replay_configuration_refused text (Run cause) so three = configuration_refused text (Run cause) so three
 
 not_six : (cause : ProgramFault) → exit_status (Run cause) ≡ 6 → ⊥
@@ -125,4 +139,6 @@ replay_setup text (Refused check) so six = absurd (omega (arith, six))
 replay_setup text Setup so six = so
 replay_setup text Value so six = absurd so
 replay_setup text (Request failure) so six = absurd so
+replay_setup text (Once refusal) so six = absurd so
+replay_setup text (CommandFile line) so six = absurd so
 replay_setup text (Run cause) so six = absurd (not_six cause six)
