@@ -330,8 +330,8 @@ ENIP_API int enip_client_submit(enip_client *client, const void *request, size_t
                                 size_t *count);
 
 /*
- * Writes the frame of the pending request again. If the target is this project's adapter, it executes the request once,
- * however often the frame comes. ENIP_ABSENT if no request is pending.
+ * Writes the frame of the pending request again. If the target is this project's adapter, it executes the request once on
+ * this connection, however often the frame comes. ENIP_ABSENT if no request is pending.
  */
 ENIP_API int enip_client_resend(enip_client *client, void *buffer, size_t size, size_t *count);
 
