@@ -9,8 +9,8 @@
 //! - `serve` does one read and the feeds and writes that follow, over a reader and a writer.
 //! - `discover` answers a datagram. It keeps nothing of it.
 //!
-//! The answers are a function of the peers' whole frames and of the times: `turn` of `specs/Turn.antt`, which has one
-//! definition for each command. No call after `Adapter::new` allocates memory.
+//! The answers are a function of the peers' whole frames, of the times and of the device's own writes: `turn` of
+//! `specs/Turn.antt`, which has one definition for each command. No call after `Adapter::new` allocates memory.
 //!
 //! One peer of a device, whose bytes arrive in pieces of any size, each with its time. `written` collects what is sent
 //! back:
