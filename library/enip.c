@@ -137,7 +137,7 @@ const char *enip_version(void) {
 size_t enip_status_text(int kind, uint32_t number, char *buffer, size_t size) {
     uint8_t text[256];
     size_t length, shown;
-    if (kind < 0 || !is_range(buffer, size))
+    if (!is_range(buffer, size))
         return 0;
     length = enip_core_status_text((uint32_t)kind, number, text, sizeof text);
     shown = length < size ? length : size - 1;
@@ -149,7 +149,11 @@ size_t enip_status_text(int kind, uint32_t number, char *buffer, size_t size) {
 int enip_adapter_new(const char *text, size_t length, enip_adapter **adapter, enip_refusal *refusal) {
     enip_adapter *made;
     uint32_t status, number = 0;
-    if (!is_range(text, length) || adapter == NULL)
+    if (!is_range(text, length) || adapter == NULL || !are_apart(text, length, adapter, sizeof *adapter))
+        return ENIP_MISUSE;
+    if (refusal != NULL
+        && (!are_apart(text, length, refusal, sizeof *refusal)
+            || !are_apart(adapter, sizeof *adapter, refusal, sizeof *refusal)))
         return ENIP_MISUSE;
     if ((made = malloc(sizeof *made)) == NULL)
         return ENIP_MEMORY;
@@ -222,7 +226,8 @@ int enip_adapter_read(const enip_adapter *adapter, uint16_t class_code, uint32_t
 }
 
 int enip_adapter_places(const enip_adapter *adapter, uint16_t *peers, uint16_t *connections) {
-    if (!is_adapter(adapter) || peers == NULL || connections == NULL || peers == connections)
+    if (!is_adapter(adapter) || peers == NULL || connections == NULL
+        || !are_apart(peers, sizeof *peers, connections, sizeof *connections))
         return ENIP_MISUSE;
     enip_core_adapter_places(kept_to_read(&adapter->kept), peers, connections);
     return ENIP_OK;
@@ -299,7 +304,7 @@ int enip_endings_at(const enip_endings *endings, size_t index, enip_ended *ended
 int enip_client_new(const enip_wants *wants, enip_client **client) {
     enip_client *made;
     uint32_t status;
-    if (wants == NULL || client == NULL)
+    if (wants == NULL || client == NULL || !are_apart(wants, sizeof *wants, client, sizeof *client))
         return ENIP_MISUSE;
     if ((made = malloc(sizeof *made)) == NULL)
         return ENIP_MEMORY;
@@ -386,7 +391,7 @@ int enip_once_new(uint64_t life, uint64_t originator, uint32_t last_number, enip
 int enip_once_resume(uint64_t life, uint64_t originator, uint32_t last_number, const void *request, size_t length,
                      enip_once **once) {
     enip_once *made;
-    if (!is_range(request, length) || once == NULL)
+    if (!is_range(request, length) || once == NULL || !are_apart(request, length, once, sizeof *once))
         return ENIP_MISUSE;
     if ((made = malloc(sizeof *made)) == NULL)
         return ENIP_MEMORY;
