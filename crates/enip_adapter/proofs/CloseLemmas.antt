@@ -264,7 +264,7 @@ twice-not : (b : Bool) → b ≡ not (not b)
 twice-not true = refl
 twice-not false = refl
 
-told-served : (s : State) (peer : ℕ) (serve : Session → Served) (session : Session) → session_of s peer ≡ Some session
+pub told-served : (s : State) (peer : ℕ) (serve : Session → Served) (session : Session) → session_of s peer ≡ Some session
     → session.closed ≡ false
     → (serve_found s peer serve (session_of s peer)).answer.close
     ≡ not (is_open (session_of (serve_found s peer serve (session_of s peer)).state peer))

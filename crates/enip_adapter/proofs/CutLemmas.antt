@@ -168,7 +168,7 @@ take-front zero xs ys le = refl
 take-front (suc n) [] ys le = absurd (omega arith)
 take-front (suc n) (x ∷ xs) ys le = ap (λ zs. x ∷ zs) (take-front n xs ys (omega arith))
 
-drop-front : (n : ℕ) (xs ys : List ℕ) → n ≤ length xs → drop n (xs ++ ys) ≡ drop n xs ++ ys
+pub drop-front : (n : ℕ) (xs ys : List ℕ) → n ≤ length xs → drop n (xs ++ ys) ≡ drop n xs ++ ys
 drop-front zero xs ys le = refl
 drop-front (suc n) [] ys le = absurd (omega arith)
 drop-front (suc n) (x ∷ xs) ys le = drop-front n xs ys (omega arith)
@@ -183,7 +183,7 @@ drop-past n [] ys = ap (λ k. drop k ys) (let e : 0 + n ≡ n = omega arith in e
 drop-past n (x ∷ xs) ys = ap (λ k. drop k (x ∷ (xs ++ ys)))
     (let e : suc (length xs) + n ≡ suc (length xs + n) = omega arith in e) ∙ drop-past n xs ys
 
-drop-whole : (xs : List ℕ) → drop (length xs) xs ≡ []
+pub drop-whole : (xs : List ℕ) → drop (length xs) xs ≡ []
 drop-whole [] = refl
 drop-whole (x ∷ xs) = drop-whole xs
 
@@ -191,7 +191,7 @@ drop-whole (x ∷ xs) = drop-whole xs
 max-twice : (a b : ℕ) → max (max a b) b ≡ max a b
 max-twice a b = omega arith
 
-at-twice : (s : State) (now : ℕ) → at_state (at_state s now) now ≡ at_state s now
+pub at-twice : (s : State) (now : ℕ) → at_state (at_state s now) now ≡ at_state s now
 at-twice s now =
     let once : ℕ = max s.shared.moment now in
     ap (λ m. let t : State = record s {
@@ -231,13 +231,13 @@ feed-open a now peer piece live =
     (cond b (dropped_piece a.held) (piece_meaning a.held peer (bytes_held a.held peer) piece))) live.alive
 
 -- What a piece is if more follows it.
-data Front (a : AdapterState) (now peer : ℕ) (piece more : List ℕ) : Type 0 where
+pub data Front (a : AdapterState) (now peer : ℕ) (piece more : List ℕ) : Type 0 where
   Same : call_meaning a (Feeds now peer (piece ++ more)) ≡ call_meaning a (Feeds now peer piece)
       → (call_meaning a (Feeds now peer piece)).taken ≤ length piece → Front a now peer piece more
   Waits : IsOpen a peer → parsed (held_and_taken (bytes_held a.held peer) piece) ≡ Incomplete
       → Front a now peer piece more
 
-front-open : (a : AdapterState) (now peer : ℕ) (piece more : List ℕ) → IsSound a → IsOpen a peer → (x : Parsed)
+pub front-open : (a : AdapterState) (now peer : ℕ) (piece more : List ℕ) → IsSound a → IsOpen a peer → (x : Parsed)
     → parsed (held_and_taken (bytes_held a.held peer) piece) ≡ x → (x ≡ Incomplete → ⊥) → Front a now peer piece more
 front-open a now peer piece more sound live x seen some =
     let running : IsRunning (bytes_held a.held peer) = sound.ready peer live.session live.found live.alive in
@@ -255,7 +255,7 @@ front-open a now peer piece more sound live x seen some =
     ∙ sym (feed-open a now peer piece live))))
     (subst (λ (m : Meaning). m.taken ≤ length piece) (sym (feed-open a now peer piece live)) within)
 
-front : (a : AdapterState) (now peer : ℕ) (piece more : List ℕ) → IsSound a → Front a now peer piece more
+pub front : (a : AdapterState) (now peer : ℕ) (piece more : List ℕ) → IsSound a → Front a now peer piece more
 front a now peer piece more sound = go (session_of a.state peer) refl
   where
     live : IsOpen a peer → (x : Parsed) → parsed (held_and_taken (bytes_held a.held peer) piece) ≡ x
@@ -289,21 +289,21 @@ front a now peer piece more sound = go (session_of a.state peer) refl
     go (Some session) e = by_close session e session.closed refl
 
 -- A piece that completes nothing, and the next one.
-abbrev quiet : Answer
+abbrev pub quiet : Answer
 quiet = record { output = NoReply NoFrame; close = false }
 
-abbrev waiting : AdapterState → ℕ → ℕ → List ℕ → AdapterState
+abbrev pub waiting : AdapterState → ℕ → ℕ → List ℕ → AdapterState
 waiting a now peer bytes = record {
   state = at_state a.state now;
   held = with_first (λ (h : Held). h.peer) peer (record { peer = peer; bytes = bytes }) a.held;
 }
 
-record HasWaited (a : AdapterState) (now peer : ℕ) (piece : List ℕ) : Type 0 where
-  adapter : after_call a (Feeds now peer piece) ≡ waiting a now peer (bytes_held a.held peer ++ piece)
-  answer : call_answer a (Feeds now peer piece) ≡ quiet
-  taken : (call_meaning a (Feeds now peer piece)).taken ≡ length piece
+pub record HasWaited (a : AdapterState) (now peer : ℕ) (piece : List ℕ) : Type 0 where
+  pub adapter : after_call a (Feeds now peer piece) ≡ waiting a now peer (bytes_held a.held peer ++ piece)
+  pub answer : call_answer a (Feeds now peer piece) ≡ quiet
+  pub taken : (call_meaning a (Feeds now peer piece)).taken ≡ length piece
 
-has-waited : (a : AdapterState) (now peer : ℕ) (piece : List ℕ) → IsSound a → IsOpen a peer
+pub has-waited : (a : AdapterState) (now peer : ℕ) (piece : List ℕ) → IsSound a → IsOpen a peer
     → parsed (held_and_taken (bytes_held a.held peer) piece) ≡ Incomplete → HasWaited a now peer piece
 has-waited a now peer piece sound live none =
     let held : List ℕ = bytes_held a.held peer in
@@ -347,13 +347,13 @@ has-waited a now peer piece sound live none =
     }
 
 -- Two pieces do the same in one call as in two, if the first completes nothing.
-record IsJoined (a : AdapterState) (now peer : ℕ) (piece more : List ℕ) (b : AdapterState) : Type 0 where
-  adapter : after_call b (Feeds now peer more) ≡ after_call a (Feeds now peer (piece ++ more))
-  answer : call_answer b (Feeds now peer more) ≡ call_answer a (Feeds now peer (piece ++ more))
-  rest : drop (call_meaning b (Feeds now peer more)).taken more
+pub record IsJoined (a : AdapterState) (now peer : ℕ) (piece more : List ℕ) (b : AdapterState) : Type 0 where
+  pub adapter : after_call b (Feeds now peer more) ≡ after_call a (Feeds now peer (piece ++ more))
+  pub answer : call_answer b (Feeds now peer more) ≡ call_answer a (Feeds now peer (piece ++ more))
+  pub rest : drop (call_meaning b (Feeds now peer more)).taken more
       ≡ drop (call_meaning a (Feeds now peer (piece ++ more))).taken (piece ++ more)
 
-is-joined : (a : AdapterState) (now peer : ℕ) (piece more : List ℕ) → IsSound a → IsOpen a peer
+pub is-joined : (a : AdapterState) (now peer : ℕ) (piece more : List ℕ) → IsSound a → IsOpen a peer
     → parsed (held_and_taken (bytes_held a.held peer) piece) ≡ Incomplete
     → IsJoined a now peer piece more (waiting a now peer (bytes_held a.held peer ++ piece))
 is-joined a now peer piece more sound live none =
@@ -444,11 +444,11 @@ record IsFlow (now peer : ℕ) (a : AdapterState) (bytes : List ℕ) (xs : List 
   flow : Flows now peer a bytes ys last
   same : visible_answers xs ≡ visible_answers ys
 
-told-cons : (x : Answer) (xs ys : List Answer) → visible_answers xs ≡ visible_answers ys
+pub told-cons : (x : Answer) (xs ys : List Answer) → visible_answers xs ≡ visible_answers ys
     → visible_answers (x ∷ xs) ≡ visible_answers (x ∷ ys)
 told-cons x xs ys e = ap (λ zs. cond (not (is_no_reply x.output) || x.close) (x ∷ zs) zs) e
 
-told-quiet : (x : Answer) (xs : List Answer) → x ≡ quiet → visible_answers (x ∷ xs) ≡ visible_answers xs
+pub told-quiet : (x : Answer) (xs : List Answer) → x ≡ quiet → visible_answers (x ∷ xs) ≡ visible_answers xs
 told-quiet x xs e = ap (λ y. visible_answers (y ∷ xs)) e
 
 -- What flows after a piece that completed nothing flows with it.

@@ -6,6 +6,7 @@ pub mod PeerLemmas
 pub mod SoundLemmas
 pub mod StreamLemmas
 pub mod CutLemmas
+pub mod TimedCutLemmas
 pub mod OwnLemmas
 pub mod CloseLemmas
 pub mod LookupLemmas
@@ -18,5 +19,8 @@ pub mod ServeLemmas
 pub mod ActionLemmas
 pub mod DiscoveryLemmas
 pub mod EndingLemmas
+pub mod SessionEndLemmas
+pub mod RootLemmas
+pub mod CauseLemmas
 pub mod DeviceLemmas
 pub mod RouteLemmas

@@ -212,7 +212,7 @@ below-without next n [] below = tt
 below-without next n (m ∷ ms) below =
     both (AllByRecursion (λ k. k < next)) (eqb m n) _ _ below.1 (below.0, below-without next n ms below.1)
 
-none-without : (m n : ℕ) (ns : List ℕ) → first_with (λ k. k) m ns ≡ None
+pub none-without : (m n : ℕ) (ns : List ℕ) → first_with (λ k. k) m ns ≡ None
     → first_with (λ k. k) m (without_first (λ k. k) n ns) ≡ None
 none-without m n [] e = refl
 none-without m n (k ∷ ks) e = go (eqb k m) (eqb k n) refl (λ f. none-without m n ks f) e

@@ -121,7 +121,7 @@ spares-served s peer other serve (Some session) differ found serves =
           (session_after session (serve session)) s.peers number differ ∙ e;
     })
 
-spares-ended : (s : State) (peer other : ℕ) (o : Option Session) → other ≢ peer → Spares peer s (end_found s other o)
+pub spares-ended : (s : State) (peer other : ℕ) (o : Option Session) → other ≢ peer → Spares peer s (end_found s other o)
 spares-ended s peer other None differ = spares-same peer s
 spares-ended s peer other (Some session) differ = record {
   connections = (leaves-ended peer s.shared other differ).connections;
@@ -145,7 +145,7 @@ spares-parsed_frame s peer other (TooLongHeader h) differ =
     spares-served s peer other (λ session. leaving s.shared (long_refused session h)) (session_of s other) differ refl
     (λ session d. leaves-same peer s.shared)
 
-spares-piece : (s : State) (peer other : ℕ) (piece : List ℕ) (held : List Held) (o : Option Session) → other ≢ peer
+pub spares-piece : (s : State) (peer other : ℕ) (piece : List ℕ) (held : List Held) (o : Option Session) → other ≢ peer
     → Spares peer s (after s (piece_to held other piece o).events)
 spares-piece s peer other piece held None differ = spares-same peer s
 spares-piece s peer other piece held (Some session) differ =

@@ -58,12 +58,12 @@ handles-parsed_frame s peer (TooLongHeader h) = handles-served s peer (λ sessio
     (session_of s peer) refl
 
 -- What a piece does to the numbers.
-record IsFed (s : State) (held : List Held) (m : Meaning) : Type 0 where
-  handles_same : handles (after s m.events) ≡ handles s
-  next_same : (after s m.events).next_handle ≡ s.next_handle
-  entries_same : entries m.held ≡ entries held
+pub record IsFed (s : State) (held : List Held) (m : Meaning) : Type 0 where
+  pub handles_same : handles (after s m.events) ≡ handles s
+  pub next_same : (after s m.events).next_handle ≡ s.next_handle
+  pub entries_same : entries m.held ≡ entries held
 
-fed-piece : (s : State) (peer : ℕ) (piece : List ℕ) (held : List Held) (o : Option Session)
+pub fed-piece : (s : State) (peer : ℕ) (piece : List ℕ) (held : List Held) (o : Option Session)
     → IsFed s held (piece_to held peer piece o)
 fed-piece s peer piece held None = record { handles_same = refl; next_same = refl; entries_same = refl }
 fed-piece s peer piece held (Some session) =
@@ -75,7 +75,7 @@ fed-piece s peer piece held (Some session) =
       entries_same = numbers-with_first (λ (h : Held). h.peer) peer _ held refl;
     })
 
-handles-ended : (s : State) (peer : ℕ) (o : Option Session) → session_of s peer ≡ o
+pub handles-ended : (s : State) (peer : ℕ) (o : Option Session) → session_of s peer ≡ o
     → handles (end_found s peer o) ≡ without_first (λ m. m) peer (handles s)
 handles-ended s peer None e =
     sym (without_first-none (λ m. m) peer (handles s) (none-numbers (λ (p : Session). p.handle) peer s.peers e))

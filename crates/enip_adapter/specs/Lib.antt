@@ -21,4 +21,5 @@ pub mod Serving
 pub mod AdapterActions
 pub mod Device
 pub mod Endings
+pub mod EndCauses
 pub mod DeviceRuns

@@ -1,7 +1,7 @@
 -- Lists of calls of the adapter.
 use Rattle.std.specs.Prelude.{ℕ, ◌+◌, max, ◌≡◌, ◌≢◌, ◌≤◌, ◌==◌, List, [], ◌∷◌, ◌++◌, map, filter, take, drop}
-use Rattle.std.specs.Prelude.{if◌then◌else◌, Bool, true, false, not, ◌||◌, ⊤}
-use Rattle.std.specs.List.{flat_map, list_all, list_any, AllByRecursion}
+use Rattle.std.specs.Prelude.{length, nat_lt, if◌then◌else◌, Bool, true, false, not, ◌||◌, ⊤}
+use Rattle.std.specs.List.{concat, flat_map, list_all, list_any, AllByRecursion}
 use Rattle.cip_bytes.specs.Numbers.{AreBytes}
 use Rattle.cip_manager.specs.declared.connection.Connection.{Connection}
 use Rattle.cip_manager.specs.Connection.{is_open_at}
@@ -149,6 +149,48 @@ pub data FeedsPieces (now peer : ℕ) : AdapterState → List (List ℕ) → Lis
   Closed : {a : AdapterState} {b : ℕ} {bs : List ℕ} {pieces : List (List ℕ)}
       → (call_answer a (Feeds now peer (b ∷ bs))).close ≡ true
       → FeedsPieces now peer a ((b ∷ bs) ∷ pieces) (call_answer a (Feeds now peer (b ∷ bs)) ∷ [])
+      (after_call a (Feeds now peer (b ∷ bs)))
+
+-- Bytes of a peer's stream that arrive at a time.
+pub record TimedPiece : Type 0 where
+  pub now : ℕ
+  pub bytes : List ℕ
+
+-- The bytes of timed pieces, joined.
+abbrev pub joined : List TimedPiece → List ℕ
+joined pieces = concat (map (λ piece. piece.bytes) pieces)
+
+-- A feed with this meaning completes a frame, or a header whose length is over the limit, or drops its piece.
+abbrev pub is_completing : Meaning → Bool
+is_completing m = nat_lt 1 (length m.events) || m.dropped
+
+-- The current time at a feed, if the feed completes something.
+abbrev pub completion_moments : AdapterState → ℕ → ℕ → List ℕ → List ℕ
+completion_moments a now peer piece =
+    if is_completing (call_meaning a (Feeds now peer piece)) then max a.state.shared.moment now ∷ [] else []
+
+-- The pieces of one peer's stream are fed, each at its own time, until all of it is taken. Once the peer is closed, the
+-- rest is dropped. The indices are the current times at the feeds that complete something, the answers, and the last
+-- adapter.
+pub data FeedsTimedPieces (peer : ℕ) :
+    AdapterState → List TimedPiece → List ℕ → List Answer → AdapterState → Type 0 where
+  Ended : {a : AdapterState} → FeedsTimedPieces peer a [] [] [] a
+  Taken : {a last : AdapterState} {now : ℕ} {pieces : List TimedPiece} {moments : List ℕ} {answers : List Answer}
+      → FeedsTimedPieces peer a pieces moments answers last
+      → FeedsTimedPieces peer a (record { now = now; bytes = [] } ∷ pieces) moments answers last
+  Continued : {a last : AdapterState} {now b : ℕ} {bs : List ℕ} {pieces : List TimedPiece} {moments : List ℕ}
+      {answers : List Answer}
+      → (call_answer a (Feeds now peer (b ∷ bs))).close ≡ false
+      → FeedsTimedPieces peer (after_call a (Feeds now peer (b ∷ bs)))
+      (record { now = now; bytes = drop (call_meaning a (Feeds now peer (b ∷ bs))).taken (b ∷ bs) } ∷ pieces)
+      moments answers last
+      → FeedsTimedPieces peer a (record { now = now; bytes = b ∷ bs } ∷ pieces)
+      (completion_moments a now peer (b ∷ bs) ++ moments)
+      (call_answer a (Feeds now peer (b ∷ bs)) ∷ answers) last
+  Closed : {a : AdapterState} {now b : ℕ} {bs : List ℕ} {pieces : List TimedPiece}
+      → (call_answer a (Feeds now peer (b ∷ bs))).close ≡ true
+      → FeedsTimedPieces peer a (record { now = now; bytes = b ∷ bs } ∷ pieces)
+      (max a.state.shared.moment now ∷ []) (call_answer a (Feeds now peer (b ∷ bs)) ∷ [])
       (after_call a (Feeds now peer (b ∷ bs)))
 
 -- Nothing is output.

@@ -41,8 +41,10 @@ pub struct EndedConnection {
 ///
 /// Call `update` after each call of the adapter. Then `ended` lists the connections that this call ended, each once, in
 /// the order in which they were opened. For each open connection, this type remembers the O->T ID, the session and the
-/// deadline. If `update` is called less often, the same connections are listed, with two exceptions: a reason may be
-/// that of a later time, and a connection that was opened and ended between two updates is never listed.
+/// deadline. If `update` is called less often, the same connections are listed, with three exceptions: a reason may be
+/// that of a later time; a connection that timed out is listed as `Closed` if an item between the two updates brought
+/// its deadline forward, since the first deadline is ten seconds after the opening at least; and a connection that was
+/// opened and ended between two updates is never listed.
 ///
 /// It has capacity for all connections of an adapter from `new` on, and allocates no memory.
 ///

@@ -3,6 +3,7 @@
 
 ghost use Rattle.std.specs.Prelude.{ℕ, List, [], ◌∷◌, ◌++◌, ◌≡◌, ◌≤◌, ◌||◌, not, true, false, Some, filter};
 ghost use Rattle.std.specs.List.{flat_map, concat, list_any, AllByRecursion};
+ghost use Rattle.cip_manager.specs.declared.connection.Connection.{Connection};
 ghost use Rattle.cip_manager.specs.Runs.{of_session};
 ghost use Rattle.enip_wire.specs.Stream.{Cut};
 ghost use Rattle.cip_ledger.specs.Device.{Device};
@@ -12,6 +13,8 @@ ghost use Rattle.enip_adapter.specs.declared.shared.Listen.{Listen};
 ghost use Rattle.enip_adapter.specs.Adapter.{new_adapter};
 ghost use Rattle.enip_adapter.specs.DeviceRuns.{device_law, objects_law, commands_once_law, numbers_rise_law};
 ghost use Rattle.enip_adapter.specs.Discovery.{discovered};
+ghost use Rattle.enip_adapter.specs.EndCauses.{endings_in_calls, IsReportedClosed, IsForwardClosed};
+ghost use Rattle.enip_adapter.specs.Endings.{EndingsState, updated};
 ghost use Rattle.enip_adapter.specs.Turn.{Event, Answer, answers, after, session_of};
 ghost use Rattle.enip_adapter.specs.Turn.Output.{Sends};
 ghost use Rattle.enip_adapter.specs.Calls.Call.{Feeds, Ticks};
@@ -20,6 +23,7 @@ ghost use Rattle.enip_adapter.specs.Runs.{after_calls, call_answers, events_of_c
 ghost use Rattle.enip_adapter.specs.Runs.{IsForOther, moments_of_calls, is_open_at_all};
 ghost use Rattle.enip_adapter.specs.Runs.{RisesFrom, handles_in, ids_of_events};
 ghost use Rattle.enip_adapter.specs.Runs.{Run, at_end, taken_in, frames_in, FeedsPieces, visible_answers};
+ghost use Rattle.enip_adapter.specs.Runs.{TimedPiece, joined, FeedsTimedPieces};
 ghost use Rattle.enip_adapter.specs.Serving.{is_peer_served};
 ghost use Rattle.enip_adapter.specs.AdapterActions.{AdapterAction, LeadTo, AmountTo, IsActionForOther};
 
@@ -149,6 +153,44 @@ pub fn cuts_change_nothing()
     ensures some { (device : Device) (listen : Listen) (limits : Limits) (calls : List Call) (now peer : ℕ)
         (pieces : List (List ℕ)) → (answers : List Answer) × ((last : AdapterState) ×
         FeedsPieces now peer (after_calls (new_adapter device listen limits) calls) pieces answers last) }
+{}
+
+/// Nor do the times of the pieces matter, as long as the same bytes complete something at the same times. After any
+/// calls, take two lists of pieces that join to the same bytes, each piece with a time of its own, and feed both as
+/// before. If the current times at the feeds that complete a frame are the same (or a header whose length is over the
+/// limit, or that find the peer closed), both have the same answers. If the last current times are also the same, both
+/// leave the same adapter. Every list of pieces can be fed this way.
+pub fn times_between_change_nothing()
+    ensures answers { (device : Device) (listen : Listen) (limits : Limits) (calls : List Call) (peer : ℕ)
+        (pieces others : List TimedPiece) (moments : List ℕ) (answers replies : List Answer)
+        (last end : AdapterState) → joined pieces ≡ joined others →
+        FeedsTimedPieces peer (after_calls (new_adapter device listen limits) calls) pieces moments answers last →
+        FeedsTimedPieces peer (after_calls (new_adapter device listen limits) calls) others moments replies end →
+        visible_answers answers ≡ visible_answers replies }
+    ensures adapter { (device : Device) (listen : Listen) (limits : Limits) (calls : List Call) (peer : ℕ)
+        (pieces others : List TimedPiece) (moments : List ℕ) (answers replies : List Answer)
+        (last end : AdapterState) → joined pieces ≡ joined others →
+        FeedsTimedPieces peer (after_calls (new_adapter device listen limits) calls) pieces moments answers last →
+        FeedsTimedPieces peer (after_calls (new_adapter device listen limits) calls) others moments replies end →
+        last.state.shared.moment ≡ end.state.shared.moment → last ≡ end }
+    ensures some { (device : Device) (listen : Listen) (limits : Limits) (calls : List Call) (peer : ℕ)
+        (pieces : List TimedPiece) → (moments : List ℕ) × ((answers : List Answer) × ((last : AdapterState) ×
+        FeedsTimedPieces peer (after_calls (new_adapter device listen limits) calls) pieces moments answers last)) }
+{}
+
+/// Why connections ended. Of the connections that were open at an update, the next one reports those that the calls in
+/// between ended, each with the reason that these calls say, and with no other: its deadline was reached by the current
+/// time; or its peer was ended; or its peer was closed, by an UnRegisterSession or by a length over the limit; or none
+/// of these. A connection that is reported as closed, by an update after each call, was closed by its own session: the
+/// call completed a frame with a Forward_Close of its triad.
+pub fn endings_have_causes()
+    ensures reasons { (device : Device) (listen : Listen) (limits : Limits) (earlier calls : List Call)
+        (e : EndingsState) → let a = after_calls (new_adapter device listen limits) earlier in
+        (updated (updated e a) (after_calls a calls)).ended ≡ endings_in_calls a calls }
+    ensures closed { (device : Device) (listen : Listen) (limits : Limits) (earlier : List Call) (call : Call) →
+        let a = after_calls (new_adapter device listen limits) earlier in
+        AllByRecursion (λ (c : Connection). IsReportedClosed a call c → IsForwardClosed a call c)
+        a.state.shared.manager.connections }
 {}
 
 /// Discovery answers as TCP does. The answer to a datagram is what any peer gets that sends the same bytes, registered
