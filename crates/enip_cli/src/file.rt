@@ -6,9 +6,33 @@ use std::convert::AsStr;
 use std::io::{self, Read, Write};
 
 /// The bytes of the name of a file that an argument names. `text` is the argument as text.
-pub fn file_name<'a>(args: &'a [OsArg], text: &'a str) -> &'a [u8] {
+fn file_name<'a>(args: &'a [OsArg], text: &'a str) -> &'a [u8] {
     let argument = args.iter().find(|argument| argument.as_str() == text);
     argument.map_or(text.as_bytes(), |argument| argument.bytes.as_slice())
+}
+
+/// The arguments after the first one with this text. Two names that are not UTF-8 can have the same text, so the second of
+/// two files is looked for after the first.
+pub fn arguments_after<'a>(args: &'a [OsArg], text: &str) -> &'a [OsArg] {
+    match args.iter().position(|argument| argument.as_str() == text) {
+        Some(index) => &args[index + 1..],
+        None => args,
+    }
+}
+
+/// The bytes of the name of a file that an option names, as `OPTION FILE` or `OPTION=FILE`. `option` has its dashes, and
+/// `text` is FILE as text.
+pub fn option_file_name<'a>(args: &'a [OsArg], option: &str, text: &'a str) -> &'a [u8] {
+    for (index, argument) in args.iter().enumerate() {
+        match argument.bytes.as_slice().strip_prefix(option.as_bytes()) {
+            Some([]) => return args
+                .get(index + 1)
+                .map_or(text.as_bytes(), |file| file.bytes.as_slice()),
+            Some([b'=', file @ ..]) => return file,
+            _ => {}
+        }
+    }
+    text.as_bytes()
 }
 
 /// The bytes of the file that an argument names. `text` is the argument as text. The file is opened by the bytes of that
@@ -22,6 +46,36 @@ pub fn read_file(alloc: Global, args: &[OsArg], text: &str) -> io::Result<Vec<u8
 /// Whether there is a file of this name, of whatever kind.
 pub fn exists(name: &[u8]) -> bool {
     File::open(name).is_ok()
+}
+
+/// The descriptors of the standard streams are below this one.
+const FIRST_FREE: i32 = 3;
+
+/// A file that takes any bytes and has none.
+const NOWHERE: &[u8] = b"/dev/null";
+
+/// Takes the descriptors of the standard streams that are closed. Otherwise a file or a socket that the program opens would
+/// get such a descriptor, and what is printed would go there. Reads and writes still fail as on a closed descriptor: that of
+/// standard input is open for writing only, those of the other two for reading only.
+///
+/// # Errors
+///
+/// That of the system, if it has no such file or no descriptor is free.
+pub fn reserve_streams() -> io::Result<()> {
+    let input = os::open_with(NOWHERE, libc::O_WRONLY, 0);
+    checked(input)?;
+    if input != 0 {
+        let _ = libc::close(input);
+    }
+    for _ in 0..FIRST_FREE {
+        let output = os::open_read(NOWHERE);
+        checked(output)?;
+        if output >= FIRST_FREE {
+            let _ = libc::close(output);
+            break;
+        }
+    }
+    Ok(())
 }
 
 /// An open file.

@@ -11,6 +11,6 @@ mod texts;
 
 pub use command_line::{OsArg, os_args};
 pub use commands::{PROGRAM, program};
-pub use file::{exists, file_name, read_file};
+pub use file::{arguments_after, exists, option_file_name, read_file, reserve_streams};
 pub use locked_file::LockedFile;
 pub use seconds::microseconds_of;

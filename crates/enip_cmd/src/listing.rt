@@ -80,7 +80,7 @@ pub(crate) fn run_discovery<'a>(
     let socket = target.send_list_identity(rt)?;
     let start = Instant::now(rt).map_err(|error| CommandError::of_system(CLOCK, error))?;
     let mut buffer = Vec::from_elem(rt.alloc(), 0, DATAGRAM_CAPACITY)?;
-    let mut output = rt.stdout();
+    let mut output = ErrorKeeping::new(rt.stdout());
     for _ in 0..MAX_DATAGRAMS {
         let Some(size) = next_datagram(rt, &socket, target, timeout, start, &mut buffer)? else {
             break;
@@ -92,7 +92,7 @@ pub(crate) fn run_discovery<'a>(
             print_devices(&mut output, datagram)
         };
         if let Err(fault) = printed {
-            return Err(error_of_output(fault));
+            return Err(error_of_output(fault, output.reason(OUTPUT)));
         }
     }
     output
@@ -101,11 +101,14 @@ pub(crate) fn run_discovery<'a>(
     Ok(0)
 }
 
-/// The error of a command whose output failed.
-fn error_of_output<'a>(fault: enip_commands::ProgramFault) -> CommandError<'a> {
+/// The error of a command whose output failed. `stream_reason` is why the output failed, if the system said so.
+fn error_of_output<'a>(
+    fault: enip_commands::ProgramFault,
+    stream_reason: Option<Reason<'a>>,
+) -> CommandError<'a> {
     match fault {
         enip_commands::ProgramFault::Memory => CommandError::of_memory(),
-        _ => CommandError::of_reason(Reason::Failed(OUTPUT)),
+        _ => CommandError::of_reason(stream_reason.unwrap_or(Reason::Failed(OUTPUT))),
     }
 }
 

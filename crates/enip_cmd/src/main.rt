@@ -36,7 +36,7 @@ use checking::print_device;
 use clap::ArgMatches;
 use clap::error::ErrorKind;
 use enip_adapter::Adapter;
-use enip_cli::{OsArg, PROGRAM, os_args, program};
+use enip_cli::{OsArg, PROGRAM, arguments_after, os_args, program, reserve_streams};
 use enip_client::ListCommand;
 use enip_server::NO_IDLE_TIMEOUT;
 use error_keeping::ErrorKeeping;
@@ -134,7 +134,8 @@ fn run_replay<'a>(
     matches: &ArgMatches<'a>,
 ) -> Result<u8, CommandError<'a>> {
     let config = NamedFile::read(rt.alloc(), args, matches, "CONFIG")?;
-    let script = NamedFile::read(rt.alloc(), args, matches, "SCRIPT")?;
+    let rest = arguments_after(args, config.name());
+    let script = NamedFile::read(rt.alloc(), rest, matches, "SCRIPT")?;
     replay_files(rt, &config, &script, matches.get_flag("ladder"))
 }
 
@@ -404,5 +405,7 @@ fn run_program(rt: &HostRuntime) -> u8 {
 }
 
 fn main(rt: HostRuntime) -> ExitCode {
+    // without a free descriptor the command fails by itself
+    let _ = reserve_streams();
     ExitCode::from(run_program(&rt))
 }

@@ -13,7 +13,7 @@ use cip_bytes::StatusText;
 use cip_commander::{CommandOutcome, CommandRefused, Commander};
 use cip_objects::ReplyBuf;
 use clap::ArgMatches;
-use enip_cli::{LockedFile, OsArg, exists, file_name};
+use enip_cli::{LockedFile, OsArg, exists, option_file_name};
 use enip_client::ClientFault;
 use enip_commands::{
     LIFE_REQUEST, LedgerRefusal, LifeFault, OnceRefusal, PendingChoice, RequestFailure, WANTS,
@@ -89,7 +89,7 @@ pub(crate) fn run_once<'a>(
         device,
         address: HostPort::parse(device.address)?,
         options,
-        name: file_name(args, options.file),
+        name: option_file_name(args, "--once", options.file),
     };
     match (request, options.choice) {
         (Some(request), _) => run.send(request.bytes(rt.alloc())?.as_slice()),

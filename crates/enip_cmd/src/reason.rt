@@ -166,6 +166,7 @@ impl fmt::Display for SystemError {
             ErrorKind::HostUnreachable => f.write_str("no route to this host"),
             ErrorKind::NetworkUnreachable => f.write_str("no route to this network"),
             ErrorKind::TimedOut => f.write_str("no answer"),
+            _ if self.0.raw_os_error() == Some(libc::EBADF) => f.write_str("is not open"),
             _ => write!(f, "{kind}"),
         }
     }
