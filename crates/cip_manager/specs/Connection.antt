@@ -68,9 +68,13 @@ is_answered Executed = true
 
 -- A connection after an item, given what its target did and the target afterwards. An answered item moves the
 -- deadline.
-abbrev pub after_item : ℕ → Received → TargetState → Connection → Connection
-after_item now received target connection =
+abbrev pub until_after_item : ℕ → Received → TargetState → Connection → Connection
+until_after_item deadline received target connection =
     record connection {
-      deadline = (if is_answered received then deadline_at_item now connection.timeout else connection.deadline);
+      deadline = (if is_answered received then deadline else connection.deadline);
       target = target;
     }
+
+abbrev pub after_item : ℕ → Received → TargetState → Connection → Connection
+after_item now received target connection =
+    until_after_item (deadline_at_item now connection.timeout) received target connection

@@ -6,7 +6,7 @@ use Rattle.cip_class3.specs.Item.{item}
 use Rattle.cip_class3.specs.TargetRule.{KeptReply, target_step, has_accepted_size, kept_bytes}
 use Rattle.cip_manager.specs.declared.connection.Connection.{Connection}
 use Rattle.cip_manager.specs.declared.manager.KeptAnswer.{KeptAnswer}
-use Rattle.cip_manager.specs.Connection.{is_named, is_answered, after_item}
+use Rattle.cip_manager.specs.Connection.{is_named, is_answered, deadline_at_item, until_after_item}
 
 -- The answer to an item: the T->O ID, and the count and reply that are held.
 pub record Reply : Type 0 where
@@ -52,11 +52,16 @@ pub record ItemTurn (M : Type 0) : Type 0 where
   pub reply : Option Reply
 
 module _ {M : Type 0} (after : M → ℕ → List ℕ → M) (answer : M → ℕ → List ℕ → List ℕ) where
-  -- The target's rule decides about an item. An item that is not dropped moves the deadline.
+  -- The target's rule decides about an item. An item that is not dropped moves the deadline to this one.
+  abbrev pub turn_until : Connection → ℕ → List ℕ → M → ConnectionTurn M
+  turn_until connection deadline bytes router =
+      let step = target_step after answer connection.target router bytes in
+      connection_turn step.received (until_after_item deadline step.received step.target connection) step.router
+
+  -- The same at this moment: the deadline follows from the connection's timeout.
   abbrev pub turn_of_connection : Connection → ℕ → List ℕ → M → ConnectionTurn M
   turn_of_connection connection now bytes router =
-      let step = target_step after answer connection.target router bytes in
-      connection_turn step.received (after_item now step.received step.target connection) step.router
+      turn_until connection (deadline_at_item now connection.timeout) bytes router
 
   -- The same, if the session has a connection with this ID.
   abbrev pub turn_of_found : List Connection → ℕ → ℕ → ℕ → List ℕ → M → Option Connection → ItemTurn M

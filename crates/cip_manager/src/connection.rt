@@ -26,7 +26,7 @@ ghost use Rattle.std.specs.Borrow.{sem};
 ghost use Rattle.std.specs.Io.BufRead.{Rests};
 ghost use Rattle.cip_manager.specs.ConnectionInfo.{connection_info};
 ghost use Rattle.cip_manager.specs.Opening.{CanBeOpened, new_connection};
-ghost use Rattle.cip_manager.specs.Items.{view as reply_in, held_reply, connection_turn, turn_of_connection, answer_of};
+ghost use Rattle.cip_manager.specs.Items.{view as reply_in, held_reply, connection_turn, turn_until, answer_of};
 ghost use Rattle.cip_manager.specs.Connection.{timeout_of, moment_after, is_of_session_with, is_answered};
 
 use crate::manager::KeptAnswer;
@@ -139,35 +139,36 @@ impl Connection {
         self.session == session && self.triad == triad
     }
 
-    /// Passes an item to the target. An item that is not dropped moves the deadline.
+    /// Passes an item to the target. An item that is not dropped moves the deadline to this one.
     #[inline(always)]
-    pub fn receive<R: Router>(&mut self, now: u64, item: &[u8], router: &mut R) -> Received
+    pub fn receive<R: Router>(&mut self, deadline: u64, item: &[u8], router: &mut R) -> Received
         ensures { connection_turn result self.new router.new
-            ≡ turn_of_connection R.after R.answer self.old now item.now router.old }
+            ≡ turn_until R.after R.answer self.old deadline item.now router.old }
     {
         let received = self.target.receive(router, item);
         if received != Received::Dropped {
-            self.deadline = self.deadline_from(now);
+            self.deadline = deadline;
         }
         received
     }
 
-    /// Passes an item to the target, and lends the answer. `None` if the item is dropped.
+    /// Passes an item to the target, and lends the answer. `None` if the item is dropped. An item that is not dropped
+    /// moves the deadline to this one.
     #[inline(always)]
     pub fn serve<R: Router>(
         &mut self,
-        now: u64,
+        deadline: u64,
         item: &[u8],
         router: &mut R,
     ) -> Option<KeptAnswer<'_>>
         ensures* state { sem 𝓛 (Rests the_row self.entry (λ last. last
-            ≡ (turn_of_connection R.after R.answer self.old now item.now router.old).connection)) }
+            ≡ (turn_until R.after R.answer self.old deadline item.now router.old).connection)) }
         ensures answer { option_map reply_in result
-            ≡ answer_of (turn_of_connection R.after R.answer self.old now item.now router.old) }
-        ensures router { router.new ≡ (turn_of_connection R.after R.answer self.old now item.now router.old).router }
+            ≡ answer_of (turn_until R.after R.answer self.old deadline item.now router.old) }
+        ensures router { router.new ≡ (turn_until R.after R.answer self.old deadline item.now router.old).router }
         ensures fits { IfSome result (λ answer. length answer.reply.now + SEQUENCE_COUNT_SIZE ≤ LARGEST_CONNECTION_SIZE) }
     {
-        let received = self.receive(now, item, router);
+        let received = self.receive(deadline, item, router);
         self.answer_to(received)
     }
 

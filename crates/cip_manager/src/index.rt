@@ -75,7 +75,14 @@ impl Index {
         ensures counted { steps.new.count ≡ steps.old.count + 1 }
     {
         steps.count += 1;
-        self.entries[position].id.cmp(&id)
+        let other = self.entries[position].id;
+        if other < id {
+            Ordering::Less
+        } else if other > id {
+            Ordering::Greater
+        } else {
+            Ordering::Equal
+        }
     }
 
     /// The key of the entry at this position.

@@ -6,7 +6,7 @@ ghost use Rattle.std.specs.Option.{option_map};
 ghost use Rattle.std.specs.Borrow.{sem};
 ghost use Rattle.std.specs.Io.BufRead.{Rests};
 ghost use Rattle.slab.specs.Slab.{get, ContainsKey, HasRoomFor, Updates, slab_len, with_value};
-ghost use Rattle.cip_manager.specs.Items.{view as reply_in, turn_of_connection, answer_of};
+ghost use Rattle.cip_manager.specs.Items.{view as reply_in, turn_until, answer_of};
 ghost use Rattle.cip_manager.specs.declared.connection.Connection.{Connection as OpenConnection};
 
 use crate::connection::Connection;
@@ -75,24 +75,25 @@ impl Slots {
         &self.kept[key]
     }
 
-    /// Passes an item to the connection with this key, and lends the answer from there.
+    /// Passes an item to the connection with this key, and lends the answer from there. An item that is not dropped
+    /// moves the deadline to this one.
     #[inline(always)]
     pub fn serve<R: Router>(
         &mut self,
         key: usize,
-        now: u64,
+        deadline: u64,
         item: &[u8],
         router: &mut R,
     ) -> Option<KeptAnswer<'_>>
         requires { ContainsKey self.old key }
         ensures* state { sem 𝓛 (Rests the_row self.entry (λ last. (c : OpenConnection) → get self.old key ≡ Some c →
-            last ≡ with_value self.old key (turn_of_connection R.after R.answer c now item.now router.old).connection)) }
+            last ≡ with_value self.old key (turn_until R.after R.answer c deadline item.now router.old).connection)) }
         ensures answer { (c : OpenConnection) → get self.old key ≡ Some c →
-            option_map reply_in result ≡ answer_of (turn_of_connection R.after R.answer c now item.now router.old) }
+            option_map reply_in result ≡ answer_of (turn_until R.after R.answer c deadline item.now router.old) }
         ensures router { (c : OpenConnection) → get self.old key ≡ Some c →
-            router.new ≡ (turn_of_connection R.after R.answer c now item.now router.old).router }
+            router.new ≡ (turn_until R.after R.answer c deadline item.now router.old).router }
         ensures fits { IfSome result (λ answer. length answer.reply.now + SEQUENCE_COUNT_SIZE ≤ LARGEST_CONNECTION_SIZE) }
     {
-        self.kept[key].serve(now, item, router)
+        self.kept[key].serve(deadline, item, router)
     }
 }

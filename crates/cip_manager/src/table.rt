@@ -196,8 +196,9 @@ impl Table {
         if connection.session != session {
             return None;
         }
-        self.earliest = self.earliest.min(connection.deadline_from(now));
-        self.connections.serve(key, now, item, router)
+        let deadline = connection.deadline_from(now);
+        self.earliest = self.earliest.min(deadline);
+        self.connections.serve(key, deadline, item, router)
     }
 
     /// The connection at this position.

@@ -1,10 +1,10 @@
 use Rattle.std.proofs.Common.{◌≡◌, ◌<◌, true, false, Some, None, length, set, get_or, refl, ap, subst, sym, ◌∙◌, arith}
 use Rattle.std.specs.List.{position}
 use Rattle.std.proofs.lemmas.Bool.{eq-eqb, ne_eqb}
-use Rattle.slab.specs.Slab.{Slab, ContainsKey}
+use Rattle.slab.specs.Slab.{Slab, ContainsKey, with_value}
 use Rattle.cip_manager.specs.declared.connection.Connection.{Connection}
 use Rattle.cip_manager.specs.Connection.{is_named}
-use Rattle.cip_manager.specs.Items.{turn_of_connection}
+use Rattle.cip_manager.specs.Items.{turn_of_connection, turn_until, answer_of}
 use Rattle.cip_manager.specs.Soundness.{IsSound}
 use Rattle.cip_manager.specs.Table.{listed, AreOpenUntil}
 use Rattle.cip_manager.proofs.DeadlineLemmas.{AreOpenUntil-received}
@@ -79,13 +79,15 @@ invariant_of-self-2 g c =
     let i = c.in-Some.position in
     let old = c.at-connection.result.now in
     let turn = turn_of_connection g.R.Router.after g.R.Router.answer old c.args.now c.args.item.now c.args.router.now in
+    let kept = c.serve.follows.holds-at-none old c.at-connection.ensures
+    ∙ ap (λ d. with_value slab c.key-key.result (turn_until g.R.Router.after g.R.Router.answer old d c.args.item.now c.args.router.now).connection) c.deadline_from-deadline.ensures in
     let inside : i < length entries = found-within entries c.args.id i (sym c.position_of.ensures.found ∙ c.in-Some.is) in
     let shows = Shows-received slab entries i c.key-key.result old turn.connection inside c.key-key.ensures.key c.key-key.ensures.rising
     c.self.invariant.named c.at-connection.ensures refl in
     let has = subst (ContainsKey slab) (sym c.key-key.ensures.key) (has-key slab entries i c.self.invariant.named inside) in
     let here = listed-at slab entries i c.key-key.result old old c.self.invariant.named inside c.key-key.ensures.key c.at-connection.ensures in
     let at : i < length (listed slab entries) = omega (arith, inside, length-listed slab entries c.self.invariant.named) in
-    subst (λ (left : Slab Connection). IsSound c.self.inside.places c.min-self-inside.result entries left) (sym (c.serve.follows.holds-at-none old c.at-connection.ensures))
+    subst (λ (left : Slab Connection). IsSound c.self.inside.places c.min-self-inside.result entries left) (sym kept)
     (record {
       from = c.self.invariant.from;
       to = c.self.invariant.to;
@@ -96,7 +98,7 @@ invariant_of-self-2 g c =
       until =
           subst (AreOpenUntil c.min-self-inside.result) (sym shows.connections)
           (AreOpenUntil-received c.min-self-inside.result c.self.inside.earliest c.args.now (listed slab entries) i old turn.received turn.connection.target at here
-          (omega (arith, c.min-self-inside.ensures)) (omega (arith, c.min-self-inside.ensures, c.deadline_from.ensures)) c.self.invariant.until);
+          (omega (arith, c.min-self-inside.ensures)) (omega (arith, c.min-self-inside.ensures, c.deadline_from-deadline.ensures)) c.self.invariant.until);
     })
 
 pub returns : goal.returns
@@ -107,6 +109,8 @@ returns g c =
     let i = c.in-Some.position in
     let old = c.at-connection.result.now in
     let turn = turn_of_connection g.R.Router.after g.R.Router.answer old c.args.now c.args.item.now c.args.router.now in
+    let kept = c.serve.follows.holds-at-none old c.at-connection.ensures
+    ∙ ap (λ d. with_value slab c.key-key.result (turn_until g.R.Router.after g.R.Router.answer old d c.args.item.now c.args.router.now).connection) c.deadline_from-deadline.ensures in
     let found = sym c.position_of.ensures.found ∙ c.in-Some.is in
     let before : listed slab entries ≡ cs = ap (λ t. t.connections) c.self.view_is in
     let inside : i < length entries = found-within entries c.args.id i found in
@@ -118,10 +122,10 @@ returns g c =
     c.self.invariant.named c.at-connection.ensures refl in
     let value : get_or cs i old ≡ old = ap (λ xs. get_or xs i old) (sym before) ∙ listed-at slab entries i c.key-key.result old old c.self.invariant.named inside c.key-key.ensures.key c.at-connection.ensures in
     let whole = receives_at g.R.Router.after g.R.Router.answer cs c.args.now c.args.session c.args.id c.args.item.now c.args.router.now i old e value in
-    let left = ap (λ (kept : Slab Connection). listed kept entries) (c.serve.follows.holds-at-none old c.at-connection.ensures)
+    let left = ap (λ (last : Slab Connection). listed last entries) kept
     ∙ (shows.connections ∙ (ap (λ xs. set xs i turn.connection) before ∙ sym (ap (λ t. t.connections) whole))) in
-    let told = c.serve.ensures.answer old c.at-connection.ensures ∙ sym (ap (λ t. t.reply) whole) in
-    let moved = c.serve.ensures.router old c.at-connection.ensures ∙ sym (ap (λ t. t.router) whole) in (
+    let told = c.serve.ensures.answer old c.at-connection.ensures ∙ ap (λ d. answer_of (turn_until g.R.Router.after g.R.Router.answer old d c.args.item.now c.args.router.now)) c.deadline_from-deadline.ensures ∙ sym (ap (λ t. t.reply) whole) in
+    let moved = c.serve.ensures.router old c.at-connection.ensures ∙ ap (λ d. (turn_until g.R.Router.after g.R.Router.answer old d c.args.item.now c.args.router.now).router) c.deadline_from-deadline.ensures ∙ sym (ap (λ t. t.router) whole) in (
       (
         refl,
         λ m. tt,
