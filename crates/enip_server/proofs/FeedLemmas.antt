@@ -12,11 +12,10 @@ pub none_fed : (now peer : ℕ) (d : PeerState) → AreFed now peer d d
 none_fed now peer d = None_fed
 
 -- one more feed
-pub one_more : (now peer to : ℕ) (old d between new : PeerState) → to ≡ peer → AreFed now peer old d → d.outbox ≡ []
-    → d.closed ≡ None → between ≡ fed_once now to d → IsFlushed between new → AreFed now peer old new
-one_more now peer to old d between new same fed out served is flushed =
-    One_more_fed fed out served
-    (subst (λ p. IsFlushed (fed_once now p d) new) same (subst (λ x. IsFlushed x new) is flushed))
+pub one_more : (now peer to : ℕ) (old d new : PeerState) → to ≡ peer → AreFed now peer old d → d.outbox ≡ []
+    → d.closed ≡ None → IsFlushed (fed_once now to d) new → AreFed now peer old new
+one_more now peer to old d new same fed out served flushed =
+    One_more_fed fed out served (subst (λ p. IsFlushed (fed_once now p d) new) same flushed)
 
 -- what does not exist
 pub none_there : {X : Type 0} → (o : Option X) → is_some o ≡ false → o ≡ None

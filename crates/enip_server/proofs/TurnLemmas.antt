@@ -93,15 +93,6 @@ cut_after closed UntilReadable a b c still cut = absurd cut
 cut_after closed UntilWritable a b c still cut = (cut.0 ∙ ap one_more still.1, cut.1 ∙ still.2)
 cut_after closed Finished a b c still cut = (cut.0 ∙ still.1, cut.1 ∙ ap one_more still.2)
 
--- the same, with a feed between them, which makes no call of the wire
-pub still_fed : (a b fed c : WireCounts) → GoesOn a b → fed ≡ b → GoesOn fed c → GoesOn a c
-still_fed a b fed c still same more = still_after a b c still (subst (λ t. GoesOn t c) same more)
-
-pub cut_fed : (closed : Option ℕ) (turn : Turn) (a b fed c : WireCounts) → GoesOn a b → fed ≡ b
-    → IsCutShort closed turn fed c → IsCutShort closed turn a c
-cut_fed closed turn a b fed c still same cut =
-    cut_after closed turn a b c still (subst (λ t. IsCutShort closed turn t c) same cut)
-
 -- a turn that ends before a read is made
 pub told_unsent : (end_reported closed_now : Bool) (closed : Option ℕ) (turn : Turn) (old new : WireCounts) → IsWaiting turn
     → IsCutShort closed turn old new → FitsCounts end_reported closed_now turn old new

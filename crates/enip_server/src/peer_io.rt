@@ -1,13 +1,14 @@
 //! The input and output of one peer, and its turn.
 //! Text: docs/PROGRAM.md, "`enip serve`".
 
-ghost use Rattle.std.specs.Prelude.{◌≡◌, ◌≢◌, ◌≤◌, ◌<◌, [], length, Some, None, true, false, IfSome, IfNone, IfErr, IfOk};
+ghost use Rattle.std.specs.Prelude.{◌≡◌, ◌≢◌, ◌≤◌, ◌<◌, [], length, take, Some, None, true, false, IfSome, IfNone, IfErr, IfOk};
+ghost use Rattle.std.specs.Io.KnownBytes.{Appends};
 ghost use Rattle.enip_adapter.specs.Calls.{AdapterState};
-ghost use Rattle.enip_server.specs.Rounds.{timeout_at, IsServedPeer, TakesTurn};
-ghost use Rattle.enip_server.specs.PeerStates.{peer_state_of, fed_once, IsFlushed, AreFed, IsDiscarded, IsTurn, FitsBuffers, FitsCounts, IsWaiting};
+ghost use Rattle.enip_server.specs.Rounds.{timeout_at, IsServedPeer};
+ghost use Rattle.enip_server.specs.PeerStates.{peer_state_of, fed_once, closed_at, IsFlushed, AreFed, IsDiscarded, IsTurn, FitsBuffers, FitsCounts, IsWaiting};
 ghost use Rattle.enip_server.specs.PeerStates.{IsFetched, IsByRead, IsThrough, GoesOn, IsCutShort, is_closed_now, turn_after};
 
-use crate::io_buffer::IoBuffer;
+use crate::io_buffer::{IO_BUFFER_SIZE, IoBuffer};
 use crate::wire::{ReadOutcome, Wire};
 use enip_adapter::{Adapter, Peer};
 
@@ -110,13 +111,6 @@ impl<W: Wire> PeerIo<W> {
         if !self.ready {
             return true;
         }
-        self.take_turn(adapter, now)
-    }
-
-    /// Takes one turn. Returns whether the stream goes on.
-    fn take_turn(&mut self, adapter: &mut Adapter, now: u64) -> bool
-        ensures { TakesTurn W.left W.written W.known W.counts now adapter.old self.old adapter.new self.new result }
-    {
         let turn = self.turn(adapter, now);
         self.ready = turn == Turn::More;
         turn != Turn::Finished
@@ -186,8 +180,7 @@ impl<W: Wire> PeerIo<W> {
         ensures end_reported { self.new.end_reported ≡ self.old.end_reported }
     {
         while !self.inbox.is_empty() {
-            self.feed_once(adapter, now);
-            if let Some(unsent) = self.flush() {
+            if let Some(unsent) = self.feed_once(adapter, now) {
                 return Some(unsent);
             }
             if self.closed.is_some() {
@@ -197,26 +190,53 @@ impl<W: Wire> PeerIo<W> {
         None
     }
 
-    /// Feeds the inbox up to the end of one frame, and puts the answer into the outbox.
-    fn feed_once(&mut self, adapter: &mut Adapter, now: u64)
+    /// Feeds the inbox up to the end of one frame, and writes the answer. Returns `None` if all of it is written.
+    fn feed_once(&mut self, adapter: &mut Adapter, now: u64) -> Option<Turn>
         requires out { self.old.outbox ≡ [] }
         requires open { self.old.closed ≡ None }
-        ensures fed { peer_state_of W.left W.written W.known W.counts adapter.new self.new
-            ≡ fed_once now self.old.peer (peer_state_of W.left W.written W.known W.counts adapter.old self.old) }
+        ensures fed { IsFlushed (fed_once now self.old.peer (peer_state_of W.left W.written W.known W.counts adapter.old self.old))
+            (peer_state_of W.left W.written W.known W.counts adapter.new self.new) }
+        ensures out { IfNone result (self.new.outbox ≡ []) }
+        ensures waits { IfSome result (λ turn. (self.new.outbox ≢ []) × IsWaiting turn) }
+        ensures goes_on { IfNone result (GoesOn (W.counts self.old.wire) (W.counts self.new.wire)) }
+        ensures fits_counts { IfSome result (λ turn.
+            IsCutShort self.new.closed turn (W.counts self.old.wire) (W.counts self.new.wire)) }
         ensures peer { self.new.peer ≡ self.old.peer }
         ensures end_reported { self.new.end_reported ≡ self.old.end_reported }
         ensures progress { 0 < length self.old.inbox → self.new.closed ≡ None →
             length self.new.inbox < length self.old.inbox }
     {
         let fed = adapter.feed(now, &self.peer, self.inbox.as_slice());
-        let (taken, close) = (fed.taken, fed.close);
-        if let Some(frame) = fed.answer {
-            self.outbox.put(frame);
+        self.inbox.drop_front(fed.taken);
+        self.closed = closed_at(now, fed.close);
+        match fed.answer {
+            Some(frame) => self.send(frame),
+            None => None,
         }
-        self.inbox.drop_front(taken);
-        if close {
-            self.closed = Some(now.saturating_add(LINGER));
+    }
+
+    /// Writes an answer. What the wire does not take goes to the outbox. Returns `None` if all of it is written.
+    fn send(&mut self, frame: &[u8]) -> Option<Turn>
+        requires out { self.old.outbox ≡ [] }
+        requires fits { length frame.now ≤ IO_BUFFER_SIZE }
+        ensures sent { (adapter : AdapterState) → IsFlushed
+            (record (peer_state_of W.left W.written W.known W.counts adapter self.old) { outbox = frame.now })
+            (peer_state_of W.left W.written W.known W.counts adapter self.new) }
+        ensures out { IfNone result (self.new.outbox ≡ []) }
+        ensures waits { IfSome result (λ turn. (self.new.outbox ≢ []) × IsWaiting turn) }
+        ensures goes_on { IfNone result (GoesOn (W.counts self.old.wire) (W.counts self.new.wire)) }
+        ensures fits_counts { IfSome result (λ turn.
+            IsCutShort self.new.closed turn (W.counts self.old.wire) (W.counts self.new.wire)) }
+        ensures peer { self.new.peer ≡ self.old.peer }
+        ensures end_reported { self.new.end_reported ≡ self.old.end_reported }
+        ensures inbox { self.new.inbox ≡ self.old.inbox }
+        ensures closed { self.new.closed ≡ self.old.closed }
+    {
+        let (written, unsent) = write_front(&mut self.wire, frame);
+        if unsent.is_some() {
+            self.outbox.put(&frame[written..]);
         }
+        unsent
     }
 
     /// Writes the outbox. Returns `None` once it is empty.
@@ -233,14 +253,9 @@ impl<W: Wire> PeerIo<W> {
         ensures inbox { self.new.inbox ≡ self.old.inbox }
         ensures closed { self.new.closed ≡ self.old.closed }
     {
-        while !self.outbox.is_empty() {
-            match self.wire.write(self.outbox.as_slice()) {
-                None => return Some(Turn::Finished),
-                Some(0) => return Some(Turn::UntilWritable),
-                Some(size) => self.outbox.drop_front(size),
-            }
-        }
-        None
+        let (written, unsent) = write_front(&mut self.wire, self.outbox.as_slice());
+        self.outbox.drop_front(written);
+        unsent
     }
 
     /// For a peer that the adapter closed: shuts the writing side down, makes one read and discards it.
@@ -258,4 +273,38 @@ impl<W: Wire> PeerIo<W> {
         self.inbox.clear();
         Turn::after(received, self.end_reported)
     }
+}
+
+/// If the adapter closes a peer at the time `now`: the time up to which it is still read.
+fn closed_at(now: u64, close: bool) -> Option<u64>
+    ensures { result ≡ closed_at now close }
+{
+    if close {
+        Some(now.saturating_add(LINGER))
+    } else {
+        None
+    }
+}
+
+/// Writes these bytes. Returns how many the wire took, and why it did not take all. `None` if it did.
+fn write_front<W: Wire>(wire: &mut W, bytes: &[u8]) -> (usize, Option<Turn>)
+    ensures within { result.0 ≤ length bytes.now }
+    ensures all { IfNone result.1 (result.0 ≡ length bytes.now) }
+    ensures some { IfSome result.1 (λ turn. (result.0 < length bytes.now) × IsWaiting turn) }
+    ensures written { Appends (W.written wire.old) (W.written wire.new) (take result.0 bytes.now) }
+    ensures left { W.left wire.new ≡ W.left wire.old }
+    ensures known { W.known wire.new ≡ W.known wire.old }
+    ensures reads { (W.counts wire.new).reads ≡ (W.counts wire.old).reads }
+    ensures goes_on { IfNone result.1 (GoesOn (W.counts wire.old) (W.counts wire.new)) }
+    ensures fits_counts { IfSome result.1 (λ turn. IsCutShort None turn (W.counts wire.old) (W.counts wire.new)) }
+{
+    let mut written = 0;
+    while written < bytes.len() {
+        match wire.write(&bytes[written..]) {
+            None => return (written, Some(Turn::Finished)),
+            Some(0) => return (written, Some(Turn::UntilWritable)),
+            Some(size) => written += size,
+        }
+    }
+    (written, None)
 }

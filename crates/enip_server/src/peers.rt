@@ -129,30 +129,20 @@ impl<W: Wire + Drop> Peers<W> {
             ready: false,
             moment: u64::MAX,
         };
-        let ended = self.serve_all(now, &mut due);
+        self.adapter.tick(now);
+        let ended = serve_slots(
+            &mut self.slots,
+            &mut self.adapter,
+            now,
+            self.idle_timeout,
+            &mut due,
+        );
         let deadline = self.adapter.deadline().unwrap_or(u64::MAX);
         RoundEnd {
             ended,
             ready: due.ready,
             next: moment_or_none(deadline.min(due.moment)),
         }
-    }
-
-    /// Gives the adapter the time, and serves each slot. Returns the number of peers that ended. When the others are
-    /// due again is added to `due`.
-    fn serve_all(&mut self, now: u64, due: &mut Due) -> usize
-        ensures round { IsRound W.left W.written W.known W.counts now (state_of self.old) (state_of self.new) }
-        ensures ended { result ≡ ended_in (state_of self.old).slots (state_of self.new).slots }
-        ensures due { due.new ≡ due_by (state_of self.new).idle_timeout due.old (state_of self.new).slots }
-    {
-        self.adapter.tick(now);
-        serve_slots(
-            &mut self.slots,
-            &mut self.adapter,
-            now,
-            self.idle_timeout,
-            due,
-        )
     }
 
     /// The answer to a datagram, written into `room`. A datagram is answered if it is exactly one ListIdentity,
