@@ -30,7 +30,7 @@ body_items-zero : (text : List ℕ) → 6 ≤ length text → number_at 0 4 text
 body_items-zero text long none = grind (arith, nat_tests)
 
 -- bytes with interface 0 begin a body
-begins_body-zero : (text : List ℕ) → AreBytes text → 6 ≤ length text → number_at 0 4 text ≡ 0 → BeginsBody text (drop 6 text)
+pub begins_body-zero : (text : List ℕ) → AreBytes text → 6 ≤ length text → number_at 0 4 text ≡ 0 → BeginsBody text (drop 6 text)
 begins_body-zero text fits long e =
     record {
       timeout = number_at 4 2 text;

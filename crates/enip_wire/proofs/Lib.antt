@@ -7,6 +7,7 @@ pub mod StreamLemmas
 pub mod PieceLemmas
 pub mod ItemLemmas
 pub mod BodyLemmas
+pub mod PlainLemmas
 pub mod WriteLemmas
 pub mod DeviceRows
 pub mod Rows

@@ -7,8 +7,9 @@
 //!
 //! Text: docs/PROTOCOL.md, "Packets: SendRRData and SendUnitData".
 
-ghost use Rattle.std.specs.Prelude.{◌≡◌, ◌↔◌, List, ℕ, Ok, Err};
+ghost use Rattle.std.specs.Prelude.{◌≡◌, ◌↔◌, ◌≤◌, ◌+◌, length, List, ℕ, Ok, Err, IfSome};
 ghost use Rattle.enip_wire.specs.declared.item_list.CpfFault.{CpfFault};
+ghost use Rattle.cip_bytes.specs.Numbers.{number_at};
 ghost use Rattle.cip_bytes.specs.Reading.{map_ok};
 ghost use Rattle.enip_wire.specs.Bodies.{IsRrBody, IsUnitBody, IsBodyFault, IsNullAddress, IsConnectedAddress};
 ghost use Rattle.enip_wire.specs.Bodies.{body_items_of, data_in, rr_body_of, unit_body_of};
@@ -35,6 +36,16 @@ pub(crate) const BODY_HEAD: usize = INTERFACE + 2;
 /// The size of the connection ID in a connected address item, in bytes.
 pub(crate) const CONNECTION_ID: usize = 4;
 
+/// The number of bytes before the data, in a body with exactly two items.
+const RR_FRONT: usize = 16;
+
+const UNIT_FRONT: usize = 20;
+
+/// The type and the length of an address item, as one number.
+const NULL_HEAD: u32 = 0;
+
+const CONNECTED_HEAD: u32 = 0x0004_00a1;
+
 /// Reads the body of a SendRRData and lends its data. The body is interface 0, any timeout, and items. The first
 /// item is the null address and the second the unconnected data. Further items are ignored. (Volume 2, SendRRData.)
 ///
@@ -59,6 +70,9 @@ pub fn rr_body(text: &[u8]) -> Result<&[u8], CpfFault>
 fn read_rr_body(text: &[u8]) -> Result<&[u8], CpfFault>
     ensures { map_ok (λ lent. lent.now) result ≡ rr_body_of text.now }
 {
+    if let Some(bytes) = rr_of_two(text) {
+        return Ok(bytes);
+    }
     let items = body_items(text)?;
     match items.first {
         // A null address item has no data.
@@ -96,6 +110,9 @@ pub fn unit_body(text: &[u8]) -> Result<(u32, &[u8]), CpfFault>
 fn read_unit_body(text: &[u8]) -> Result<(u32, &[u8]), CpfFault>
     ensures { map_ok {B = ℕ × List ℕ} (λ found. (found.0, found.1.now)) result ≡ unit_body_of text.now }
 {
+    if let Some(found) = unit_of_two(text) {
+        return Ok(found);
+    }
     let items = body_items(text)?;
     match items.first {
         // A connected address item is a connection ID.
@@ -106,6 +123,62 @@ fn read_unit_body(text: &[u8]) -> Result<(u32, &[u8]), CpfFault>
         }
         _ => Err(CpfFault::Address),
     }
+}
+
+/// The data of a SendRRData with exactly two items, the usual one. `None` for any other body. It saves going through
+/// the items.
+#[inline(always)]
+fn rr_of_two(text: &[u8]) -> Option<&[u8]>
+    ensures { IfSome result (λ bytes. rr_body_of text.now ≡ Ok bytes.now) }
+{
+    if text.len() >= RR_FRONT
+        && u32_at(text, 0) == 0
+        && u16_at(text, 6) == 2
+        && u32_at(text, 8) == NULL_HEAD
+        && u16_at(text, 12) == UNCONNECTED_DATA
+        && usize::from(u16_at(text, 14)) == text.len() - RR_FRONT
+    {
+        Some(&text[RR_FRONT..])
+    } else {
+        None
+    }
+}
+
+/// The connection ID and the data of a SendUnitData with exactly two items, the usual one. `None` for any other body.
+/// It saves going through the items.
+#[inline(always)]
+fn unit_of_two(text: &[u8]) -> Option<(u32, &[u8])>
+    ensures { IfSome result (λ found. unit_body_of text.now ≡ Ok (found.0, found.1.now)) }
+{
+    if text.len() >= UNIT_FRONT
+        && u32_at(text, 0) == 0
+        && u16_at(text, 6) == 2
+        && u32_at(text, 8) == CONNECTED_HEAD
+        && u16_at(text, 16) == CONNECTED_DATA
+        && usize::from(u16_at(text, 18)) == text.len() - UNIT_FRONT
+    {
+        Some((u32_at(text, 12), &text[UNIT_FRONT..]))
+    } else {
+        None
+    }
+}
+
+/// The number in two bytes at an offset.
+#[inline(always)]
+fn u16_at(text: &[u8], offset: usize) -> u16
+    requires { offset + 2 ≤ length text.now }
+    ensures { result ≡ number_at offset 2 text.now }
+{
+    LittleEndian::read_u16(&text[offset..offset + 2])
+}
+
+/// The number in four bytes at an offset.
+#[inline(always)]
+fn u32_at(text: &[u8], offset: usize) -> u32
+    requires { offset + 4 ≤ length text.now }
+    ensures { result ≡ number_at offset 4 text.now }
+{
+    LittleEndian::read_u32(&text[offset..offset + 4])
 }
 
 /// Reads the first two items of a body.
