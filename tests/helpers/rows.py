@@ -53,13 +53,16 @@ def failure(reason, code):
     return "enip: %s\n%s\n" % (reason, code)
 
 
-def run(program, arguments, text="", timeout=120, **streams):
+def run(program, arguments, text="", timeout=60, **streams):
     """The exit status of the program, its output and its errors. Bytes that are not UTF-8 become surrogates."""
     streams = {"stdout": subprocess.PIPE, "stderr": subprocess.PIPE, **streams}
     given = {} if "stdin" in streams else {"input": text}
-    done = subprocess.run(
-        [program, *arguments], timeout=timeout, encoding="utf-8", errors="surrogateescape", **given, **streams
-    )
+    try:
+        done = subprocess.run(
+            [program, *arguments], timeout=timeout, encoding="utf-8", errors="surrogateescape", **given, **streams
+        )
+    except subprocess.TimeoutExpired:
+        return "it still runs", "", ""
     return done.returncode, done.stdout, done.stderr
 
 
@@ -162,3 +165,27 @@ def folder():
         with open(os.path.join(path, "demo.toml"), "w") as copy:
             copy.write(demo.read())
         yield path
+
+
+class Calls:
+    """The preloaded library of calls.c: the environment of a run in which these rules apply, and its log."""
+
+    def __init__(self, folder):
+        self.folder, self.library, self.number = folder, os.path.join(folder, "calls.so"), 0
+        source = os.path.join(os.path.dirname(os.path.abspath(__file__)), "calls.c")
+        subprocess.run(["cc", "-shared", "-fPIC", "-O1", "-o", self.library, source, "-ldl"], check=True)
+        self.lock = threading.Lock()
+
+    def environment(self, rules=""):
+        """The environment, and the path of the log."""
+        with self.lock:
+            self.number += 1
+            path = os.path.join(self.folder, "log%d" % self.number)
+        return dict(os.environ, LD_PRELOAD=self.library, RULES=rules, CALLS_LOG=path), path
+
+    def run(self, program, arguments, rules="", text=""):
+        """A run with these rules: what `run` returns, and the lines of the log."""
+        environment, path = self.environment(rules)
+        got = run(program, arguments, text, env=environment)
+        with open(path) as log:
+            return got, log.read().splitlines()
