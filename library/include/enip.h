@@ -114,7 +114,8 @@ enum {
 /* Why enip_adapter_new refuses a configuration. */
 typedef struct enip_refusal {
     uint32_t number; /* the check that failed: one of ENIP_CONFIG_NAME and the following */
-    char text[512];  /* one line: where and what is wrong; empty if memory runs out or the line does not fit */
+    char text[512];  /* one line: where and what is wrong; empty if it does not fit. If memory runs out, it is empty or
+                        does not say where */
 } enip_refusal;
 
 /* Why a frame gets no answer. */

@@ -506,7 +506,7 @@ static void places(int with_freed) {
             is("places", next[how], words[0] == WORD(handle) && words[1] == WORD(first) && words[2] == WORD(other));
 #else
         if (how > 3) {
-            is("places", "their numbers", *first == 1 && *other == 16);
+            is("places", "their numbers", *first == 0 && *other == 16);
             memcpy(before + MIDDLE - 2, arena + MIDDLE - 2, 6);
         }
         is("places", "nothing else changes", memcmp(arena, before, ARENA) == 0);
