@@ -1,0 +1,77 @@
+"""Runs tests on a program until one fails."""
+import contextlib
+import os
+import re
+import signal
+import subprocess
+import threading
+import time
+from collections import Counter
+
+from mutating.sources import TOP
+
+# tests/memory also runs the proved tests, which are next to the proved program alone.
+NOT_RUN = ("memory",)
+# The seconds after which a test that has printed no result has failed, next to four times those that it usually takes.
+LONGEST = 300
+
+
+def tests_of_check(top=TOP):
+    """The tests of the built program that ./check runs."""
+    found = re.findall(r'^ *part "[^"]*" (tests/\w+) "\$program"$', (top / "check").read_text(), re.M)
+    return [it for it in found if it.split("/")[1] not in NOT_RUN]
+
+
+def first_tests(path, top=TOP):
+    """How often the planted errors of a file, and then of its crate, name a test as the first."""
+    alike, crate = Counter(), Counter()
+    for line in (top / "tests/data/planted_errors.tsv").read_text().splitlines():
+        fields = line.split("\t")
+        if len(fields) == 5 and fields[4].strip():
+            test = "tests/" + fields[4].split()[0]
+            alike[test] += fields[0] == path
+            crate[test] += fields[0].split("/")[:2] == path.split("/")[:2]
+    return alike, crate
+
+
+def in_order(tests, seconds, path):
+    """The tests, from the likeliest to the least likely to notice an error of a file."""
+    alike, crate = first_tests(path)
+    return sorted(tests, key=lambda it: (-alike[it], -crate[it], seconds[it]))
+
+
+def run(command, limit, environment=None):
+    """Runs a test up to the first failure that it prints. Returns the line, None if it passes, and the seconds."""
+    start = time.monotonic()
+    test = subprocess.Popen(
+        command, stdin=subprocess.DEVNULL, stdout=subprocess.PIPE, stderr=subprocess.DEVNULL, text=True, cwd=TOP,
+        env=dict(os.environ, PYTHONUNBUFFERED="1", PYTHONDONTWRITEBYTECODE="1", **environment or {}), errors="replace",
+        start_new_session=True,
+    )
+    late = threading.Timer(limit, end, [test])
+    late.start()
+    try:
+        line = next((it for it in test.stdout if not it.startswith("this machine")), "no result\n")
+        is_passed = re.fullmatch(r"[1-9]\d* passed, 0 failed\n", line)
+        return None if is_passed else line.rstrip("\n"), time.monotonic() - start
+    finally:
+        late.cancel()
+        end(test)
+        test.stdout.close()
+
+
+def end(test):
+    """Ends a test, and the devices that it may leave behind."""
+    with contextlib.suppress(ProcessLookupError):
+        os.killpg(test.pid, signal.SIGKILL)
+    test.wait()
+
+
+def noticed_by(program, tests, seconds):
+    """The first test that fails twice on a program, with its line, or None."""
+    for test in tests:
+        limit = LONGEST + 4 * seconds[test]
+        line, took = run([TOP / test, program], limit)
+        if line is not None and run([TOP / test, program], limit)[0] is not None:
+            return "%s, %.0f s: %s" % (test.split("/")[1], took, line[:160])
+    return None

@@ -1,0 +1,154 @@
+"""What no clause tells: the functions, constants and texts of the product's crates in which an error can be planted.
+
+A function is told if a clause `ensures` says something of its result or of what it changes, or if the trait that it
+implements is of this repository and says so. A constant is told if a told function names it.
+"""
+import re
+from functools import cached_property
+from pathlib import Path
+
+from mutating.tokens import closing, tokens_of
+
+TOP = Path(__file__).resolve().parent.parent.parent
+# The program. The crates that it depends on are the product, too. (The crate enip_c can't be built unproved.)
+PRODUCTS = ("enip_cmd",)
+
+
+def product_crates(top=TOP):
+    """The crates of the product, in the order of crates.txt."""
+    lines = (it.partition(":") for it in (top / "crates.txt").read_text().splitlines() if not it.startswith("#"))
+    listed = {name.split()[0]: libraries.split() for name, _, libraries in lines if name}
+    wanted = {it for name in PRODUCTS for it in (name, *listed[name])}
+    return [name for name in listed if name in wanted]
+
+
+class Function:
+    """A function: where its body is in its file, its clauses, and the type of its result."""
+
+    def __init__(self, source, name, owner, start):
+        self.source, self.name, self.owner, self.start = source, name, owner, start
+        self.clauses, self.result, self.body = [], "", None
+        self.is_const = self.is_test = False
+
+    @property
+    def is_told(self):
+        own = any("result" in it or ".new" in it or it.startswith("ensures*") for it in self.clauses)
+        return own or (self.owner.partition(" for ")[0].split("<")[0].split("::")[-1], self.name) in self.source.told
+
+    def contains(self, offset):
+        return self.body is not None and self.body[0] <= offset < self.body[1]
+
+
+class Source:
+    """A source file of a crate."""
+
+    def __init__(self, crate, path, told):
+        self.crate, self.path, self.told = crate, path, told
+        self.text = (TOP / path).read_text()
+
+    @cached_property
+    def tokens(self):
+        return tokens_of(self.text)
+
+    @cached_property
+    def functions(self):
+        """The functions that are not inside another one, in order."""
+        found, owners, at, depth = [], [], 0, 0
+        while at < len(self.tokens):
+            token = self.tokens[at]
+            if token.kind == "word" and token.text in ("impl", "trait", "macro_rules", "macro"):
+                head = next(it for it in range(at, len(self.tokens)) if self.tokens[it].text in "{;")
+                owners.append((closing(self.tokens, head), self.text[token.start:self.tokens[head].start].strip()))
+                at = head
+            elif token.text == "fn" and self.tokens[at + 1].kind == "word":
+                owner = next((it for end, it in reversed(owners) if end > at), "")
+                function, at = self.function_at(at, re.sub(r"^(impl|trait)(<[^>]*>)? *", "", owner))
+                if function.body and not owner.startswith("macro") and not function.is_test:
+                    found.append(function)
+            at += 1
+        return found
+
+    def function_at(self, at, owner):
+        """The function whose `fn` is at an index, and the index of its last token."""
+        tokens, function = self.tokens, Function(self, self.tokens[at + 1].text, owner, self.tokens[at].start)
+        before = [it.text for it in tokens[max(0, at - 8):at]]
+        function.is_const = "const" in before[-3:]
+        function.is_test = "test" in before and "#" in before
+        while tokens[at].text != "(":
+            at += 1
+        at = closing(tokens, at) + 1
+        begin = at
+        result = None
+        while tokens[at].text not in ("{", ";"):
+            if tokens[at].text in ("requires", "ensures"):
+                result, first = result or at, at
+                while tokens[at].text != "{":
+                    at += 1
+                at = closing(tokens, at)
+                if tokens[first].text == "ensures":
+                    function.clauses.append(self.text[tokens[first].start:tokens[at].end])
+            at += 1
+        result = self.text[tokens[begin].start:tokens[result or at].start]
+        function.result = " ".join(result.partition("where")[0].removeprefix("->").split())
+        if tokens[at].text == "{":
+            end = closing(tokens, at)
+            function.body = (tokens[at].end, tokens[end].start)
+            at = end
+        return function, at
+
+    @cached_property
+    def constants(self):
+        """The constants and statics outside of functions: name, the offsets of the item, and of the value."""
+        found = []
+        starts = {it.start(1) for it in re.finditer(r"^(?:pub(?:\(\w+\))? )?(const|static) \w+:", self.text, re.M)}
+        for at, token in enumerate(self.tokens):
+            if token.start not in starts:
+                continue
+            equals = next(it for it in range(at, len(self.tokens)) if self.tokens[it].text == "=")
+            end = equals
+            while self.tokens[end].text != ";":
+                end = closing(self.tokens, end) + 1 if self.tokens[end].text in "([{" else end + 1
+            value = (self.tokens[equals + 1].start, self.tokens[end].start)
+            found.append((self.tokens[at + 1].text, token.start, self.tokens[end].end, value))
+        return found
+
+    @cached_property
+    def shown_texts(self):
+        """The texts of the attributes `#[error(..)]`, which a derive turns into what is printed."""
+        return [
+            self.tokens[at + 4] for at in range(len(self.tokens) - 4)
+            if [it.text for it in self.tokens[at:at + 4]] == ["#", "[", "error", "("] and self.tokens[at + 4].kind == "text"
+        ]
+
+
+class Sources:
+    """The source files of the product's crates."""
+
+    def __init__(self):
+        told = set()
+        self.files = [
+            Source(crate, str(path.relative_to(TOP)), told)
+            for crate in product_crates() for path in sorted((TOP / "crates" / crate / "src").rglob("*.rt"))
+        ]
+        for source in self.files:
+            for trait in re.finditer(r"^(?:pub )?trait (\w+)[^{]*\{\n(.*?)^\}", source.text, re.M | re.S):
+                for method in re.finditer(r"\bfn (\w+)(?:(?!\bfn\b).)*?\bensures\b", trait[2], re.S):
+                    told.add((trait[1], method[1]))
+
+    def naming(self, source, name):
+        """The functions that name a constant of a file, in its crate and above, and whether anything else names it."""
+        functions, elsewhere = [], False
+        for other in self.files:
+            if other.crate != source.crate and not re.search(r"\b%s::" % source.crate, other.text):
+                continue
+            for token in other.tokens:
+                if token.text != name or token.kind != "word":
+                    continue
+                function = next((it for it in other.functions if it.contains(token.start)), None)
+                if function and function not in functions:
+                    functions.append(function)
+                elif not function:
+                    line = other.text[other.text.rfind("\n", 0, token.start) + 1:]
+                    is_import = re.match(r"\s*(pub )?(ghost )?use ", line) or re.match(r"\s*[\w, {}:]+;?$", line.split("\n")[0])
+                    elsewhere = elsewhere or not is_import and not re.match(r"(pub(\(\w+\))? )?(const|static) %s\b" % name, line)
+        return functions, elsewhere
