@@ -9,3 +9,4 @@ pub mod Opens
 pub mod Closes
 pub mod Rows
 pub mod OpenPaths
+pub mod UsualPaths

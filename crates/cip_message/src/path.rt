@@ -250,10 +250,39 @@ pub fn read_path(bytes: &[u8]) -> Result<Path, PathFault>
     path_at(bytes)
 }
 
-/// Reads all of the bytes as a path: the computation.
+/// Reads all of the bytes as a path: the computation. Most paths are a class and an instance, or an attribute too, all
+/// in 8-bit format. Such a path is recognized whole.
+#[inline(always)]
+#[tactic(auto, using(crate::proofs::UsualPaths::instance_path, crate::proofs::UsualPaths::attribute_path))]
+fn path_at(bytes: &[u8]) -> Result<Path, PathFault>
+    ensures { result ≡ path_of bytes.now }
+{
+    match bytes {
+        [0x20, class, 0x24, instance] => Ok(usual_path(*class, *instance, None)),
+        [0x20, class, 0x24, instance, 0x30, attribute] => {
+            Ok(usual_path(*class, *instance, Some(u16::from(*attribute))))
+        }
+        _ => segments_at(bytes),
+    }
+}
+
+/// The path with these 8-bit values, and without a member.
+#[inline(always)]
+fn usual_path(class: u8, instance: u8, attribute: Option<u16>) -> Path
+    ensures { result ≡ record { class = class; instance = instance; attribute = attribute; member = None } }
+{
+    Path {
+        class: u16::from(class),
+        instance: u32::from(instance),
+        attribute,
+        member: None,
+    }
+}
+
+/// Reads all of the bytes as a path, segment by segment, in any form.
 #[inline(always)]
 #[tactic(auto, unfolding(crate::specs::PathReading::path_of))]
-fn path_at(bytes: &[u8]) -> Result<Path, PathFault>
+fn segments_at(bytes: &[u8]) -> Result<Path, PathFault>
     ensures { result ≡ path_of bytes.now }
 {
     let (class, rest) = class(bytes)?;
