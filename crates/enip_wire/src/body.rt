@@ -65,14 +65,22 @@ pub fn rr_body(text: &[u8]) -> Result<&[u8], CpfFault>
 }
 
 /// Reads the body of a SendRRData: the computation.
-#[tactic(auto, using(crate::proofs::TwoLemmas::rr_two))]
 #[inline(always)]
 fn read_rr_body(text: &[u8]) -> Result<&[u8], CpfFault>
     ensures { map_ok (λ lent. lent.now) result ≡ rr_body_of text.now }
 {
-    if let Some(bytes) = rr_of_two(text) {
-        return Ok(bytes);
+    match rr_of_two(text) {
+        Some(bytes) => Ok(bytes),
+        None => rr_by_items(text),
     }
+}
+
+/// Reads the body of a SendRRData, item by item.
+#[tactic(auto, using(crate::proofs::TwoLemmas::rr_two))]
+#[inline(never)]
+fn rr_by_items(text: &[u8]) -> Result<&[u8], CpfFault>
+    ensures { map_ok (λ lent. lent.now) result ≡ rr_body_of text.now }
+{
     let items = body_items(text)?;
     match items.first {
         // A null address item has no data.
@@ -105,14 +113,22 @@ pub fn unit_body(text: &[u8]) -> Result<(u32, &[u8]), CpfFault>
 }
 
 /// Reads the body of a SendUnitData: the computation.
-#[tactic(auto, using(crate::proofs::TwoLemmas::unit_two))]
 #[inline(always)]
 fn read_unit_body(text: &[u8]) -> Result<(u32, &[u8]), CpfFault>
     ensures { map_ok {B = ℕ × List ℕ} (λ found. (found.0, found.1.now)) result ≡ unit_body_of text.now }
 {
-    if let Some(found) = unit_of_two(text) {
-        return Ok(found);
+    match unit_of_two(text) {
+        Some(found) => Ok(found),
+        None => unit_by_items(text),
     }
+}
+
+/// Reads the body of a SendUnitData, item by item.
+#[tactic(auto, using(crate::proofs::TwoLemmas::unit_two))]
+#[inline(never)]
+fn unit_by_items(text: &[u8]) -> Result<(u32, &[u8]), CpfFault>
+    ensures { map_ok {B = ℕ × List ℕ} (λ found. (found.0, found.1.now)) result ≡ unit_body_of text.now }
+{
     let items = body_items(text)?;
     match items.first {
         // A connected address item is a connection ID.
