@@ -1,6 +1,6 @@
 -- How a peer's stream is cut into pieces, and when they arrive, does not matter between its frames.
-use Rattle.std.proofs.Common.{◌≡◌, ℕ, zero, suc, ◌+◌, ◌-◌, ◌≤◌, max, List, [], ◌∷◌, ◌++◌, Bool, true, false, cond, not}
-use Rattle.std.proofs.Common.{◌||◌, ltb, length, take, drop, Option, Some, None, refl, sym, ap, subst, ◌∙◌, arith}
+use Rattle.std.proofs.Common.{◌≡◌, ℕ, zero, suc, ◌-◌, ◌≤◌, max, List, [], ◌∷◌, ◌++◌, Bool, true, false, cond}
+use Rattle.std.proofs.Common.{◌||◌, ltb, length, drop, Option, Some, None, refl, sym, ap, subst, ◌∙◌, arith}
 use Rattle.std.proofs.Common.{append-nil, length-drop}
 use Rattle.std.specs.Prelude.{filter}
 use Rattle.std.proofs.lemmas.Bool.{false≢true, ltb-true, lt-ltb}
@@ -8,7 +8,7 @@ use Rattle.cip_manager.specs.declared.connection.Connection.{Connection}
 use Rattle.cip_manager.specs.Connection.{is_open_at}
 use Rattle.cip_manager.proofs.ListLemmas.{filter-implied}
 use Rattle.cip_ledger.specs.Device.{Device}
-use Rattle.enip_wire.specs.Stream.{Parsed, bytes_taken, held_and_taken, parsed}
+use Rattle.enip_wire.specs.Stream.{Parsed, held_and_taken, parsed}
 use Rattle.enip_wire.specs.Stream.Parsed.{Incomplete, WholeFrame, TooLongHeader}
 use Rattle.enip_adapter.specs.declared.adapter.Limits.{Limits}
 use Rattle.enip_adapter.specs.declared.peer.Session.{Session}
@@ -24,7 +24,7 @@ use Rattle.enip_adapter.specs.Calls.Call.{Feeds}
 use Rattle.enip_adapter.specs.Runs.{after_calls, visible_answers, TimedPiece, joined, is_completing}
 use Rattle.enip_adapter.specs.Runs.{completion_moments, FeedsTimedPieces}
 use Rattle.enip_adapter.specs.Runs.FeedsTimedPieces.{Ended, Taken, Continued, Closed}
-use Rattle.enip_adapter.proofs.CutLemmas.{Front, Same, Waits, front, front-open, shown, feed-open, IsOpen, quiet, waiting}
+use Rattle.enip_adapter.proofs.CutLemmas.{Front, Same, Waits, front, front-open, feed-open, IsOpen, quiet, waiting}
 use Rattle.enip_adapter.proofs.CutLemmas.{HasWaited, has-waited, IsJoined, is-joined, told-cons, told-quiet, at-twice}
 use Rattle.enip_adapter.proofs.CutLemmas.{drop-front, drop-whole}
 use Rattle.enip_adapter.proofs.PeerLemmas.{at_state}
