@@ -470,7 +470,7 @@ begins-as a peer sound output =
     record {
       below = is.below;
       fresh = fresh;
-      device = device-same a Begins_peer refl;
+      device = device-same a Begins_peer tt refl;
       holds = record {
         found = is.found fresh;
         alive = refl;
