@@ -2,7 +2,7 @@
 use Rattle.std.proofs.Common.{◌≡◌, ◌≢◌, ℕ, zero, suc, List, [], ◌∷◌, ◌++◌, refl, sym, ap, subst, ◌∙◌, Option}
 use Rattle.std.specs.List.{AllByRecursion}
 use Rattle.enip_adapter.specs.Calls.{AdapterState, Call, after_call}
-use Rattle.enip_adapter.specs.Calls.Call.{Begins_peer, Feeds, Ends_peer, Ticks}
+use Rattle.enip_adapter.specs.Calls.Call.{Begins_peer, Feeds, Ends_peer, Ticks, Writes}
 use Rattle.enip_adapter.specs.Runs.{after_calls, IsForOther}
 use Rattle.enip_adapter.specs.Serving.{feeds}
 use Rattle.enip_adapter.specs.AdapterActions.{IsFeedOf, AreFeeds, AdapterAction, LeadTo, AmountTo, IsActionForOther}
@@ -83,6 +83,7 @@ feed_for_other now to peer Begins_peer is differs = absurd is
 feed_for_other now to peer (Feeds at other piece) is differs = subst (λ n. n ≢ peer) (sym is.1) differs
 feed_for_other now to peer (Ends_peer other) is differs = absurd is
 feed_for_other now to peer (Ticks at) is differs = absurd is
+feed_for_other now to peer (Writes write) is differs = absurd is
 
 feeds_for_other : (now to peer : ℕ) (calls : List Call) → AllByRecursion (IsFeedOf now to) calls → to ≢ peer
     → AllByRecursion (IsForOther peer) calls

@@ -42,7 +42,7 @@ use Rattle.enip_adapter.specs.Turn.Event.{At}
 use Rattle.enip_adapter.specs.Turn.Output.{NoReply}
 use Rattle.enip_adapter.specs.Calls.{AdapterState, Call, Meaning, call_meaning, after_call, call_answer}
 use Rattle.enip_adapter.specs.Calls.{bytes_held, events_of_parsed}
-use Rattle.enip_adapter.specs.Calls.Call.{Begins_peer, Feeds, Ends_peer, Ticks}
+use Rattle.enip_adapter.specs.Calls.Call.{Begins_peer, Feeds, Ends_peer, Ticks, Writes}
 use Rattle.enip_adapter.specs.EndCauses.{is_deadline_reached, is_end_of, is_closed_in, reason_in_calls}
 use Rattle.enip_adapter.specs.EndCauses.{ending_in_calls, endings_in_calls, CarriesClose, IsForwardClosed, IsReportedClosed}
 use Rattle.enip_adapter.specs.Endings.{EndingsState, updated, end_reason, reason_of_session, ending, endings_of}
@@ -436,6 +436,7 @@ closed-by a c (Ticks now) own none shut =
     contradiction _
     (in-open (in-filter (is_open_at (max a.state.shared.moment now)) own.is
     (in-time c a.state.shared.moment now none.in_time))) shut
+closed-by a c (Writes write) own none shut = contradiction _ (in-open own.is) shut
 
 each-closed : (a : AdapterState) (call : Call) (cs : List Connection)
     → ((c : Connection) → In c cs → In c a.state.shared.manager.connections)

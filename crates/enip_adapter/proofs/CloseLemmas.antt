@@ -22,7 +22,7 @@ use Rattle.enip_adapter.specs.Turn.Output.{NoReply, Begins}
 use Rattle.enip_adapter.specs.Calls.{AdapterState, Call, Meaning, call_meaning, after_call, call_answer}
 use Rattle.enip_adapter.specs.Calls.{answer_of, bytes_found, bytes_held, piece_to, piece_meaning, dropped_piece}
 use Rattle.enip_adapter.specs.Calls.{at_a_moment, events_of_parsed}
-use Rattle.enip_adapter.specs.Calls.Call.{Begins_peer, Feeds, Ends_peer, Ticks}
+use Rattle.enip_adapter.specs.Calls.Call.{Begins_peer, Feeds, Ends_peer, Ticks, Writes}
 use Rattle.enip_adapter.specs.Runs.{after_calls, frames_of_peer, taken_by_call, taken_by_calls}
 use Rattle.enip_adapter.specs.Runs.{GoesOn, Run, at_beginning, at_end, taken_in, frames_in}
 use Rattle.enip_adapter.specs.Serving.{is_open, is_peer_served}
@@ -130,6 +130,7 @@ live-call base peer session a (Feeds now other piece) sound says front b bs e = 
     go false t f = absurd (no-byte front b bs f)
 live-call base peer session a (Ends_peer other) sound says front b bs e = absurd (no-byte front b bs e)
 live-call base peer session a (Ticks now) sound says front b bs e = absurd (no-byte front b bs e)
+live-call base peer session a (Writes write) sound says front b bs e = absurd (no-byte front b bs e)
 
 -- A byte of two joined lists belongs to the first or to the second.
 data Split (xs more front : List ℕ) (b : ℕ) (bs : List ℕ) : Type 0 where

@@ -10,7 +10,7 @@ use Rattle.enip_adapter.specs.Turn.Output.{NoReply, Sends, Begins, Refuses}
 use Rattle.enip_adapter.specs.Calls.{AdapterState, Held, Call, Meaning, call_meaning, after_call, call_answer}
 use Rattle.enip_adapter.specs.Calls.{answer_of, at_a_moment, piece_to, piece_meaning, dropped_piece, bytes_held}
 use Rattle.enip_adapter.specs.Calls.{events_of_parsed}
-use Rattle.enip_adapter.specs.Calls.Call.{Begins_peer, Feeds, Ends_peer, Ticks}
+use Rattle.enip_adapter.specs.Calls.Call.{Begins_peer, Feeds, Ends_peer, Ticks, Writes}
 use Rattle.enip_adapter.specs.Runs.{after_calls, call_answers, events_of_calls, answers_by_call, outputs_before, outputs_in}
 
 -- The answers and the state of events, in two parts.
@@ -72,6 +72,7 @@ told-call a (Feeds now peer piece) =
     (told-parsed_frame a.state now peer)
 told-call a (Ends_peer peer) = record { output = refl; close = refl }
 told-call a (Ticks now) = record { output = refl; close = refl }
+told-call a (Writes write) = record { output = refl; close = refl }
 
 pub close-call : (a : AdapterState) (c : Call)
     → (call_answer a c).close

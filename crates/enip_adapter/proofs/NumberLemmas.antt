@@ -26,11 +26,11 @@ use Rattle.enip_adapter.specs.declared.no_reply_reason.NoReplyReason.TheVariants
 use Rattle.enip_adapter.specs.Replies.{Reply, Reply as replies, Served, leaving}
 use Rattle.enip_adapter.specs.Turn.{State, Event, Output, TurnResult, turn, begun, after, session_of, serve_found}
 use Rattle.enip_adapter.specs.Turn.{end_found, sent}
-use Rattle.enip_adapter.specs.Turn.Event.{Begin, End, At, Framed, Long}
+use Rattle.enip_adapter.specs.Turn.Event.{Begin, End, At, Framed, Long, Written}
 use Rattle.enip_adapter.specs.Turn.Output.{NoReply}
 use Rattle.enip_adapter.specs.Calls.{AdapterState, Held, Call, Meaning, call_meaning, after_call, answer_of}
 use Rattle.enip_adapter.specs.Calls.{at_a_moment, piece_to, events_of_parsed}
-use Rattle.enip_adapter.specs.Calls.Call.{Begins_peer, Feeds, Ends_peer, Ticks}
+use Rattle.enip_adapter.specs.Calls.Call.{Begins_peer, Feeds, Ends_peer, Ticks, Writes}
 use Rattle.enip_adapter.specs.Runs.{call_answers, handle_before, handles_in, RisesFrom, is_new, new_connections}
 use Rattle.enip_adapter.specs.Runs.{ids_of_events}
 use Rattle.enip_adapter.proofs.CommandLemmas.{after_command}
@@ -126,6 +126,7 @@ handles-rise a (Ends_peer peer ∷ cs) =
     rises-plain a.state.next_handle _ (NoReply NoFrame) _ (λ more. refl) (next-ended a.state peer (session_of a.state peer))
     (handles-rise (after_call a (Ends_peer peer)) cs)
 handles-rise a (Ticks now ∷ cs) = handles-rise (after_call a (Ticks now)) cs
+handles-rise a (Writes write ∷ cs) = handles-rise (after_call a (Writes write)) cs
 
 -- Each of these IDs is below the next.
 abbrev AreDrawn : ManagerState → Type 0
@@ -283,6 +284,7 @@ rises-event s Begin drawn =
     (rises-same s.shared.manager drawn) (rises-same s.shared.manager drawn))
 rises-event s (End peer) drawn = rises-ended s peer (session_of s peer) drawn
 rises-event s (At now) drawn = rises-filter (is_open_at (max s.shared.moment now)) s.shared.manager drawn
+rises-event s (Written write) drawn = rises-same s.shared.manager drawn
 rises-event s (Framed peer f) drawn =
     rises-served s peer (λ session. command_served s.shared session f) (session_of s peer) drawn
     (λ session. rises-command s.shared session f drawn)

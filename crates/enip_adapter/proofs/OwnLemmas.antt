@@ -27,7 +27,7 @@ use Rattle.enip_adapter.specs.Turn.Output.{NoReply, Begins}
 use Rattle.enip_adapter.specs.Calls.{AdapterState, Held, Call, Meaning, call_meaning, after_call, after_meaning}
 use Rattle.enip_adapter.specs.Calls.{bytes_found, bytes_held, piece_to, piece_meaning, dropped_piece, at_a_moment}
 use Rattle.enip_adapter.specs.Calls.{events_of_parsed}
-use Rattle.enip_adapter.specs.Calls.Call.{Begins_peer, Feeds, Ends_peer, Ticks}
+use Rattle.enip_adapter.specs.Calls.Call.{Begins_peer, Feeds, Ends_peer, Ticks, Writes}
 use Rattle.enip_adapter.specs.Runs.{after_calls, events_of_calls, frames_of_peer, IsForOther, GoesOn, Run}
 use Rattle.enip_adapter.specs.Runs.{at_beginning, at_end, taken_in, frames_in}
 use Rattle.enip_adapter.proofs.CutLemmas.{feed-open}
@@ -241,6 +241,8 @@ says-call base peer session a (Feeds now other piece) sound goes says = go (eqb 
 says-call base peer session a (Ends_peer other) sound goes says = says-other base peer session a
     (Ends_peer other) goes says refl
 says-call base peer session a (Ticks now) sound goes says = says-other base peer session a (Ticks now) tt says refl
+says-call base peer session a (Writes write) sound goes says =
+    says-other base peer session a (Writes write) tt says refl
 
 says-calls : (base : Shared) (peer : ℕ) (session : Session) (a : AdapterState) (calls : List Call) → IsSound a
     → AllByRecursion (GoesOn peer) calls

@@ -22,7 +22,7 @@ use Rattle.enip_adapter.specs.Turn.{State, TurnResult, begun, after, session_of,
 use Rattle.enip_adapter.specs.Turn.{shared_after, without_connections, at_moment}
 use Rattle.enip_adapter.specs.Calls.{AdapterState, Held, Call, Meaning, after_call, bytes_found, bytes_held}
 use Rattle.enip_adapter.specs.Calls.{held_at_beginning, piece_to, events_of_parsed}
-use Rattle.enip_adapter.specs.Calls.Call.{Begins_peer, Feeds, Ends_peer, Ticks}
+use Rattle.enip_adapter.specs.Calls.Call.{Begins_peer, Feeds, Ends_peer, Ticks, Writes}
 use Rattle.enip_adapter.specs.Runs.{after_calls, IsForOther, moments_of_calls, is_open_at_all}
 use Rattle.enip_adapter.proofs.CommandLemmas.{after_command}
 use Rattle.enip_adapter.proofs.ListLemmas.{both, first_with-number, first_with-changed, first_with-removed}
@@ -201,6 +201,7 @@ held-call peer a Begins_peer other = held-begun a.state peer a.held
 held-call peer a (Feeds now q piece) other = held-piece peer q piece a.held (session_of a.state q) other
 held-call peer a (Ends_peer q) other = ap bytes_found (first_with-removed (λ h. h.peer) peer q a.held other)
 held-call peer a (Ticks now) other = refl
+held-call peer a (Writes write) other = refl
 
 pub session-call : (peer : ℕ) (session : Session) (a : AdapterState) (c : Call) → IsForOther peer c
     → session_of a.state peer ≡ Some session
@@ -211,6 +212,7 @@ session-call peer session a (Feeds now q piece) other e =
 session-call peer session a (Ends_peer q) other e =
     (spares-ended a.state peer q (session_of a.state q) other).session session e
 session-call peer session a (Ticks now) other e = e
+session-call peer session a (Writes write) other e = e
 
 pub session-calls : (peer : ℕ) (session : Session) (a : AdapterState) (calls : List Call)
     → AllByRecursion (IsForOther peer) calls
@@ -261,3 +263,5 @@ connections-calls peer a (Ends_peer q ∷ cs) others =
     (connections-calls peer (after_call a (Ends_peer q)) cs others.1)
 connections-calls peer a (Ticks now ∷ cs) others =
     moved peer a.state now cs _ (connections-calls peer (after_call a (Ticks now)) cs others.1)
+connections-calls peer a (Writes write ∷ cs) others =
+    connections-calls peer (after_call a (Writes write)) cs others.1

@@ -24,7 +24,7 @@ use Rattle.enip_adapter.specs.Lookup.{with_first}
 use Rattle.enip_adapter.specs.Replies.{Served, leaving}
 use Rattle.enip_adapter.specs.Turn.{State, Event, TurnResult, turn, begun, after, session_of, serve_found, end_found}
 use Rattle.enip_adapter.specs.Turn.{session_after, without_connections, with_peer, turned}
-use Rattle.enip_adapter.specs.Turn.Event.{Begin, End, At, Framed, Long}
+use Rattle.enip_adapter.specs.Turn.Event.{Begin, End, At, Framed, Long, Written}
 use Rattle.enip_adapter.specs.Turn.Output.{NoReply}
 use Rattle.enip_adapter.specs.Calls.{AdapterState, Call, call_meaning, after_call}
 use Rattle.enip_adapter.specs.Runs.{after_calls}
@@ -243,6 +243,7 @@ rooted-event s (End peer) rooted = rooted-ended s peer (session_of s peer) roote
 rooted-event s (At now) rooted =
     each-filter (is_open_at (max s.shared.moment now)) (λ (c : Connection). IsHeldOpen s c.session)
     (λ (c : Connection). IsHeldOpen s c.session) s.shared.manager.connections (λ c t r. r) rooted
+rooted-event s (Written write) rooted = rooted
 rooted-event s (Framed peer f) rooted =
     rooted-served s peer (λ session. command_served s.shared session f)
     (λ session own. of-command (IsHeldOpen s) s.shared session f own rooted) rooted

@@ -15,7 +15,7 @@ use Rattle.enip_adapter.specs.Replies.{Served, leaving}
 use Rattle.enip_adapter.specs.Turn.{State, TurnResult, begun, new_session, after, session_of, serve_found, end_found}
 use Rattle.enip_adapter.specs.Calls.{AdapterState, Held, Call, Meaning, call_meaning, after_call, call_answer}
 use Rattle.enip_adapter.specs.Calls.{bytes_held, piece_to, piece_meaning, dropped_piece, at_a_moment, events_of_parsed}
-use Rattle.enip_adapter.specs.Calls.Call.{Begins_peer, Feeds, Ends_peer, Ticks}
+use Rattle.enip_adapter.specs.Calls.Call.{Begins_peer, Feeds, Ends_peer, Ticks, Writes}
 use Rattle.enip_adapter.specs.EndCauses.{is_end_of, is_close_of, is_closed_in}
 use Rattle.enip_adapter.specs.Endings.{reason_of_session}
 use Rattle.enip_adapter.specs.Runs.{after_calls, moments_of_calls, IsForOther}
@@ -112,6 +112,7 @@ reached deadline a (Ticks now ∷ cs) =
     reached deadline (after_call a (Ticks now)) cs
     ∙ absorbed (leb deadline a.state.shared.moment) (leb deadline (max a.state.shared.moment now)) _
     (later deadline a.state.shared.moment now)
+reached deadline a (Writes write ∷ cs) = reached deadline (after_call a (Writes write)) cs
 
 -- ---- a peer that ended
 
@@ -157,6 +158,7 @@ gone-call peer a (Ends_peer other) is = record {
   assigned = subst (λ n. peer < n) (sym (next-ended a.state other (session_of a.state other))) is.assigned;
 }
 gone-call peer a (Ticks now) is = record { none = is.none; assigned = is.assigned }
+gone-call peer a (Writes write) is = record { none = is.none; assigned = is.assigned }
 
 gone-calls : (peer : ℕ) (a : AdapterState) (calls : List Call) → IsGone peer a
     → session_of (after_calls a calls).state peer ≡ None
@@ -189,6 +191,7 @@ gone-end peer session a (Ends_peer other) sound found e =
           (below-found a.state.next_handle peer session a.state.peers found sound.drawn.below);
     })
 gone-end peer session a (Ticks now) sound found e = cc
+gone-end peer session a (Writes write) sound found e = cc
 
 -- ---- a peer that did not end
 
@@ -283,6 +286,7 @@ stays-call peer old a (Feeds now other piece) found e = go (eqb other peer) refl
 stays-call peer old a (Ends_peer other) found e =
     stays-other peer old a (Ends_peer other) (eqb-false other peer e) found refl
 stays-call peer old a (Ticks now) found e = stays-other peer old a (Ticks now) tt found refl
+stays-call peer old a (Writes write) found e = stays-other peer old a (Writes write) tt found refl
 
 -- ---- the session after calls
 

@@ -19,7 +19,7 @@ use Rattle.enip_adapter.specs.Turn.Output.{NoReply}
 use Rattle.enip_adapter.specs.Calls.{AdapterState, Held, Call, Meaning, call_meaning, after_call, bytes_found}
 use Rattle.enip_adapter.specs.Calls.{bytes_held, held_at_beginning, piece_to, piece_meaning, dropped_piece}
 use Rattle.enip_adapter.specs.Calls.{at_a_moment, events_of_parsed, answer_of, call_answer}
-use Rattle.enip_adapter.specs.Calls.Call.{Begins_peer, Feeds, Ends_peer, Ticks}
+use Rattle.enip_adapter.specs.Calls.Call.{Begins_peer, Feeds, Ends_peer, Ticks, Writes}
 use Rattle.enip_adapter.specs.Runs.{after_calls, IsForOther}
 use Rattle.enip_adapter.proofs.ListLemmas.{both, first_with-number, first_with-set, without_first-none, numbers}
 use Rattle.enip_adapter.proofs.ListLemmas.{numbers-with_first, numbers-without_first, none-numbers, numbers-none}
@@ -122,6 +122,7 @@ numbers-call a (Ends_peer peer) sound =
           (drawn-without a.state.next_handle peer (handles a.state) sound.drawn));
     }
 numbers-call a (Ticks now) sound = record { same = sound.same; drawn = sound.drawn }
+numbers-call a (Writes write) sound = record { same = sound.same; drawn = sound.drawn }
 
 -- A peer with no session has no entry, and one with a session has one.
 pub no-entry : (a : AdapterState) (peer : ℕ) → entries a.held ≡ handles a.state → session_of a.state peer ≡ None
@@ -267,6 +268,7 @@ ready-call a (Ends_peer other) peer sound = go (eqb other peer) refl
         (ready-ended a other sound)
     go false t = ready-other a (Ends_peer other) peer sound (eqb-false other peer t)
 ready-call a (Ticks now) peer sound = ready-other a (Ticks now) peer sound tt
+ready-call a (Writes write) peer sound = ready-other a (Writes write) peer sound tt
 
 pub sound-call : (a : AdapterState) (c : Call) → IsSound a → IsSound (after_call a c)
 sound-call a c sound =

@@ -18,12 +18,12 @@ use Rattle.enip_adapter.specs.declared.shared.Listen.{Listen}
 use Rattle.enip_adapter.specs.Adapter.{new_adapter}
 use Rattle.enip_adapter.specs.Lookup.{first_with, with_first}
 use Rattle.enip_adapter.specs.Turn.{State, Event, TurnResult, begun, session_of}
-use Rattle.enip_adapter.specs.Turn.Event.{Begin, End, At, Framed, Long}
+use Rattle.enip_adapter.specs.Turn.Event.{Begin, End, At, Framed, Long, Written}
 use Rattle.enip_adapter.specs.Turn.Output.{Begins}
 use Rattle.enip_adapter.specs.Calls.{AdapterState, Held, Call, Meaning, call_meaning, after_call, call_answer}
 use Rattle.enip_adapter.specs.Calls.{bytes_found, bytes_held, held_at_beginning, piece_to, piece_meaning}
 use Rattle.enip_adapter.specs.Calls.{dropped_piece, at_a_moment, events_of_parsed}
-use Rattle.enip_adapter.specs.Calls.Call.{Begins_peer, Feeds, Ends_peer, Ticks}
+use Rattle.enip_adapter.specs.Calls.Call.{Begins_peer, Feeds, Ends_peer, Ticks, Writes}
 use Rattle.enip_adapter.specs.Runs.{after_calls, events_of_calls, taken_by_call, taken_by_calls, frames_of_peer}
 use Rattle.enip_adapter.specs.Runs.{GoesOn, Run, at_end, taken_in, frames_in}
 use Rattle.enip_adapter.proofs.ListLemmas.{both, first_with-changed, first_with-removed, first_with-append}
@@ -179,6 +179,7 @@ advances-call peer bytes a (Ends_peer other) sound at goes =
     stays peer bytes (call_meaning a (Ends_peer other))
     (record { found = first_with-removed (λ (h : Held). h.peer) peer other a.held goes ∙ at.found; fits = at.fits; none = at.none }) refl
 advances-call peer bytes a (Ticks now) sound at goes = stays peer bytes (call_meaning a (Ticks now)) at refl
+advances-call peer bytes a (Writes write) sound at goes = stays peer bytes (call_meaning a (Writes write)) at refl
 
 -- The frames of events, in two parts.
 pub frames-append : (peer : ℕ) (es fs : List Event) → frames_of_peer peer (es ++ fs)
@@ -195,6 +196,7 @@ frames-append peer (Framed other f ∷ es) fs = go (eqb other peer) (frames-appe
     go true e = ap (λ gs. f ∷ gs) e
     go false e = e
 frames-append peer (Long other h ∷ es) fs = frames-append peer es fs
+frames-append peer (Written write ∷ es) fs = frames-append peer es fs
 
 cut-calls : (peer : ℕ) (bytes : List ℕ) (a : AdapterState) (calls : List Call) → IsSound a → IsAt peer bytes a.held
     → AllByRecursion (GoesOn peer) calls

@@ -2,7 +2,7 @@
 use Rattle.std.specs.Prelude.{ℕ, ◌≡◌, ◌≢◌, List, [], ◌∷◌, ◌++◌}
 use Rattle.std.specs.List.{AllByRecursion}
 use Rattle.enip_adapter.specs.Calls.{AdapterState, Call, after_call}
-use Rattle.enip_adapter.specs.Calls.Call.{Begins_peer, Feeds, Ends_peer, Ticks}
+use Rattle.enip_adapter.specs.Calls.Call.{Begins_peer, Feeds, Ends_peer, Ticks, Writes}
 use Rattle.enip_adapter.specs.Runs.{after_calls, IsForOther}
 
 -- The call is a feed of this peer at this time.
@@ -11,6 +11,7 @@ IsFeedOf now peer Begins_peer = ⊥
 IsFeedOf now peer (Feeds at to piece) = (at ≡ now) × (to ≡ peer)
 IsFeedOf now peer (Ends_peer to) = ⊥
 IsFeedOf now peer (Ticks at) = ⊥
+IsFeedOf now peer (Writes write) = ⊥
 
 -- Feeds of this peer at this time lead from one adapter to another.
 pub record AreFeeds (now peer : ℕ) (old new : AdapterState) : Type 0 where

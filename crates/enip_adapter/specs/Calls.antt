@@ -5,8 +5,9 @@ use Rattle.enip_wire.specs.Stream.Parsed.{Incomplete, WholeFrame, TooLongHeader}
 use Rattle.enip_adapter.specs.declared.peer.Session.{Session}
 use Rattle.enip_adapter.specs.declared.no_reply_reason.NoReplyReason.TheVariants.{NoFrame, NotServed}
 use Rattle.enip_adapter.specs.Lookup.{first_with, with_first, without_first}
+use Rattle.enip_adapter.specs.OwnWrites.{OwnWrite}
 use Rattle.enip_adapter.specs.Turn.{State, Event, Output, Answer, turn, answers, after, session_of}
-use Rattle.enip_adapter.specs.Turn.Event.{Begin, End, At, Framed, Long}
+use Rattle.enip_adapter.specs.Turn.Event.{Begin, End, At, Framed, Long, Written}
 use Rattle.enip_adapter.specs.Turn.Output.{NoReply, Begins}
 
 -- The bytes that have arrived of a peer's next frame.
@@ -24,6 +25,7 @@ pub data Call : Type 0 where
   Feeds : (now peer : ℕ) → (piece : List ℕ) → Call
   Ends_peer : (peer : ℕ) → Call
   Ticks : (now : ℕ) → Call
+  Writes : (write : OwnWrite) → Call
 
 -- The bytes held of a peer.
 abbrev pub bytes_found : Option Held → List ℕ
@@ -82,6 +84,7 @@ call_meaning a Begins_peer = meaning (Begin ∷ []) (held_at_beginning a.held (t
 call_meaning a (Feeds now peer piece) = at_a_moment now (piece_to a.held peer piece (session_of a.state peer))
 call_meaning a (Ends_peer peer) = meaning (End peer ∷ []) (without_first (λ h. h.peer) peer a.held)
 call_meaning a (Ticks now) = at_a_moment now (meaning [] a.held)
+call_meaning a (Writes write) = meaning (Written write ∷ []) a.held
 
 -- The adapter after a call with this meaning.
 abbrev pub after_meaning : State → Meaning → AdapterState

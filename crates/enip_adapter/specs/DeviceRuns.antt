@@ -1,14 +1,15 @@
 -- The requests that reach the device, its objects and its ledger, and the laws of its runs.
-use Rattle.std.specs.Prelude.{◌≡◌, ℕ, ◌==◌, nat_lt, not, if◌then◌else◌, find, length, Option, Some, None, List, [], ◌∷◌, ◌++◌, Result, Ok, Err}
+use Rattle.std.specs.Prelude.{◌≡◌, ⊤, ℕ, ◌==◌, nat_lt, not, if◌then◌else◌, find, map, length, Option, Some, None, List, [], ◌∷◌, ◌++◌, Result, Ok, Err}
+use Rattle.std.specs.List.{AllByRecursion}
 use Rattle.cip_bytes.specs.Protocol.{command_of}
 use Rattle.cip_bytes.specs.declared.protocol.Command.{Command}
 use Rattle.cip_bytes.specs.declared.protocol.Command.TheVariants.{SendRRData, SendUnitData}
 use Rattle.cip_bytes.specs.declared.protocol.TheConstants.{UNCONNECTED_LIMIT}
 use Rattle.cip_class3.specs.Item.{sequence_count_of, message_of}
 use Rattle.cip_class3.specs.TargetRule.{TargetState, has_accepted_size, is_held, max_reply_size}
-use Rattle.cip_ledger.specs.Device.{run}
+use Rattle.cip_ledger.specs.Device.{Device, exec_device, run}
 use Rattle.cip_ledger.specs.Laws.{HasNoDoubles, Rises}
-use Rattle.cip_ledger.specs.Runs.{Request, journal, reached, router_after}
+use Rattle.cip_ledger.specs.Runs.{Request, journal, reached}
 use Rattle.cip_ledger.specs.Runs.{Event as LedgerEvent}
 use Rattle.cip_manager.specs.declared.connection.Connection.{Connection}
 use Rattle.cip_manager.specs.Connection.{is_named}
@@ -20,11 +21,13 @@ use Rattle.enip_wire.specs.declared.item_list.CpfFault.{CpfFault}
 use Rattle.enip_adapter.specs.declared.peer.Session.{Session}
 use Rattle.enip_adapter.specs.declared.shared.Shared.{Shared}
 use Rattle.enip_adapter.specs.Calls.{AdapterState, Call}
+use Rattle.enip_adapter.specs.Calls.Call.{Writes}
+use Rattle.enip_adapter.specs.OwnWrites.{OwnWrite, objects_written, device_written}
 use Rattle.enip_adapter.specs.Replies.{is_registered_as}
 use Rattle.enip_adapter.specs.Runs.{after_calls, events_of_calls}
 use Rattle.enip_adapter.specs.SendRRData.{Route, Opens, Closes, Executes, route_of}
 use Rattle.enip_adapter.specs.Turn.{State, Event, turn, session_of}
-use Rattle.enip_adapter.specs.Turn.Event.{Begin, End, At, Framed, Long}
+use Rattle.enip_adapter.specs.Turn.Event.{Begin, End, At, Framed, Long, Written}
 
 -- ---- the requests
 
@@ -79,6 +82,7 @@ requests_by_event s (End peer) = []
 requests_by_event s (At now) = []
 requests_by_event s (Framed peer f) = requests_by_session s.shared f (session_of s peer)
 requests_by_event s (Long peer header) = []
+requests_by_event s (Written write) = []
 
 -- The requests that reach the device, each with the limit on its reply: at most one of each frame, in order.
 abbrev pub device_requests : State → List Event → List Request
@@ -88,7 +92,7 @@ device_requests s (event ∷ events) = requests_by_event s event ++ device_reque
 abbrev pub requests_of_calls : AdapterState → List Call → List Request
 requests_of_calls a calls = device_requests a.state (events_of_calls a calls)
 
--- ---- the laws
+-- ---- the objects
 
 abbrev pub objects_after : Contents → ℕ → List ℕ → Contents
 objects_after objects max_size request = (exec objects max_size request).after
@@ -96,21 +100,90 @@ objects_after objects max_size request = (exec objects max_size request).after
 abbrev pub objects_answer : Contents → ℕ → List ℕ → List ℕ
 objects_answer objects max_size request = (exec objects max_size request).answer
 
+-- ---- the device's own writes among them
+
+-- What changes the device: a request that reaches it, or a write of its own.
+pub data DeviceStep : Type 0 where
+  Requested : (request : Request) → DeviceStep
+  WrittenBy : (write : OwnWrite) → DeviceStep
+
+abbrev pub steps_by_event : State → Event → List DeviceStep
+steps_by_event s (Written write) = WrittenBy write ∷ []
+steps_by_event s event = map Requested (requests_by_event s event)
+
+-- The requests that reach the device, and its own writes, in order.
+abbrev pub device_steps : State → List Event → List DeviceStep
+device_steps s [] = []
+device_steps s (event ∷ events) = steps_by_event s event ++ device_steps (turn s event).state events
+
+abbrev pub steps_of_calls : AdapterState → List Call → List DeviceStep
+steps_of_calls a calls = device_steps a.state (events_of_calls a calls)
+
+-- The call is no write of the device itself.
+abbrev pub IsNoWrite : Call → Type 0
+IsNoWrite (Writes write) = ⊥
+IsNoWrite other = ⊤
+
+-- The device after these steps, from left to right.
+abbrev pub device_after_step : Device → DeviceStep → Device
+device_after_step device (Requested request) = (exec_device device request.0 request.1).after
+device_after_step device (WrittenBy write) = device_written write device
+
+abbrev pub device_after : Device → List DeviceStep → Device
+device_after device [] = device
+device_after device (step ∷ steps) = device_after (device_after_step device step) steps
+
+-- The objects alone after these steps.
+abbrev pub objects_after_step : Contents → DeviceStep → Contents
+objects_after_step objects (Requested request) = objects_after objects request.0 request.1
+objects_after_step objects (WrittenBy write) = objects_written write objects
+
+abbrev pub objects_after_steps : Contents → List DeviceStep → Contents
+objects_after_steps objects [] = objects
+objects_after_steps objects (step ∷ steps) = objects_after_steps (objects_after_step objects step) steps
+
+-- What reaches the objects: of each request what the ledger lets through, and each write.
+abbrev pub reached_by_step : Device → DeviceStep → List DeviceStep
+reached_by_step device (Requested request) = map Requested (reached objects_after objects_answer device (request ∷ []))
+reached_by_step device (WrittenBy write) = WrittenBy write ∷ []
+
+abbrev pub reached_by_steps : Device → List DeviceStep → List DeviceStep
+reached_by_steps device [] = []
+reached_by_steps device (step ∷ steps) =
+    reached_by_step device step ++ reached_by_steps (device_after_step device step) steps
+
+-- The commands that the ledger executes, and the slots that it frees. A write does neither.
+abbrev pub journal_by_step : Device → DeviceStep → List LedgerEvent
+journal_by_step device (Requested request) = journal objects_after objects_answer device (request ∷ [])
+journal_by_step device (WrittenBy write) = []
+
+abbrev pub journal_by_steps : Device → List DeviceStep → List LedgerEvent
+journal_by_steps device [] = []
+journal_by_steps device (step ∷ steps) =
+    journal_by_step device step ++ journal_by_steps (device_after_step device step) steps
+
+-- ---- the laws
+
 -- The commands that the ledger executes during calls, and the slots that it frees.
 abbrev pub journal_of_calls : AdapterState → List Call → List LedgerEvent
-journal_of_calls a calls = journal objects_after objects_answer a.state.shared.objects (requests_of_calls a calls)
+journal_of_calls a calls = journal_by_steps a.state.shared.objects (steps_of_calls a calls)
 
--- After any calls, the objects and the ledger are those after a run of these requests.
+-- After any calls, the objects and the ledger are those after these requests and the device's own writes, in order.
 abbrev pub device_law : Type 0
 device_law = (a : AdapterState) (calls : List Call) →
+    (after_calls a calls).state.shared.objects ≡ device_after a.state.shared.objects (steps_of_calls a calls)
+
+-- Without writes of the device, they are those after a run of the requests.
+abbrev pub run_law : Type 0
+run_law = (a : AdapterState) (calls : List Call) → AllByRecursion IsNoWrite calls →
     (after_calls a calls).state.shared.objects ≡ (run a.state.shared.objects (requests_of_calls a calls)).after
 
--- The objects are as if they alone had executed what reached them: each request that is not to the ledger, and the
--- embedded request of each command once.
+-- The objects are as if they alone had executed what reached them: each request that is not to the ledger, the embedded
+-- request of each command once, and each write of the device.
 abbrev pub objects_law : Type 0
 objects_law = (a : AdapterState) (calls : List Call) → (after_calls a calls).state.shared.objects.router
-    ≡ router_after objects_after objects_answer a.state.shared.objects.router
-    (reached objects_after objects_answer a.state.shared.objects (requests_of_calls a calls))
+    ≡ objects_after_steps a.state.shared.objects.router
+    (reached_by_steps a.state.shared.objects (steps_of_calls a calls))
 
 -- No number of an originator is executed twice, and the numbers rise, unless the originator's slot is freed in between.
 abbrev pub commands_once_law : Type 0

@@ -16,7 +16,7 @@ use Rattle.enip_adapter.specs.declared.endings.EndedConnection.{EndedConnection}
 use Rattle.enip_adapter.specs.declared.endings.EndReason.{EndReason}
 use Rattle.enip_adapter.specs.declared.endings.EndReason.TheVariants.{TimedOut, PeerEnded, SessionEnded, Closed}
 use Rattle.enip_adapter.specs.Calls.{AdapterState, Call, call_meaning, call_answer, after_call}
-use Rattle.enip_adapter.specs.Calls.Call.{Begins_peer, Feeds, Ends_peer, Ticks}
+use Rattle.enip_adapter.specs.Calls.Call.{Begins_peer, Feeds, Ends_peer, Ticks, Writes}
 use Rattle.enip_adapter.specs.Endings.{is_open_in, open_in}
 use Rattle.enip_adapter.specs.Runs.{after_calls, moments_of_calls, frames_of_peer}
 use Rattle.enip_adapter.specs.SendRRData.{route_of}
@@ -33,6 +33,7 @@ is_end_of peer Begins_peer = false
 is_end_of peer (Feeds now other piece) = false
 is_end_of peer (Ends_peer other) = other == peer
 is_end_of peer (Ticks now) = false
+is_end_of peer (Writes write) = false
 
 -- The call feeds this peer, and the answer closes it: its session has been unregistered, or a length is over the limit.
 abbrev pub is_close_of : ℕ → AdapterState → Call → Bool
@@ -40,6 +41,7 @@ is_close_of peer a Begins_peer = false
 is_close_of peer a (Feeds now other piece) = (other == peer) && (call_answer a (Feeds now other piece)).close
 is_close_of peer a (Ends_peer other) = false
 is_close_of peer a (Ticks now) = false
+is_close_of peer a (Writes write) = false
 
 abbrev pub is_closed_in : ℕ → AdapterState → List Call → Bool
 is_closed_in peer a [] = false

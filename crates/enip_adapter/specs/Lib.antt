@@ -8,6 +8,7 @@ pub mod ListInterfaces
 pub mod SendRRData
 pub mod SendUnitData
 pub mod Commands
+pub mod OwnWrites
 pub mod Turn
 pub mod Discovery
 pub mod Calls

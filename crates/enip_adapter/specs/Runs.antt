@@ -11,9 +11,9 @@ use Rattle.enip_adapter.specs.declared.adapter.Limits.{Limits}
 use Rattle.enip_adapter.specs.declared.shared.Listen.{Listen}
 use Rattle.enip_adapter.specs.Adapter.{new_adapter}
 use Rattle.enip_adapter.specs.Calls.{AdapterState, Call, Meaning, call_meaning, after_call, call_answer}
-use Rattle.enip_adapter.specs.Calls.Call.{Begins_peer, Feeds, Ends_peer, Ticks}
+use Rattle.enip_adapter.specs.Calls.Call.{Begins_peer, Feeds, Ends_peer, Ticks, Writes}
 use Rattle.enip_adapter.specs.Turn.{State, Event, Output, Answer, turn, answers}
-use Rattle.enip_adapter.specs.Turn.Event.{Begin, End, At, Framed, Long}
+use Rattle.enip_adapter.specs.Turn.Event.{Begin, End, At, Framed, Long, Written}
 use Rattle.enip_adapter.specs.Turn.Output.{NoReply, Sends, Begins, Refuses}
 
 -- The adapter after calls, one after the other.
@@ -59,6 +59,7 @@ IsForOther peer Begins_peer = ⊤
 IsForOther peer (Feeds now other piece) = other ≢ peer
 IsForOther peer (Ends_peer other) = other ≢ peer
 IsForOther peer (Ticks now) = ⊤
+IsForOther peer (Writes write) = ⊤
 
 -- The current times at the feeds and ticks of calls. Each is the greatest time so far.
 abbrev pub moments_of_calls : ℕ → List Call → List ℕ
@@ -67,6 +68,7 @@ moments_of_calls moment (Begins_peer ∷ calls) = moments_of_calls moment calls
 moments_of_calls moment (Feeds now peer piece ∷ calls) = max moment now ∷ moments_of_calls (max moment now) calls
 moments_of_calls moment (Ends_peer peer ∷ calls) = moments_of_calls moment calls
 moments_of_calls moment (Ticks now ∷ calls) = max moment now ∷ moments_of_calls (max moment now) calls
+moments_of_calls moment (Writes write ∷ calls) = moments_of_calls moment calls
 
 -- The deadline of the connection is after each of these times.
 abbrev pub is_open_at_all : List ℕ → Connection → Bool
@@ -112,6 +114,7 @@ taken_by_call peer a (Feeds now other piece) =
     if other == peer then take (call_meaning a (Feeds now other piece)).taken piece else []
 taken_by_call peer a (Ends_peer other) = []
 taken_by_call peer a (Ticks now) = []
+taken_by_call peer a (Writes write) = []
 
 -- The bytes that calls take of it, joined.
 abbrev pub taken_by_calls : ℕ → AdapterState → List Call → List ℕ
@@ -127,6 +130,7 @@ frames_of_peer peer (At now ∷ events) = frames_of_peer peer events
 frames_of_peer peer (Framed other f ∷ events) =
     if other == peer then f ∷ frames_of_peer peer events else frames_of_peer peer events
 frames_of_peer peer (Long other header ∷ events) = frames_of_peer peer events
+frames_of_peer peer (Written write ∷ events) = frames_of_peer peer events
 
 -- A piece consists of bytes, and the call does not end this peer.
 abbrev pub GoesOn : ℕ → Call → Type 0
@@ -134,6 +138,7 @@ GoesOn peer Begins_peer = ⊤
 GoesOn peer (Feeds now other piece) = AreBytes piece
 GoesOn peer (Ends_peer other) = other ≢ peer
 GoesOn peer (Ticks now) = ⊤
+GoesOn peer (Writes write) = ⊤
 
 -- The pieces of one peer's stream are fed at one time, each until all of it is taken. Once the peer is closed, the rest
 -- is dropped. The indices are the answers and the last adapter.

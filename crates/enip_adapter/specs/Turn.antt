@@ -11,6 +11,7 @@ use Rattle.enip_adapter.specs.declared.shared.Shared.{Shared}
 use Rattle.enip_adapter.specs.declared.no_reply_reason.NoReplyReason.{NoReplyReason}
 use Rattle.enip_adapter.specs.declared.no_reply_reason.NoReplyReason.TheVariants.{NoFrame, NotServed}
 use Rattle.enip_adapter.specs.Commands.{command_served, long_refused}
+use Rattle.enip_adapter.specs.OwnWrites.{OwnWrite, device_written}
 use Rattle.enip_adapter.specs.Lookup.{first_with, with_first, without_first}
 use Rattle.enip_adapter.specs.Replies.{Reply, Reply as replies, Served, leaving}
 
@@ -23,13 +24,14 @@ pub record State : Type 0 where
   pub peers : List Session
 
 -- A TCP connection begins or ends; a time is given; a peer's stream is at the end of a frame, or of a header whose
--- length is over the limit.
+-- length is over the limit; or the device itself writes.
 pub data Event : Type 0 where
   Begin : Event
   End : (peer : ℕ) → Event
   At : (now : ℕ) → Event
   Framed : (peer : ℕ) → (frame : Frame) → Event
   Long : (peer : ℕ) → (header : Header) → Event
+  Written : (write : OwnWrite) → Event
 
 -- The output of an event: no reply, for a reason; a frame to the peer; or the handle or the refusal of a peer that
 -- begins.
@@ -114,12 +116,17 @@ at_moment shared now = record shared {
   manager = without_overdue shared.manager (max shared.moment now);
 }
 
+-- The device's own write changes its objects and nothing else.
+abbrev pub shared_written : Shared → OwnWrite → Shared
+shared_written shared write = record shared { objects = device_written write shared.objects }
+
 abbrev pub turn : State → Event → TurnResult
 turn s Begin = begun s
 turn s (End peer) = turned (end_found s peer (session_of s peer)) (NoReply NoFrame) false
 turn s (At now) = turned (record s { shared = at_moment s.shared now }) (NoReply NoFrame) false
 turn s (Framed peer f) = serve_found s peer (λ session. command_served s.shared session f) (session_of s peer)
 turn s (Long peer h) = serve_found s peer (λ session. leaving s.shared (long_refused session h)) (session_of s peer)
+turn s (Written write) = turned (record s { shared = shared_written s.shared write }) (NoReply NoFrame) false
 
 -- The answers to a list of events, and the state after it.
 abbrev pub answers : State → List Event → List Answer

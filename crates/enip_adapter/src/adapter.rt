@@ -16,6 +16,7 @@ ghost use Rattle.cip_objects.specs.Changes.{changes_of};
 ghost use Rattle.cip_objects.specs.DeviceWrites.{device_write, with_device_status, with_device_state};
 ghost use Rattle.enip_adapter.specs.Adapter.{full_number};
 ghost use Rattle.enip_adapter.specs.Device.{with_objects};
+ghost use Rattle.enip_adapter.specs.OwnWrites.{OwnWrite};
 ghost use Rattle.enip_adapter.specs.Discovery.{discovered};
 
 use crate::commands::DiscoveryBuffer;
@@ -349,6 +350,7 @@ impl Adapter {
         ensures written { self.new ≡ with_objects self.old (unwrap_or
             (device_write self.old.state.shared.objects.router instance offset bytes.now) self.old.state.shared.objects.router) }
         ensures told { result ≡ is_some (device_write self.old.state.shared.objects.router instance offset bytes.now) }
+        ensures call { self.new ≡ after_call self.old (Call.Writes (OwnWrite.WritesData instance offset bytes.now)) }
     {
         self.shared
             .objects
@@ -359,7 +361,9 @@ impl Adapter {
     /// Sets the device's status, a WORD: attribute 5 of the Identity object, which ListIdentity shows too. Nothing else
     /// changes.
     pub fn set_device_status(&mut self, status: u16)
-        ensures { self.new ≡ with_objects self.old (with_device_status self.old.state.shared.objects.router status) }
+        ensures written { self.new
+            ≡ with_objects self.old (with_device_status self.old.state.shared.objects.router status) }
+        ensures call { self.new ≡ after_call self.old (Call.Writes (OwnWrite.SetsStatus status)) }
     {
         self.shared.objects.router.set_device_status(status);
     }
@@ -367,7 +371,9 @@ impl Adapter {
     /// Sets the device's state, a USINT: attribute 8 of the Identity object, which ListIdentity shows too. Nothing else
     /// changes.
     pub fn set_device_state(&mut self, state: u8)
-        ensures { self.new ≡ with_objects self.old (with_device_state self.old.state.shared.objects.router state) }
+        ensures written { self.new
+            ≡ with_objects self.old (with_device_state self.old.state.shared.objects.router state) }
+        ensures call { self.new ≡ after_call self.old (Call.Writes (OwnWrite.SetsState state)) }
     {
         self.shared.objects.router.set_device_state(state);
     }

@@ -11,7 +11,7 @@ ghost use Rattle.enip_adapter.specs.declared.adapter.Limits.{Limits};
 ghost use Rattle.enip_adapter.specs.declared.peer.Session.{Session};
 ghost use Rattle.enip_adapter.specs.declared.shared.Listen.{Listen};
 ghost use Rattle.enip_adapter.specs.Adapter.{new_adapter};
-ghost use Rattle.enip_adapter.specs.DeviceRuns.{device_law, objects_law, commands_once_law, numbers_rise_law};
+ghost use Rattle.enip_adapter.specs.DeviceRuns.{device_law, run_law, objects_law, commands_once_law, numbers_rise_law};
 ghost use Rattle.enip_adapter.specs.Discovery.{discovered};
 ghost use Rattle.enip_adapter.specs.EndCauses.{endings_in_calls, IsReportedClosed, IsForwardClosed};
 ghost use Rattle.enip_adapter.specs.Endings.{EndingsState, updated};
@@ -80,12 +80,15 @@ pub fn ids_rise()
         RisesFrom limits.first_id (ids_of_events (new_adapter device listen limits).state events) }
 {}
 
-/// Whatever calls are made, the objects and the command ledger change only by requests: they are those after a run of
-/// `requests_of_calls`, the requests in the frames that are served, in order. So all laws of `cip_ledger` hold for
-/// frames, over any peers, sessions, connections, timeouts and new connections. Two are written out: no number of an
-/// originator is executed twice, and the numbers rise, unless the originator's slot is freed in between.
+/// Whatever calls are made, the objects and the command ledger change only by requests and by the device's own writes:
+/// they are those after `steps_of_calls`, the requests in the frames that are served and these writes, in order. Among
+/// calls without such writes they are those after a run of the requests, so all laws of `cip_ledger` hold for frames,
+/// over any peers, sessions, connections, timeouts and new connections. Two are written out, and hold with writes among
+/// the calls: no number of an originator is executed twice, and the numbers rise, unless the originator's slot is freed
+/// in between.
 pub fn device_runs_requests()
     ensures device { device_law }
+    ensures run { run_law }
     ensures objects { objects_law }
     ensures once { commands_once_law }
     ensures rising { numbers_rise_law }

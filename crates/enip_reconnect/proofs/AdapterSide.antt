@@ -35,7 +35,7 @@ use Rattle.enip_adapter.specs.Calls.{after_meaning, answer_of, bytes_held, bytes
 use Rattle.enip_adapter.specs.Calls.Call.{Begins_peer, Feeds, Ends_peer}
 use Rattle.enip_adapter.specs.Commands.{command_served}
 use Rattle.enip_adapter.specs.DeviceRuns.{device_requests, requests_of_calls, requests_by_session, requests_in_frame}
-use Rattle.enip_adapter.specs.DeviceRuns.{requests_in_rr, requests_by_route, objects_after, objects_answer}
+use Rattle.enip_adapter.specs.DeviceRuns.{requests_in_rr, requests_by_route, objects_after, objects_answer, IsNoWrite}
 use Rattle.enip_adapter.specs.Lookup.{with_first}
 use Rattle.enip_adapter.specs.RegisterSession.{version_one}
 use Rattle.enip_adapter.specs.Replies.{Served, Reply as replies, leaving, answered, replied}
@@ -48,7 +48,7 @@ use Rattle.enip_adapter.specs.Turn.Output.{NoReply, Sends, Begins, Refuses}
 use Rattle.enip_adapter.proofs.CutLemmas.{feed-open, shown}
 use Rattle.enip_adapter.proofs.ListLemmas.{first_with-number, first_with-set, first_with-behind, next-none}
 use Rattle.enip_adapter.proofs.ListLemmas.{numbers-none}
-use Rattle.enip_adapter.proofs.DeviceLemmas.{calls-end}
+use Rattle.enip_adapter.proofs.DeviceLemmas.{calls-run}
 use Rattle.enip_adapter.proofs.PeerLemmas.{at_state, held-call, session-call}
 use Rattle.enip_adapter.proofs.SoundLemmas.{IsSound, entry-of, no-entry}
 use Rattle.enip_client.specs.Frames.{register_frame, request_frame, sent as sent_frame}
@@ -427,9 +427,10 @@ pub record BeginsAs (a : AdapterState) (peer : ℕ) : Type 0 where
   pub holds : Holds (after_call a Begins_peer) peer (new_session peer) []
 
 -- The device after a call without a request.
-pub device-same : (a : AdapterState) (call : Call) → requests_of_calls a (call ∷ []) ≡ [] →
+pub device-same : (a : AdapterState) (call : Call) → IsNoWrite call → requests_of_calls a (call ∷ []) ≡ [] →
     (after_call a call).state.shared.objects ≡ a.state.shared.objects
-device-same a call none = calls-end a (call ∷ []) ∙ ap (λ requests. (run a.state.shared.objects requests).after) none
+device-same a call free none =
+    calls-run a (call ∷ []) (free, tt) ∙ ap (λ requests. (run a.state.shared.objects requests).after) none
 
 -- By whether all slots are taken, and whether all handles were assigned.
 abbrev begun_by : State → Bool → Bool → TurnResult
@@ -469,7 +470,7 @@ begins-as a peer sound output =
     record {
       below = is.below;
       fresh = fresh;
-      device = device-same a Begins_peer refl;
+      device = device-same a Begins_peer tt refl;
       holds = record {
         found = is.found fresh;
         alive = refl;
@@ -480,15 +481,15 @@ begins-as a peer sound output =
 -- A peer ends, and another keeps what it has (`holds-other`). The device is as it was.
 pub device-ended : (a : AdapterState) (peer : ℕ) →
     (after_call a (Ends_peer peer)).state.shared.objects ≡ a.state.shared.objects
-device-ended a peer = device-same a (Ends_peer peer) refl
+device-ended a peer = device-same a (Ends_peer peer) tt refl
 
 -- ---- calls for others
 
--- The device after any call: a run of the requests in its frames.
-pub device-run : (a : AdapterState) (call : Call) → (after_call a call).state.shared.objects
+-- The device after a call that is no write of its own: a run of the requests in its frames.
+pub device-run : (a : AdapterState) (call : Call) → IsNoWrite call → (after_call a call).state.shared.objects
     ≡ node_after objects_after objects_answer a.state.shared.objects (requests_of_calls a (call ∷ []))
-device-run a call =
-    calls-end a (call ∷ []) ∙ run-ends a.state.shared.objects (requests_of_calls a (call ∷ []))
+device-run a call free =
+    calls-run a (call ∷ []) (free, tt) ∙ run-ends a.state.shared.objects (requests_of_calls a (call ∷ []))
 
 -- Such a run, as events of another at both ends: the device alone changes.
 abbrev pub others_requests : List LedgerRequest → List Event

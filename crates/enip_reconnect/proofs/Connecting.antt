@@ -71,7 +71,7 @@ begins own ends sent back wants output assigned is = by output assigned
 
     same : in_messages (on ends None) sent back
         ≡ with_device (on ends None) sent back (after_call ends.adapter Begins_peer).state.shared.objects
-    same = ap (with_device (on ends None) sent back) (sym (device-same ends.adapter Begins_peer refl))
+    same = ap (with_device (on ends None) sent back) (sym (device-same ends.adapter Begins_peer tt refl))
 
     flying : AreFlying own (after_call ends.adapter Begins_peer) sent ends.streams
     flying = flying-call own ends.adapter Begins_peer sent ends.streams (λ peer s found. tt) is.streams

@@ -10,8 +10,8 @@ use Rattle.cip_ledger.specs.Laws.{IsOfAnother}
 use Rattle.cip_ledger.specs.Runs.{Request}
 use Rattle.cip_objects.specs.Contents.{Contents}
 use Rattle.enip_adapter.specs.Calls.{AdapterState, Call, after_call}
-use Rattle.enip_adapter.specs.Calls.Call.{Begins_peer, Feeds, Ends_peer, Ticks}
-use Rattle.enip_adapter.specs.DeviceRuns.{objects_after, objects_answer, requests_of_calls}
+use Rattle.enip_adapter.specs.Calls.Call.{Begins_peer, Feeds, Ends_peer, Ticks, Writes}
+use Rattle.enip_adapter.specs.DeviceRuns.{objects_after, objects_answer, requests_of_calls, IsNoWrite}
 use Rattle.enip_adapter.specs.Runs.{IsForOther, after_calls}
 use Rattle.enip_adapter.proofs.SoundLemmas.{sound-call}
 use Rattle.enip_reconnect.specs.Events.{Break, End, Other}
@@ -130,6 +130,7 @@ for-other ends (Feeds now other piece) peer others own = λ same.
 for-other ends (Ends_peer other) peer others own = λ same.
     let bad : true ≡ false = sym own ∙ (ap (is_originators ends) (sym same) ∙ others) in cc
 for-other ends (Ticks now) peer others own = tt
+for-other ends (Writes write) peer others own = tt
 
 own-stream : (ends : Ends) (peer : ℕ) (stream : Stream) → stream_with peer ends.streams ≡ Some stream →
     is_originators ends stream.peer ≡ true
@@ -159,13 +160,13 @@ are-others own [] is = tt
 are-others own (request ∷ requests) is = (is.0, are-others own requests is.1)
 
 called : (own : ℕ) (ends : Ends) (sent back : List (ℕ × List ℕ)) (call : Call) (ours : Bool) →
-    is_for_originator ends call ≡ ours → Tracks own ends sent back →
+    is_for_originator ends call ≡ ours → Tracks own ends sent back → IsNoWrite call →
     AllByRecursion (IsOfAnother own) (requests_of_calls ends.adapter (cond ours [] (call ∷ []))) →
     Comes own ends (record ends { adapter = after_calls ends.adapter (cond ours [] (call ∷ [])) })
     (cond ours [] (call ∷ [])) [] sent back
-called own ends sent back call true ours is others =
+called own ends sent back call true ours is free others =
     stays own _ _ _ sent back (record { sound = is.sound; connection = is.connection; streams = is.streams }) refl refl refl
-called own ends sent back call false theirs is others =
+called own ends sent back call false theirs is free others =
     let a : AdapterState = ends.adapter in
     let requests : List Request = requests_of_calls a (call ∷ []) in
     let other : (peer : ℕ) (stream : Stream) → stream_with peer ends.streams ≡ Some stream → IsForOther stream.peer call =
@@ -180,7 +181,7 @@ called own ends sent back call false theirs is others =
         streams = flying-call own a call sent ends.streams other is.streams;
       };
       image = others-run (in_messages ends sent back) requests
-          ∙ ap (with_device ends sent back) (sym (device-run a call));
+          ∙ ap (with_device ends sent back) (sym (device-run a call free));
       reached = reached-others (in_messages ends sent back) requests;
       decided = decided-others requests;
       given = sym (append-nil ends.given)
@@ -191,4 +192,4 @@ called own ends sent back call false theirs is others =
 pub others-call : (own : ℕ) (ends : Ends) (sent back : List (ℕ × List ℕ)) (call : Call) → Tracks own ends sent back →
     IsOfOthers own ends (Other call) → StepComes own ends (Other call) sent back
 others-call own ends sent back call is others =
-    called own ends sent back call (is_for_originator ends call) refl is others
+    called own ends sent back call (is_for_originator ends call) refl is others.0 others.1

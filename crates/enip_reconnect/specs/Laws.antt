@@ -12,7 +12,7 @@ use Rattle.cip_commander.specs.Worlds as messages
 use Rattle.cip_ledger.specs.Laws.{IsOfAnother}
 use Rattle.cip_ledger.specs.Runs.{Request, journal}
 use Rattle.cip_objects.specs.Contents.{Contents}
-use Rattle.enip_adapter.specs.DeviceRuns.{objects_after, objects_answer, requests_of_calls}
+use Rattle.enip_adapter.specs.DeviceRuns.{objects_after, objects_answer, requests_of_calls, IsNoWrite}
 use Rattle.enip_adapter.specs.SendRRData.{Executes, route_of}
 use Rattle.enip_reconnect.specs.Events.{Event, NewCommand, Abandon, Ask, Other}
 use Rattle.enip_reconnect.specs.World.{Ends, Opening, device_at, ends_at, calls_at, ends_step, ends_after}
@@ -20,10 +20,12 @@ use Rattle.enip_reconnect.specs.World.{Ends, Opening, device_at, ends_at, calls_
 -- ---- words on the premise
 
 -- The frames of other peers have neither commands of this originator nor Forget of its slot. Nor have the other
--- requests of the originator, and these are not for the Connection Manager.
+-- requests of the originator, and these are not for the Connection Manager. The device itself writes nothing, since the
+-- messages between a commander and a device have no such event.
 abbrev pub IsOfOthers : ℕ → Ends → Event → Type 0
 IsOfOthers originator ends (Other call) =
-    AllByRecursion (IsOfAnother originator) (requests_of_calls ends.adapter (calls_at ends (Other call)))
+    IsNoWrite call
+    × AllByRecursion (IsOfAnother originator) (requests_of_calls ends.adapter (calls_at ends (Other call)))
 IsOfOthers originator ends (Ask request) =
     IsOfAnother originator (UNCONNECTED_LIMIT, request) × (route_of request ≡ Executes)
 IsOfOthers originator ends own = ⊤

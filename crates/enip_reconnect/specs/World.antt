@@ -16,7 +16,7 @@ use Rattle.enip_adapter.specs.declared.adapter.Limits.{Limits}
 use Rattle.enip_adapter.specs.declared.shared.Listen.{Listen}
 use Rattle.enip_adapter.specs.Adapter.{new_adapter}
 use Rattle.enip_adapter.specs.Calls.{AdapterState, Call, call_meaning, call_answer}
-use Rattle.enip_adapter.specs.Calls.Call.{Begins_peer, Feeds, Ends_peer, Ticks}
+use Rattle.enip_adapter.specs.Calls.Call.{Begins_peer, Feeds, Ends_peer, Ticks, Writes}
 use Rattle.enip_adapter.specs.Lookup.{first_with, with_first}
 use Rattle.enip_adapter.specs.Runs.{after_calls}
 use Rattle.enip_adapter.specs.Serving.{output_bytes}
@@ -100,6 +100,7 @@ is_for_originator ends Begins_peer = false
 is_for_originator ends (Feeds now peer piece) = is_originators ends peer
 is_for_originator ends (Ends_peer peer) = is_originators ends peer
 is_for_originator ends (Ticks now) = false
+is_for_originator ends (Writes write) = false
 
 -- The adapter begins a peer if the originator has no TCP connection.
 abbrev pub begin_calls : Option TcpConnection → List Call

@@ -4,7 +4,7 @@ use Rattle.std.specs.List.{AllByRecursion}
 use Rattle.enip_adapter.specs.Turn.{TurnResult, after, session_of}
 use Rattle.enip_adapter.specs.Turn.Output.{Begins}
 use Rattle.enip_adapter.specs.Calls.{AdapterState, Call, after_call, call_answer}
-use Rattle.enip_adapter.specs.Calls.Call.{Begins_peer, Feeds, Ends_peer, Ticks}
+use Rattle.enip_adapter.specs.Calls.Call.{Begins_peer, Feeds, Ends_peer, Ticks, Writes}
 use Rattle.enip_adapter.specs.Runs.{after_calls}
 use Rattle.enip_adapter.proofs.EventLemmas.{of_piece}
 use Rattle.enip_adapter.proofs.ListLemmas.{both}
@@ -17,6 +17,7 @@ IsAbout peer Begins_peer = ⊥
 IsAbout peer (Feeds now other piece) = other ≡ peer
 IsAbout peer (Ends_peer other) = other ≡ peer
 IsAbout peer (Ticks now) = ⊥
+IsAbout peer (Writes write) = ⊥
 
 next_call : (peer : ℕ) (a : AdapterState) (call : Call) → IsAbout peer call
     → (after_call a call).state.next_handle ≡ a.state.next_handle
@@ -26,6 +27,7 @@ next_call peer a (Feeds now other piece) is =
     (session_of a.state other) refl (λ x n left. next-parsed_frame (at_state a.state now) other x)
 next_call peer a (Ends_peer other) is = next-ended a.state other (session_of a.state other)
 next_call peer a (Ticks now) is = absurd is
+next_call peer a (Writes write) is = absurd is
 
 -- feeds and ends do not change it
 pub next_calls : (peer : ℕ) (a : AdapterState) (calls : List Call) → AllByRecursion (IsAbout peer) calls

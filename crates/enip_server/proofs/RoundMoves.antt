@@ -3,7 +3,7 @@ use Rattle.std.proofs.Common.{◌≡◌, ◌≢◌, ◌<◌, ◌≤◌, ℕ, zer
 use Rattle.std.proofs.Common.{ltb, ltb-true, ltb-false, Option, Some, None, refl, sym, ap, subst, ◌∙◌, arith}
 use Rattle.std.specs.List.{AllByRecursion}
 use Rattle.enip_adapter.specs.Calls.{AdapterState, Call, after_call}
-use Rattle.enip_adapter.specs.Calls.Call.{Begins_peer, Feeds, Ends_peer, Ticks}
+use Rattle.enip_adapter.specs.Calls.Call.{Begins_peer, Feeds, Ends_peer, Ticks, Writes}
 use Rattle.enip_adapter.specs.AdapterActions.{IsFeedOf}
 use Rattle.enip_adapter.specs.Runs.{after_calls, IsForOther}
 use Rattle.enip_server.specs.declared.peer_io.PeerIo.{PeerIo}
@@ -24,12 +24,14 @@ about_feed now peer Begins_peer is = absurd is
 about_feed now peer (Feeds at other piece) is = is.1
 about_feed now peer (Ends_peer other) is = absurd is
 about_feed now peer (Ticks at) is = absurd is
+about_feed now peer (Writes write) is = absurd is
 
 about_other : (other peer : ℕ) → other ≢ peer → (call : Call) → IsAbout other call → IsForOther peer call
 about_other other peer differs Begins_peer is = absurd is
 about_other other peer differs (Feeds now to piece) is = subst (λ n. n ≢ peer) (sym is) differs
 about_other other peer differs (Ends_peer to) is = subst (λ n. n ≢ peer) (sym is) differs
 about_other other peer differs (Ticks now) is = absurd is
+about_other other peer differs (Writes write) is = absurd is
 
 -- a feed, or a call for another peer, does not end this one
 pub feed_goes_on : (now peer : ℕ) (call : Call) → IsFeedOf now peer call → GoesOnWith peer call
@@ -37,12 +39,14 @@ feed_goes_on now peer Begins_peer is = tt
 feed_goes_on now peer (Feeds at other piece) is = tt
 feed_goes_on now peer (Ends_peer other) is = absurd is
 feed_goes_on now peer (Ticks at) is = tt
+feed_goes_on now peer (Writes write) is = absurd is
 
 pub other_goes_on : (peer : ℕ) (call : Call) → IsForOther peer call → GoesOnWith peer call
 other_goes_on peer Begins_peer is = tt
 other_goes_on peer (Feeds now other piece) is = tt
 other_goes_on peer (Ends_peer other) is = is
 other_goes_on peer (Ticks now) is = tt
+other_goes_on peer (Writes write) is = tt
 
 -- Calls that have a property and lead from one adapter to another.
 record LeadsBy (P : Call → Type 0) (a b : AdapterState) : Type 0 where

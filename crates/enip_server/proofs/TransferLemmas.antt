@@ -5,7 +5,7 @@ use Rattle.std.proofs.lemmas.Bool.{eq-eqb, ne_eqb}
 use Rattle.std.proofs.KnownBytes.{Appends-nil, Appends-trans, Consumes-nil, Consumes-trans}
 use Rattle.std.specs.List.{AllByRecursion}
 use Rattle.enip_adapter.specs.Calls.{AdapterState, Call, after_call, call_meaning, call_answer}
-use Rattle.enip_adapter.specs.Calls.Call.{Begins_peer, Feeds, Ends_peer, Ticks}
+use Rattle.enip_adapter.specs.Calls.Call.{Begins_peer, Feeds, Ends_peer, Ticks, Writes}
 use Rattle.enip_adapter.specs.Runs.{after_calls, taken_by_call, taken_by_calls, IsForOther}
 use Rattle.enip_adapter.specs.Serving.{output_bytes}
 use Rattle.enip_server.specs.PeerStates.{PeerState, fed_once}
@@ -188,12 +188,14 @@ sent_other peer a Begins_peer is = refl
 sent_other peer a (Feeds now other piece) is = other_call other peer _ [] is
 sent_other peer a (Ends_peer other) is = refl
 sent_other peer a (Ticks now) is = refl
+sent_other peer a (Writes write) is = refl
 
 taken_other : (peer : ℕ) (a : AdapterState) (call : Call) → IsForOther peer call → taken_by_call peer a call ≡ []
 taken_other peer a Begins_peer is = refl
 taken_other peer a (Feeds now other piece) is = other_call other peer _ [] is
 taken_other peer a (Ends_peer other) is = refl
 taken_other peer a (Ticks now) is = refl
+taken_other peer a (Writes write) is = refl
 
 sent_others : (peer : ℕ) (a : AdapterState) (calls : List Call) → AllByRecursion (IsForOther peer) calls
     → sent_by_calls peer a calls ≡ []

@@ -2,7 +2,7 @@
 use Rattle.std.specs.Prelude.{ℕ, ◌≡◌, ◌≢◌, ◌==◌, ⊤, List, [], ◌∷◌, ◌++◌, if◌then◌else◌, None}
 use Rattle.std.specs.Io.KnownBytes.{Appends, Consumes}
 use Rattle.enip_adapter.specs.Calls.{AdapterState, Call, call_answer, after_call}
-use Rattle.enip_adapter.specs.Calls.Call.{Begins_peer, Feeds, Ends_peer, Ticks}
+use Rattle.enip_adapter.specs.Calls.Call.{Begins_peer, Feeds, Ends_peer, Ticks, Writes}
 use Rattle.enip_adapter.specs.Runs.{after_calls, taken_by_calls}
 use Rattle.enip_adapter.specs.Serving.{output_bytes}
 use Rattle.enip_server.specs.PeerStates.{PeerState}
@@ -14,6 +14,7 @@ sent_by_call peer a (Feeds now other piece) =
     if other == peer then output_bytes (call_answer a (Feeds now other piece)).output else []
 sent_by_call peer a (Ends_peer other) = []
 sent_by_call peer a (Ticks now) = []
+sent_by_call peer a (Writes write) = []
 
 -- The bytes that calls send to a peer, joined.
 abbrev pub sent_by_calls : ℕ → AdapterState → List Call → List ℕ
@@ -40,3 +41,4 @@ GoesOnWith peer Begins_peer = ⊤
 GoesOnWith peer (Feeds now other piece) = ⊤
 GoesOnWith peer (Ends_peer other) = other ≢ peer
 GoesOnWith peer (Ticks now) = ⊤
+GoesOnWith peer (Writes write) = ⊤
