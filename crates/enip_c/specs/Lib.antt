@@ -4,3 +4,4 @@ pub mod AdapterCalls
 pub mod ClientCalls
 pub mod DeviceCalls
 pub mod CommanderCalls
+pub mod ExplainCalls

@@ -15,7 +15,7 @@ use crate::buffer::{copy_front, return_bytes};
 use crate::kept_adapter::KeptAdapter;
 use crate::status::Status;
 use enip_adapter::{Adapter, Full, LONGEST_ANSWER, NoReplyReason, Peer};
-use enip_config::{LoadFault, adapter_from, explain};
+use enip_config::{LoadFault, adapter_from};
 use std::alloc::Global;
 
 /// The result of a feed: `enip_fed` of `enip.h`.
@@ -281,22 +281,4 @@ pub extern "C" fn enip_core_adapter_places(
     let adapter = kept.take(alloc);
     (*peers, *connections) = adapter.free();
     *kept = KeptAdapter::of(adapter);
-}
-
-/// Writes what is wrong with the text of a configuration, and in which line. Returns the length of this text, 0 if
-/// nothing is wrong, memory runs out or the text does not fit.
-#[unsafe(no_mangle)]
-pub extern "C" fn enip_core_explain(alloc: Global, text: &[u8], buffer: &mut [u8]) -> usize
-    ensures { result ≤ length buffer.new }
-{
-    let Ok(Some(explanation)) = explain(alloc, text) else {
-        return 0;
-    };
-    let Ok(words) = format!(in alloc; "{explanation}") else {
-        return 0;
-    };
-    if words.len() > buffer.len() {
-        return 0;
-    }
-    copy_front(words.as_bytes(), buffer)
 }

@@ -12,6 +12,7 @@ mod buffer;
 mod client;
 mod commander;
 mod device;
+mod explained;
 mod kept_adapter;
 mod kept_client;
 mod kept_commander;

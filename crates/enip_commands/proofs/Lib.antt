@@ -5,3 +5,5 @@ pub mod PathLemmas
 pub mod ListingLemmas
 pub mod JsonLemmas
 pub mod CommandFileLemmas
+pub mod TurnLemmas
+pub mod HexLemmas

@@ -1,5 +1,5 @@
 -- One request to a device, and how its reply is reported.
-use Rattle.std.specs.Prelude.{⊤, ◌≡◌, ◌==◌, ◌⊎◌, ℕ, Bool, if◌then◌else◌, List, slice_get, Some, None, unwrap_or}
+use Rattle.std.specs.Prelude.{⊤, ◌≡◌, ◌==◌, ◌⊎◌, ℕ, Bool, if◌then◌else◌, List, slice_get, Some, None, is_some, true, unwrap_or}
 use Rattle.std.specs.Prelude.{Result, Ok, Err}
 use Rattle.cip_message.specs.PathWriting.{short}
 use Rattle.cip_message.specs.Request.{request}
@@ -28,10 +28,10 @@ IsRequested q bytes = (given : List ℕ)
     × (bytes_spelled q.digits.now ≡ Some given)
     × (bytes ≡ request (record { service = q.service; path = short q.path; «data» = given }))
 
--- Why a request was not made: its digits are not hexadecimal, or memory was refused.
+-- Why a request was not made: its digits are not hexadecimal, or they are and memory was refused.
 abbrev pub IsNotMade : DeviceRequest → RequestFailure → Type 0
 IsNotMade q Hex = bytes_spelled q.digits.now ≡ None
-IsNotMade q (Program Memory) = ⊤
+IsNotMade q (Program Memory) = is_some (bytes_spelled q.digits.now) ≡ true
 IsNotMade q failure = ⊥
 
 -- Why an exchange was not completed, as the program reports it.

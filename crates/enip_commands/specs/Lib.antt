@@ -9,3 +9,4 @@ pub mod Readings
 pub mod Json
 pub mod CommandFiles
 pub mod Once
+pub mod Sessions

@@ -10,6 +10,7 @@ ghost use Rattle.enip_commands.specs.Statuses.{asking_status, replied_status, re
 
 use crate::digits::decode;
 use crate::fault::ProgramFault;
+use crate::hexadecimal::is_hexadecimal;
 use crate::json_text::refusal_line;
 use crate::style::{Style, data_object, print_data};
 use arrayvec::ArrayVec;
@@ -54,16 +55,17 @@ impl DeviceRequest<'_> {
     ///
     /// # Errors
     ///
-    /// `Hex` if the digits are not hexadecimal. `Program` if memory was refused.
+    /// `Hex` if the digits are not hexadecimal. `Program` with `Memory` if they are and memory was refused.
     pub fn request(&self, alloc: Global) -> Result<Vec<u8>, RequestFailure>
         ensures made { IfOk result (λ request. IsRequested self.now request.items) }
         ensures refused { IfErr result (IsNotMade self.now) }
     {
-        let mut digits = Vec::new(alloc);
-        let mut data = Vec::new(alloc);
-        if !decode(self.digits.as_bytes(), &mut digits, &mut data)? {
+        if !is_hexadecimal(self.digits.as_bytes()) {
             return Err(RequestFailure::Hex);
         }
+        let mut digits = Vec::new(alloc);
+        let mut data = Vec::new(alloc);
+        decode(self.digits.as_bytes(), &mut digits, &mut data)?;
         Ok(spell_request(alloc, self.service, self.path, data.as_slice())?)
     }
 }

@@ -26,6 +26,7 @@ mod asking;
 mod command_file;
 mod digits;
 mod fault;
+mod hexadecimal;
 mod identities;
 mod input_lines;
 mod json_text;
@@ -38,6 +39,7 @@ mod reading;
 mod session;
 mod showing;
 mod style;
+mod turns;
 mod typed;
 
 pub use answering::answer;

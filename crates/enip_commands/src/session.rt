@@ -1,16 +1,16 @@
 //! A session for several requests, one after the other, with or without a connection.
 
-ghost use Rattle.std.specs.Prelude.{◌≡◌, ◌≤◌, length, IfOk, IfErr};
+ghost use Rattle.std.specs.Prelude.{◌≡◌, IfErr};
+ghost use Rattle.cip_bytes.specs.Reading.{map_ok};
 ghost use Rattle.enip_commands.specs.Asking.{IsOfExchange};
+ghost use Rattle.enip_commands.specs.Sessions.{session_ends, begin_failure, IsBegun, IsSessionBegun, IsAskedInSession, IsReplyLent, IsClosedIf, IsEnded};
 
 use crate::asking::{RequestFailure, WANTS};
-use cip_objects::{REPLY_LIMIT, ReplyBuf};
-use enip_client::{AskFault, Client, ClientFault, Heard, Wants};
-use enip_wire::{Sink, Source, write_all};
+use crate::turns::{ask_once, close, open, register, unregister};
+use cip_objects::ReplyBuf;
+use enip_client::{AskFault, Client, ClientFault, Wants};
+use enip_wire::{Sink, Source};
 use std::alloc::Global;
-
-/// The size of a read, in bytes (ours).
-const LONGEST_READ: usize = 4_096;
 
 /// The connection: as for one request, but with a timeout of 512 packet intervals.
 /// (Volume 1, connection timeout multiplier.)
@@ -41,28 +41,26 @@ impl DeviceSession {
         writer: &mut W,
         connected: bool,
     ) -> Result<DeviceSession, RequestFailure>
-        ensures { IfErr result IsOfExchange }
+        ensures begun { IsSessionBegun connected
+            (λ client reply. session_ends client (R.left reader.old) (R.reads reader.old) (R.failures reader.old)
+            (W.written writer.old) (W.failures writer.old) reply)
+            (λ client reply. session_ends client (R.left reader.new) (R.reads reader.new) (R.failures reader.new)
+            (W.written writer.new) (W.failures writer.new) reply) result }
+        ensures failed { IfErr result IsOfExchange }
     {
-        let client = match Client::new(alloc, &LONG_LIVED) {
+        let mut client = match Client::new(alloc, &LONG_LIVED) {
             Ok(client) => client,
             Err(fault) => return Err(RequestFailure::from(AskFault::Client(fault))),
         };
-        let mut session = DeviceSession {
-            client,
-            connected,
-            reply: ReplyBuf::new(),
-        };
-        match session.register(reader, writer) {
-            Ok(()) => {}
-            Err(AskFault::Client(ClientFault::Status(status))) => {
-                return Err(RequestFailure::Session(status));
-            }
-            Err(fault) => return Err(RequestFailure::from(fault)),
+        let mut reply = ReplyBuf::new();
+        match begin_with(&mut client, reader, writer, connected, &mut reply) {
+            Ok(()) => Ok(DeviceSession {
+                client,
+                connected,
+                reply,
+            }),
+            Err(failure) => Err(failure),
         }
-        if connected {
-            session.open(reader, writer)?;
-        }
-        Ok(session)
     }
 
     /// Sends a request and lends the reply.
@@ -77,11 +75,46 @@ impl DeviceSession {
         writer: &mut W,
         request: &[u8],
     ) -> Result<&[u8], RequestFailure>
-        ensures { IfErr result IsOfExchange }
+        ensures asked { IsReplyLent request.now self.old.connected
+            (session_ends self.old.client (R.left reader.old) (R.reads reader.old) (R.failures reader.old)
+            (W.written writer.old) (W.failures writer.old) self.old.reply.items)
+            (λ client reply. session_ends client (R.left reader.new) (R.reads reader.new) (R.failures reader.new)
+            (W.written writer.new) (W.failures writer.new) reply) (map_ok (λ lent. lent.now) result) }
+        ensures failed { IfErr result IsOfExchange }
     {
-        self.send_request(writer, request)?;
-        await_reply(&mut self.client, reader, &mut self.reply)?;
-        Ok(self.reply.as_slice())
+        match self.exchange(reader, writer, request) {
+            Ok(()) => Ok(self.reply.as_slice()),
+            Err(failure) => Err(failure),
+        }
+    }
+
+    /// Sends a request, and keeps the reply.
+    fn exchange<R: Source, W: Sink>(
+        &mut self,
+        reader: &mut R,
+        writer: &mut W,
+        request: &[u8],
+    ) -> Result<(), RequestFailure>
+        ensures asked { IsAskedInSession request.now self.old.connected
+            (session_ends self.old.client (R.left reader.old) (R.reads reader.old) (R.failures reader.old)
+            (W.written writer.old) (W.failures writer.old) self.old.reply.items)
+            (session_ends self.new.client (R.left reader.new) (R.reads reader.new) (R.failures reader.new)
+            (W.written writer.new) (W.failures writer.new) self.new.reply.items) result }
+        ensures connected { self.new.connected ≡ self.old.connected }
+        ensures failed { IfErr result IsOfExchange }
+    {
+        let asked = ask_once(
+            &mut self.client,
+            reader,
+            writer,
+            request,
+            self.connected,
+            &mut self.reply,
+        );
+        match asked {
+            Ok(()) => Ok(()),
+            Err(fault) => Err(RequestFailure::from(fault)),
+        }
     }
 
     /// Closes the connection, if there is one, and unregisters the session.
@@ -95,144 +128,104 @@ impl DeviceSession {
         reader: &mut R,
         writer: &mut W,
     ) -> Result<(), RequestFailure>
-        ensures { IfErr result IsOfExchange }
+        ensures ended { IsEnded self.old.connected
+            (session_ends self.old.client (R.left reader.old) (R.reads reader.old) (R.failures reader.old)
+            (W.written writer.old) (W.failures writer.old) self.old.reply.items)
+            (session_ends self.new.client (R.left reader.new) (R.reads reader.new) (R.failures reader.new)
+            (W.written writer.new) (W.failures writer.new) self.new.reply.items) result }
+        ensures failed { IfErr result IsOfExchange }
     {
-        if self.connected {
-            let frame = self.client.close().map_err(AskFault::Client)?;
-            send(writer, frame)?;
-            await_reply(&mut self.client, reader, &mut self.reply)?;
-        }
-        let frame = self.client.unregister().map_err(AskFault::Client)?;
-        send(writer, frame)?;
-        Ok(())
-    }
-
-    /// Registers the session.
-    fn register<R: Source, W: Sink>(
-        &mut self,
-        reader: &mut R,
-        writer: &mut W,
-    ) -> Result<(), AskFault> {
-        let frame = self.client.register()?;
-        send(writer, frame)?;
-        await_reply(&mut self.client, reader, &mut self.reply)
-    }
-
-    /// Opens the connection.
-    fn open<R: Source, W: Sink>(&mut self, reader: &mut R, writer: &mut W) -> Result<(), AskFault> {
-        let frame = self.client.open()?;
-        send(writer, frame)?;
-        await_reply(&mut self.client, reader, &mut self.reply)
-    }
-
-    /// Sends a request, on the connection if there is one.
-    fn send_request<W: Sink>(&mut self, writer: &mut W, request: &[u8]) -> Result<(), AskFault> {
-        if self.connected {
-            let frame = self.client.submit(request)?;
-            send(writer, frame)
-        } else {
-            let frame = self.client.unconnected(request)?;
-            send(writer, frame)
-        }
+        end_with(
+            &mut self.client,
+            reader,
+            writer,
+            self.connected,
+            &mut self.reply,
+        )
     }
 }
 
-/// Sends a frame.
-///
-/// # Errors
-///
-/// `Write` if the writer failed.
-fn send<W: Sink>(writer: &mut W, frame: &[u8]) -> Result<(), AskFault> {
-    if writer.failures() == u64::MAX {
-        return Err(AskFault::Write);
-    }
-    match write_all(writer, frame) {
-        Ok(()) => Ok(()),
-        Err(_) => Err(AskFault::Write),
-    }
-}
-
-/// Reads until the awaited answer has come. A reply is stored in `reply`.
-///
-/// # Errors
-///
-/// `Read`, `Ended` or `Spent`. `Client` with `Refused` if an open or a close was refused, or with another fault of
-/// the client.
-fn await_reply<R: Source>(
+/// Registers a session, and opens a connection if one is wanted.
+fn begin_with<R: Source, W: Sink>(
     client: &mut Client,
     reader: &mut R,
+    writer: &mut W,
+    connected: bool,
     reply: &mut ReplyBuf,
-) -> Result<(), AskFault> {
-    let mut buffer = [0; LONGEST_READ];
-    for _ in 0..u64::MAX {
-        let size = read(reader, &mut buffer)?;
-        if feed_piece(client, &buffer[..size], reply)? {
-            return Ok(());
-        }
-    }
-    Err(AskFault::Spent)
-}
-
-/// Reads one byte or more.
-///
-/// # Errors
-///
-/// `Ended` at the end of the stream, `Read` if the reader failed, `Spent` if its counters are used up.
-fn read<R: Source>(reader: &mut R, into: &mut [u8; LONGEST_READ]) -> Result<usize, AskFault>
-    ensures within { IfOk result (λ size. size ≤ LONGEST_READ) }
-    ensures room { length into.new ≡ LONGEST_READ }
+) -> Result<(), RequestFailure>
+    ensures begun { IsBegun connected
+        (session_ends client.old (R.left reader.old) (R.reads reader.old) (R.failures reader.old)
+        (W.written writer.old) (W.failures writer.old) reply.old.items)
+        (session_ends client.new (R.left reader.new) (R.reads reader.new) (R.failures reader.new)
+        (W.written writer.new) (W.failures writer.new) reply.new.items) result }
+    ensures failed { IfErr result IsOfExchange }
 {
-    if reader.reads() == u64::MAX || reader.failures() == u64::MAX {
-        return Err(AskFault::Spent);
+    match register(client, reader, writer, reply) {
+        Ok(()) => {}
+        Err(fault) => return Err(begin_failure(fault)),
     }
-    match reader.read(into) {
-        // a read of no byte is the end of the stream
-        Ok(0) => Err(AskFault::Ended),
-        Ok(size) => Ok(size),
-        Err(_) => Err(AskFault::Read),
+    if !connected {
+        return Ok(());
+    }
+    match open(client, reader, writer, reply) {
+        Ok(()) => Ok(()),
+        Err(fault) => Err(RequestFailure::from(fault)),
     }
 }
 
-/// Feeds a whole piece to the client. Returns whether it has the awaited answer.
-///
-/// # Errors
-///
-/// `Client`, as for `keep`, or with the fault that the piece caused.
-fn feed_piece(client: &mut Client, piece: &[u8], reply: &mut ReplyBuf) -> Result<bool, AskFault> {
-    let mut is_heard = false;
-    let mut rest = piece;
-    for _ in 0..piece.len() {
-        let hearing = client.feed(rest);
-        let taken = hearing.taken;
-        is_heard |= keep(hearing.heard, reply)?;
-        rest = &rest[taken..];
-        if let Some(fault) = client.fault() {
-            return Err(AskFault::Client(fault));
-        }
+/// Closes the connection, if there is one, and unregisters the session.
+fn end_with<R: Source, W: Sink>(
+    client: &mut Client,
+    reader: &mut R,
+    writer: &mut W,
+    connected: bool,
+    reply: &mut ReplyBuf,
+) -> Result<(), RequestFailure>
+    ensures ended { IsEnded connected
+        (session_ends client.old (R.left reader.old) (R.reads reader.old) (R.failures reader.old)
+        (W.written writer.old) (W.failures writer.old) reply.old.items)
+        (session_ends client.new (R.left reader.new) (R.reads reader.new) (R.failures reader.new)
+        (W.written writer.new) (W.failures writer.new) reply.new.items) result }
+    ensures failed { IfErr result IsOfExchange }
+{
+    match close_if(client, reader, writer, connected, reply) {
+        Ok(()) => {}
+        Err(fault) => return Err(RequestFailure::from(fault)),
     }
-    Ok(is_heard)
+    match unregister(client, writer) {
+        Ok(()) => Ok(()),
+        Err(fault) => Err(RequestFailure::from(fault)),
+    }
 }
 
-/// Stores a reply. Returns whether this is the awaited answer.
-///
-/// # Errors
-///
-/// `Client` with `Refused` if an open or a close was refused, or with `Malformed` if a reply is too long.
-fn keep(heard: Heard<'_>, reply: &mut ReplyBuf) -> Result<bool, AskFault> {
-    match heard {
-        Heard::Nothing => Ok(false),
-        Heard::Registered | Heard::Opened | Heard::Closed => Ok(true),
-        Heard::Refused(status, extended) => Err(AskFault::Client(ClientFault::Refused(
-            status, extended,
-        ))),
-        Heard::Reply(bytes) | Heard::Accepted(bytes) => {
-            // the capacity of a reply (ours)
-            if bytes.len() > REPLY_LIMIT {
-                return Err(AskFault::Client(ClientFault::Malformed));
-            }
-            reply.clear();
-            let _ = reply.try_extend_from_slice(bytes);
-            Ok(true)
-        }
+/// Why a session did not begin. A status is the answer to RegisterSession.
+fn begin_failure(fault: AskFault) -> RequestFailure
+    ensures reported { result ≡ begin_failure fault }
+    ensures failed { IsOfExchange result }
+{
+    match fault {
+        AskFault::Client(ClientFault::Status(status)) => RequestFailure::Session(status),
+        fault => RequestFailure::from(fault),
+    }
+}
+
+/// Closes the connection, if there is one.
+fn close_if<R: Source, W: Sink>(
+    client: &mut Client,
+    reader: &mut R,
+    writer: &mut W,
+    connected: bool,
+    reply: &mut ReplyBuf,
+) -> Result<(), AskFault>
+    ensures { IsClosedIf connected
+        (session_ends client.old (R.left reader.old) (R.reads reader.old) (R.failures reader.old)
+        (W.written writer.old) (W.failures writer.old) reply.old.items)
+        (session_ends client.new (R.left reader.new) (R.reads reader.new) (R.failures reader.new)
+        (W.written writer.new) (W.failures writer.new) reply.new.items) result }
+{
+    if connected {
+        close(client, reader, writer, reply)
+    } else {
+        Ok(())
     }
 }
