@@ -1,2 +1,3 @@
 pub mod OutcomeLemmas
 pub mod ReplayLemmas
+pub mod LadderLemmas

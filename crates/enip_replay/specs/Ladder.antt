@@ -6,7 +6,6 @@ use Rattle.hex.specs.Hex.{encode_lower}
 use Rattle.enip_replay.specs.declared.rungs.Arrow.{Arrow}
 use Rattle.enip_replay.specs.declared.rungs.Field.{Field}
 use Rattle.enip_replay.specs.declared.rungs.Field.TheVariants as fields
-use Rattle.enip_replay.specs.declared.rungs.Note.{Note}
 use Rattle.enip_replay.specs.declared.rungs.Rung.{Rung}
 use Rattle.enip_replay.specs.declared.rungs.Direction.{Direction}
 use Rattle.enip_replay.specs.declared.rungs.Direction.TheVariants as ways

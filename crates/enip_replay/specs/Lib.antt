@@ -2,3 +2,4 @@ pub mod Script
 pub mod Outcome
 pub mod Replay
 pub mod Ladder
+pub mod Drawing

@@ -9,10 +9,16 @@
 //!                |                                     0  x-- 1: b200000005000000 ----------|
 //! ```
 
-ghost use Rattle.std.specs.Prelude.{IfErr};
+ghost use Rattle.std.specs.Prelude.{◌≡◌, ◌++◌, IfErr, OnOk, Err};
+ghost use Rattle.std.specs.Io.KnownBytes.{Appends, Keeps};
+ghost use Rattle.enip_bench.specs.CountingWorld.{counting_step};
 ghost use Rattle.enip_bench.specs.Reached.{IsNewAdapter};
-ghost use Rattle.enip_replay.specs.Replay.{IsStopOf};
+ghost use Rattle.enip_bench.specs.Stored.{event_in};
+ghost use Rattle.enip_replay.specs.Drawing.{IsDrawn, IsEndDrawn, Grows};
+ghost use Rattle.enip_replay.specs.Outcome.{final_line};
+ghost use Rattle.enip_replay.specs.Replay.{IsStopOf, objects_printed};
 ghost use Rattle.enip_replay.specs.Script.{IsRefusedLine};
+ghost use Rattle.enip_commands.specs.Lines.{with_newline};
 ghost use Rattle.enip_commands.specs.Statuses.{EndsBy, IsOfDevices};
 
 use crate::outcome::{FinalState, Outcome};
@@ -21,6 +27,8 @@ use crate::rungs::{Arrow, Direction, Field, Note, Rung};
 use crate::script::{event_of, is_skipped, line_fault};
 use byteorder::{ByteOrder, LittleEndian};
 use cip_bytes::protocol::SEQUENCE_COUNT_SIZE;
+use cip_class3::Stage;
+use cip_objects::Objects;
 use enip_adapter::Adapter;
 use enip_bench::{Bench, Event, Frames, Step};
 use enip_commands::{ProgramFault, TakeLines, WANTS, read_lines};
@@ -86,15 +94,12 @@ fn draw_events<W: Write>(
     climber: &mut LadderWriter,
     output: &mut W,
 ) -> Result<(), ProgramFault>
-    ensures { IfErr result (EndsBy (λ _ text. IsRefusedLine text)) }
+    ensures drawn { OnOk result (IsDrawn climber.new.bench (W.contents output.old) (W.contents output.new)) }
+    ensures refused { IfErr result (EndsBy (λ _ text. IsRefusedLine text)) }
 {
     let ran = read_lines(alloc, script, climber);
     climber.draw(output)?;
-    if ran.is_ok() {
-        climber.end(output)?;
-    }
-    output.flush()?;
-    ran
+    climber.end(ran, output)
 }
 
 /// An event with its outcome, as the ladder shows it.
@@ -255,7 +260,8 @@ impl Drawn {
 impl Ladder {
     /// Draws all events. `back` has the frames from the adapter.
     fn draw<'a, W: Write>(&'a self, back: &'a Frames, output: &mut W) -> Result<(), ProgramFault>
-        ensures { IfErr result IsOfDevices }
+        ensures drawn { OnOk result (Grows (W.contents output.old) (W.contents output.new)) }
+        ensures refused { IfErr result IsOfDevices }
     {
         writeln!(output, "{HEAD}")?;
         let mut drawn = Drawn {
@@ -276,7 +282,8 @@ impl Ladder {
         drawn: &mut Drawn,
         output: &mut W,
     ) -> Result<(), ProgramFault>
-        ensures { IfErr result IsOfDevices }
+        ensures drawn { OnOk result (Grows (W.contents output.old) (W.contents output.new)) }
+        ensures refused { IfErr result IsOfDevices }
     {
         match happened {
             LadderEvent::Sent {
@@ -349,7 +356,8 @@ impl Ladder {
 
 /// Draws a rung.
 fn draw_rung<W: Write>(rung: Rung<'_>, output: &mut W) -> Result<(), ProgramFault>
-    ensures { IfErr result IsOfDevices }
+    ensures drawn { OnOk result (Grows (W.contents output.old) (W.contents output.new)) }
+    ensures refused { IfErr result IsOfDevices }
 {
     writeln!(output, "{rung}")?;
     Ok(())
@@ -409,7 +417,8 @@ struct LadderWriter {
 impl LadderWriter {
     /// Runs an event, and appends it to the ladder.
     fn run_event(&mut self, event: Event) -> Result<(), ProgramFault>
-        ensures { IfErr result IsOfDevices }
+        ensures done { OnOk result (self.new.bench ≡ counting_step self.old.bench (event_in event)) }
+        ensures refused { IfErr result IsOfDevices }
     {
         let last = self.ladder.last_number();
         let happened = what_happened(self.alloc, &event, self.bench.step(&event)?, last)?;
@@ -418,21 +427,55 @@ impl LadderWriter {
 
     /// Draws the ladder.
     fn draw<W: Write>(&self, output: &mut W) -> Result<(), ProgramFault>
-        ensures { IfErr result IsOfDevices }
+        ensures drawn { OnOk result (Grows (W.contents output.old) (W.contents output.new)) }
+        ensures refused { IfErr result IsOfDevices }
     {
         self.ladder.draw(self.bench.seen().back, output)
     }
 
-    /// Prints the objects, the state of the client, and the last line.
-    fn end<W: Write>(&self, output: &mut W) -> Result<(), ProgramFault>
-        ensures { IfErr result IsOfDevices }
+    /// Prints the final state and the last line if all lines were run. Otherwise returns the error of `ran`.
+    fn end<W: Write>(
+        &self,
+        ran: Result<(), ProgramFault>,
+        output: &mut W,
+    ) -> Result<(), ProgramFault>
+        ensures drawn { OnOk result (IsEndDrawn self.now.bench (W.contents output.old) (W.contents output.new)) }
+        ensures silent { IfErr ran (λ fault. (result ≡ Err fault)
+            × Keeps (W.contents output.old) (W.contents output.new)) }
+        ensures refused { OnOk ran (IfErr result IsOfDevices) }
     {
-        let seen = self.bench.seen();
-        print_objects(output, seen.objects)?;
-        writeln!(output, "{}", FinalState(seen.stage))?;
-        writeln!(output, "{SAME}")?;
+        ran?;
+        print_end(&self.bench, output)?;
+        output.flush()?;
         Ok(())
     }
+}
+
+/// Prints the objects, the state of the client, and that the numbered world shows the same: `Bench::seen` promises it
+/// of what is printed.
+fn print_end<W: Write>(bench: &Bench, output: &mut W) -> Result<(), ProgramFault>
+    ensures drawn { OnOk result (IsEndDrawn bench.now (W.contents output.old) (W.contents output.new)) }
+    ensures refused { IfErr result IsOfDevices }
+{
+    let seen = bench.seen();
+    print_state(seen.objects, seen.stage, output)?;
+    writeln!(output, "{SAME}")?;
+    Ok(())
+}
+
+/// Prints the objects and the state of the client.
+fn print_state<W: Write>(
+    objects: &Objects,
+    stage: Stage,
+    output: &mut W,
+) -> Result<(), ProgramFault>
+    ensures printed { OnOk result (Appends (W.contents output.old) (W.contents output.new)
+        (objects_printed objects.now ++ with_newline (final_line stage))) }
+    ensures refused { IfErr result IsOfDevices }
+{
+    print_objects(output, objects)?;
+    writeln!(output, "{}", FinalState(stage))?;
+    Ok(())
 }
 
 /// An event with its outcome, as the ladder shows it. `last` is the number of the last submitted request.

@@ -10,4 +10,4 @@ returns-in_err-event c =
     devices_at (IsRefusedLine c.args.text.now) c.args.number c.from_residual.result run
 
 pub returns : goal.returns
-returns c = devices_at (IsRefusedLine c.args.text.now) c.args.number c.run_event.result c.run_event.ensures
+returns c = devices_at (IsRefusedLine c.args.text.now) c.args.number c.run_event.result c.run_event.ensures.refused
