@@ -744,13 +744,14 @@ static void texts(void) {
         size_t length = text_length <= 256 ? text_length : 0;
         for (size_t size = 1; size < 260; size += size > 3 && size + 3 < length ? length - size - 3 : 1) {
             size_t shown = length < size ? length : size - 1;
-            char *buffer = (char *)arena + MIDDLE, wanted[260] = {0};
-            memset(arena, 0xa5, ARENA);
-            memcpy(before, arena, ARENA);
-            memset(wanted, 'x', shown);
-            memcpy(before + MIDDLE, wanted, shown + 1);
+            unsigned char near[400];
+            char *buffer = (char *)near + 64, wanted[400];
+            memset(near, 0xa5, sizeof near);
+            memset(wanted, 0xa5, sizeof wanted);
+            memset(wanted + 64, 'x', shown);
+            wanted[64 + shown] = '\0';
             is("status_text", "its length", enip_status_text(-1, 5, buffer, size) == length);
-            is("status_text", "its bytes", memcmp(arena, before, ARENA) == 0);
+            is("status_text", "its bytes", memcmp(near, wanted, sizeof near) == 0);
             is("status_text", "its call", words[0] == UINT32_MAX && words[1] == 5);
         }
     }
