@@ -25,11 +25,10 @@ class Program:
             for function in source.functions:
                 if not function.is_told:
                     found += errors_in(source.path, source.text, *function.body, returned_by(function.result), random)
-            for name, _, _, value in source.constants:
-                named, _ = self.sources.naming(source, name)
-                is_told = any(it.is_told for it in named)
-                if named and not is_told or not named and source.text[value[0]] == '"':
-                    found += errors_in_value(source.path, source.text, *value, random)
+            for constant in source.constants:
+                _, functions = self.sources.reach(source, constant)
+                if functions and not any(it.is_told for it in functions):
+                    found += errors_in_value(source.path, source.text, *constant[3], random)
             for text in source.shown_texts:
                 found += errors_in_value(source.path, source.text, text.start, text.end, random)
         return found
