@@ -35,9 +35,10 @@ def first_tests(path, top=TOP):
 
 
 def in_order(tests, seconds, path):
-    """The tests, from the likeliest to the least likely to notice an error of a file."""
+    """The tests, from the likeliest to the least likely to notice an error of a file. `seconds` lacks those that are
+    left out."""
     alike, crate = first_tests(path)
-    return sorted(tests, key=lambda it: (-alike[it], -crate[it], seconds[it]))
+    return sorted((it for it in tests if it in seconds), key=lambda it: (-alike[it], -crate[it], seconds[it]))
 
 
 def run(command, limit, environment=None):
@@ -67,11 +68,12 @@ def end(test):
     test.wait()
 
 
-def noticed_by(program, tests, seconds):
-    """The first test that fails twice on a program, with its line, or None."""
-    for test in tests:
-        limit = LONGEST + 4 * seconds[test]
-        line, took = run([TOP / test, program], limit)
-        if line is not None and run([TOP / test, program], limit)[0] is not None:
-            return "%s, %.0f s: %s" % (test.split("/")[1], took, line[:160])
+def noticed(tests, seconds):
+    """The first of these tests that fails twice, with what it printed, or None. A test is its name and its command, and
+    `seconds` are those that it takes without an error."""
+    for name, command in tests:
+        limit = LONGEST + 4 * seconds[name]
+        line, took = run(command, limit)
+        if line is not None and run(command, limit)[0] is not None:
+            return "%s, %.0f s: %s" % (name, took, line[:160])
     return None

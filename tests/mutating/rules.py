@@ -15,7 +15,7 @@ BLOCKS = ("if", "for", "while", "loop", "match", "unsafe", "switch", "do")
 
 
 class Error(NamedTuple):
-    """An error: a part of a file and the text that replaces it."""
+    """An error: a part of a file and the text that replaces it. `before` and `after` are the lines that contain it."""
 
     path: str
     rule: str
@@ -23,18 +23,25 @@ class Error(NamedTuple):
     end: int
     new: str
     line: int
-    old: str
+    before: str
+    after: str
 
     def planted_in(self, text):
         return text[:self.start] + self.new + text[self.end:]
 
     def __str__(self):
-        old, new = (" ".join(it.split()) for it in (self.old, self.new))
-        return "%s:%d: %s: %s -> %s" % (self.path, self.line, self.rule, short(old) or "nothing", short(new) or "nothing")
+        return "%s:%d: %s: %s -> %s" % (self.path, self.line, self.rule, *differing(self.before, self.after))
 
 
-def short(text):
-    return text if len(text) <= 100 else text[:60] + " .. " + text[-36:]
+def differing(before, after, most=100):
+    """Both texts, without what is far from the difference."""
+    if len(before) <= most and len(after) <= most:
+        return before or "nothing", after or "nothing"
+    same = next((at for at, pair in enumerate(zip(before, after)) if pair[0] != pair[1]), min(len(before), len(after)))
+    start = max(0, same - most // 3)
+    return tuple(
+        ".. " * (start > 0) + it[start:start + most] + " .." * (start + most < len(it)) for it in (before, after)
+    )
 
 
 class Rules:
@@ -44,9 +51,11 @@ class Rules:
         self.path, self.text, self.random, self.found = path, text, random, []
 
     def add(self, rule, start, end, new):
-        old = self.text[start:end]
+        text, old = self.text, self.text[start:end]
+        first, last = text.rfind("\n", 0, start) + 1, text.find("\n", end)
+        before, after = (" ".join(it.split()) for it in (text[first:last], text[first:start] + new + text[end:last]))
         if new != old:
-            self.found.append(Error(self.path, rule, start, end, new, self.text.count("\n", 0, start) + 1, old))
+            self.found.append(Error(self.path, rule, start, end, new, text.count("\n", 0, start) + 1, before, after))
 
     def numbers(self, tokens):
         for before, token in zip([None, *tokens], tokens):
@@ -59,9 +68,11 @@ class Rules:
                 self.add("a number one off", token.start, token.end, changed)
 
     def comparisons(self, tokens):
-        for token in tokens:
+        for before, token in zip([None, *tokens], tokens):
             if token.kind == "mark" and token.text in TURNED and spaced(self.text, token):
                 self.add("a comparison turned", token.start, token.end, TURNED[token.text])
+            elif token.text == "!" and not (before and before.kind == "word" and before.end == token.start):
+                self.add("a comparison turned", token.start, token.end, "")
 
     def arguments(self, tokens):
         for at in range(1, len(tokens)):

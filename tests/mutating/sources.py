@@ -135,20 +135,38 @@ class Sources:
                 for method in re.finditer(r"\bfn (\w+)(?:(?!\bfn\b).)*?\bensures\b", trait[2], re.S):
                     told.add((trait[1], method[1]))
 
-    def naming(self, source, name):
-        """The functions that name a constant of a file, in its crate and above, and whether anything else names it."""
-        functions, elsewhere = [], False
-        for other in self.files:
-            if other.crate != source.crate and not re.search(r"\b%s::" % source.crate, other.text):
-                continue
-            for token in other.tokens:
-                if token.text != name or token.kind != "word":
+    @cached_property
+    def mentions(self):
+        """Where each constant is named: the source, and the token."""
+        names, found = {name for source in self.files for name, *_ in source.constants}, {}
+        for source in self.files:
+            for token in source.tokens:
+                if token.kind == "word" and token.text in names:
+                    found.setdefault(token.text, []).append((source, token))
+        return found
+
+    def reach(self, source, constant):
+        """A constant and those that are made of it, each with its source, and the functions that name one of them.
+        None in place of these if something else does, or another crate."""
+        constants, functions = [(source, constant)], []
+        for here, (name, *_) in constants:
+            for other, token in self.mentions.get(name, []):
+                if other.crate != source.crate:
+                    if re.search(r"\b%s::" % source.crate, other.text):
+                        return None, functions
                     continue
                 function = next((it for it in other.functions if it.contains(token.start)), None)
+                user = next((it for it in other.constants if it[1] <= token.start < it[2]), None)
                 if function and function not in functions:
                     functions.append(function)
-                elif not function:
-                    line = other.text[other.text.rfind("\n", 0, token.start) + 1:]
-                    is_import = re.match(r"\s*(pub )?(ghost )?use ", line) or re.match(r"\s*[\w, {}:]+;?$", line.split("\n")[0])
-                    elsewhere = elsewhere or not is_import and not re.match(r"(pub(\(\w+\))? )?(const|static) %s\b" % name, line)
-        return functions, elsewhere
+                elif user and (other, user) not in constants:
+                    constants.append((other, user))
+                elif not function and not user and not is_import(other.text, token.start):
+                    return None, functions
+        return constants, functions
+
+
+def is_import(text, at):
+    """Whether a mention is in an import."""
+    item = re.split(r"[;}]\s*\n", text[:at])[-1]
+    return re.search(r"^\s*(?:pub(?:\(\w+\))? )?(?:ghost )?use ", item, re.M) is not None

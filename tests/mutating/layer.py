@@ -1,0 +1,101 @@
+"""The C layer in front of the proved calls, with an error in it: the library of an installed prefix, linked anew."""
+import re
+import shutil
+import subprocess
+from pathlib import Path
+
+from mutating.rules import errors_in, errors_in_value
+from mutating.sources import TOP
+from mutating.tokens import closing, tokens_of
+
+LAYER = "library/enip.c"
+EXPORTED = ("enip_adapter_*", "enip_endings_*", "enip_client_*", "enip_once_*", "enip_version", "enip_status_text")
+COMPILE = ["-std=c99", "-O2", "-fPIC", "-ffunction-sections", "-Ilibrary/include", "-c"]
+
+
+def errors_of_layer(random):
+    """The errors of each function and each constant of the layer."""
+    text, found = (TOP / LAYER).read_text(), []
+    tokens = tokens_of(re.sub(r"^#.*", lambda it: " " * len(it[0]), text, flags=re.M))
+    at = 0
+    while at < len(tokens):
+        if tokens[at].text == "{":
+            end = closing(tokens, at)
+            if tokens[at - 1].text == ")":
+                head = text[:tokens[at].start].rpartition("\n\n")[2]
+                found += errors_in(LAYER, text, tokens[at].end, tokens[end].start, returned_in_c(head), random)
+            elif tokens[at - 1].text == "enum":
+                found += errors_in_value(LAYER, text, tokens[at].end, tokens[end].start, random)
+            at = end
+        at += 1
+    for line in re.finditer(r"^#define \w+ (.*)$", text, re.M):
+        found += errors_in_value(LAYER, text, line.start(1), line.end(1), random)
+    return found
+
+
+def returned_in_c(head):
+    """What a function with this head can return too early."""
+    result = re.sub(r"/\*.*?\*/", "", head, flags=re.S).split("(")[0]
+    if "*" in result:
+        return ["NULL"]
+    return [""] if re.search(r"\bvoid\b", result) else ["0"]
+
+
+def ran(*command, **options):
+    done = subprocess.run([str(it) for it in command], cwd=TOP, capture_output=True, text=True, stdin=subprocess.DEVNULL, **options)
+    return done.returncode == 0, done.stdout
+
+
+def names(file, *options):
+    """The names that an object file defines."""
+    return {line.split()[-1] for line in ran("nm", "--defined-only", *options, file)[1].splitlines() if line.strip()}
+
+
+class Layer:
+    """An installed library, and the proved calls in it without the layer."""
+
+    def __init__(self, folder, prefix):
+        self.folder, self.prefix, self.text = folder, Path(prefix), (TOP / LAYER).read_text()
+        folder.mkdir()
+        ran("ar", "x", self.prefix / "lib/libenip.a", "--output", folder)
+        whole = folder / "enip.o"
+        renamed = ["--redefine-sym=%s=replaced_%s" % (it, it) for it in names(whole, "--extern-only")]
+        shown = ["--globalize-symbol=%s" % it for it in names(whole) if it.startswith("enip_core_")]
+        ran("objcopy", *renamed, *shown, whole, folder / "calls.o")
+        ran("objcopy", "--wildcard", "--localize-symbol=replaced_*", folder / "calls.o")
+        self.unchanged = self.compiled(self.text)
+
+    def compiled(self, text):
+        """The object of a layer, or None if it can't be compiled."""
+        source, made = self.folder / "layer.c", self.folder / "layer.o"
+        source.write_text(text)
+        holds, _ = ran("cc", *COMPILE, source, "-o", made)
+        return made.read_bytes() if holds else None
+
+    def state(self, error):
+        """Whether an error can be planted, and whether the layer with it is compiled to the same bytes."""
+        compiled = self.compiled(error.planted_in(self.text))
+        return compiled is not None, compiled == self.unchanged
+
+    def installed(self, error, at):
+        """Installs the library with an error, or without one, in a prefix."""
+        shutil.copytree(self.prefix, at, symlinks=True)
+        source, version = at / "layer.c", re.search(r'ENIP_VERSION "(.*)"', (TOP / "library/include/enip.h").read_text())[1]
+        source.write_text(error.planted_in(self.text) if error else self.text)
+        made, whole, archive = at / "layer.o", at / "enip.o", at / "lib/libenip.a"
+        archive.unlink()
+        shared = ["-shared", "-Wl,-soname,libenip.so.%s" % version.split(".")[0], "-Wl,--version-script=library/enip.map"]
+        for command in (
+            ["cc", *COMPILE, source, "-o", made],
+            ["ld", "-r", "-o", whole, made, self.folder / "calls.o"],
+            ["objcopy", "--wildcard", *("--keep-global-symbol=" + it for it in EXPORTED), whole],
+            ["ar", "rcs", archive, whole],
+            ["cc", *shared, "-Wl,--gc-sections", "-Wl,-z,defs", "-o", at / "lib" / ("libenip.so." + version), whole],
+        ):
+            if not ran(*command)[0]:
+                raise SystemExit("the library was not linked: %s" % " ".join(map(str, command)))
+        described = at / "lib/pkgconfig/enip.pc"
+        described.write_text(re.sub(r"^prefix=.*", "prefix=%s" % at, described.read_text(), flags=re.M))
+        for path in (source, made, whole):
+            path.unlink()
+        return at
