@@ -805,6 +805,7 @@ int main(int count, char **arguments) {
         one_by_one(call);
         pairs(call);
     }
+    is("version", "that of the header", strcmp(enip_version(), ENIP_VERSION) == 0);
     frees_wrongly(with_freed);
     places(with_freed);
     offsets();
