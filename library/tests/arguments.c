@@ -8,14 +8,23 @@
  * With LAYER defined, the C layer is compiled into this program, over calls that only note their arguments. So each
  * argument is compared with what the proved call gets, and a sanitizer sees what the layer does.
  */
-#ifdef LAYER
-#include "../enip.c"
-#else
-#include <enip.h>
-#endif
 #include <stdio.h>
 #include <stdlib.h>
 #include <string.h>
+#ifdef LAYER
+/* The layer's malloc, which can be refused. */
+static int is_memory_refused;
+
+static void *layer_malloc(size_t size) {
+    return is_memory_refused ? NULL : malloc(size);
+}
+
+#define malloc layer_malloc
+#include "../enip.c"
+#undef malloc
+#else
+#include <enip.h>
+#endif
 
 static int passed, failed;
 
@@ -738,6 +747,27 @@ static void made(void) {
     is("new", "the core begins with no object", is_new_empty);
 }
 
+/* Without memory nothing is made, and the core is not called. */
+static void made_without_memory(void) {
+    enip_adapter *adapter = NULL;
+    enip_endings *endings = NULL;
+    enip_client *client = NULL;
+    enip_once *once = NULL;
+    enip_refusal refusal = {7, "as before"};
+    enip_wants wants = {0};
+    call_count = 0;
+    is_memory_refused = 1;
+    is("adapter_new", "out of memory", enip_adapter_new((char *)arena, 77, &adapter, &refusal) == ENIP_MEMORY);
+    is("endings_new", "out of memory", enip_endings_new(&endings) == ENIP_MEMORY);
+    is("client_new", "out of memory", enip_client_new(&wants, &client) == ENIP_MEMORY);
+    is("once_new", "out of memory", enip_once_new(1, 2, 3, &once) == ENIP_MEMORY);
+    is("once_resume", "out of memory", enip_once_resume(1, 2, 3, arena, 4, &once) == ENIP_MEMORY);
+    is_memory_refused = 0;
+    is("new", "nothing is made", adapter == NULL && endings == NULL && client == NULL && once == NULL);
+    is("new", "nothing is written", refusal.number == 7 && strcmp(refusal.text, "as before") == 0);
+    is("new", "the core is not called", call_count == 0);
+}
+
 /* The text of a number, in buffers of each size around its length, with a byte behind the buffer. */
 static void texts(void) {
     for (text_length = 0; text_length <= 257; text_length++) {
@@ -805,6 +835,7 @@ int main(int count, char **arguments) {
         one_by_one(call);
         pairs(call);
     }
+    is("version", "that of the header", strcmp(enip_version(), ENIP_VERSION) == 0);
     frees_wrongly(with_freed);
     places(with_freed);
     offsets();
@@ -816,6 +847,7 @@ int main(int count, char **arguments) {
     makes_next();
 #ifdef LAYER
     made();
+    made_without_memory();
     texts();
 #endif
     printf("%d passed, %d failed\n", passed, failed);
