@@ -2,6 +2,7 @@
 import os
 import shutil
 import subprocess
+import tempfile
 from pathlib import Path
 
 from mutating import layer, shell
@@ -87,20 +88,22 @@ class Layer:
         self.equal |= {it for it, (_, is_equal) in states.items() if is_equal}
         return [it for it, (can_be_planted, _) in states.items() if can_be_planted]
 
-    def command(self, prefix):
-        return [TOP / "library/tests/check", os.environ.get("ENIP") or self.program.plain(), prefix]
+    def command(self, copy):
+        """The tests of a copy of the repository, with the library made of its layer."""
+        prefix = self.layer.installed((copy / layer.LAYER).read_text(), copy / "prefix")
+        return [copy / "library/tests/check", os.environ.get("ENIP") or self.program.plain(), prefix]
 
     def unchanged(self):
-        return {"library/tests/check": self.command(self.layer.installed(None, self.folder / "installed"))}
+        return {"library/tests/check": self.command(copied(self.folder / "library", None))}
 
     def judge(self, error, seconds):
         if error in self.equal:
             return EQUAL, ""
-        prefix = self.layer.installed(error, self.folder / ("prefix-%d-%d" % (error.start, abs(hash(error.new)))))
+        copy = copied(self.folder, error)
         try:
-            by = noticed([("library/tests/check", self.command(prefix))], seconds)
+            by = noticed([("library/tests/check", self.command(copy))], seconds)
         finally:
-            shutil.rmtree(prefix)
+            shutil.rmtree(copy)
         return (NOTICED, by) if by else (UNNOTICED, "")
 
 
@@ -116,27 +119,30 @@ class Scripts:
     def planted(self, errors):
         return errors
 
-    def copied(self, name):
-        """A copy of the repository, of links."""
-        copy = self.folder / name
-        shutil.copytree(TOP, copy, copy_function=os.link, ignore=shutil.ignore_patterns(".git", "out", "__pycache__"))
-        return copy
-
     def unchanged(self):
-        return {"tests/scripts": [self.copied("scripts") / "tests/scripts"]}
+        return {"tests/scripts": [copied(self.folder / "scripts", None) / "tests/scripts"]}
 
     def judge(self, error, seconds):
-        copy = self.copied("scripts-%s-%d-%d" % (error.path, error.start, abs(hash(error.new))))
-        path = copy / error.path
-        text = error.planted_in(path.read_text())
-        path.unlink()
-        path.write_text(text)
-        path.chmod(0o755)
+        copy = copied(self.folder, error)
         try:
             by = noticed([("tests/scripts", [copy / "tests/scripts"])], seconds)
         finally:
             shutil.rmtree(copy)
         return (NOTICED, by) if by else (UNNOTICED, "")
+
+
+def copied(folder, error):
+    """A copy of the repository, of links, with an error or without one. An error has a folder of its own."""
+    if error:
+        folder = Path(tempfile.mkdtemp(dir=folder)) / "copy"
+    shutil.copytree(TOP, folder, copy_function=os.link, ignore=shutil.ignore_patterns(".git", "out", "__pycache__"))
+    if error:
+        path = folder / error.path
+        text, mode = error.planted_in(path.read_text()), path.stat().st_mode
+        path.unlink()
+        path.write_text(text)
+        path.chmod(mode)
+    return folder
 
 
 def area_of(error):

@@ -10,6 +10,7 @@ from mutating.tokens import closing, tokens_of
 
 LAYER = "library/enip.c"
 EXPORTED = ("enip_adapter_*", "enip_endings_*", "enip_client_*", "enip_once_*", "enip_version", "enip_status_text")
+SHARED = ["-Wl,--gc-sections", "-Wl,-z,defs"]
 COMPILE = ["-std=c99", "-O2", "-fPIC", "-ffunction-sections", "-Ilibrary/include", "-c"]
 
 
@@ -41,8 +42,10 @@ def returned_in_c(head):
     return [""] if re.search(r"\bvoid\b", result) else ["0"]
 
 
-def ran(*command, **options):
-    done = subprocess.run([str(it) for it in command], cwd=TOP, capture_output=True, text=True, stdin=subprocess.DEVNULL, **options)
+def ran(*command):
+    """Whether a command succeeds, and its output."""
+    streams = {"stdin": subprocess.DEVNULL, "stdout": subprocess.PIPE, "stderr": subprocess.DEVNULL}
+    done = subprocess.run([str(it) for it in command], cwd=TOP, text=True, **streams)
     return done.returncode == 0, done.stdout
 
 
@@ -77,20 +80,20 @@ class Layer:
         compiled = self.compiled(error.planted_in(self.text))
         return compiled is not None, compiled == self.unchanged
 
-    def installed(self, error, at):
-        """Installs the library with an error, or without one, in a prefix."""
+    def installed(self, text, at):
+        """Installs the library with a layer in a prefix."""
         shutil.copytree(self.prefix, at, symlinks=True)
-        source, version = at / "layer.c", re.search(r'ENIP_VERSION "(.*)"', (TOP / "library/include/enip.h").read_text())[1]
-        source.write_text(error.planted_in(self.text) if error else self.text)
-        made, whole, archive = at / "layer.o", at / "enip.o", at / "lib/libenip.a"
+        version = re.search(r'ENIP_VERSION "(.*)"', (TOP / "library/include/enip.h").read_text())[1]
+        source, made, whole, archive = at / "layer.c", at / "layer.o", at / "enip.o", at / "lib/libenip.a"
+        source.write_text(text)
         archive.unlink()
-        shared = ["-shared", "-Wl,-soname,libenip.so.%s" % version.split(".")[0], "-Wl,--version-script=library/enip.map"]
+        shared = ["-Wl,-soname,libenip.so.%s" % version.split(".")[0], "-Wl,--version-script=library/enip.map"]
         for command in (
             ["cc", *COMPILE, source, "-o", made],
             ["ld", "-r", "-o", whole, made, self.folder / "calls.o"],
             ["objcopy", "--wildcard", *("--keep-global-symbol=" + it for it in EXPORTED), whole],
             ["ar", "rcs", archive, whole],
-            ["cc", *shared, "-Wl,--gc-sections", "-Wl,-z,defs", "-o", at / "lib" / ("libenip.so." + version), whole],
+            ["cc", "-shared", *shared, *SHARED, "-o", at / "lib" / ("libenip.so." + version), whole],
         ):
             if not ran(*command)[0]:
                 raise SystemExit("the library was not linked: %s" % " ".join(map(str, command)))

@@ -11,6 +11,13 @@ TURNED = {
 # Words before a bracket that is not one of arguments.
 NOT_CALLED = "if while for match in return let else mut ref move as fn impl dyn where loop switch sizeof".split()
 OF_OWN_TYPE = re.compile(r"f|alloc|self\.alloc|rt|self\.rt|rt\.alloc\(\)|self\.rt\.alloc\(\)|matches|args")
+# What a function can return too early, by the beginning of the type of its result.
+VALUES = {
+    r"\(\)": ["()"], r"bool\b": ["false", "true"], r"[iu](?:8|16|32|64|128|size)\b": ["0"], "Option<": ["None"],
+    r"&('\w+ )?str\b": ['""'],
+}
+# What stays as it is in a text: escapes, and what a value replaces.
+FIXED = re.compile(r'\\(?:x..|u\{.*?\}|.)|\{\{|\}\}|\{[^}]*\}|\bb(?=")', re.S)
 BLOCKS = ("if", "for", "while", "loop", "match", "unsafe", "switch", "do")
 
 
@@ -77,9 +84,9 @@ class Rules:
     def arguments(self, tokens):
         for at in range(1, len(tokens)):
             before = tokens[at - 1]
-            if tokens[at].text != "(" or before.kind != "word" and before.text not in ("!", ">") or before.end != tokens[at].start:
-                continue
-            if before.text in NOT_CALLED or at > 1 and tokens[at - 2].text == "fn":
+            is_name = before.kind == "word" and before.text not in NOT_CALLED or before.text in ("!", ">")
+            is_definition = tokens[max(0, at - 2)].text == "fn"
+            if tokens[at].text != "(" or not is_name or is_definition or before.end != tokens[at].start:
                 continue
             given = parts(parts(tokens[at + 1:closing(tokens, at)], ";")[-1], ",")
             given = [(it[0].start, it[-1].end) for it in given if it]
@@ -97,8 +104,8 @@ class Rules:
 
     def text_at(self, token):
         """A letter of another case, and each number one more."""
-        plain = [it.span() for it in re.finditer(r'\\(?:x..|u\{.*?\}|.)|\{\{|\}\}|\{[^}]*\}|\bb(?=")', token.text, re.S)]
-        free = [at for at in range(len(token.text)) if not any(start <= at < end for start, end in plain)]
+        fixed = [it.span() for it in FIXED.finditer(token.text)]
+        free = [at for at in range(len(token.text)) if not any(start <= at < end for start, end in fixed)]
         letters = [at for at in free if token.text[at].isalpha() and token.text[at].isascii()]
         if letters:
             at = token.start + self.random.choice(letters)
@@ -153,7 +160,7 @@ def blocks(tokens):
     for at, token in enumerate(tokens):
         if token.text == "{" and token.kind == "mark":
             inner = tokens[at + 1:closing(tokens, at)]
-            is_code = any(len(it) != len(inner) for it in [parts(inner, ";")[0]]) or at and tokens[at - 1].text in ("=>", "else")
+            is_code = len(parts(inner, ";")) > 1 or at and tokens[at - 1].text in ("=>", "else")
             if inner and is_code:
                 yield inner
 
@@ -181,21 +188,15 @@ def statements_of(block):
 
 def returned_by(result):
     """Values that a function of this result can return too early."""
-    inner = re.fullmatch(r"(?:io::)?Result<(.*)>", result)
+    inner = re.match(r"(?:io::|fmt::)?Result(?:<(.*))?", result)
     if result == "":
         return [""]
-    if result == "fmt::Result":
-        return ["Ok(())"]
     if inner:
-        first = re.match(r"\(\)|bool|[iu](?:8|16|32|64|128|size)\b|Option<", inner[1])
-        return ["Ok(%s)" % it for it in returned_by(first[0].replace("()", "") + ("_>" if "<" in first[0] else ""))] if first and first[0] != "()" else ["Ok(())"] if first else []
-    if re.fullmatch(r"[iu](?:8|16|32|64|128|size)", result):
-        return ["0"]
-    if result == "bool":
-        return ["false", "true"]
-    if result.startswith("Option<"):
-        return ["None"]
-    return ['""'] if result in ("&str", "&'static str") else []
+        return ["Ok(%s)" % it for it in returned_by(inner[1] or "()")]
+    for form, values in VALUES.items():
+        if re.match(form, result):
+            return values
+    return []
 
 
 def errors_in(path, text, start, end, returned, random):

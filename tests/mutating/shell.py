@@ -12,10 +12,14 @@ TURNED = {
     "-gt": "-ge", "-ge": "-gt", "&&": "||", "||": "&&", "-e": "! -e", "-x": "! -x", "-f": "! -f", "-d": "! -d", "!": "",
 }
 TESTS = ("[", "[[", "if", "while", "until", "&&", "||", "!", "elif")
+KEYWORDS = ("in", "]", "]]", "=~", "return", "exit", "local", "then")
 # Lines that are no command of their own.
-NO_COMMAND = re.compile(r"(if|then|else|elif|fi|for|while|until|do|done|case|esac|\{|\}|\)|\(|set|local|;;|#|[^ ]+\)|[\w-]+\(\))( |$)")
-WORD = re.compile(r"""(?:\\.|"(?:\\.|[^"\\])*"|'[^']*'|\$\([^()]*(?:\([^()]*\)[^()]*)*\)|\$\{[^}]*\}|[^\s"'\\;|&<>()])+""")
-SEPARATOR = re.compile(r"\s*(;;|;|&&|\|\||[|&<>()]+\d?|$)\s*")
+NO_COMMAND = re.compile(
+    r"(if|then|else|elif|fi|for|while|until|do|done|case|esac|\{|\}|\)|\(|set|local|;;|#|[^ ]+\)|[\w-]+\(\))( |$)"
+)
+WORD = re.compile(
+    r"""(?:\\.|"(?:\\.|[^"\\])*"|'[^']*'|\$\([^()]*(?:\([^()]*\)[^()]*)*\)|\$\{[^}]*\}|[^\s"'\\;|&<>()])+"""
+)
 
 
 def lines_of(text):
@@ -80,12 +84,13 @@ def words(rules, at, line):
     for operator in re.finditer(r" (&&|\|\|) ", code):
         rules.add("a comparison turned", at + operator.start(1), at + operator.end(1), TURNED[operator[1]])
     for (start, middle, first), (second, end, last) in zip(found[1:], found[2:]):
-        if code[middle:second] == " " and code[end:end + 1] not in ("<", ">") and is_argument(first) and is_argument(last):
+        is_apart = code[middle:second] == " " and code[end:end + 1] not in ("<", ">")
+        if is_apart and is_argument(first) and is_argument(last):
             rules.add("an argument swapped with its neighbour", at + start, at + end, last + " " + first)
 
 
 def is_argument(word):
-    return not word.startswith("-") and word not in (*TURNED, *TESTS, "in", "]", "]]", "=~", "return", "exit", "local", "then")
+    return not word.startswith("-") and word not in (*TURNED, *TESTS, *KEYWORDS)
 
 
 def quoted(rules, start, word):

@@ -100,7 +100,8 @@ class Source:
     def constants(self):
         """The constants and statics outside of functions: name, the offsets of the item, and of the value."""
         found = []
-        starts = {it.start(1) for it in re.finditer(r"^(?:pub(?:\(\w+\))? )?(const|static) \w+:", self.text, re.M)}
+        heads = re.finditer(r"^(?:pub(?:\(\w+\))? )?(const|static) \w+:", self.text, re.M)
+        starts = {it.start(1) for it in heads}
         for at, token in enumerate(self.tokens):
             if token.start not in starts:
                 continue
@@ -115,10 +116,8 @@ class Source:
     @cached_property
     def shown_texts(self):
         """The texts of the attributes `#[error(..)]`, which a derive turns into what is printed."""
-        return [
-            self.tokens[at + 4] for at in range(len(self.tokens) - 4)
-            if [it.text for it in self.tokens[at:at + 4]] == ["#", "[", "error", "("] and self.tokens[at + 4].kind == "text"
-        ]
+        starts = {it.end() for it in re.finditer(r'#\[error\((?=")', self.text)}
+        return [it for it in self.tokens if it.start in starts]
 
 
 class Sources:

@@ -28,7 +28,8 @@ class Token(NamedTuple):
 def tokens_of(text, start=0, end=None):
     """The tokens of a part of a text, without spaces and comments."""
     found = TOKEN.finditer(text, start, len(text) if end is None else end)
-    return [Token(it.lastgroup, it[0], it.start(), it.end()) for it in found if it.lastgroup not in ("space", "comment")]
+    tokens = (Token(it.lastgroup, it[0], it.start(), it.end()) for it in found)
+    return [it for it in tokens if it.kind not in ("space", "comment")]
 
 
 def closing(tokens, at):
