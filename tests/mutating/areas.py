@@ -1,7 +1,6 @@
 """Where errors are planted: the program, the C layer, and the scripts. Each area makes its errors, and judges one."""
 import os
 import shutil
-import subprocess
 import tempfile
 from pathlib import Path
 
@@ -79,29 +78,30 @@ class Layer:
         return layer.errors_of_layer(random)
 
     def planted(self, errors):
-        if errors and not self.prefix:
-            self.prefix = self.folder / "prefix"
-            subprocess.run([TOP / "install-library", self.prefix], check=True, stdout=subprocess.DEVNULL)
         if errors and not self.layer:
             self.layer = layer.Layer(self.folder / "layer", self.prefix)
         states = {it: self.layer.state(it) for it in errors}
         self.equal |= {it for it, (_, is_equal) in states.items() if is_equal}
         return [it for it, (can_be_planted, _) in states.items() if can_be_planted]
 
-    def command(self, copy):
-        """The tests of a copy of the repository, with the library made of its layer."""
-        prefix = self.layer.installed((copy / layer.LAYER).read_text(), copy / "prefix")
-        return [copy / "library/tests/check", os.environ.get("ENIP") or self.program.plain(), prefix]
+    def commands(self, copy):
+        """The tests of a copy of the repository: of its layer, and of the library made of it."""
+        found = {"library/tests/layer": [copy / "library/tests/layer"]}
+        if self.prefix:
+            prefix = self.layer.installed((copy / layer.LAYER).read_text(), copy / "prefix")
+            program = os.environ.get("ENIP") or self.program.plain()
+            found["library/tests/check"] = [copy / "library/tests/check", program, prefix]
+        return found
 
     def unchanged(self):
-        return {"library/tests/check": self.command(copied(self.folder / "library", None))}
+        return self.commands(copied(self.folder / "library", None))
 
     def judge(self, error, seconds):
         if error in self.equal:
             return EQUAL, ""
         copy = copied(self.folder, error)
         try:
-            by = noticed([("library/tests/check", self.command(copy))], seconds)
+            by = noticed([it for it in self.commands(copy).items() if it[0] in seconds], seconds)
         finally:
             shutil.rmtree(copy)
         return (NOTICED, by) if by else (UNNOTICED, "")
@@ -125,7 +125,7 @@ class Scripts:
     def judge(self, error, seconds):
         copy = copied(self.folder, error)
         try:
-            by = noticed([("tests/scripts", [copy / "tests/scripts"])], seconds)
+            by = noticed([("tests/scripts", [copy / "tests/scripts"])] if seconds else [], seconds)
         finally:
             shutil.rmtree(copy)
         return (NOTICED, by) if by else (UNNOTICED, "")

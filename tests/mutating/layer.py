@@ -2,7 +2,6 @@
 import re
 import shutil
 import subprocess
-from pathlib import Path
 
 from mutating.rules import errors_in, errors_in_value
 from mutating.sources import TOP
@@ -55,18 +54,24 @@ def names(file, *options):
 
 
 class Layer:
-    """An installed library, and the proved calls in it without the layer."""
+    """The layer, and an installed library with the proved calls behind it."""
 
     def __init__(self, folder, prefix):
-        self.folder, self.prefix, self.text = folder, Path(prefix), (TOP / LAYER).read_text()
+        self.folder, self.prefix, self.text = folder, prefix, (TOP / LAYER).read_text()
         folder.mkdir()
+        self.unchanged = self.compiled(self.text)
+        if prefix:
+            self.take_calls()
+
+    def take_calls(self):
+        """Takes the proved calls out of the installed library, without the layer."""
+        folder = self.folder
         ran("ar", "x", self.prefix / "lib/libenip.a", "--output", folder)
         whole = folder / "enip.o"
         renamed = ["--redefine-sym=%s=replaced_%s" % (it, it) for it in names(whole, "--extern-only")]
         shown = ["--globalize-symbol=%s" % it for it in names(whole) if it.startswith("enip_core_")]
         ran("objcopy", *renamed, *shown, whole, folder / "calls.o")
         ran("objcopy", "--wildcard", "--localize-symbol=replaced_*", folder / "calls.o")
-        self.unchanged = self.compiled(self.text)
 
     def compiled(self, text):
         """The object of a layer, or None if it can't be compiled."""
