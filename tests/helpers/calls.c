@@ -182,6 +182,36 @@ int accept4(int socket, struct sockaddr *restrict from, socklen_t *restrict leng
     return peer;
 }
 
+int socket(int family, int type, int protocol) {
+    NEXT(socket);
+    long answer;
+    return answers(rule_of("socket", -1), &answer) ? (int)answer : next(family, type, protocol);
+}
+
+int bind(int socket, const struct sockaddr *to, socklen_t length) {
+    NEXT(bind);
+    long answer;
+    return answers(rule_of("bind", -1), &answer) ? (int)answer : next(socket, to, length);
+}
+
+int listen(int socket, int backlog) {
+    NEXT(listen);
+    long answer;
+    return answers(rule_of("listen", -1), &answer) ? (int)answer : next(socket, backlog);
+}
+
+int getsockname(int socket, struct sockaddr *restrict name, socklen_t *restrict length) {
+    NEXT(getsockname);
+    long answer;
+    return answers(rule_of("getsockname", -1), &answer) ? (int)answer : next(socket, name, length);
+}
+
+int epoll_create1(int flags) {
+    NEXT(epoll_create1);
+    long answer;
+    return answers(rule_of("epoll_create", -1), &answer) ? (int)answer : next(flags);
+}
+
 int connect(int socket, const struct sockaddr *to, socklen_t length) {
     NEXT(connect);
     long answer;

@@ -11,8 +11,8 @@ fn file_name<'a>(args: &'a [OsArg], text: &'a str) -> &'a [u8] {
     argument.map_or(text.as_bytes(), |argument| argument.bytes.as_slice())
 }
 
-/// The arguments after the first one with this text. Two names that are not UTF-8 can have the same text, so the second of
-/// two files is looked for after the first.
+/// The arguments after the first one with this text. Two names that are not UTF-8 can have the same text, so the second
+/// of two files is looked for after the first.
 pub fn arguments_after<'a>(args: &'a [OsArg], text: &str) -> &'a [OsArg] {
     match args.iter().position(|argument| argument.as_str() == text) {
         Some(index) => &args[index + 1..],
@@ -20,8 +20,8 @@ pub fn arguments_after<'a>(args: &'a [OsArg], text: &str) -> &'a [OsArg] {
     }
 }
 
-/// The bytes of the name of a file that an option names, as `OPTION FILE` or `OPTION=FILE`. `option` has its dashes, and
-/// `text` is FILE as text.
+/// The bytes of the name of a file that an option names, as `OPTION FILE` or `OPTION=FILE`. `option` has its dashes,
+/// and `text` is FILE as text.
 pub fn option_file_name<'a>(args: &'a [OsArg], option: &str, text: &'a str) -> &'a [u8] {
     for (index, argument) in args.iter().enumerate() {
         match argument.bytes.as_slice().strip_prefix(option.as_bytes()) {
@@ -54,9 +54,9 @@ const FIRST_FREE: i32 = 3;
 /// A file that takes any bytes and has none.
 const NOWHERE: &[u8] = b"/dev/null";
 
-/// Takes the descriptors of the standard streams that are closed. Otherwise a file or a socket that the program opens would
-/// get such a descriptor, and what is printed would go there. Reads and writes still fail as on a closed descriptor: that of
-/// standard input is open for writing only, those of the other two for reading only.
+/// Takes the descriptors of the standard streams that are closed. Otherwise a file or a socket that the program opens
+/// would get such a descriptor, and what is printed would go there. Reads and writes still fail as on a closed
+/// descriptor: that of standard input is open for writing only, those of the other two for reading only.
 ///
 /// # Errors
 ///
